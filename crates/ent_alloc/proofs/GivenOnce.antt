@@ -1,4 +1,6 @@
 -- No handle is given twice: each step keeps the list of all given handles free of repetitions.
+use Rattle.std.proofs.Common.{rules}
+use Rattle.std.proofs.lemmas.Grind.{common_steps}
 use Rattle.std.proofs.Common.{le_of_eq, append-nil, ◌≡◌, ◌≢◌, refl, sym, ap, subst, ℕ, ◌<◌}
 use Rattle.std.proofs.Common.{◌≤◌, List, [], ◌∷◌, ◌++◌, length, get_or, take, drop, All, Contains}
 use Rattle.std.proofs.Common.{IsPermutation, Ok, arith, inl, inr}
@@ -78,11 +80,7 @@ live-spent s h sound alive =
 -- nothing in the pool
 spent_not_in_pool : (s : Allocator) (h g : Handle) → IsSpent s h → Contains s.pool g → h ≢ g
 spent_not_in_pool s h g spent in_pool same =
-    let after : After h g = All-contains (After h) s.pool g (All-right (After h) s.aside s.pool
-    spent.left) in_pool in
-    let less : h.generation < g.generation = after (ap (λ x. x.index) (sym same)) in
-    let equal : h.generation ≡ g.generation = ap (λ x. x.generation) same in
-    omega arith
+    grind (arith, common_steps, All-contains (After h) s.pool g (All-right (After h) s.aside s.pool spent.left) in_pool, All-right (After h) s.aside s.pool spent.left, s.pool, s.aside, spent.left, h.generation, g.generation)
 
 -- ---- what is spent stays so
 
@@ -108,11 +106,7 @@ take-stays_spent s n h spent = elim (cases_lt (length s.pool) n) [
 
 -- after a flush
 flush-stays_spent : (s : Allocator) (h : Handle) → IsSpent s h → IsSpent (after_flush s) h
-flush-stays_spent s h spent = record {
-  left = spent.left;
-  taken = All-nil (NotBefore h);
-  live = of_joined (NotBefore h) s.live s.taken spent.live spent.taken;
-}
+flush-stays_spent s h spent = grind (arith, common_steps, All-nil (NotBefore h), of_joined (NotBefore h) s.live s.taken spent.live spent.taken, spent.left, s.live, s.taken, spent.live, spent.taken)
 
 -- after an allocation
 alloc-stays_spent : (s : Allocator) (x : Handle) (rest : List Handle) (h : Handle) → s.pool ≡ x
@@ -167,20 +161,12 @@ take-given s n given more sound served once = record {
 -- a refused request gives nothing
 pub refused-given : (s : Allocator) (n : ℕ) (given : List Handle) → AreSpent s given
     → AreSpent (after_take s n) given
-refused-given s n given once = record {
-  distinct = once.distinct;
-  spent = All-weaker (IsSpent s)
-      (IsSpent (after_take s n)) (take-stays_spent s n) given once.spent;
-}
+refused-given s n given once = search (rules, All-weaker, take-stays_spent)
 
 -- a flush gives nothing
 pub flush-given : (s : Allocator) (given : List Handle) → AreSpent s given
     → AreSpent (after_flush s) given
-flush-given s given once = record {
-  distinct = once.distinct;
-  spent = All-weaker (IsSpent s)
-      (IsSpent (after_flush s)) (flush-stays_spent s) given once.spent;
-}
+flush-given s given once = search (rules, All-weaker, flush-stays_spent)
 
 -- an allocation gives what was never given
 pub alloc-given : (s : Allocator) (x : Handle) (rest given : List Handle) → IsSound s → s.asked ≡ 0
@@ -199,12 +185,7 @@ alloc-given s x rest given sound flushed front once = record {
 -- a free gives nothing
 pub free-given : (s : Allocator) (x : Handle) (given : List Handle) → IsLive s x → AreSpent s given
     → AreSpent (after_free s x) given
-free-given s x given alive once = record {
-  distinct = once.distinct;
-  spent =
-      All-weaker (IsSpent s) (IsSpent (after_free s x)) (λ h. free-stays_spent s x h alive)
-      given once.spent;
-}
+free-given s x given alive once = search (rules, All-weaker, free-stays_spent)
 
 -- ---- other lists of the same handles, and of fewer
 

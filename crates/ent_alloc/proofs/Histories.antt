@@ -1,4 +1,5 @@
 -- What a legal history leaves and gives.
+use Rattle.std.proofs.Common.{rules}
 use Rattle.std.proofs.Common.{◌≡◌, ◌≢◌, refl, sym, ap, ◌∙◌, subst, List, [], ◌∷◌, ◌++◌, length, sum}
 use Rattle.std.proofs.Common.{All, AllPairs, Contains, IsPermutation, ◌↔◌, ◌⊎◌}
 use Rattle.ent_handle.specs.Handle.{Handle}
@@ -22,10 +23,7 @@ pub given_in-legal : (s : Allocator) (calls : List Call) → IsLegal s calls →
     ≡ given_by s (requests_of calls)
 given_in-legal s [] legal = refl
 given_in-legal s (call ∷ calls) legal =
-    let first : handles_in call.reply ≡ handles_in (reply_to s call.requested) =
-    ap handles_in legal.1 in
-    let rest = given_in-legal (after_take s call.requested) calls legal.2 in
-    λ i. first i ++ rest i
+    search (rules, given_in-legal (after_take s call.requested) calls legal.2)
 
 module _ (s : Allocator) (calls : List Call) (sound : IsSound s) (legal : IsLegal s calls) where
   -- no handle stands twice in the replies

@@ -1,4 +1,6 @@
 -- What `alloc` and `free` make of the roster is the allocator's step.
+use Rattle.std.proofs.Common.{rules}
+use Rattle.std.proofs.lemmas.Grind.{common_steps}
 use Rattle.std.proofs.Common.{◌≡◌, ◌≢◌, ◌+◌, ◌-◌, ◌<◌, true, false, cond, ◌||◌, List, [], ◌∷◌, ◌++◌}
 use Rattle.std.proofs.Common.{length, take, drop, reverse, sym, ap, ◌∙◌, arith, suc, slice_get}
 use Rattle.std.proofs.Common.{Some, None, subst, All, refl}
@@ -41,18 +43,12 @@ last_first : (pending : List Handle) (h : Handle) → 0 < length pending
     → slice_get pending (length pending - 1) ≡ Some h → reverse pending ≡ h
     ∷ reverse (take (length pending - 1) pending)
 last_first pending h some last =
-    let at : length pending - 1 + 1 ≡ length pending = omega arith in
-    ap reverse (sym (take_all (length pending) pending (omega arith))
-    ∙ ap (λ n. take n pending) (sym at) ∙ take_more pending (length pending - 1) h (omega arith)
-    ∙ ap (λ x. take (length pending - 1) pending ++ x ∷ [])
-    (get_or_from_slice_get pending (length pending - 1) h h last))
-    ∙ reverse-append (take (length pending - 1) pending) (h ∷ [])
+    grind (arith, common_steps, take_all (length pending) pending (omega arith), take_more pending (length pending - 1) h (omega arith), get_or_from_slice_get pending (length pending - 1) h h last, reverse-append (take (length pending - 1) pending) (h ∷ []))
 
 pub alloc_old_front : (r : Roster) (h : Handle) → 0 < length r.pending
     → slice_get r.pending (length r.pending - 1) ≡ Some h → idle r ≡ h
     ∷ (reverse (take (length r.pending - 1) r.pending) ++ fresh r.made (r.limits.slots - r.made))
-alloc_old_front r h some last = ap (λ hs. hs ++ fresh r.made (r.limits.slots - r.made))
-    (last_first r.pending h some last)
+alloc_old_front r h some last = search (rules, last_first)
 
 -- the roster after the slot that waits last got its next occupant, and after one was made
 abbrev pub reused_roster : Roster → Handle → Roster
@@ -87,10 +83,7 @@ alloc_old_is r h sound some last =
 pub alloc_fresh_front : (r : Roster) → length r.pending ≡ 0 → r.made < r.limits.slots → idle r
     ≡ record { index = r.made; generation = 1 } ∷ fresh (r.made + 1) (r.limits.slots - (r.made + 1))
 alloc_fresh_front r none room =
-    let more : r.limits.slots - r.made ≡ suc (r.limits.slots - (r.made + 1)) = omega arith in
-    ap (λ hs. reverse hs ++ fresh r.made (r.limits.slots - r.made)) (nil_from_length r.pending none)
-    ∙ ap (fresh r.made) more
-    ∙ fresh-next r.made (r.limits.slots - (r.made + 1))
+    grind (arith, common_steps, nil_from_length r.pending none, fresh-next r.made (r.limits.slots - (r.made + 1)), r.limits.slots, r.made, r.pending)
 
 pub alloc_fresh_is : (r : Roster) (h : Handle) → length r.pending ≡ 0 → r.made < r.limits.slots → h
     ≡ record { index = r.made; generation = 1 }
@@ -180,15 +173,7 @@ ended_is : (r : Roster) (h : Handle) (pending : List Handle)
       rows = maps.remove r.rows h;
       pending = pending;
     }) 0 0 ≡ after_free (allocator_of r 0 0) h
-ended_is r h pending front = λ i. record {
-  limits = r.limits;
-  live = sets.remove r.live h;
-  pool = front i;
-  taken = [];
-  aside = [];
-  made = r.made;
-  asked = 0;
-}
+ended_is r h pending front = search (rules)
 
 pub free_is : (r : Roster) (h : Handle) → h.generation ≢ r.limits.generations
     → allocator_of (freed_roster r h) 0 0 ≡ after_free (allocator_of r 0 0) h

@@ -1,5 +1,6 @@
 -- What a served reply lists: handles of different slots, none of them alive, all of them taken, and
 -- none twice in two replies.
+use Rattle.std.proofs.lemmas.Grind.{common_steps}
 use Rattle.std.proofs.Common.{◌≡◌, ◌≢◌, refl, sym, ap, subst, ℕ, ◌<◌, ◌≤◌, true, false, not, nat_le}
 use Rattle.std.proofs.Common.{List, [], ◌∷◌, ◌++◌, length, get_or, take, reverse, filter, All}
 use Rattle.std.proofs.Common.{AllPairs, Contains, IsPermutation, Ok, Err, arith, le-leb, inl, inr}
@@ -50,18 +51,12 @@ reply-refused s n short = let test : nat_le n (length s.pool) ≡ false = lt-leb
 -- what a served reply tells of the pool
 pub served_from : (s : Allocator) (n : ℕ) (given : List Handle) → reply_to s n ≡ Ok given
     → (n ≤ length s.pool) × (given ≡ listed s.made (take n s.pool))
-served_from s n given is = elim (cases_lt (length s.pool) n) [
-  | inl short ↦ let refused = reply-refused s n short in cc
-  | inr enough ↦ let served = reply-served s n enough in (enough, cc)
-]
+served_from s n given is = grind (arith, common_steps)
 
 -- and a refusal
 pub refused_from : (s : Allocator) (n : ℕ) (space : Space) → reply_to s n ≡ Err space
     → (length s.pool < n) × (space ≡ record { wanted = n; left = length s.pool })
-refused_from s n space is = elim (cases_lt (length s.pool) n) [
-  | inl short ↦ let refused = reply-refused s n short in (short, cc)
-  | inr enough ↦ let served = reply-served s n enough in cc
-]
+refused_from s n space is = grind (arith, common_steps)
 
 -- a handle is not apart from itself
 pub not_apart : (h : Handle) → ¬ (AreApart h h)
@@ -146,24 +141,18 @@ module _ (s : Allocator) (n : ℕ) (given : List Handle) (is : reply_to s n ≡ 
 -- a refused request takes nothing
 pub taken-after_refused : (s : Allocator) (n : ℕ) (space : Space) → reply_to s n ≡ Err space
     → (after_take s n).taken ≡ s.taken
-taken-after_refused s n space is = ap (λ t. t.taken)
-    (after_take-refused s n (refused_from s n space is).0)
+taken-after_refused s n space is = grind (arith, common_steps)
 
 -- what is taken stays so
 pub taken-keeps : (s : Allocator) (n : ℕ) (x : Handle) → Contains s.taken x
     → Contains (after_take s n).taken x
-taken-keeps s n x in_taken = elim (cases_lt (length s.pool) n) [
-  | inl short ↦ rw (after_take-refused s n short) in_taken
-  | inr enough ↦ rw (after_take-served s n enough) (Contains-append_left s.taken (take n s.pool) x
-      in_taken)
-]
+taken-keeps s n x in_taken = grind (arith, common_steps)
 
 -- through all requests
 pub taken-keeps_all : (s : Allocator) (requests : List ℕ) (x : Handle) → Contains s.taken x
     → Contains (after_takes s requests).taken x
 taken-keeps_all s [] x in_taken = in_taken
-taken-keeps_all s (n ∷ requests) x in_taken = taken-keeps_all (after_take s n) requests x
-    (taken-keeps s n x in_taken)
+taken-keeps_all s (n ∷ requests) x in_taken = grind (arith, common_steps, taken-keeps_all (after_take s n) requests x (taken-keeps s n x in_taken))
 
 -- two replies list no two handles of one slot, whatever was requested between them
 pub replies_apart : (s : Allocator) (n : ℕ) (given : List Handle) (between : List ℕ) (m : ℕ)

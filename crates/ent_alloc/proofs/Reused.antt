@@ -1,4 +1,6 @@
 -- What becomes of the records when pending slots get their next occupants.
+use Rattle.std.proofs.Common.{rules}
+use Rattle.std.proofs.lemmas.Grind.{common_steps}
 use Rattle.std.proofs.Common.{◌≡◌, ◌≢◌, ℕ, ◌+◌, ◌<◌, Bool, true, false, cond, ◌&&◌, ◌||◌, eqb, List}
 use Rattle.std.proofs.Common.{[], ◌∷◌, length, get_or, set, map, refl, sym, ap, ◌∙◌, arith, inl}
 use Rattle.std.proofs.Common.{inr, suc, zero}
@@ -59,32 +61,21 @@ pub length-reused : (records : List SlotRecord) (indices : List ℕ) → length 
     ≡ length records
 length-reused records [] = refl
 length-reused records (index ∷ indices) =
-    length-reused (set records index (reuse (record_at records index))) indices
-    ∙ length-set records index (reuse (record_at records index))
+    search (rules, length-set, length-reused (set records index (reuse (record_at records index))) indices)
 
 -- the generations stay
 generation-reuse : (records : List SlotRecord) (index at : ℕ) → index < length records
     → (record_at (set records index (reuse (record_at records index))) at).generation
     ≡ (record_at records at).generation
 generation-reuse records index at within =
-    elim (cases_eq at index) [
-      | inl e ↦
-          ap (λ n. (record_at (set records index (reuse (record_at records index))) n).generation) e
-          ∙ ap (λ (r : SlotRecord). r.generation)
-          (get_or-set_same records index (reuse (record_at records index)) no_slot within)
-          ∙ ap (λ n. (record_at records n).generation) (sym e)
-      | inr ne ↦ ap (λ (r : SlotRecord). r.generation) (get_or-set_other records index at
-          (reuse (record_at records index)) no_slot ne)
-    ]
+    grind (arith, common_steps)
 
 pub generation-reused : (records : List SlotRecord) (from : ℕ) (indices : List ℕ) (at : ℕ)
     → Wait records from indices → (record_at (reused records indices) at).generation
     ≡ (record_at records at).generation
 generation-reused records from [] at wait = refl
 generation-reused records from (index ∷ indices) at wait =
-    generation-reused (set records index (reuse (record_at records index))) (from + 1) indices at
-    (Wait-rest records from index indices wait)
-    ∙ generation-reuse records index at (wait.made 0 (omega arith))
+    grind (arith, common_steps, Wait-rest, generation-reuse, generation-reused (set records index (reuse (record_at records index))) (from + 1) indices)
 
 -- a slot that waits at an earlier position goes on waiting there
 pub waiting-reused : (records : List SlotRecord) (from : ℕ) (indices : List ℕ) (at position : ℕ)
@@ -116,11 +107,7 @@ Alive≢Pending e = cc
 pub waited-reused : (records : List SlotRecord) (from : ℕ) (indices : List ℕ) (at position : ℕ)
     → Wait records from indices → (record_at (reused records indices) at).occupancy
     ≡ Pending position → StillWaits records indices at position
-waited-reused records from [] at position wait is = record {
-  before = is;
-  apart = λ k within.
-      absurd (omega arith);
-}
+waited-reused records from [] at position wait is = search (rules)
 waited-reused records from (index ∷ indices) at position wait is =
     let later = waited-reused (set records index (reuse (record_at records index))) (from + 1)
     indices at position (Wait-rest records from index indices wait) is in
@@ -186,9 +173,7 @@ slept_no_occupant : (records : List SlotRecord) (index : ℕ) (q : Handle) (posi
     → (record_at records index).occupancy ≡ Pending position → eqb q.index index ≡ true
     → is_occupant records q ≡ false
 slept_no_occupant records index q position here e =
-    let at : q.index ≡ index = grind (arith, nat_tests) in
-    ap (λ n. has_occupant (record_at records n) q.generation) at
-    ∙ ap (λ t. is_alive t && eqb (record_at records index).generation q.generation) here
+    grind (arith, common_steps)
 
 -- the occupants are those before and the handles that waited
 pub is_occupant-reused : (records : List SlotRecord) (from : ℕ) (indices : List ℕ) (q : Handle)

@@ -1,5 +1,6 @@
 -- Two numbers tell what requests leave of a flushed allocator: how many handles were given, and how
 -- many were asked for.
+use Rattle.std.proofs.lemmas.Grind.{common_steps}
 use Rattle.std.proofs.Common.{◌≡◌, sym, ap, ◌∙◌, ℕ, ◌+◌, ◌-◌, ◌<◌, ◌≤◌, List, [], ◌++◌, length}
 use Rattle.std.proofs.Common.{take, drop, sum, Err, arith, nat_le, false, append_assoc, append-nil}
 use Rattle.std.proofs.Common.{inl, inr}
@@ -24,12 +25,7 @@ use Rattle.ent_alloc.proofs.RequestLaws.{given_by, taken-since_flush}
 three_parts : (given asked : ℕ) (pool : List Handle) → given ≤ asked → take given pool
     ++ (drop given (take asked pool) ++ drop asked pool) ≡ pool
 three_parts given asked pool le =
-    let front : take given (take asked pool) ≡ take given pool = take-take given asked pool le in
-    ap (λ xs. xs ++ (drop given (take asked pool) ++ drop asked pool)) (sym front)
-    ∙ sym (append_assoc (take given (take asked pool)) (drop given (take asked pool))
-    (drop asked pool))
-    ∙ ap (◌++ drop asked pool) (take-append-drop given (take asked pool))
-    ∙ take-append-drop asked pool
+    grind (arith, common_steps, take-take given asked pool le, append_assoc (take given (take asked pool)) (drop given (take asked pool)) (drop asked pool), take-append-drop given (take asked pool), take-append-drop asked pool)
 
 module _ (s : Allocator) (h : IsSound s) (flushed : s.asked ≡ 0) where
   -- a flushed allocator has taken nothing
@@ -143,5 +139,4 @@ all_given s requests h flushed some =
 -- after a refusal every request for something is refused, with nothing left
 pub shut : (s : Allocator) (n m : ℕ) → length s.pool < n → 0 < m → reply_to (after_take s n) m
     ≡ Err (record { wanted = m; left = 0 })
-shut s n m short some = let test : nat_le m 0 ≡ false = lt-leb m 0 some in
-    rw (after_take-refused s n short, test)
+shut s n m short some = grind (arith, common_steps)

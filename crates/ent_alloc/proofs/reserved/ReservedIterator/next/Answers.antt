@@ -7,30 +7,16 @@ use Rattle.ent_alloc.proofs.reserved.ReservedIterator.next.Goals as goal
 
 pub returns-then-self-clause-steps : goal.returns-then-self-clause-steps
 returns-then-self-clause-steps c =
-    let r = c.self.inside in
-    sym c.self.view_is ∙ reserved_handles-pending r.slots.now r.position r.end r.index r.index_end
-    c.pending_at-handle.result c.self.invariant.within c.if-self.true
-    c.pending_at-handle.ensures
+    search (rules, reserved_handles-pending)
 
 pub returns-then-self-2-clause-steps : goal.returns-then-self-2-clause-steps
 returns-then-self-2-clause-steps c =
-    let r = c.self.inside in
-    sym c.self.view_is
-    ∙ reserved_handles-fresh r.slots.now r.position r.end r.index r.index_end c.if-self.false
-    c.if-self-2.true
-    ∙ ap (λ (h : Handle). h ∷ reserved_handles r.slots.now r.position r.end (r.index + 1)
-    r.index_end) (sym c.first_occupant-handle.ensures)
+    search (rules, reserved_handles-fresh)
 
 pub returns-then-self-2-clause-goes : goal.returns-then-self-2-clause-goes
 returns-then-self-2-clause-goes c =
-    let r = c.self.inside in
-    let fewer = ap length (sym c.self.view_is ∙ reserved_handles-fresh r.slots.now r.position r.end
-    r.index r.index_end c.if-self.false c.if-self-2.true) in
-    search rules
+    search (rules, reserved_handles-fresh)
 
 pub returns-clause-steps : goal.returns-clause-steps
 returns-clause-steps c =
-    let r = c.self.inside in
-    let none = sym c.self.view_is ∙ reserved_handles-none r.slots.now r.position r.end r.index
-    r.index_end c.if-self.false c.if-self-2.false in
-    (none, none)
+    search (rules, reserved_handles-none)

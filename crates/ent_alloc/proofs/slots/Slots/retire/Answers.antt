@@ -1,3 +1,5 @@
+use Rattle.std.proofs.Common.{rules}
+use Rattle.std.proofs.lemmas.Grind.{common_steps}
 use Rattle.std.proofs.Common.{◌≡◌, true, ap, ◌∙◌, arith}
 use Rattle.std.specs.FinSet as sets
 use Rattle.std.specs.FinMap as maps
@@ -12,17 +14,11 @@ use Rattle.ent_alloc.proofs.slots.Slots.retire.Goals as goal
 
 -- the handle is that of an occupant
 lives : (c : After-self) → is_occupant c.self.inside.records.items c.args.handle ≡ true
-lives c = lives_in c.self.inside.limits c.self.inside.records.items c.self.inside.pending.items
-    c.args.handle c.self.view_is c.requires
+lives c = search (rules, lives_in)
 
 pub index_mut-requires : goal.index_mut-requires
 index_mut-requires c =
-    let index = c.index-index.ensures in
-    omega (
-      arith,
-      occupant_made c.self.inside.records.items c.args.handle
-          (lives (goal.at.index_mut-requires c).After-self),
-    )
+    grind (arith, common_steps, occupant_made c.self.inside.records.items c.args.handle (lives (goal.at.index_mut-requires c).After-self), lives (goal.at.index_mut-requires c).After-self, c.index-index.ensures, c.self.inside.records.items, c.args.handle)
 
 pub overflow_sub-self : goal.overflow_sub-self
 overflow_sub-self c =
