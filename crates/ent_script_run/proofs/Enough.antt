@@ -21,7 +21,7 @@ use Rattle.ent_alloc.proofs.FreshHandles.{length-fresh}
 use Rattle.ent_alloc.proofs.ListLaws.{All-left, All-right}
 use Rattle.ent_alloc.proofs.Taken.{after_take-served}
 use Rattle.ent_shared.specs.declared.refused.Refused.TheVariants as refusal
-use Rattle.ent_queue.specs.Command.{Command, Spawn, SpawnMany, Insert, Remove, Despawn, Refused}
+use Rattle.ent_queue.specs.Command.{Command, Refused}
 use Rattle.ent_queue.specs.Reserving.{stands_for, cost, FitsCredit, FitCredit}
 use Rattle.ent_world.specs.Effects.{applied}
 use Rattle.ent_world.specs.Sync.{sync, after_births}
@@ -76,17 +76,13 @@ IsReplied request = IsOk request.1
 -- it fits the credit that is left, and the allocator has served it
 command-granted : (left : ℕ) (c : Command) → FitsCredit left c → wanted_by c ≤ left
     → All IsReplied (stands_for c) → IsGranted c
-command-granted left (Spawn h items) fits within replied = tt
-command-granted left (SpawnMany hs items) fits within replied = tt
-command-granted left (Insert h items) fits within replied = tt
-command-granted left (Remove h id) fits within replied = tt
-command-granted left (Despawn h) fits within replied = tt
 command-granted left (Refused wanted (refusal.Space same rest)) fits within replied =
     let request : Request = (wanted, Err (record { wanted = same; left = rest })) in
     let never : IsReplied request = All-head IsReplied request [] replied in
     absurd (cc)
 command-granted left (Refused wanted (refusal.Quota rest)) fits within replied =
     let more = fits.1 in absurd (omega arith)
+command-granted left _ fits within replied = tt
 
 commands-granted : (left : ℕ) (commands : List Command) → FitCredit left commands
     → wanted_in commands ≤ left → All IsReplied (flat_map stands_for commands)

@@ -10,14 +10,13 @@ use Rattle.std.proofs.lemmas.List.Elements.{All-nil, All-cons, All-head}
 use Rattle.ent_handle.specs.Handle.{Handle}
 use Rattle.ent_alloc.proofs.ListLaws.{All-left, All-right}
 use Rattle.ent_shared.specs.declared.refused.Refused.TheVariants as refusal
-use Rattle.ent_queue.specs.Command.{Command, Spawn, SpawnMany, Insert, Remove, Despawn, Refused}
+use Rattle.ent_queue.specs.Command.{Command, Refused}
 use Rattle.ent_world.specs.declared.fault.Fault.{Fault}
 use Rattle.ent_world.specs.declared.fault.FaultKind.{FaultKind}
 use Rattle.ent_world.specs.declared.fault.FaultKind.TheVariants as kind
 use Rattle.ent_world.specs.World.{World, first_world, lives_in}
-use Rattle.ent_world.specs.Effects.{Applied, applied, on_entity, on_each, with_fault, after_insert}
-use Rattle.ent_world.specs.Effects.{after_remove, after_despawn, after_command, after_commands}
-use Rattle.ent_world.specs.Effects.{after_queues}
+use Rattle.ent_world.specs.Effects.{Applied, applied, on_entity, on_each, with_fault}
+use Rattle.ent_world.specs.Effects.{after_command, after_commands, after_queues}
 use Rattle.ent_world.specs.Sync.{after_births, sync}
 use Rattle.ent_runner.specs.Frame.{reserved_by}
 use Rattle.ent_script.specs.Script.{Script}
@@ -63,17 +62,13 @@ module _ (system command : ℕ) where
 
   before_command : (c : Command) (a : Applied) → AreNone (after_command system command c a)
       → AreNone a × IsGranted c
-  before_command (Spawn h items) a none = (before_one (after_insert items) h a none, tt)
-  before_command (SpawnMany hs items) a none = (before_each (after_insert items) hs a none, tt)
-  before_command (Insert h items) a none = (before_one (after_insert items) h a none, tt)
-  before_command (Remove h id) a none = (before_one (after_remove id) h a none, tt)
-  before_command (Despawn h) a none = (before_one after_despawn h a none, tt)
   before_command (Refused wanted (refusal.Space same left)) a none =
       let both = before_fault (kind.Space same left) a none in
       (both.0, both.1 tt)
   before_command (Refused wanted (refusal.Quota left)) a none =
       let both = before_fault (kind.Quota left) a none in
       (both.0, both.1 tt)
+  before_command _ a none = (search (before_one, before_each), tt)
 
 before_commands : (system command : ℕ) (q : List Command) (a : Applied)
     → AreNone (after_commands system command q a) → AreNone a × All IsGranted q

@@ -27,7 +27,7 @@ use Rattle.ent_alloc.proofs.ListLaws.{filter_all}
 use Rattle.ent_alloc.proofs.PoolLaw.{reply-none}
 use Rattle.ent_shared.specs.declared.refused.Refused.TheVariants.{Space, Quota}
 use Rattle.ent_storage.proofs.OneList.{one_list_with}
-use Rattle.ent_queue.specs.Command.{Command, Spawn, SpawnMany, Insert, Remove, Despawn, Refused}
+use Rattle.ent_queue.specs.Command.{Command, Spawn, SpawnMany, Refused}
 use Rattle.ent_world.specs.World.{World}
 use Rattle.ent_world.specs.OpenWorld.{View}
 use Rattle.ent_runner.specs.Frame.{IsFrame, view_of, queue_at, commands_of, requests_by}
@@ -143,12 +143,7 @@ same_operation view names (operation.Spawn bundle binds) s left cs ds a b p q =
     spawn_is s left bundle cs a p ∙ sym (spawn_is s left bundle ds b q)
 same_operation view names (operation.SpawnMany count bundle binds) s left cs ds a b p q =
     many_is s left bundle count cs a p ∙ sym (many_is s left bundle count ds b q)
-same_operation view names (operation.Insert bundle on) s left cs ds a b p q = same_on_each view
-    names on (λ h. Insert h bundle) cs ds a b
-same_operation view names (operation.Remove id on) s left cs ds a b p q = same_on_each view names on
-    (λ h. Remove h id) cs ds a b
-same_operation view names (operation.Despawn on) s left cs ds a b p q = same_on_each view names on
-    Despawn cs ds a b
+same_operation view names _ s left cs ds a b p q = same_on_each view names _ _ cs ds a b
 
 -- ---- one system
 

@@ -15,7 +15,7 @@ use Rattle.ent_handle.specs.declared.component.ComponentId.{ComponentId}
 use Rattle.ent_alloc.specs.declared.space.Space.{Space}
 use Rattle.ent_alloc.specs.History.{Call}
 use Rattle.ent_shared.specs.declared.refused.Refused.TheVariants as refusal
-use Rattle.ent_queue.specs.Command.{Command, Spawn, SpawnMany, Insert, Remove, Despawn, Refused}
+use Rattle.ent_queue.specs.Command.{Command, Spawn, SpawnMany, Refused}
 use Rattle.ent_queue.specs.Reserving.{stands_for, cost}
 use Rattle.ent_world.specs.OpenWorld.{View}
 use Rattle.ent_world.specs.World.{World}
@@ -135,26 +135,17 @@ by_callers callers (call ∷ history) all =
 
 -- for how many handles a command stands, given or refused
 abbrev pub wanted_by : Command → ℕ
-wanted_by (Spawn h items) = 1
-wanted_by (SpawnMany hs items) = length hs
-wanted_by (Insert h items) = 0
-wanted_by (Remove h id) = 0
-wanted_by (Despawn h) = 0
 wanted_by (Refused wanted why) = wanted
+wanted_by c = cost c
 
 abbrev pub wanted_in : List Command → ℕ
 wanted_in queue = sum_by wanted_by queue
 
 -- What it has cost is no more: a refusal for want of credit has cost nothing.
 pub cost-wanted : (c : Command) → cost c ≤ wanted_by c
-cost-wanted (Spawn h items) = omega arith
-cost-wanted (SpawnMany [] items) = omega arith
-cost-wanted (SpawnMany (h ∷ hs) items) = omega arith
-cost-wanted (Insert h items) = omega arith
-cost-wanted (Remove h id) = omega arith
-cost-wanted (Despawn h) = omega arith
 cost-wanted (Refused wanted (refusal.Space same left)) = omega arith
 cost-wanted (Refused wanted (refusal.Quota left)) = omega arith
+cost-wanted _ = omega arith
 
 -- ---- what operations want
 
@@ -175,7 +166,8 @@ spawn-wanted bundle _ is = absurd is
 
 many-wanted : (count : ℕ) (bundle : List (ComponentId × ℤ)) (issued : List Command)
     → IsSpawnMany count bundle issued → wanted_in issued ≡ count
-many-wanted count bundle (SpawnMany hs items ∷ []) is = let long = is.0 in omega arith
+many-wanted count bundle (SpawnMany [] items ∷ []) is = let long = is.0 in omega arith
+many-wanted count bundle (SpawnMany (h ∷ hs) items ∷ []) is = let long = is.0 in omega arith
 many-wanted count bundle (Refused wanted why ∷ []) is = omega arith
 many-wanted count bundle _ is = absurd is
 
@@ -185,12 +177,8 @@ operation-wanted view names (operation.Spawn bundle binds) issued is =
     spawn-wanted bundle issued is
 operation-wanted view names (operation.SpawnMany count bundle binds) issued is =
     many-wanted count bundle issued is
-operation-wanted view names (operation.Insert bundle on) issued (hs, are, is) =
-    ap wanted_in is ∙ none_wanted (λ h. Insert h bundle) (λ h. refl) hs
-operation-wanted view names (operation.Remove id on) issued (hs, are, is) =
-    ap wanted_in is ∙ none_wanted (λ h. Remove h id) (λ h. refl) hs
-operation-wanted view names (operation.Despawn on) issued (hs, are, is) =
-    ap wanted_in is ∙ none_wanted Despawn (λ h. refl) hs
+operation-wanted view names _ issued (hs, are, is) =
+    ap wanted_in is ∙ none_wanted _ (λ h. refl) hs
 
 operations-wanted : (view : View) (names : Bindings) (ops : List Operation) (queue : List Command)
     → IssuesAll view names ops queue → wanted_in queue ≡ sum_by requested_by_operation ops

@@ -8,8 +8,7 @@ use Rattle.std.specs.List.{All, range_with_len}
 use Rattle.ent_handle.specs.declared.birth.Birth.{Birth}
 use Rattle.ent_handle.specs.Birth.{birth_cmp}
 use Rattle.ent_handle.specs.Component.{component_cmp}
-use Rattle.ent_queue.specs.Command.{Command}
-use Rattle.ent_queue.specs.Command as queued
+use Rattle.ent_queue.specs.Command.{Command, Refused}
 use Rattle.ent_world.specs.BirthsAlone.{BirthMap, BirthCommand, Spawn, Insert, Remove, Despawn}
 use Rattle.ent_script.specs.declared.operation.Operation.{Operation}
 use Rattle.ent_script.specs.declared.operation.Operation.TheVariants as operation
@@ -92,12 +91,8 @@ NamesNoHandle ops = All NeedsNoHandle ops
 
 -- For laws: the command is not a request that was refused.
 abbrev pub IsGranted : Command → Type 0
-IsGranted (queued.Spawn h items) = Unit {0}
-IsGranted (queued.SpawnMany hs items) = Unit {0}
-IsGranted (queued.Insert h items) = Unit {0}
-IsGranted (queued.Remove h id) = Unit {0}
-IsGranted (queued.Despawn h) = Unit {0}
-IsGranted (queued.Refused wanted why) = ⊥
+IsGranted (Refused wanted why) = ⊥
+IsGranted _ = Unit {0}
 
 -- For laws: no command of any queue is such a request.
 abbrev pub AreGranted : List (List Command) → Type 0

@@ -1,5 +1,5 @@
 use Rattle.std.proofs.Common.{◌≡◌, ◌+◌, ◌++◌, ◌<◌, ℕ, List, length, map, string_bytes, sym, ap, ◌∙◌, arith}
-use Rattle.std.proofs.Common.{inl, inr, refl, vec_len, length-append}
+use Rattle.std.proofs.Common.{inr, refl, vec_len, length-append}
 use Rattle.std.specs.Prelude.{vec_capacity}
 use Rattle.std.specs.List.{flat_map}
 use Rattle.std.proofs.lemmas.Result.{err_from_is_err_and, on_err_weaker}
