@@ -1,26 +1,23 @@
 -- No handle is given twice: each step keeps the list of all given handles free of repetitions.
-use Rattle.std.proofs.Common.{rules}
-use Rattle.std.proofs.lemmas.Grind.{common_steps}
-use Rattle.std.proofs.Common.{le_of_eq, append-nil, ◌≡◌, ◌≢◌, refl, sym, ap, subst, ℕ, ◌<◌}
+use Rattle.std.proofs.Common.{rules, le_of_eq, append-nil, ◌≡◌, ◌≢◌, refl, sym, ap, subst, ℕ, ◌<◌}
 use Rattle.std.proofs.Common.{◌≤◌, List, [], ◌∷◌, ◌++◌, length, get_or, take, drop, All, Contains}
 use Rattle.std.proofs.Common.{IsPermutation, Ok, arith, inl, inr}
 use Rattle.std.proofs.lemmas.Bool.{cases_lt}
-use Rattle.std.proofs.lemmas.List.Elements.{Contains-get_or, All-push, All-nil}
-use Rattle.std.proofs.lemmas.List.Elements.{All-append, All-head, All-contains, All-contains_itself}
-use Rattle.std.proofs.lemmas.List.Elements.{All-weaker, All-take, All-drop, Contains-append_left}
+use Rattle.std.proofs.lemmas.List.Elements.{Contains-get_or, All-push, All-nil, All-append}
+use Rattle.std.proofs.lemmas.List.Elements.{All-head, All-contains, All-contains_itself, All-weaker}
+use Rattle.std.proofs.lemmas.List.Elements.{All-take, All-drop, Contains-append_left}
 use Rattle.std.proofs.lemmas.List.Quantifiers.{all_pairs_push}
 use Rattle.std.proofs.lemmas.List.Sorted.{All-permutation}
 use Rattle.ent_handle.specs.Handle.{Handle}
-use Rattle.ent_alloc.specs.Sequential.{Allocator, available, after_take, after_flush}
-use Rattle.ent_alloc.specs.Sequential.{after_alloc, after_free, next, in_front, reply_to}
+use Rattle.ent_alloc.specs.Sequential.{Allocator, available, after_take, after_flush, after_alloc}
+use Rattle.ent_alloc.specs.Sequential.{after_free, next, in_front, reply_to}
 use Rattle.ent_alloc.specs.Sound.{IsSound, AreApart, IsLive}
 use Rattle.ent_alloc.specs.Spent.{IsSpent, AreSpent}
 use Rattle.ent_alloc.proofs.ListLaws.{All-left, All-right, AllPairs-append, AllPairs-left}
 use Rattle.ent_alloc.proofs.ListLaws.{AllPairs-across, AllPairs-IsPermutation, same_from_AllPairs}
 use Rattle.ent_alloc.proofs.HandleSets.{inserted, in_removed, of_inserted, of_joined}
 use Rattle.ent_alloc.proofs.Taken.{after_take-served, after_take-refused}
-use Rattle.ent_alloc.proofs.Soundness.{after_alloc-sound, after_take-sound, of_next}
-use Rattle.ent_alloc.proofs.Soundness.{All-in_front}
+use Rattle.ent_alloc.proofs.Soundness.{after_alloc-sound, after_take-sound, of_next, All-in_front}
 use Rattle.ent_alloc.proofs.Replies.{of_reply, reply-taken, reply-distinct}
 
 -- g comes after h, where both are of one slot
@@ -80,7 +77,11 @@ live-spent s h sound alive =
 -- nothing in the pool
 spent_not_in_pool : (s : Allocator) (h g : Handle) → IsSpent s h → Contains s.pool g → h ≢ g
 spent_not_in_pool s h g spent in_pool same =
-    grind (arith, common_steps, All-contains (After h) s.pool g (All-right (After h) s.aside s.pool spent.left) in_pool, All-right (After h) s.aside s.pool spent.left, s.pool, s.aside, spent.left, h.generation, g.generation)
+    let after : After h g = All-contains (After h) s.pool g (All-right (After h) s.aside s.pool
+    spent.left) in_pool in
+    let less : h.generation < g.generation = after (ap (λ x. x.index) (sym same)) in
+    let equal : h.generation ≡ g.generation = ap (λ x. x.generation) same in
+    omega arith
 
 -- ---- what is spent stays so
 
@@ -106,7 +107,11 @@ take-stays_spent s n h spent = elim (cases_lt (length s.pool) n) [
 
 -- after a flush
 flush-stays_spent : (s : Allocator) (h : Handle) → IsSpent s h → IsSpent (after_flush s) h
-flush-stays_spent s h spent = grind (arith, common_steps, All-nil (NotBefore h), of_joined (NotBefore h) s.live s.taken spent.live spent.taken, spent.left, s.live, s.taken, spent.live, spent.taken)
+flush-stays_spent s h spent = record {
+  left = spent.left;
+  taken = All-nil (NotBefore h);
+  live = of_joined (NotBefore h) s.live s.taken spent.live spent.taken;
+}
 
 -- after an allocation
 alloc-stays_spent : (s : Allocator) (x : Handle) (rest : List Handle) (h : Handle) → s.pool ≡ x

@@ -1,10 +1,7 @@
 -- The living occupants, slot by slot.
-use Rattle.std.proofs.Common.{rules}
+use Rattle.std.proofs.Common.{rules, ◌≡◌, ℕ, ◌+◌, ◌<◌, ◌≤◌, Bool, true, false, cond, List, [], ◌∷◌}
+use Rattle.std.proofs.Common.{arith, drop, length, get_or, suc, zero, All, AllPairs}
 use Rattle.std.proofs.lemmas.Grind.{common_steps}
-use Rattle.std.proofs.Common.{◌≡◌, ℕ, ◌+◌, ◌<◌, ◌≤◌, Bool, true, false, cond, List, [], ◌∷◌}
-use Rattle.std.proofs.Common.{ap, ◌∙◌, arith, drop, length, get_or, suc, zero}
-use Rattle.std.proofs.Common.{All, AllPairs}
-use Rattle.std.proofs.lemmas.List.{drop_more}
 use Rattle.std.proofs.lemmas.List.Kept.{AllPairs-cons}
 use Rattle.ent_handle.specs.Handle.{Handle}
 use Rattle.ent_alloc.specs.declared.slot_record.SlotRecord.{SlotRecord}

@@ -1,14 +1,13 @@
 -- Laws of lists: filters that keep all or nothing, parts of joined lists, pairs, and functions that
 -- agree on a list.
-use Rattle.std.proofs.Common.{rules}
+use Rattle.std.proofs.Common.{rules, ◌≡◌, refl, sym, ap, ◌∙◌, ℕ, zero, suc, ◌+◌, ◌-◌, ◌<◌, Bool}
+use Rattle.std.proofs.Common.{true, false, eqb, List, [], ◌∷◌, ◌++◌, length, get_or, take, drop}
+use Rattle.std.proofs.Common.{filter, All, AllPairs, Contains, arith, cond, ◌==◌, ◌≢◌, swap}
+use Rattle.std.proofs.Common.{IsPermutation, eq-eqb, ne_eqb, inl, inr, subst₂, map, leb, ◌⊎◌}
 use Rattle.std.proofs.lemmas.Grind.{common_steps}
-use Rattle.std.proofs.Common.{◌≡◌, refl, sym, ap, ◌∙◌, ℕ, zero, suc, ◌+◌, ◌-◌, ◌<◌, Bool, true}
-use Rattle.std.proofs.Common.{false, eqb, List, [], ◌∷◌, ◌++◌, length, get_or, take, drop, filter}
-use Rattle.std.proofs.Common.{All, AllPairs, Contains, arith, cond, ◌==◌, ◌≢◌, swap, IsPermutation}
-use Rattle.std.proofs.Common.{eq-eqb, ne_eqb, inl, inr, subst₂, map, leb, ◌⊎◌}
 use Rattle.std.proofs.lemmas.List.{get_or-take, get_or-drop, get_or_append_left, length-append}
 use Rattle.std.proofs.lemmas.List.{length-take, length-drop, get_or_default}
-use Rattle.std.proofs.lemmas.Bool.{cases_lt, cases_eq, cases_order, lt-leb, le-leb}
+use Rattle.std.proofs.lemmas.Bool.{cases_lt, cases_eq}
 use Rattle.std.proofs.lemmas.Bool.Decides.{nat_tests}
 use Rattle.std.proofs.lemmas.List.Edits.{Swapped, length-swap, swapped_from_swap}
 use Rattle.std.proofs.lemmas.List.Sorted.{IsPermutation-keeps}

@@ -1,9 +1,7 @@
 -- What a reply that borrows the slots lists, one handle after the other.
-use Rattle.std.proofs.Common.{rules}
+use Rattle.std.proofs.Common.{rules, ◌≡◌, ℕ, ◌+◌, ◌-◌, ◌<◌, ◌≤◌, List, [], ◌∷◌, ◌++◌, length, drop}
+use Rattle.std.proofs.Common.{replicate, slice_get, Some, refl, ap, ◌∙◌, arith, suc, zero, add-zero}
 use Rattle.std.proofs.lemmas.Grind.{common_steps}
-use Rattle.std.proofs.Common.{◌≡◌, ℕ, ◌+◌, ◌-◌, ◌<◌, ◌≤◌, List, [], ◌∷◌, ◌++◌, length, take, drop}
-use Rattle.std.proofs.Common.{replicate, slice_get, Some, refl, sym, ap, ◌∙◌, arith, suc}
-use Rattle.std.proofs.Common.{zero, add-zero}
 use Rattle.std.proofs.lemmas.List.{length-append, length-take-le, length-drop, drop_more}
 use Rattle.std.proofs.lemmas.Option.{get_or_from_slice_get}
 use Rattle.ent_handle.specs.Handle.{Handle}

@@ -1,19 +1,16 @@
 -- What the record of a living occupant has.
-use Rattle.std.proofs.Common.{rules}
+use Rattle.std.proofs.Common.{rules, ◌≡◌, ◌<◌, true, false, eqb, List, length, sym, ap, ◌∙◌, None}
+use Rattle.std.proofs.Common.{ℕ, get_or, set, arith}
 use Rattle.std.proofs.lemmas.Grind.{common_steps}
-use Rattle.std.proofs.Common.{◌≡◌, ◌<◌, true, false, cond, ◌&&◌, eqb, List, length, sym, ap, ◌∙◌}
-use Rattle.std.proofs.Common.{inl, inr, None, ℕ, get_or, set, arith}
 use Rattle.std.specs.FinSet as sets
-use Rattle.std.proofs.lemmas.Bool.{cases_lt, false≢true, and_parts, eqb-true}
-use Rattle.std.proofs.lemmas.List.{get_or_past, get_or_read}
+use Rattle.std.proofs.lemmas.Bool.{and_parts}
 use Rattle.ent_handle.specs.Handle.{Handle}
-use Rattle.ent_alloc.proofs.ListLaws.{eqb_sym}
 use Rattle.ent_alloc.specs.Limits.{Limits}
 use Rattle.ent_alloc.specs.Roster.{Roster}
 use Rattle.ent_alloc.specs.declared.slot_record.SlotRecord.{SlotRecord}
 use Rattle.ent_alloc.specs.declared.slot_record.Occupancy.{Occupancy}
-use Rattle.ent_alloc.specs.Slots.{is_alive, row_of, record_at, no_slot, roster_of}
-use Rattle.ent_alloc.proofs.Occupants.{is_occupant, has_occupant, contains_occupants}
+use Rattle.ent_alloc.specs.Slots.{is_alive, record_at, roster_of}
+use Rattle.ent_alloc.proofs.Occupants.{is_occupant, contains_occupants}
 use Rattle.ent_alloc.proofs.KeptRows.{row_at}
 
 -- a handle that lives in the roster is that of an occupant

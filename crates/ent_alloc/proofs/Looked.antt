@@ -1,10 +1,8 @@
 -- What looking a handle up in the records tells of the pending list, of the fresh handles and of
 -- the rows.
-use Rattle.std.proofs.Common.{rules}
-use Rattle.std.proofs.lemmas.Grind.{common_steps}
-use Rattle.std.proofs.Common.{◌≡◌, ◌≢◌, ℕ, ◌+◌, ◌-◌, ◌<◌, ◌≤◌, Bool, true, false, cond, ◌&&◌, eqb}
-use Rattle.std.proofs.Common.{ltb, List, length, get_or, set, drop, map, refl, sym, ap, ◌∙◌, arith}
-use Rattle.std.proofs.Common.{inl, inr, Option, None, Some}
+use Rattle.std.proofs.Common.{rules, ◌≡◌, ◌≢◌, ℕ, ◌+◌, ◌-◌, ◌<◌, ◌≤◌, Bool, true, false, cond, ◌&&◌}
+use Rattle.std.proofs.Common.{eqb, ltb, List, length, get_or, set, drop, map, refl, sym, ap, ◌∙◌}
+use Rattle.std.proofs.Common.{arith, inl, inr, Option, None, Some}
 use Rattle.std.specs.List.{Contains}
 use Rattle.std.specs.Option.{OnSome}
 use Rattle.std.specs.FinSet as sets
@@ -196,7 +194,13 @@ module _ (limits : Limits) (records : List SlotRecord) (pending : List ℕ) (liv
 pub fresh_yes : (h : Handle) (made count : ℕ) → h.generation ≡ 1 → made ≤ h.index → h.index - made
     < count → stands_in (fresh made count) h ≡ true
 fresh_yes h made count first after within =
-    grind (arith, common_steps, length-fresh made count, get_or-fresh made count (h.index - made) h within, h.index)
+    let at : made + (h.index - made) ≡ h.index = omega arith in
+    stands_in-from_Contains (fresh made count) h (
+      h.index - made,
+      omega (arith, length-fresh made count),
+      get_or-fresh made count (h.index
+          - made) h within ∙ (λ i. record { index = at i; generation = sym first i }),
+    )
 
 pub fresh_no : (h : Handle) (made count : ℕ) → (h.generation ≡ 1 → made ≤ h.index → h.index - made
     < count → ⊥) → stands_in (fresh made count) h ≡ false

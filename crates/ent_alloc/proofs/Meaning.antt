@@ -1,14 +1,12 @@
 -- What an `Entities` stands for: where nothing is reserved, what is left to give, and where a call
 -- begins and ends.
-use Rattle.std.proofs.Common.{rules}
+use Rattle.std.proofs.Common.{rules, ◌≡◌, ℕ, ℤ, pos, negsuc, ◌-ℤ◌, ◌≤ℤ◌, ◌+◌, ◌-◌, ◌<◌, ◌≤◌, Bool}
+use Rattle.std.proofs.Common.{false, List, [], ◌∷◌, ◌++◌, length, take, drop, reverse, filter, refl}
+use Rattle.std.proofs.Common.{sym, ap, ◌∙◌, arith, suc, zero, subst, All, IsTrue, ◌↔◌}
 use Rattle.std.proofs.lemmas.Grind.{common_steps}
-use Rattle.std.proofs.Common.{◌≡◌, ℕ, ℤ, pos, negsuc, ◌-ℤ◌, ◌≤ℤ◌, ◌+◌, ◌-◌, ◌<◌, ◌≤◌, Bool, false}
-use Rattle.std.proofs.Common.{List, [], ◌∷◌, ◌++◌, length, take, drop, reverse, filter, refl, sym}
-use Rattle.std.proofs.Common.{ap, ◌∙◌, arith, inl, inr, suc, zero, subst, All, IsTrue, ◌↔◌}
 use Rattle.std.specs.FinSet as sets
 use Rattle.std.specs.FinMap as maps
 use Rattle.std.proofs.lemmas.Int.{ints}
-use Rattle.std.proofs.lemmas.Bool.{cases_lt, false≢true}
 use Rattle.std.proofs.lemmas.List.{append_cancel_right, length-append, length-reverse, length-drop}
 use Rattle.std.proofs.lemmas.List.{take-append-drop}
 use Rattle.ent_handle.specs.Handle.{Handle}
@@ -36,7 +34,8 @@ append_parts : (given asked : ℕ) (hs : List Handle) → given ≤ asked → ta
 append_parts zero asked hs within = take-append-drop asked hs
 append_parts (suc given) zero hs within = absurd (omega arith)
 append_parts (suc given) (suc asked) [] within = refl
-append_parts (suc given) (suc asked) (h ∷ hs) within = search (rules, append_parts given asked hs (omega arith))
+append_parts (suc given) (suc asked) (h ∷ hs) within = ap (λ rest. h ∷ rest)
+    (append_parts given asked hs (omega arith))
 
 pub drop_rest : (given asked : ℕ) (hs : List Handle) → given ≤ asked → drop given (take asked hs)
     ++ drop asked hs ≡ drop given hs

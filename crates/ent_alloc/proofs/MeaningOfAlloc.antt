@@ -1,9 +1,7 @@
 -- What `alloc` and `free` make of the roster is the allocator's step.
-use Rattle.std.proofs.Common.{rules}
-use Rattle.std.proofs.lemmas.Grind.{common_steps}
-use Rattle.std.proofs.Common.{◌≡◌, ◌≢◌, ◌+◌, ◌-◌, ◌<◌, true, false, cond, ◌||◌, List, [], ◌∷◌, ◌++◌}
-use Rattle.std.proofs.Common.{length, take, drop, reverse, sym, ap, ◌∙◌, arith, suc, slice_get}
-use Rattle.std.proofs.Common.{Some, None, subst, All, refl}
+use Rattle.std.proofs.Common.{rules, ◌≡◌, ◌≢◌, ◌+◌, ◌-◌, ◌<◌, true, false, cond, ◌||◌, List, []}
+use Rattle.std.proofs.Common.{◌∷◌, ◌++◌, length, take, drop, reverse, sym, ap, ◌∙◌, arith, suc}
+use Rattle.std.proofs.Common.{slice_get, Some, None, subst, All, refl}
 use Rattle.std.specs.Ordering.{eq_by_cmp}
 use Rattle.std.specs.FinSet as sets
 use Rattle.std.specs.FinMap as maps
@@ -43,7 +41,12 @@ last_first : (pending : List Handle) (h : Handle) → 0 < length pending
     → slice_get pending (length pending - 1) ≡ Some h → reverse pending ≡ h
     ∷ reverse (take (length pending - 1) pending)
 last_first pending h some last =
-    grind (arith, common_steps, take_all (length pending) pending (omega arith), take_more pending (length pending - 1) h (omega arith), get_or_from_slice_get pending (length pending - 1) h h last, reverse-append (take (length pending - 1) pending) (h ∷ []))
+    let at : length pending - 1 + 1 ≡ length pending = omega arith in
+    ap reverse (sym (take_all (length pending) pending (omega arith))
+    ∙ ap (λ n. take n pending) (sym at) ∙ take_more pending (length pending - 1) h (omega arith)
+    ∙ ap (λ x. take (length pending - 1) pending ++ x ∷ [])
+    (get_or_from_slice_get pending (length pending - 1) h h last))
+    ∙ reverse-append (take (length pending - 1) pending) (h ∷ [])
 
 pub alloc_old_front : (r : Roster) (h : Handle) → 0 < length r.pending
     → slice_get r.pending (length r.pending - 1) ≡ Some h → idle r ≡ h
@@ -83,7 +86,10 @@ alloc_old_is r h sound some last =
 pub alloc_fresh_front : (r : Roster) → length r.pending ≡ 0 → r.made < r.limits.slots → idle r
     ≡ record { index = r.made; generation = 1 } ∷ fresh (r.made + 1) (r.limits.slots - (r.made + 1))
 alloc_fresh_front r none room =
-    grind (arith, common_steps, nil_from_length r.pending none, fresh-next r.made (r.limits.slots - (r.made + 1)), r.limits.slots, r.made, r.pending)
+    let more : r.limits.slots - r.made ≡ suc (r.limits.slots - (r.made + 1)) = omega arith in
+    ap (λ hs. reverse hs ++ fresh r.made (r.limits.slots - r.made)) (nil_from_length r.pending none)
+    ∙ ap (fresh r.made) more
+    ∙ fresh-next r.made (r.limits.slots - (r.made + 1))
 
 pub alloc_fresh_is : (r : Roster) (h : Handle) → length r.pending ≡ 0 → r.made < r.limits.slots → h
     ≡ record { index = r.made; generation = 1 }

@@ -1,8 +1,7 @@
 -- What `reply` lists of the vectors is the reply in the allocator's pool.
-use Rattle.std.proofs.Common.{rules}
+use Rattle.std.proofs.Common.{rules, ◌≡◌, ℕ, ◌+◌, ◌-◌, ◌<◌, ◌≤◌, List, [], ◌++◌, length, take, drop}
+use Rattle.std.proofs.Common.{reverse, filter, sym, ap, ◌∙◌, arith, All, Ok, Err}
 use Rattle.std.proofs.lemmas.Grind.{common_steps}
-use Rattle.std.proofs.Common.{◌≡◌, ℕ, ◌+◌, ◌-◌, ◌<◌, ◌≤◌, true, false, List, [], ◌++◌, length, take}
-use Rattle.std.proofs.Common.{drop, reverse, filter, sym, ap, ◌∙◌, arith, All, nat_le, Ok, Err}
 use Rattle.std.proofs.lemmas.Bool.{le-leb, lt-leb, cond-true, cond-false}
 use Rattle.std.proofs.lemmas.List.{append-nil, length-reverse, length-take-le, length-drop}
 use Rattle.std.proofs.lemmas.List.{drop-take, reverse-reverse}

@@ -1,7 +1,6 @@
 -- The reply to a request, and to a request for one handle, by what the vectors hold.
-use Rattle.std.proofs.Common.{rules}
-use Rattle.std.proofs.Common.{◌≡◌, ℕ, ℤ, ◌+◌, ◌-◌, ◌<◌, ◌≤◌, pos, ◌≤ℤ◌, ◌-ℤ◌, length, drop, Ok, Err}
-use Rattle.std.proofs.Common.{[], ◌∷◌, slice_get, Some, refl, sym, ap, ◌∙◌, arith, ◌^◌}
+use Rattle.std.proofs.Common.{rules, ◌≡◌, ℕ, ℤ, ◌+◌, ◌-◌, ◌<◌, ◌≤◌, pos, ◌≤ℤ◌, ◌-ℤ◌, length, drop}
+use Rattle.std.proofs.Common.{Ok, Err, [], ◌∷◌, slice_get, Some, refl, sym, ap, ◌∙◌, arith, ◌^◌}
 use Rattle.std.proofs.lemmas.Int.{ints}
 use Rattle.ent_handle.specs.Handle.{Handle}
 use Rattle.ent_alloc.specs.Roster.{Roster}

@@ -1,23 +1,18 @@
 -- Where a handle stands among those that there were to give at the last flush.
-use Rattle.std.proofs.Common.{rules}
+use Rattle.std.proofs.Common.{rules, ◌≡◌, ℕ, ◌+◌, ◌-◌, ◌<◌, ◌≤◌, Bool, true, false, ◌||◌, List}
+use Rattle.std.proofs.Common.{length, get_or, drop, reverse, refl, sym, ap, ◌∙◌, arith, true≢false}
+use Rattle.std.proofs.Common.{slice_get, Some}
 use Rattle.std.proofs.lemmas.Grind.{common_steps}
-use Rattle.std.proofs.Common.{◌≡◌, ℕ, zero, suc, ◌+◌, ◌-◌, ◌<◌, ◌≤◌, Bool, true, false, ◌||◌, List}
-use Rattle.std.proofs.Common.{[], ◌∷◌, ◌++◌, length, get_or, drop, reverse, refl, sym, ap, ◌∙◌, arith}
-use Rattle.std.proofs.Common.{true≢false, slice_get, Some, inl, inr}
-use Rattle.std.specs.List.{list_any}
-use Rattle.std.specs.Ordering.{eq_by_cmp}
-use Rattle.std.proofs.lemmas.Bool.{cases_lt}
-use Rattle.std.proofs.lemmas.List.{get_or-append-add, get_or_append_left, length-append, drop_all}
-use Rattle.std.proofs.lemmas.List.{length-reverse, get_or-reverse}
+use Rattle.std.proofs.lemmas.List.{get_or-append-add, get_or_append_left, length-reverse}
+use Rattle.std.proofs.lemmas.List.{get_or-reverse}
 use Rattle.std.proofs.lemmas.List.Folds.{list_any-append}
 use Rattle.std.proofs.lemmas.Option.{slice_get-get_or}
-use Rattle.std.proofs.Math.Seq.{drop-cons}
-use Rattle.ent_handle.specs.Handle.{Handle, handle_cmp}
+use Rattle.ent_handle.specs.Handle.{Handle}
 use Rattle.ent_alloc.specs.Roster.{Roster}
 use Rattle.ent_alloc.specs.Sequential.{Allocator, available, fresh, stands_in}
 use Rattle.ent_alloc.specs.Entities.{idle, allocator_of, AreReserved}
 use Rattle.ent_alloc.proofs.FreshHandles.{length-fresh, get_or-fresh}
-use Rattle.ent_alloc.proofs.HandleSets.{same_handle, Contains-from_stands_in}
+use Rattle.ent_alloc.proofs.HandleSets.{Contains-from_stands_in}
 use Rattle.ent_alloc.proofs.Meaning.{available_is, length-idle}
 use Rattle.ent_alloc.proofs.Reversed.{list_any-reverse}
 
@@ -61,4 +56,13 @@ pub fresh_place : (r : Roster) (h : Handle)
     → stands_in (fresh r.made (r.limits.slots - r.made)) h ≡ true
     → (r.made ≤ h.index) × (slice_get (idle r) (length r.pending + (h.index - r.made)) ≡ Some h)
 fresh_place r h stands =
-    search (rules, Contains-from_stands_in, length-fresh, get_or-fresh, length-reverse, length-idle, slice_get-get_or, get_or-append-add)
+    search (
+      rules,
+      Contains-from_stands_in,
+      length-fresh,
+      get_or-fresh,
+      length-reverse,
+      length-idle,
+      slice_get-get_or,
+      get_or-append-add,
+    )

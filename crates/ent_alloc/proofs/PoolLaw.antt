@@ -1,20 +1,18 @@
 -- What requests take off the pool, whether they are served or not. It depends on their sum alone,
 -- so a reply depends on the cursor alone, and can be computed later.
-use Rattle.std.proofs.Common.{rules}
+use Rattle.std.proofs.Common.{rules, ◌≡◌, refl, sym, ap, ◌∙◌, ℕ, ◌+◌, ◌≤◌, ℤ, pos, negsuc, ◌-ℤ◌}
+use Rattle.std.proofs.Common.{List, [], ◌∷◌, ◌++◌, length, take, drop, sum, Ok, nat_le, true}
+use Rattle.std.proofs.Common.{le-leb, arith, append-nil}
 use Rattle.std.proofs.lemmas.Grind.{common_steps}
-use Rattle.std.proofs.Common.{◌≡◌, refl, sym, ap, ◌∙◌, ℕ, ◌+◌, ◌≤◌, ℤ, pos, negsuc, ◌-ℤ◌, List, []}
-use Rattle.std.proofs.Common.{◌∷◌, ◌++◌, length, take, drop, filter, sum, Ok, nat_le, true, le-leb}
-use Rattle.std.proofs.Common.{arith, append-nil, inl, inr}
 use Rattle.std.proofs.lemmas.Bool.{cases_lt}
 use Rattle.std.proofs.lemmas.Int.{ints}
 use Rattle.std.proofs.lemmas.List.{take_all, drop-drop, drop_all, length-append}
 use Rattle.std.proofs.lemmas.List.Sums.{sum_by-cons}
 use Rattle.std.proofs.Math.Seq.{take-append_seam, drop-append_seam}
 use Rattle.ent_alloc.specs.Sequential.{Allocator, available, top, cursor, after_take, asked_at}
-use Rattle.ent_alloc.specs.Sequential.{pool_at, reply_from, reply_to, is_old}
+use Rattle.ent_alloc.specs.Sequential.{pool_at, reply_from, reply_to}
 use Rattle.ent_alloc.specs.Sound.{IsSound}
-use Rattle.ent_alloc.proofs.Taken.{after_take-served, after_take-refused, available-after_take}
-use Rattle.ent_alloc.proofs.Taken.{length-pool}
+use Rattle.ent_alloc.proofs.Taken.{available-after_take, length-pool}
 use Rattle.ent_alloc.proofs.Soundness.{after_take-sound}
 
 -- the cursor tells how much was asked
@@ -175,4 +173,13 @@ taken_is s = sym (take-append_seam s.taken (s.aside ++ s.pool))
 -- what was passed over stands after it
 pub aside_is : (s : Allocator) → IsSound s → s.aside
     ≡ drop (length s.taken) (take s.asked (available s))
-aside_is s h = search (rules, cases_lt, drop_all, take_all, drop-append_seam, append-nil, length-taken, take-append_seam)
+aside_is s h = search (
+  rules,
+  cases_lt,
+  drop_all,
+  take_all,
+  drop-append_seam,
+  append-nil,
+  length-taken,
+  take-append_seam,
+)

@@ -3,11 +3,11 @@
 use Rattle.std.proofs.lemmas.Grind.{common_steps}
 use Rattle.std.proofs.Common.{◌≡◌, ◌≢◌, refl, sym, ap, subst, ℕ, ◌<◌, ◌≤◌, true, false, not, nat_le}
 use Rattle.std.proofs.Common.{List, [], ◌∷◌, ◌++◌, length, get_or, take, reverse, filter, All}
-use Rattle.std.proofs.Common.{AllPairs, Contains, IsPermutation, Ok, Err, arith, le-leb, inl, inr}
-use Rattle.std.proofs.lemmas.Bool.{cases_lt, lt-leb}
+use Rattle.std.proofs.Common.{AllPairs, Contains, IsPermutation, Ok, Err, arith, le-leb}
+use Rattle.std.proofs.lemmas.Bool.{lt-leb}
 use Rattle.std.proofs.lemmas.Bool.Decides.{nat_tests}
-use Rattle.std.proofs.lemmas.List.Elements.{All-take, All-contains, Contains-append_left}
-use Rattle.std.proofs.lemmas.List.Elements.{Contains-append_right, All-contains_itself}
+use Rattle.std.proofs.lemmas.List.Elements.{All-take, All-contains, Contains-append_right}
+use Rattle.std.proofs.lemmas.List.Elements.{All-contains_itself}
 use Rattle.std.proofs.lemmas.List.Sorted.{IsPermutation-refl, IsPermutation-sym}
 use Rattle.std.proofs.lemmas.List.Sorted.{IsPermutation-trans, IsPermutation-append}
 use Rattle.std.proofs.lemmas.List.Sorted.{IsPermutation-reverse, IsPermutation-filter_both}
@@ -19,7 +19,7 @@ use Rattle.ent_alloc.specs.Sequential.{is_fresh}
 use Rattle.ent_alloc.specs.Sound.{IsSound, AreApart, IsLive}
 use Rattle.ent_alloc.proofs.ListLaws.{AllPairs-right, AllPairs-take, AllPairs-across}
 use Rattle.ent_alloc.proofs.ListLaws.{AllPairs-IsPermutation, All-right}
-use Rattle.ent_alloc.proofs.Taken.{after_take-served, after_take-refused}
+use Rattle.ent_alloc.proofs.Taken.{after_take-served}
 use Rattle.ent_alloc.proofs.PoolLaw.{after_takes, after_takes-sound}
 use Rattle.ent_alloc.proofs.Soundness.{after_take-sound}
 
@@ -152,7 +152,8 @@ taken-keeps s n x in_taken = grind (arith, common_steps)
 pub taken-keeps_all : (s : Allocator) (requests : List ℕ) (x : Handle) → Contains s.taken x
     → Contains (after_takes s requests).taken x
 taken-keeps_all s [] x in_taken = in_taken
-taken-keeps_all s (n ∷ requests) x in_taken = grind (arith, common_steps, taken-keeps_all (after_take s n) requests x (taken-keeps s n x in_taken))
+taken-keeps_all s (n ∷ requests) x in_taken = taken-keeps_all (after_take s n) requests x
+    (taken-keeps s n x in_taken)
 
 -- two replies list no two handles of one slot, whatever was requested between them
 pub replies_apart : (s : Allocator) (n : ℕ) (given : List Handle) (between : List ℕ) (m : ℕ)

@@ -1,6 +1,5 @@
 -- All replies to requests in turn, taken together: no handle twice, none alive before, and a flush
 -- brings to life exactly those.
-use Rattle.std.proofs.Common.{rules}
 use Rattle.std.proofs.Common.{get_or, IsTrue, ◌≡◌, refl, sym, subst, ℕ, List, [], ◌∷◌, ◌++◌, All}
 use Rattle.std.proofs.Common.{AllPairs, Contains, IsPermutation, Ok, Err, ◌⊎◌, ◌↔◌, append-nil}
 use Rattle.std.proofs.Common.{append_assoc, inl, inr}
@@ -30,7 +29,12 @@ given_by s (n ∷ requests) = handles_in (reply_to s n) ++ given_by (after_take 
 -- what is taken is what was taken, and the handles of the reply
 pub taken-after_take : (s : Allocator) (n : ℕ)
     → IsPermutation (s.taken ++ handles_in (reply_to s n)) (after_take s n).taken
-taken-after_take s n = search (rules, taken-IsPermutation, append-nil, taken-after_refused, IsPermutation-refl)
+taken-after_take s n = elim (reply_to s n) as (λ r. reply_to s n ≡ r
+    → IsPermutation (s.taken ++ handles_in r) (after_take s n).taken) [
+      | Ok given ↦ λ is. taken-IsPermutation s n given is
+      | Err space ↦ λ is. rw (append-nil s.taken, taken-after_refused s n space is)
+          (IsPermutation-refl s.taken)
+    ] refl
 
 -- and the handles of all replies
 pub taken-after_takes : (s : Allocator) (requests : List ℕ)

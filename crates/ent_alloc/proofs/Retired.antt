@@ -1,22 +1,18 @@
 -- How many slots are retired: all that were made but those of the living and those of the old
 -- handles that may be given.
-use Rattle.std.proofs.Common.{rules}
+use Rattle.std.proofs.Common.{rules, ◌≡◌, ℕ, ◌+◌, ◌<◌, ◌≤◌, Bool, true, false, cond, not, ◌||◌, eqb}
+use Rattle.std.proofs.Common.{List, [], ◌∷◌, length, get_or, filter, refl, sym, ap, ◌∙◌, arith, inl}
+use Rattle.std.proofs.Common.{inr, suc, zero, subst, All, AllPairs, Contains, true≢false}
 use Rattle.std.proofs.lemmas.Grind.{common_steps}
-use Rattle.std.proofs.Common.{◌≡◌, ℕ, ◌+◌, ◌<◌, ◌≤◌, Bool, true, false, cond, not, ◌||◌}
-use Rattle.std.proofs.Common.{eqb, List, [], ◌∷◌, length, get_or, filter, refl, sym, ap, ◌∙◌}
-use Rattle.std.proofs.Common.{arith, inl, inr, suc, zero, subst, All, AllPairs, Contains}
-use Rattle.std.proofs.Common.{true≢false}
 use Rattle.std.specs.List.{count_by, range_with_len}
 use Rattle.std.specs.FinSet as set
-use Rattle.std.proofs.lemmas.Bool.{cases_lt, cases_eq, eq-eqb, ne_eqb, eqb-true, lt-ltb, le-ltb}
-use Rattle.std.proofs.lemmas.Bool.{false_from_ne_true}
+use Rattle.std.proofs.lemmas.Bool.{cases_eq, eq-eqb, ne_eqb, eqb-true, false_from_ne_true}
 use Rattle.std.proofs.lemmas.List.Kept.{AllPairs-filter}
 use Rattle.std.proofs.lemmas.List.Sums.{sum_by-cons}
 use Rattle.std.proofs.lemmas.List.Elements.{All-head, All-tail, All-contains, Contains-get_or}
 use Rattle.ent_handle.specs.Handle.{Handle, handle_cmp, handle_cmp_total}
 use Rattle.ent_handle.specs.Handle.{handle_cmp-IsAntisymmetric}
-use Rattle.ent_alloc.specs.Sequential.{Allocator, available, top, is_old, has_slot}
-use Rattle.ent_alloc.specs.Sequential.{retired}
+use Rattle.ent_alloc.specs.Sequential.{Allocator, available, top, is_old, has_slot, retired}
 use Rattle.ent_alloc.specs.Sound.{IsSound, AreApart, IsLive}
 use Rattle.ent_alloc.proofs.ListLaws.{AllPairs-head, AllPairs-tail}
 use Rattle.ent_alloc.proofs.HandleSets.{Contains-from_stands_in, stands_in-from_Contains}
@@ -127,7 +123,10 @@ has_slot-apart : (handles : List Handle) (h : Handle) → All (AreApart h) handl
     → has_slot handles h.index ≡ false
 has_slot-apart [] h apart = refl
 has_slot-apart (x ∷ handles) h apart =
-    search (rules, ne_eqb, All-head, All-tail, has_slot-apart handles h (All-tail (AreApart h) x handles apart))
+    let other : eqb x.index h.index ≡ false = ne_eqb x.index h.index
+    (λ e. All-head (AreApart h) x handles apart (sym e)) in
+    ap (λ b. b || has_slot handles h.index) other
+    ∙ has_slot-apart handles h (All-tail (AreApart h) x handles apart)
 
 -- handles of as many slots
 count-apart : (handles : List Handle) (n : ℕ) → AllPairs AreApart handles

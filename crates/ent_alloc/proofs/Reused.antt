@@ -1,14 +1,11 @@
 -- What becomes of the records when pending slots get their next occupants.
-use Rattle.std.proofs.Common.{rules}
+use Rattle.std.proofs.Common.{rules, ◌≡◌, ◌≢◌, ℕ, ◌+◌, ◌<◌, Bool, true, false, cond, ◌&&◌, ◌||◌}
+use Rattle.std.proofs.Common.{eqb, List, [], ◌∷◌, length, get_or, set, map, refl, sym, ap, ◌∙◌}
+use Rattle.std.proofs.Common.{arith, suc, zero}
 use Rattle.std.proofs.lemmas.Grind.{common_steps}
-use Rattle.std.proofs.Common.{◌≡◌, ◌≢◌, ℕ, ◌+◌, ◌<◌, Bool, true, false, cond, ◌&&◌, ◌||◌, eqb, List}
-use Rattle.std.proofs.Common.{[], ◌∷◌, length, get_or, set, map, refl, sym, ap, ◌∙◌, arith, inl}
-use Rattle.std.proofs.Common.{inr, suc, zero}
 use Rattle.std.specs.List.{list_any}
 use Rattle.std.specs.Ordering.{eq_by_cmp}
 use Rattle.std.specs.FinSet as sets
-use Rattle.std.proofs.lemmas.Bool.Decides.{nat_tests}
-use Rattle.std.proofs.lemmas.Bool.{cases_eq}
 use Rattle.std.proofs.lemmas.List.{get_or-set_same, get_or-set_other, length-set}
 use Rattle.ent_handle.specs.Handle.{Handle, handle_cmp, handle_cmp_total}
 use Rattle.ent_handle.specs.Handle.{handle_cmp-IsAntisymmetric}
@@ -19,8 +16,8 @@ use Rattle.ent_alloc.specs.declared.slot_record.Occupancy.TheVariants.{Alive, Al
 use Rattle.ent_alloc.specs.declared.slot_record.Occupancy.TheVariants.{Retired}
 use Rattle.ent_alloc.specs.Slots.{occupants, record_at, no_slot, is_alive, row_of, rows_from, reuse}
 use Rattle.ent_alloc.specs.Slots.{reused, handle_at}
-use Rattle.ent_alloc.proofs.Occupants.{is_occupant, has_occupant, contains_occupants}
-use Rattle.ent_alloc.proofs.Occupants.{is_occupant-set, length-occupants-set, ties, one}
+use Rattle.ent_alloc.proofs.Occupants.{is_occupant, contains_occupants, is_occupant-set}
+use Rattle.ent_alloc.proofs.Occupants.{length-occupants-set, ties, one}
 use Rattle.ent_alloc.proofs.KeptRows.{rows_from-set}
 
 -- The slots of these indexes wait at the positions from a first one on.
@@ -61,7 +58,8 @@ pub length-reused : (records : List SlotRecord) (indices : List ℕ) → length 
     ≡ length records
 length-reused records [] = refl
 length-reused records (index ∷ indices) =
-    search (rules, length-set, length-reused (set records index (reuse (record_at records index))) indices)
+    length-reused (set records index (reuse (record_at records index))) indices
+    ∙ length-set records index (reuse (record_at records index))
 
 -- the generations stay
 generation-reuse : (records : List SlotRecord) (index at : ℕ) → index < length records
@@ -75,7 +73,9 @@ pub generation-reused : (records : List SlotRecord) (from : ℕ) (indices : List
     ≡ (record_at records at).generation
 generation-reused records from [] at wait = refl
 generation-reused records from (index ∷ indices) at wait =
-    grind (arith, common_steps, Wait-rest, generation-reuse, generation-reused (set records index (reuse (record_at records index))) (from + 1) indices)
+    generation-reused (set records index (reuse (record_at records index))) (from + 1) indices at
+    (Wait-rest records from index indices wait)
+    ∙ generation-reuse records index at (wait.made 0 (omega arith))
 
 -- a slot that waits at an earlier position goes on waiting there
 pub waiting-reused : (records : List SlotRecord) (from : ℕ) (indices : List ℕ) (at position : ℕ)

@@ -2,9 +2,8 @@
 -- many were asked for.
 use Rattle.std.proofs.lemmas.Grind.{common_steps}
 use Rattle.std.proofs.Common.{◌≡◌, sym, ap, ◌∙◌, ℕ, ◌+◌, ◌-◌, ◌<◌, ◌≤◌, List, [], ◌++◌, length}
-use Rattle.std.proofs.Common.{take, drop, sum, Err, arith, nat_le, false, append_assoc, append-nil}
-use Rattle.std.proofs.Common.{inl, inr}
-use Rattle.std.proofs.lemmas.Bool.{lt-leb, cases_lt}
+use Rattle.std.proofs.Common.{take, drop, sum, Err, arith, append_assoc, append-nil, inl, inr}
+use Rattle.std.proofs.lemmas.Bool.{cases_lt}
 use Rattle.std.proofs.lemmas.List.{take-append-drop, take-take, take_all, drop_all, length-take}
 use Rattle.std.proofs.lemmas.List.{length-drop}
 use Rattle.std.proofs.lemmas.List.Sorted.{length_permutation}
@@ -14,10 +13,10 @@ use Rattle.ent_alloc.specs.Sound.{IsSound}
 use Rattle.ent_alloc.proofs.LaidOut.{flushed-laid_out}
 use Rattle.ent_alloc.proofs.Taken.{length-available, length-pool, after_take-refused}
 use Rattle.ent_alloc.proofs.Taken.{after_take-served}
-use Rattle.ent_alloc.proofs.PoolLaw.{limits-after_takes, live-after_takes}
-use Rattle.ent_alloc.proofs.PoolLaw.{after_takes, after_takes-sound, available-after_takes}
-use Rattle.ent_alloc.proofs.PoolLaw.{made-after_takes, asked-after_takes, pool-after_takes}
-use Rattle.ent_alloc.proofs.PoolLaw.{taken_is, aside_is, length-taken}
+use Rattle.ent_alloc.proofs.PoolLaw.{limits-after_takes, live-after_takes, after_takes}
+use Rattle.ent_alloc.proofs.PoolLaw.{after_takes-sound, available-after_takes, made-after_takes}
+use Rattle.ent_alloc.proofs.PoolLaw.{asked-after_takes, pool-after_takes, taken_is, aside_is}
+use Rattle.ent_alloc.proofs.PoolLaw.{length-taken}
 use Rattle.ent_alloc.proofs.Soundness.{IsSound-moved}
 use Rattle.ent_alloc.proofs.RequestLaws.{given_by, taken-since_flush}
 
@@ -25,7 +24,12 @@ use Rattle.ent_alloc.proofs.RequestLaws.{given_by, taken-since_flush}
 three_parts : (given asked : ℕ) (pool : List Handle) → given ≤ asked → take given pool
     ++ (drop given (take asked pool) ++ drop asked pool) ≡ pool
 three_parts given asked pool le =
-    grind (arith, common_steps, take-take given asked pool le, append_assoc (take given (take asked pool)) (drop given (take asked pool)) (drop asked pool), take-append-drop given (take asked pool), take-append-drop asked pool)
+    let front : take given (take asked pool) ≡ take given pool = take-take given asked pool le in
+    ap (λ xs. xs ++ (drop given (take asked pool) ++ drop asked pool)) (sym front)
+    ∙ sym (append_assoc (take given (take asked pool)) (drop given (take asked pool))
+    (drop asked pool))
+    ∙ ap (◌++ drop asked pool) (take-append-drop given (take asked pool))
+    ∙ take-append-drop asked pool
 
 module _ (s : Allocator) (h : IsSound s) (flushed : s.asked ≡ 0) where
   -- a flushed allocator has taken nothing

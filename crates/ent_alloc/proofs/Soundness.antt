@@ -1,13 +1,11 @@
 -- Every step of the sequential allocator leads from a sound state to a sound state.
-use Rattle.std.proofs.Common.{rules}
+use Rattle.std.proofs.Common.{rules, ◌≡◌, refl, sym, ap, ◌∙◌, subst, ℕ, zero, suc, ◌+◌, ◌-◌, ◌<◌}
+use Rattle.std.proofs.Common.{◌≤◌, true, false, true≢false, List, [], ◌∷◌, ◌++◌, length, get_or}
+use Rattle.std.proofs.Common.{take, drop, All, AllPairs, arith, append-nil, lt-ltb, le-ltb, ◌≢◌}
+use Rattle.std.proofs.Common.{eq-eqb, inl, inr, Some, None, Option}
 use Rattle.std.proofs.lemmas.Grind.{common_steps}
-use Rattle.std.proofs.Common.{◌≡◌, refl, sym, ap, ◌∙◌, subst, ℕ, zero, suc, ◌+◌, ◌-◌, ◌<◌, ◌≤◌}
-use Rattle.std.proofs.Common.{true, false, true≢false, List, [], ◌∷◌, ◌++◌, length, get_or, take}
-use Rattle.std.proofs.Common.{drop, All, AllPairs, arith, append-nil, lt-ltb, le-ltb, ◌==◌}
-use Rattle.std.proofs.Common.{◌≢◌}
-use Rattle.std.proofs.Common.{eq-eqb, ne_eqb, inl, inr, Some, None, Option}
 use Rattle.std.specs.Option.{IfSome}
-use Rattle.std.proofs.lemmas.Bool.{cases_lt, cases_eq}
+use Rattle.std.proofs.lemmas.Bool.{cases_lt}
 use Rattle.std.specs.FinSet as set
 use Rattle.std.proofs.lemmas.List.{drop-drop, drop_all}
 use Rattle.std.proofs.lemmas.List.Elements.{All-drop, All-head, All-tail, All-nil, All-cons}
@@ -120,7 +118,18 @@ append-in_front (Some h) handles more = refl
 pub after_free-sound : (s : Allocator) (x : Handle) → IsSound s → s.asked ≡ 0 → IsLive s x
     → IsSound (after_free s x)
 after_free-sound s x h flushed alive =
-    search (rules, flushed-laid_out, laid_out-sound, old_ones, append-in_front, All-in_front, of_next, following-within, AllPairs-in_front, in_removed)
+    search (
+      rules,
+      flushed-laid_out,
+      laid_out-sound,
+      old_ones,
+      append-in_front,
+      All-in_front,
+      of_next,
+      following-within,
+      AllPairs-in_front,
+      in_removed,
+    )
 
 -- an old handle that comes to life
 pub after_alloc-old : (s : Allocator) (x : Handle) → x.index < s.made → after_alloc s x

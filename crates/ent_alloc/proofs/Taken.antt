@@ -1,12 +1,11 @@
 -- What a request does to the lists of a sound allocator, and what is taken by all requests.
-use Rattle.std.proofs.Common.{rules}
+use Rattle.std.proofs.Common.{rules, ◌≡◌, sym, ap, ◌∙◌, subst, ℕ, ◌+◌, ◌-◌, ◌<◌, ◌≤◌, List, []}
+use Rattle.std.proofs.Common.{◌++◌, length, take, drop, filter, All, arith, append-nil, le-leb, ◌⊎◌}
+use Rattle.std.proofs.Common.{inl, inr}
 use Rattle.std.proofs.lemmas.Grind.{common_steps}
-use Rattle.std.proofs.Common.{◌≡◌, sym, ap, ◌∙◌, subst, ℕ, ◌+◌, ◌-◌, ◌<◌, ◌≤◌, true, false, nat_le}
-use Rattle.std.proofs.Common.{List, [], ◌++◌, length, take, drop, filter, All, arith, append_assoc}
-use Rattle.std.proofs.Common.{append-nil, le-leb, ◌⊎◌, inl, inr}
 use Rattle.std.proofs.lemmas.Bool.{cases_lt, lt-leb}
 use Rattle.std.proofs.Math.Seq.{take-append_seam, drop-append_seam}
-use Rattle.std.proofs.lemmas.List.{take-append-drop, length-append, length-drop, drop_all}
+use Rattle.std.proofs.lemmas.List.{length-append, length-drop}
 use Rattle.std.proofs.lemmas.List.Elements.{All-take, All-append, All-weaker}
 use Rattle.ent_handle.specs.Handle.{Handle}
 use Rattle.ent_alloc.specs.Sequential.{Allocator, top, available, after_take, after_flush, fresh}
@@ -44,7 +43,12 @@ after_take-refused s n short = search (rules, lt-leb)
 -- what there was to give stays
 pub available-after_take : (s : Allocator) (n : ℕ) → IsSound s → available (after_take s n)
     ≡ available s
-available-after_take s n h = search (rules, cases_lt, after_take-refused, append-nil, after_take-served, take_moves, aside_or_pool)
+available-after_take s n h = elim (cases_lt (length s.pool) n) [
+  | inl short ↦ rw (after_take-refused s n short)
+      (ap (s.taken ++◌) (append-nil (s.aside ++ s.pool)))
+  | inr enough ↦ rw (after_take-served s n enough) (take_moves s.taken s.aside s.pool n
+      (aside_or_pool s h))
+]
 
 -- how many there are to give, or were since the last flush
 pub length-available : (s : Allocator) → IsSound s → length (available s) ≡ top s

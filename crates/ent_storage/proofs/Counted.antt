@@ -1,16 +1,13 @@
 -- The places of an index that count.
-use Rattle.std.proofs.Common.{rules}
-use Rattle.std.proofs.Common.{◌≡◌, ◌≢◌, ℕ, zero, suc, ◌<◌, ◌≤◌, Bool, true, false, cond, T, ◌⊎◌}
-use Rattle.std.proofs.Common.{inl, inr}
-use Rattle.std.proofs.Common.{List, [], ◌∷◌, ◌+◌, map, ◌++◌, length, get_or, set, filter, Option}
-use Rattle.std.proofs.Common.{Some, None, is_some, Contains}
-use Rattle.std.proofs.Common.{refl, sym, ap, subst, ◌∙◌, arith, eqb, eqb-true}
+use Rattle.std.proofs.Common.{rules, ◌≡◌, ◌≢◌, ℕ, zero, suc, ◌<◌, ◌≤◌, Bool, true, false, cond, T}
+use Rattle.std.proofs.Common.{◌⊎◌, inl, inr, List, [], ◌∷◌, ◌+◌, map, ◌++◌, length, get_or, set}
+use Rattle.std.proofs.Common.{filter, Option, Some, None, is_some, Contains, refl, sym, ap, subst}
+use Rattle.std.proofs.Common.{◌∙◌, arith, eqb, eqb-true}
 use Rattle.std.specs.declared.cmp.Ordering.TheVariants.{Less, Equal, Greater}
 use Rattle.std.specs.Ordering.{is_eq}
 use Rattle.std.specs.Cmp.{tied_itself}
 use Rattle.std.proofs.lemmas.Bool.{false≢true}
-use Rattle.std.proofs.lemmas.List.{get_or-map, get_or_default, length-map, length-set}
-use Rattle.std.proofs.lemmas.List.{length_push}
+use Rattle.std.proofs.lemmas.List.{get_or-map, get_or_default, length-map, length-set, length_push}
 use Rattle.std.specs.List.{AllWithin, insert}
 use Rattle.ent_bundle.specs.Position.{IsGapFor}
 use Rattle.std.proofs.lemmas.List.Elements.{filter_passes}
@@ -29,8 +26,7 @@ use Rattle.ent_storage.proofs.Indexed.{some_not_none, some_entity, indexed_set, 
 use Rattle.ent_storage.proofs.Indexed.{indexed_none, read_handle}
 use Rattle.ent_storage.specs.Components.{Components}
 use Rattle.ent_bundle.proofs.Rising.{rising_at}
-use Rattle.ent_storage.proofs.Rising.{equal}
-use Rattle.ent_storage.proofs.Rising.{get_at, map_insert}
+use Rattle.ent_storage.proofs.Rising.{equal, get_at, map_insert}
 use Rattle.ent_storage.proofs.Overwritten.{is_sorted-filter, find-filter, passed, is_sorted-set}
 use Rattle.ent_storage.proofs.Overwritten.{find-set_same, find-set_other}
 use Rattle.ent_storage.proofs.TakenOut.{indexed_moved, indexed_popped}

@@ -1,13 +1,11 @@
 -- The living entities that residents and columns stand for, after each change.
-use Rattle.std.proofs.Common.{rules}
+use Rattle.std.proofs.Common.{rules, ◌≡◌, ◌≢◌, ℕ, zero, suc, ◌+◌, ◌-◌, ◌<◌, ◌≤◌, false, ◌⊎◌, inl}
+use Rattle.std.proofs.Common.{inr, List, [], ◌∷◌, ◌++◌, map, length, get_or, Option, Some, None}
+use Rattle.std.proofs.Common.{slice_get, option_and_then, take, drop, refl, sym, ap, subst, ◌∙◌}
+use Rattle.std.proofs.Common.{arith}
 use Rattle.std.proofs.lemmas.Grind.{common_steps}
-use Rattle.std.proofs.Common.{◌≡◌, ◌≢◌, ℕ, zero, suc, ◌+◌, ◌-◌, ◌<◌, ◌≤◌, false}
-use Rattle.std.proofs.Common.{◌⊎◌, inl, inr, List, [], ◌∷◌, ◌++◌, map, length, get_or, Option}
-use Rattle.std.proofs.Common.{Some, None, slice_get, option_and_then, take, drop, refl, sym, ap}
-use Rattle.std.proofs.Common.{subst, ◌∙◌, arith}
 use Rattle.std.proofs.lemmas.Option.{none-some, same_Some, slice_get_past}
 use Rattle.std.proofs.lemmas.Bool.{cases_lt, cases_eq}
-use Rattle.std.proofs.lemmas.List.{length_push, drop_all, append-nil, take_all}
 use Rattle.std.specs.Option.{option_map, option_map_or}
 use Rattle.std.specs.Ordering.{eq_by_cmp}
 use Rattle.std.specs.FinMap as finite
@@ -245,7 +243,13 @@ pub value_from : (residents : List Resident) (columns : List Column) (i : ℕ) (
     → AreColumnsOf (length residents) columns
     → option_and_then (λ (e : LivingEntity). finite.get e.components id)
     (slice_get (entities_from 0 residents columns) i) ≡ value_at columns i id
-value_from residents columns i id within = search (rules, cases_lt, value_get, slice_get_past, length_from)
+value_from residents columns i id within = search (
+  rules,
+  cases_lt,
+  value_get,
+  slice_get_past,
+  length_from,
+)
 
 -- a test of the handle at a place
 test_some : (o : Option LivingEntity) (h q : Handle) → option_map (λ (e : LivingEntity). e.handle) o

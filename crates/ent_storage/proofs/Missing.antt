@@ -1,10 +1,8 @@
 -- How many items set a component that is not there.
 use Rattle.std.proofs.lemmas.Grind.{common_steps}
-use Rattle.std.proofs.Common.{◌≡◌, ℕ, None, Option, ℤ, ◌<◌, ◌≤◌, cond, List}
-use Rattle.std.proofs.Common.{length, get_or, is_none, arith}
-use Rattle.std.proofs.Common.{Result, Ok, Err, OnErr}
+use Rattle.std.proofs.Common.{◌≡◌, ℕ, None, Option, ℤ, ◌<◌, ◌≤◌, cond, List, length, get_or}
+use Rattle.std.proofs.Common.{is_none, arith, Result, Ok, Err, OnErr}
 use Rattle.std.specs.FinMap as map
-use Rattle.std.proofs.lemmas.List.Sums.{get_or-le-sum_by}
 use Rattle.ent_handle.specs.declared.component.ComponentId.{ComponentId}
 use Rattle.ent_storage.specs.Components.{Components, missing}
 

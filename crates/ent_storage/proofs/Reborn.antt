@@ -1,7 +1,6 @@
 -- The birth of the entity at a place is changed.
-use Rattle.std.proofs.Common.{rules}
-use Rattle.std.proofs.Common.{◌≡◌, ℕ, zero, suc, ◌<◌, List, [], ◌∷◌, length, get_or, set, Some}
-use Rattle.std.proofs.Common.{Option, refl, sym, ap, subst, ◌∙◌, arith}
+use Rattle.std.proofs.Common.{rules, ◌≡◌, ℕ, zero, suc, ◌<◌, List, [], ◌∷◌, length, get_or, set}
+use Rattle.std.proofs.Common.{Some, Option, refl, sym, ap, subst, ◌∙◌, arith}
 use Rattle.std.proofs.lemmas.List.{get_or_default, length-set}
 use Rattle.std.specs.Option.{option_map_or}
 use Rattle.std.specs.FinMap as finite
@@ -11,9 +10,8 @@ use Rattle.ent_handle.specs.Handle.{Handle, handle_cmp}
 use Rattle.ent_storage.specs.declared.living.Resident.{Resident}
 use Rattle.ent_storage.specs.EntityMap.{Entity, with_birth}
 use Rattle.ent_storage.specs.SparseSet.{Column}
-use Rattle.ent_storage.specs.Living.{LivingEntity, components_at, entities_from, with_birth_at}
-use Rattle.ent_storage.specs.Indexed.{entity_of, map_of, handles_by_place, counted}
-use Rattle.ent_storage.specs.Indexed.{IsKeptIndex}
+use Rattle.ent_storage.specs.Living.{LivingEntity, entities_from, with_birth_at}
+use Rattle.ent_storage.specs.Indexed.{entity_of, map_of, handles_by_place, counted, IsKeptIndex}
 use Rattle.ent_storage.proofs.Indexed.{some_entity, entities_set, indexed_set, read_handle}
 use Rattle.ent_storage.proofs.Indexed.{get_read}
 use Rattle.ent_storage.proofs.Counted.{counted_gives, indexed_counted}

@@ -1,10 +1,8 @@
 -- The entities that have a component, by the pairs of its dense vector.
-use Rattle.std.proofs.Common.{rules}
-use Rattle.std.proofs.Common.{◌≡◌, ◌≢◌, ℕ, ℤ, ◌<◌, ◌≤◌, Bool, true, List, length, get_or, map}
-use Rattle.std.proofs.Common.{Option, IsSome, [], ◌∷◌}
-use Rattle.std.proofs.Common.{Some, None, slice_get, is_some, pos, Contains, option_and_then, ◌⊎◌}
-use Rattle.std.proofs.Common.{inl, inr}
-use Rattle.std.proofs.Common.{refl, sym, ap, subst, ◌∙◌, arith}
+use Rattle.std.proofs.Common.{rules, ◌≡◌, ◌≢◌, ℕ, ℤ, ◌<◌, ◌≤◌, Bool, true, List, length, get_or}
+use Rattle.std.proofs.Common.{map, Option, IsSome, [], ◌∷◌, Some, None, slice_get, is_some, pos}
+use Rattle.std.proofs.Common.{Contains, option_and_then, ◌⊎◌, inl, inr, refl, sym, ap, subst, ◌∙◌}
+use Rattle.std.proofs.Common.{arith}
 use Rattle.std.specs.Option.{option_map}
 use Rattle.std.specs.List.{All, AllPairs, IsDistinct}
 use Rattle.std.proofs.lemmas.Bool.{cases_lt, false≢true}

@@ -1,7 +1,6 @@
-use Rattle.std.proofs.Common.{rules}
+use Rattle.std.proofs.Common.{rules, arith}
 use Rattle.std.proofs.lemmas.Grind.{common_steps}
-use Rattle.std.proofs.Common.{◌<◌, ◌∙◌, length, inr, arith}
-use Rattle.ent_storage.proofs.InUse.{in_use_changed, in_use_with_room}
+use Rattle.ent_storage.proofs.InUse.{in_use_changed}
 use Rattle.ent_storage.proofs.columns.put_in_use.Goals as goal
 
 pub returns-then-is_in_use-clause-ok : goal.returns-then-is_in_use-clause-ok

@@ -1,8 +1,6 @@
-use Rattle.std.proofs.Common.{rules}
+use Rattle.std.proofs.Common.{rules, sym, arith}
 use Rattle.std.proofs.lemmas.List.{get_or_default}
-use Rattle.std.proofs.Common.{◌<◌, length, set, ap, sym, ◌∙◌, arith}
 use Rattle.std.specs.FinMap as map
-use Rattle.ent_storage.specs.SparseSet.{Column, no_column}
 use Rattle.ent_storage.proofs.ColumnsAtPlaces.{components_remove, remove_others, column_set}
 use Rattle.ent_storage.proofs.ColumnsAtPlaces.{column_kept, taken_none}
 use Rattle.ent_storage.proofs.InUse.{removed_rest}

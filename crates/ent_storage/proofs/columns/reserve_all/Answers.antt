@@ -1,11 +1,10 @@
 use Rattle.std.proofs.lemmas.Grind.{common_steps}
-use Rattle.std.proofs.Common.{ℤ, get_or, ap, sym, ◌∙◌, arith, below_more, pos, subst}
+use Rattle.std.proofs.Common.{ℤ, get_or, ap, sym, ◌∙◌, arith, pos}
 use Rattle.ent_storage.proofs.Missing.{missing_at, on_err}
-use Rattle.std.proofs.lemmas.List.{get_or_default}
 use Rattle.std.specs.FinMap as map
 use Rattle.ent_handle.specs.declared.component.ComponentId.{ComponentId}
-use Rattle.ent_storage.specs.SparseSet.{Values, HasRoomAt}
-use Rattle.ent_storage.specs.Living.{column_at, components_at}
+use Rattle.ent_storage.specs.SparseSet.{Values}
+use Rattle.ent_storage.specs.Living.{components_at}
 use Rattle.ent_storage.proofs.ColumnsAtPlaces.{get_components}
 use Rattle.ent_storage.proofs.columns.reserve_all.Goals as goal
 

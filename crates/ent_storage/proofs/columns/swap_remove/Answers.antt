@@ -1,7 +1,6 @@
 use Rattle.std.proofs.lemmas.Grind.{common_steps}
 use Rattle.std.proofs.Common.{rules, arith}
-use Rattle.ent_storage.proofs.InUse.{in_use_changed, passed_all}
-use Rattle.ent_storage.proofs.InUse.{passed_more, passed_rest}
+use Rattle.ent_storage.proofs.InUse.{passed_all, passed_more}
 use Rattle.ent_storage.proofs.columns.swap_remove.Goals as goal
 
 pub returns-clause-moved : goal.returns-clause-moved

@@ -1,7 +1,5 @@
 use Rattle.std.proofs.Common.{rules}
-use Rattle.std.proofs.Common.{ap, sym, ◌∙◌, arith}
 use Rattle.std.specs.FinMap as map
-use Rattle.ent_storage.specs.SparseSet.{Column, no_column}
 use Rattle.ent_storage.proofs.ColumnsAtPlaces.{taken_none}
 use Rattle.ent_storage.proofs.columns.value.Goals as goal
 

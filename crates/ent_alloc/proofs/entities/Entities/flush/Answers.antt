@@ -1,15 +1,12 @@
-use Rattle.std.proofs.Common.{rules}
-use Rattle.std.specs.Prelude.{vec_capacity}
-use Rattle.std.proofs.Common.{◌≡◌, ◌<◌, ◌⊎◌, inl, inr, vec_len, Result, Ok, Err, OnErr, ◌+◌, ◌-◌}
-use Rattle.std.proofs.Common.{◌++◌, List, ℕ, length, drop, get_or, sym, ap, subst, ◌∙◌, arith}
+use Rattle.std.proofs.Common.{rules, ◌≡◌, Result, Ok, Err, OnErr, ◌-◌, ℕ, length, drop, get_or, ap}
+use Rattle.std.proofs.Common.{subst, ◌∙◌}
 use Rattle.std.proofs.lemmas.List.{length-take-le}
-use Rattle.ent_handle.specs.Handle.{Handle}
 use Rattle.std.specs.FinSet as sets
 use Rattle.std.specs.FinMap as maps
-use Rattle.ent_alloc.specs.Sequential.{Allocator, made_at_flush, after_flush, born, fresh}
+use Rattle.ent_alloc.specs.Sequential.{after_flush, born, fresh}
 use Rattle.ent_alloc.specs.Sound.{IsSound}
 use Rattle.ent_alloc.specs.Roster.{Roster}
-use Rattle.ent_alloc.specs.Entities.{Entities, idle, HasRowsOfLiving}
+use Rattle.ent_alloc.specs.Entities.{Entities, HasRowsOfLiving}
 use Rattle.ent_alloc.proofs.Soundness.{after_flush-sound}
 use Rattle.ent_alloc.proofs.Meaning.{allocator_is, length-idle, closed, StandFor}
 use Rattle.ent_alloc.proofs.MeaningOfFlush.{flushed_roster, made_at_flush_is, flush_is}

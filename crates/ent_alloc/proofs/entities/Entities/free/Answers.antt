@@ -1,15 +1,12 @@
-use Rattle.std.proofs.Common.{arith}
-use Rattle.std.proofs.Common.{rules}
+use Rattle.std.proofs.Common.{arith, rules, ◌≡◌, ◌≢◌, true}
 use Rattle.std.proofs.lemmas.Grind.{common_steps}
-use Rattle.std.proofs.Common.{◌≡◌, ◌≢◌, true, sym, ap, subst, ◌∙◌}
 use Rattle.std.specs.FinSet as sets
 use Rattle.std.specs.FinMap as maps
-use Rattle.ent_alloc.specs.Limits.{Limits}
-use Rattle.ent_alloc.specs.Sequential.{Allocator, after_free}
+use Rattle.ent_alloc.specs.Sequential.{after_free}
 use Rattle.ent_alloc.specs.Entities.{allocator_of, entities_of, HasRowsOfLiving}
 use Rattle.ent_alloc.proofs.Soundness.{after_free-sound}
 use Rattle.ent_alloc.proofs.Meaning.{allocator_is, IsAtRest, at_rest, closed, StandFor}
-use Rattle.ent_alloc.proofs.MeaningOfAlloc.{freed_roster, free_is, retired_roster, retire_is}
+use Rattle.ent_alloc.proofs.MeaningOfAlloc.{freed_roster, retired_roster}
 use Rattle.ent_alloc.proofs.RowsOfLiving.{AreOf, rows-removed}
 use Rattle.ent_alloc.specs.Roster.{Roster}
 use Rattle.ent_alloc.proofs.entities.Entities.free.Goals.{Else-needs_flush, Else-not-is_alive}

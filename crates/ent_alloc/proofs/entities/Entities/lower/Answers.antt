@@ -1,16 +1,13 @@
-use Rattle.std.proofs.Common.{rules}
+use Rattle.std.proofs.Common.{rules, ◌≡◌, ◌+◌, subst, sym, arith, length, inl, inr, ℕ, ◌-◌}
 use Rattle.std.proofs.lemmas.Grind.{common_steps}
-use Rattle.std.proofs.Common.{◌≡◌, ◌+◌, pos, ◌-ℤ◌, ap, subst, sym, ◌∙◌, arith, to_z, of_z, w64}
-use Rattle.std.proofs.Common.{length, inl, inr, ℕ, ◌-◌}
 use Rattle.std.proofs.lemmas.Int.{ints}
 use Rattle.std.proofs.lemmas.Bool.{cases_lt}
 use Rattle.ent_alloc.specs.declared.requests.Requests.{Requests}
 use Rattle.ent_alloc.specs.Roster.{Roster}
 use Rattle.ent_alloc.specs.Sequential.{Allocator}
-use Rattle.ent_alloc.specs.Entities.{allocator_of, AreReserved}
-use Rattle.ent_alloc.specs.Sound.{IsSound}
+use Rattle.ent_alloc.specs.Entities.{AreReserved}
 use Rattle.ent_alloc.proofs.Spans.{IsSpanOf-after_take}
-use Rattle.ent_alloc.proofs.Meaning.{allocator_is, top_view, length_available}
+use Rattle.ent_alloc.proofs.Meaning.{allocator_is, length_available}
 use Rattle.ent_alloc.proofs.MeaningOfRequests.{served_view, served_reserved, refused_view}
 use Rattle.ent_alloc.proofs.MeaningOfRequests.{refused_reserved}
 use Rattle.ent_alloc.proofs.entities.Entities.lower.Goals.{After-available-available}

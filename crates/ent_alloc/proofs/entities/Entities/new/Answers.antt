@@ -1,11 +1,6 @@
 use Rattle.std.proofs.Common.{rules}
-use Rattle.std.proofs.Common.{[], sym, subst}
 use Rattle.std.specs.FinSet as sets
 use Rattle.std.specs.FinMap as maps
-use Rattle.ent_alloc.specs.declared.requests.Requests.{Requests}
-use Rattle.ent_alloc.specs.Roster.{Roster}
-use Rattle.ent_alloc.specs.Sound.{IsSound}
-use Rattle.ent_alloc.specs.Entities.{AreReserved}
 use Rattle.ent_alloc.proofs.Soundness.{opening-sound}
 use Rattle.ent_alloc.proofs.Meaning.{AreReserved-flushed, opening_is}
 use Rattle.ent_alloc.proofs.RowsOfLiving.{no_rows}

@@ -1,10 +1,8 @@
-use Rattle.std.proofs.Common.{rules}
-use Rattle.std.proofs.Common.{◌≡◌, ◌+◌, pos, ◌-ℤ◌, nat_abs, length, ap, ◌∙◌, Ok, arith, to_z, of_z}
-use Rattle.std.proofs.Common.{w64, ℕ}
+use Rattle.std.proofs.Common.{rules, ◌≡◌, ◌+◌, pos, ◌-ℤ◌, nat_abs, length, ap, ◌∙◌, Ok, arith, to_z}
+use Rattle.std.proofs.Common.{of_z, w64, ℕ}
 use Rattle.std.proofs.lemmas.Int.{ints}
 use Rattle.ent_alloc.specs.Limits.{Limits}
 use Rattle.ent_alloc.specs.Sequential.{pool_at, reply_from}
-use Rattle.ent_alloc.specs.Entities.{beneath}
 use Rattle.ent_alloc.proofs.FreshHandles.{fresh-none}
 use Rattle.ent_alloc.proofs.Meaning.{allocator_is}
 use Rattle.ent_alloc.proofs.MeaningOfReplies.{reply_none}

@@ -1,5 +1,4 @@
-use Rattle.std.proofs.Common.{rules}
-use Rattle.std.proofs.Common.{◌≡◌, ℕ, ◌+◌, pos, ◌-ℤ◌, nat_abs, ap, ◌∙◌, ◌∷◌, [], Ok, arith}
+use Rattle.std.proofs.Common.{rules, ◌≡◌, ℕ, ◌+◌, pos, ◌-ℤ◌, nat_abs, ap, ◌∙◌, ◌∷◌, [], Ok, arith}
 use Rattle.std.proofs.Common.{to_z, of_z, w64}
 use Rattle.std.proofs.lemmas.Int.{ints}
 use Rattle.ent_handle.specs.Handle.{Handle}

@@ -1,8 +1,5 @@
 use Rattle.std.proofs.Common.{rules}
-use Rattle.std.proofs.Common.{length, sym, ap, ◌∙◌, arith}
 use Rattle.std.proofs.lemmas.List.{length-take-le}
-use Rattle.ent_alloc.specs.Sequential.{Allocator}
-use Rattle.ent_alloc.specs.Entities.{idle}
 use Rattle.ent_alloc.proofs.Meaning.{allocator_is, length-idle}
 use Rattle.ent_alloc.proofs.entities.Entities.reserved.Goals as goal
 

@@ -1,20 +1,15 @@
-use Rattle.std.proofs.Common.{rules}
-use Rattle.std.proofs.Common.{◌≡◌, ℕ, ◌-◌, ◌<◌, ◌||◌, Bool, false, cond, length, drop}
-use Rattle.std.proofs.Common.{leb, sym, ap, ◌∙◌, arith}
+use Rattle.std.proofs.Common.{rules, ◌≡◌, ℕ, ◌-◌, ◌||◌, Bool, false, cond, length, drop}
 use Rattle.std.proofs.Math.Bool.{or-false}
 use Rattle.std.specs.FinSet as sets
 use Rattle.ent_handle.specs.Handle.{Handle}
-use Rattle.ent_alloc.specs.declared.state.State.TheVariants.{Alive, Reserved, Gone}
+use Rattle.ent_alloc.specs.declared.state.State.TheVariants.{Reserved, Gone}
 use Rattle.ent_alloc.specs.Sequential.{Allocator, fresh, stands_in, state_of}
 use Rattle.ent_alloc.specs.Roster.{Roster}
-use Rattle.ent_alloc.specs.Slots.{is_alive, is_pending_from}
 use Rattle.ent_alloc.specs.Entities.{allocator_of, AreReserved}
 use Rattle.ent_alloc.proofs.Looked.{fresh_no}
 use Rattle.ent_alloc.proofs.Meaning.{allocator_is}
 use Rattle.ent_alloc.proofs.MeaningOfFlush.{stands_in_taken}
 use Rattle.ent_alloc.proofs.entities.Entities.state.Goals as goal
-use Rattle.ent_alloc.proofs.entities.Entities.state.Goals.{in-Some-Pending, in-Some-Retired}
-use Rattle.ent_alloc.proofs.entities.Entities.state.Goals.{in-None, in-None-2}
 use Rattle.ent_alloc.proofs.entities.Entities.state.Goals.{Joined-occupancy_of}
 
 -- the state of a handle that isn't alive, by the test whether it is reserved

@@ -1,5 +1,4 @@
 use Rattle.std.proofs.Common.{rules}
-use Rattle.std.proofs.Common.{length, sym, ap, ◌∙◌}
 use Rattle.ent_alloc.proofs.Listing.{length-reserved_handles}
 use Rattle.ent_alloc.proofs.reserved.ReservedExactSizeIterator.len.Goals as goal
 

@@ -1,6 +1,4 @@
-use Rattle.std.proofs.Common.{◌+◌, ◌∷◌, length, sym, ap, ◌∙◌, rules}
-use Rattle.ent_handle.specs.Handle.{Handle}
-use Rattle.ent_alloc.specs.Reserved.{reserved_handles}
+use Rattle.std.proofs.Common.{rules}
 use Rattle.ent_alloc.proofs.Listing.{reserved_handles-pending, reserved_handles-fresh}
 use Rattle.ent_alloc.proofs.Listing.{reserved_handles-none}
 use Rattle.ent_alloc.proofs.reserved.ReservedIterator.next.Goals as goal

@@ -1,7 +1,5 @@
 use Rattle.std.proofs.Common.{rules}
-use Rattle.std.proofs.Common.{sym, ap, ◌∙◌}
 use Rattle.std.specs.FinSet as sets
-use Rattle.ent_alloc.specs.Roster.{Roster}
 use Rattle.ent_alloc.proofs.Occupants.{len_occupants}
 use Rattle.ent_alloc.proofs.slots.Slots.live.Goals as goal
 

@@ -1,17 +1,13 @@
-use Rattle.std.proofs.Common.{arith}
-use Rattle.std.proofs.Common.{rules}
+use Rattle.std.proofs.Common.{arith, rules, ◌≡◌, drop, sym, ap, ◌∙◌}
 use Rattle.std.proofs.lemmas.Grind.{common_steps}
-use Rattle.std.proofs.Common.{◌≡◌, ◌<◌, drop, length, Option, sym, ap, subst, ◌∙◌}
-use Rattle.std.specs.Option.{OnSome}
 use Rattle.std.specs.FinSet as sets
 use Rattle.std.specs.FinMap as maps
 use Rattle.ent_alloc.specs.Roster.{Roster}
-use Rattle.ent_alloc.specs.declared.slot_record.Occupancy.{Occupancy}
 use Rattle.ent_alloc.specs.Sequential.{stands_in}
-use Rattle.ent_alloc.specs.Slots.{occupancy_of, lives, row_kept, waits_from}
+use Rattle.ent_alloc.specs.Slots.{occupancy_of, waits_from}
 use Rattle.ent_alloc.proofs.Occupants.{contains_occupants}
 use Rattle.ent_alloc.proofs.Looked.{is_occupant-occupancy, row_at-occupancy, waits_at-occupancy}
-use Rattle.ent_alloc.proofs.Looked.{made-occupancy, stands_in-pending}
+use Rattle.ent_alloc.proofs.Looked.{stands_in-pending}
 use Rattle.ent_alloc.proofs.KeptRows.{get_rows}
 use Rattle.ent_alloc.proofs.slots.Slots.occupancy_of.Goals.{After-occupancy_of}
 use Rattle.ent_alloc.proofs.slots.Slots.occupancy_of.Goals as goal

@@ -1,9 +1,5 @@
 use Rattle.std.proofs.Common.{rules}
-use Rattle.std.proofs.Common.{◌<◌, List, AllPairs, length, sym, ap, subst, ◌∙◌}
 use Rattle.std.specs.FinSet as sets
-use Rattle.ent_handle.specs.Handle.{Handle, handle_cmp}
-use Rattle.ent_alloc.specs.Roster.{Roster}
-use Rattle.ent_alloc.specs.Slots.{occupants}
 use Rattle.ent_alloc.proofs.Occupants.{len_occupants}
 use Rattle.ent_alloc.proofs.InOrder.{rising_occupants}
 use Rattle.ent_alloc.proofs.slots.Slots.occupants.Goals as goal

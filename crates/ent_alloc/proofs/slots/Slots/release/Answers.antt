@@ -1,6 +1,5 @@
-use Rattle.std.proofs.Common.{rules}
-use Rattle.std.proofs.lemmas.Grind.{common_steps}
-use Rattle.std.proofs.Common.{◌≡◌, ◌≢◌, ◌+◌, [], ◌∷◌, ◌++◌, length, set, true, ap, ◌∙◌, arith}
+use Rattle.std.proofs.Common.{rules, ◌≡◌, ◌≢◌, ◌+◌, [], ◌∷◌, ◌++◌, length, set, true, ap, ◌∙◌}
+use Rattle.std.proofs.Common.{arith}
 use Rattle.std.specs.FinSet as sets
 use Rattle.std.specs.FinMap as maps
 use Rattle.ent_alloc.specs.declared.slot_record.Occupancy.TheVariants.{Pending}
@@ -23,7 +22,9 @@ not_last c last = search (rules)
 
 pub index_mut-requires : goal.index_mut-requires
 index_mut-requires c =
-    grind (arith, common_steps, lives (goal.at.index_mut-requires c).After-self, c.self.inside.records.items, c.args.handle)
+    let records = c.self.inside.records.items in
+    let is = lives (goal.at.index_mut-requires c).After-self in
+    omega (arith, occupant_made records c.args.handle is)
 
 pub overflow_sub-self : goal.overflow_sub-self
 overflow_sub-self c =

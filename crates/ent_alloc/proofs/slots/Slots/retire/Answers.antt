@@ -1,6 +1,4 @@
-use Rattle.std.proofs.Common.{rules}
-use Rattle.std.proofs.lemmas.Grind.{common_steps}
-use Rattle.std.proofs.Common.{◌≡◌, true, ap, ◌∙◌, arith}
+use Rattle.std.proofs.Common.{rules, ◌≡◌, true, ap, ◌∙◌, arith}
 use Rattle.std.specs.FinSet as sets
 use Rattle.std.specs.FinMap as maps
 use Rattle.ent_alloc.specs.declared.slot_record.Occupancy.TheVariants.{Retired}
@@ -18,7 +16,12 @@ lives c = search (rules, lives_in)
 
 pub index_mut-requires : goal.index_mut-requires
 index_mut-requires c =
-    grind (arith, common_steps, occupant_made c.self.inside.records.items c.args.handle (lives (goal.at.index_mut-requires c).After-self), lives (goal.at.index_mut-requires c).After-self, c.index-index.ensures, c.self.inside.records.items, c.args.handle)
+    let index = c.index-index.ensures in
+    omega (
+      arith,
+      occupant_made c.self.inside.records.items c.args.handle
+          (lives (goal.at.index_mut-requires c).After-self),
+    )
 
 pub overflow_sub-self : goal.overflow_sub-self
 overflow_sub-self c =

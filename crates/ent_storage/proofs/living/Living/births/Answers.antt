@@ -1,6 +1,4 @@
-use Rattle.std.proofs.Common.{rules}
-use Rattle.std.proofs.lemmas.Grind.{common_steps}
-use Rattle.std.proofs.Common.{◌≡◌, ◌<◌, map, length, ap, ◌∙◌, arith}
+use Rattle.std.proofs.Common.{rules, ◌≡◌, map, ap, ◌∙◌}
 use Rattle.std.proofs.lemmas.Result.{IfOk-weaker, on_err_weaker}
 use Rattle.ent_handle.specs.declared.birth.Birth.{Birth}
 use Rattle.ent_handle.specs.Handle.{Handle}
@@ -11,7 +9,13 @@ use Rattle.ent_storage.proofs.living.Living.births.Goals as goal
 
 pub returns-clause-ok : goal.returns-clause-ok
 returns-clause-ok c =
-    grind (arith, common_steps, births_from 0 c.self.inside.residents.items c.self.inside.columns.items, c.self.inside.residents.items, c.self.inside.columns.items, c.self.view_is, c.args.self.now.entities, c.deref.ensures.value, c.births.ensures.ok)
+    let same = births_from 0 c.self.inside.residents.items c.self.inside.columns.items
+    ∙ ap (λ (l : Living). map {B = Birth × Handle} (λ e. (e.birth, e.handle)) l.entities)
+    c.self.view_is in
+    IfOk-weaker _ _ (λ births. births.items ≡ map {B = Birth × Handle} (λ e. (e.birth, e.handle))
+    c.args.self.now.entities) (λ births is. is
+    ∙ ap (map {B = Birth × Handle} (λ (resident : Resident). (resident.birth, resident.handle)))
+    c.deref.ensures.value ∙ same) c.births.ensures.ok
 
 -- there are as many entities as residents
 pub returns-clause-memory : goal.returns-clause-memory

@@ -1,6 +1,4 @@
 use Rattle.std.proofs.Common.{rules}
-use Rattle.std.proofs.Common.{length, ap, arith}
-use Rattle.ent_storage.specs.Living.{Living}
 use Rattle.ent_storage.proofs.EntitiesOfResidents.{length_from}
 use Rattle.ent_storage.proofs.living.Living.len.Goals as goal
 

@@ -1,6 +1,4 @@
-use Rattle.std.proofs.Common.{rules}
-use Rattle.std.proofs.Common.{◌≡◌, ℕ, List, length, get_or, Some, slice_get, ap, sym, ◌∙◌, arith}
-use Rattle.std.proofs.Common.{option_and_then}
+use Rattle.std.proofs.Common.{rules, ◌≡◌, ℕ, List, length, slice_get, ap, sym, ◌∙◌, option_and_then}
 use Rattle.std.proofs.lemmas.Option.{slice_get-get_or, none-some}
 use Rattle.ent_storage.proofs.ColumnsAtPlaces.{taken_none}
 use Rattle.std.specs.FinMap as finite

@@ -1,11 +1,7 @@
-use Rattle.std.proofs.Common.{rules}
+use Rattle.std.proofs.Common.{rules, arith}
 use Rattle.std.proofs.lemmas.Grind.{common_steps}
-use Rattle.std.proofs.Common.{◌≡◌, ◌+◌, [], ◌∷◌, ◌++◌, length, None, ap, ◌∙◌, arith}
 use Rattle.std.specs.FinMap as finite
-use Rattle.ent_handle.specs.declared.component.ComponentId.{ComponentId}
-use Rattle.ent_storage.specs.declared.living.Resident.{Resident}
-use Rattle.ent_storage.specs.Living.{Living, value_at}
-use Rattle.ent_storage.proofs.EntitiesOfResidents.{length_from, pushed_from, pushed_within}
+use Rattle.ent_storage.proofs.EntitiesOfResidents.{length_from, pushed_from}
 use Rattle.ent_storage.proofs.living.Living.push.Goals as goal
 
 pub push_reserved-requires : goal.push_reserved-requires

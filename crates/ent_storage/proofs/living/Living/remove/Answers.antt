@@ -1,8 +1,7 @@
-use Rattle.std.proofs.Common.{rules}
-use Rattle.std.proofs.Common.{length, ap, sym, ◌∙◌, inr, arith}
+use Rattle.std.proofs.Common.{rules, length, ap, sym, ◌∙◌, inr, arith}
 use Rattle.std.specs.FinMap as finite
 use Rattle.ent_storage.specs.declared.living.Resident.{Resident}
-use Rattle.ent_storage.specs.Living.{Living, LivingEntity, change_at}
+use Rattle.ent_storage.specs.Living.{LivingEntity}
 use Rattle.ent_storage.proofs.ColumnsAtPlaces.{get_components}
 use Rattle.ent_storage.proofs.EntitiesOfResidents.{read_from, inside_from, changed_from}
 use Rattle.ent_storage.proofs.EntitiesOfResidents.{changed_within, written_back}

@@ -1,4 +1,3 @@
-use Rattle.std.proofs.lemmas.Grind.{common_steps}
 use Rattle.std.proofs.Common.{◌≡◌, ◌<◌, length, ap, arith, vec_len}
 use Rattle.ent_storage.specs.Living.{Living, IsMovedInto, AreColumnsOf, entities_from}
 use Rattle.ent_storage.proofs.EntitiesOfResidents.{inside_from, moved, written_back}
@@ -16,7 +15,10 @@ inside c =
     )
 
 pub swap_remove-requires : goal.swap_remove-requires
-swap_remove-requires c = grind (arith, common_steps, inside (goal.at.swap_remove-requires c).After-self, c.len-last.ensures, c.deref_mut.ensures.value, c.deref.ensures.value, c.self.invariant.1)
+swap_remove-requires c = record {
+  before = omega (arith, inside (goal.at.swap_remove-requires c).After-self, c.len-last.ensures);
+  in_use = rw (c.deref_mut.ensures.value, c.deref.ensures.value) c.self.invariant.1;
+}
 
 pub swap_remove-requires-2 : goal.swap_remove-requires-2
 swap_remove-requires-2 c = inside (goal.at.swap_remove-requires-2 c).After-self

@@ -1,5 +1,5 @@
-use Rattle.std.proofs.Common.{◌≡◌, ◌≤◌, ℕ, ℤ, List, length, get_or, slice_get, Some, refl, ap, sym}
-use Rattle.std.proofs.Common.{◌∙◌, arith, SFits, w64, rules}
+use Rattle.std.proofs.Common.{◌≡◌, ◌≤◌, ℕ, ℤ, List, length, get_or, slice_get, Some, ap, sym, ◌∙◌}
+use Rattle.std.proofs.Common.{arith, rules}
 use Rattle.std.specs.Ordering.{nat_cmp}
 use Rattle.std.proofs.lemmas.Int.{to_z-of_z}
 use Rattle.std.proofs.lemmas.Option.{slice_get-get_or}

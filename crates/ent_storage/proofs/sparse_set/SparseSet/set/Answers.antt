@@ -1,5 +1,4 @@
-use Rattle.std.proofs.lemmas.Grind.{common_steps}
-use Rattle.std.proofs.Common.{◌≡◌, ◌<◌, length, None, refl, ap, sym, ◌∙◌, arith, SFits, w64, rules}
+use Rattle.std.proofs.Common.{◌≡◌, ◌<◌, length, None, refl, ap, ◌∙◌, SFits, w64, rules}
 use Rattle.std.proofs.lemmas.Int.{to_z-of_z}
 use Rattle.std.specs.Ordering.{nat_cmp}
 use Rattle.std.specs.FinMap as map
@@ -34,4 +33,8 @@ invariant_of-self-in-None c =
 
 pub returns-in-None : goal.returns-in-None
 returns-in-None c =
-    grind (arith, common_steps, pushed_values c.self.inside.dense.items c.self.inside.sparse.items c.self.invariant c.args.place c.args.value (none_there c) (in_sparse c), none_there c, in_sparse c, c.args.value, c.push_reserved.ensures.items, c.self.inside.dense.items, c.self.inside.sparse.items, c.self.invariant, c.args.place, c.self.view_is)
+    let fits : SFits w64 c.args.value = search rules in
+    rw (c.push_reserved.ensures.items, to_z-of_z w64 c.args.value fits)
+    (pushed_values c.self.inside.dense.items c.self.inside.sparse.items c.self.invariant
+    c.args.place c.args.value (none_there c) (in_sparse c))
+    ∙ ap (λ (m : Column). map.insert m.values c.args.place c.args.value) c.self.view_is

@@ -1,9 +1,5 @@
-use Rattle.std.proofs.Common.{rules}
-use Rattle.std.proofs.Common.{refl, ap, ◌∙◌, arith}
-use Rattle.std.specs.Cmp.{nat_cmp_total as total}
+use Rattle.std.proofs.Common.{rules, arith}
 use Rattle.std.specs.FinMap as map
-use Rattle.std.specs.FinMap.{nat_cmp-IsAntisymmetric as same}
-use Rattle.ent_storage.specs.SparseSet.{Values}
 use Rattle.ent_storage.proofs.Keys.{get-remove_same}
 use Rattle.ent_storage.proofs.Dense.{moved_down, removed_last}
 use Rattle.ent_storage.proofs.sparse_set.SparseSet.swap_remove.Goals as goal

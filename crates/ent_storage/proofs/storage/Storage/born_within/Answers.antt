@@ -1,13 +1,10 @@
-use Rattle.std.proofs.Common.{rules}
-use Rattle.std.proofs.Common.{◌≡◌, ◌<◌, length, min, Some, None, Option, is_none, is_some, is_err}
+use Rattle.std.proofs.Common.{rules, ◌≡◌, ◌<◌, length, min, Some, None, Option, is_none, is_some}
 use Rattle.std.proofs.Common.{true, false, refl, sym, ap, ◌∙◌, arith}
 use Rattle.std.proofs.lemmas.Bool.{false≢true}
 use Rattle.std.specs.FinMap as map
 use Rattle.ent_storage.specs.Living.{LivingEntity}
-use Rattle.ent_storage.specs.EntityMap.{EntityMap, Store}
-use Rattle.ent_storage.specs.Indexed.{entity_of}
+use Rattle.ent_storage.specs.EntityMap.{Store}
 use Rattle.ent_storage.proofs.Indexed.{entities_push}
-use Rattle.ent_storage.specs.Indexed.{counted}
 use Rattle.ent_storage.proofs.Counted.{kept_push}
 use Rattle.ent_storage.proofs.Placed.{placed_known}
 use Rattle.ent_storage.proofs.storage.Storage.born_within.Goals as goal

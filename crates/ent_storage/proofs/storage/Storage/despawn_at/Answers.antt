@@ -1,13 +1,11 @@
-use Rattle.std.proofs.Common.{rules}
+use Rattle.std.proofs.Common.{rules, ◌≡◌, ℕ, ◌<◌, ◌≤◌, List, length, get_or, min, Some, slice_get}
+use Rattle.std.proofs.Common.{ap, sym, ◌∙◌, arith}
 use Rattle.std.proofs.lemmas.Grind.{common_steps}
-use Rattle.std.proofs.Common.{◌≡◌, ℕ, ◌<◌, ◌≤◌, List, length, get_or, min, Some, slice_get, ap, sym}
-use Rattle.std.proofs.Common.{◌∙◌, arith}
 use Rattle.std.specs.FinMap as map
-use Rattle.std.proofs.lemmas.List.{length-map, get_or_default}
+use Rattle.std.proofs.lemmas.List.{length-map}
 use Rattle.std.proofs.lemmas.Option.{slice_get_past}
 use Rattle.ent_handle.specs.Handle.{Handle}
 use Rattle.ent_storage.specs.EntityMap.{Store}
-use Rattle.ent_storage.specs.Places.{Places}
 use Rattle.ent_storage.specs.Living.{LivingEntity}
 use Rattle.ent_storage.specs.Indexed.{counted, handles_by_place}
 use Rattle.ent_storage.proofs.Indexed.{some_entity}

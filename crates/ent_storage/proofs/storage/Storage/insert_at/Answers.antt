@@ -1,6 +1,4 @@
-use Rattle.std.proofs.Common.{rules}
-use Rattle.std.proofs.Common.{◌<◌, IfSome, Result, Ok, Err, OnErr, min}
-use Rattle.std.proofs.Common.{ap}
+use Rattle.std.proofs.Common.{rules, ◌<◌, IfSome, Result, Ok, Err, OnErr, min, ap}
 use Rattle.std.specs.Option.{option_map}
 use Rattle.ent_storage.specs.Components.{with_items, missing}
 use Rattle.ent_storage.specs.EntityMap.{Entity, components_of}

@@ -1,5 +1,4 @@
-use Rattle.std.proofs.Common.{rules}
-use Rattle.std.proofs.Common.{Some, Option, ap, sym, ◌∙◌}
+use Rattle.std.proofs.Common.{rules, Some, Option, ap, sym, ◌∙◌}
 use Rattle.std.specs.Option.{option_map}
 use Rattle.std.specs.FinMap as map
 use Rattle.ent_storage.specs.EntityMap.{Entity}

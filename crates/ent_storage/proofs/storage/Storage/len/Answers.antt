@@ -1,11 +1,7 @@
 use Rattle.std.proofs.Common.{rules}
-use Rattle.std.proofs.Common.{length, ap, arith}
 use Rattle.std.specs.FinMap as map
 use Rattle.std.proofs.lemmas.List.{length-map}
-use Rattle.ent_storage.specs.EntityMap.{Store}
-use Rattle.ent_storage.specs.Living.{LivingEntity}
 use Rattle.ent_storage.proofs.Indexed.{len_living}
-use Rattle.ent_storage.specs.Indexed.{counted}
 use Rattle.ent_storage.proofs.storage.Storage.len.Goals as goal
 
 pub returns-clause-value : goal.returns-clause-value

@@ -1,10 +1,6 @@
 use Rattle.std.proofs.Common.{rules}
-use Rattle.std.proofs.Common.{is_some, slice_get, ap, sym, ◌∙◌}
 use Rattle.std.specs.FinMap as map
-use Rattle.ent_storage.specs.EntityMap.{Store}
-use Rattle.ent_storage.specs.Indexed.{counted}
-use Rattle.ent_storage.proofs.Placed.{placed_from_place, place_from_placed}
-use Rattle.ent_storage.proofs.Placed.{placed_known}
+use Rattle.ent_storage.proofs.Placed.{placed_from_place, place_from_placed, placed_known}
 use Rattle.ent_storage.proofs.storage.Storage.place.Goals as goal
 
 pub returns-clause-at : goal.returns-clause-at

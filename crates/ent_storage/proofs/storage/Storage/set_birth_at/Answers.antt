@@ -1,5 +1,4 @@
-use Rattle.std.proofs.Common.{rules}
-use Rattle.std.proofs.Common.{◌≡◌, min, Some, slice_get, ap, ◌∙◌}
+use Rattle.std.proofs.Common.{rules, ◌≡◌, min, Some, slice_get, ap, ◌∙◌}
 use Rattle.std.specs.FinMap as map
 use Rattle.ent_storage.specs.EntityMap.{Store, with_birth}
 use Rattle.ent_storage.specs.Indexed.{counted, handles_by_place}

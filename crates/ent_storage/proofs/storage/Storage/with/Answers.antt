@@ -1,6 +1,5 @@
-use Rattle.std.proofs.Common.{arith}
+use Rattle.std.proofs.Common.{arith, ◌≡◌, ◌<◌, ℕ, ℤ, List, length, Contains, IsSome, ap, subst}
 use Rattle.std.proofs.lemmas.Grind.{common_steps}
-use Rattle.std.proofs.Common.{◌≡◌, ◌<◌, ℕ, ℤ, List, length, Contains, IsSome, ap, subst}
 use Rattle.std.specs.FinMap as map
 use Rattle.ent_handle.specs.Handle.{Handle, handle_cmp}
 use Rattle.ent_handle.specs.declared.component.ComponentId.{ComponentId}
