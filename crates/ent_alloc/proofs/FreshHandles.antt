@@ -1,7 +1,7 @@
 -- Laws of `fresh`, the first occupants of slots that were never made. Nothing here computes it at a
 -- number.
-use Rattle.std.proofs.Common.{◌≡◌, refl, ap, ◌∙◌, ℕ, zero, suc, ◌+◌, ◌-◌, ◌<◌, ◌≤◌, true, false}
-use Rattle.std.proofs.Common.{List, [], ◌∷◌, ◌++◌, length, get_or, take, drop, filter, All}
+use Rattle.std.proofs.Common.{rules, ◌≡◌, refl, ap, ◌∙◌, ℕ, zero, suc, ◌+◌, ◌-◌, ◌<◌, ◌≤◌, true}
+use Rattle.std.proofs.Common.{false, List, [], ◌∷◌, ◌++◌, length, get_or, take, drop, filter, All}
 use Rattle.std.proofs.Common.{AllPairs, arith, lt-ltb, le-ltb, le-leb, append-nil}
 use Rattle.std.proofs.lemmas.Bool.{lt-leb}
 use Rattle.std.proofs.lemmas.List.Elements.{All-weaker, filter-append}
@@ -70,14 +70,11 @@ All-fresh P index slots each k d lt =
 -- their indexes rise
 pub AllPairs-fresh : (index slots : ℕ) → AllPairs (λ g h. g.index < h.index) (fresh index slots)
 AllPairs-fresh index slots i j d lt within =
-    let j_within : j < slots = omega (arith, length-fresh index slots) in
-    let i_within : i < slots = omega arith in
-    rw (get_or-fresh index slots i d i_within, get_or-fresh index slots j d j_within) (omega arith)
+    search (rules, length-fresh, get_or-fresh)
 
 -- no two of them are of one slot
 pub fresh_apart : (index slots : ℕ) → AllPairs AreApart (fresh index slots)
-fresh_apart index slots i j d lt within same = let rises = AllPairs-fresh index slots i j d lt
-    within in omega arith
+fresh_apart index slots i j d lt within same = search (rules, AllPairs-fresh)
 
 -- none of them is old where they begin
 pub no_fresh_is_old : (made index slots : ℕ) → made ≤ index
@@ -95,21 +92,17 @@ each_fresh_is_fresh made index slots le = All-fresh (λ h. is_fresh made h ≡ t
 -- so a filter of the fresh keeps all
 pub all_fresh_are_fresh : (made index slots : ℕ) → made ≤ index
     → filter (is_fresh made) (fresh index slots) ≡ fresh index slots
-all_fresh_are_fresh made index slots le = filter_all (is_fresh made) (fresh index slots)
-    (each_fresh_is_fresh made index slots le)
+all_fresh_are_fresh made index slots le = search (rules, filter_all, each_fresh_is_fresh)
 
 -- old handles are no fresh ones
 pub no_old_is_fresh : (made : ℕ) (old : List Handle) → All (λ h. h.index < made) old
     → filter (is_fresh made) old ≡ []
-no_old_is_fresh made old below = filter_none (is_fresh made) old
-    (All-weaker (λ h. h.index < made) (λ h. is_fresh made h ≡ false) (λ h lt. lt-leb _ _ lt) old
-    below)
+no_old_is_fresh made old below = search (rules, filter_none, All-weaker, lt-leb)
 
 -- a filter of the old keeps all old handles
 pub all_old_are_old : (made : ℕ) (old : List Handle) → All (λ h. h.index < made) old
     → filter (is_old made) old ≡ old
-all_old_are_old made old below = filter_all (is_old made) old
-    (All-weaker (λ h. h.index < made) (λ h. is_old made h ≡ true) (λ h lt. lt-ltb _ _ lt) old below)
+all_old_are_old made old below = search (rules, filter_all, All-weaker, lt-ltb)
 
 -- old handles and then fresh ones: a filter takes them apart again
 module _ (made slots : ℕ) (old : List Handle) (below : All (λ h. h.index < made) old) where

@@ -1,24 +1,23 @@
 -- No handle is given twice: each step keeps the list of all given handles free of repetitions.
-use Rattle.std.proofs.Common.{le_of_eq, append-nil, ◌≡◌, ◌≢◌, refl, sym, ap, subst, ℕ, ◌<◌}
+use Rattle.std.proofs.Common.{rules, le_of_eq, append-nil, ◌≡◌, ◌≢◌, refl, sym, ap, subst, ℕ, ◌<◌}
 use Rattle.std.proofs.Common.{◌≤◌, List, [], ◌∷◌, ◌++◌, length, get_or, take, drop, All, Contains}
 use Rattle.std.proofs.Common.{IsPermutation, Ok, arith, inl, inr}
 use Rattle.std.proofs.lemmas.Bool.{cases_lt}
-use Rattle.std.proofs.lemmas.List.Elements.{Contains-get_or, All-push, All-nil}
-use Rattle.std.proofs.lemmas.List.Elements.{All-append, All-head, All-contains, All-contains_itself}
-use Rattle.std.proofs.lemmas.List.Elements.{All-weaker, All-take, All-drop, Contains-append_left}
+use Rattle.std.proofs.lemmas.List.Elements.{Contains-get_or, All-push, All-nil, All-append}
+use Rattle.std.proofs.lemmas.List.Elements.{All-head, All-contains, All-contains_itself, All-weaker}
+use Rattle.std.proofs.lemmas.List.Elements.{All-take, All-drop, Contains-append_left}
 use Rattle.std.proofs.lemmas.List.Quantifiers.{all_pairs_push}
 use Rattle.std.proofs.lemmas.List.Sorted.{All-permutation}
 use Rattle.ent_handle.specs.Handle.{Handle}
-use Rattle.ent_alloc.specs.Sequential.{Allocator, available, after_take, after_flush}
-use Rattle.ent_alloc.specs.Sequential.{after_alloc, after_free, next, in_front, reply_to}
+use Rattle.ent_alloc.specs.Sequential.{Allocator, available, after_take, after_flush, after_alloc}
+use Rattle.ent_alloc.specs.Sequential.{after_free, next, in_front, reply_to}
 use Rattle.ent_alloc.specs.Sound.{IsSound, AreApart, IsLive}
 use Rattle.ent_alloc.specs.Spent.{IsSpent, AreSpent}
 use Rattle.ent_alloc.proofs.ListLaws.{All-left, All-right, AllPairs-append, AllPairs-left}
 use Rattle.ent_alloc.proofs.ListLaws.{AllPairs-across, AllPairs-IsPermutation, same_from_AllPairs}
 use Rattle.ent_alloc.proofs.HandleSets.{inserted, in_removed, of_inserted, of_joined}
 use Rattle.ent_alloc.proofs.Taken.{after_take-served, after_take-refused}
-use Rattle.ent_alloc.proofs.Soundness.{after_alloc-sound, after_take-sound, of_next}
-use Rattle.ent_alloc.proofs.Soundness.{All-in_front}
+use Rattle.ent_alloc.proofs.Soundness.{after_alloc-sound, after_take-sound, of_next, All-in_front}
 use Rattle.ent_alloc.proofs.Replies.{of_reply, reply-taken, reply-distinct}
 
 -- g comes after h, where both are of one slot
@@ -167,20 +166,12 @@ take-given s n given more sound served once = record {
 -- a refused request gives nothing
 pub refused-given : (s : Allocator) (n : ℕ) (given : List Handle) → AreSpent s given
     → AreSpent (after_take s n) given
-refused-given s n given once = record {
-  distinct = once.distinct;
-  spent = All-weaker (IsSpent s)
-      (IsSpent (after_take s n)) (take-stays_spent s n) given once.spent;
-}
+refused-given s n given once = search (rules, All-weaker, take-stays_spent)
 
 -- a flush gives nothing
 pub flush-given : (s : Allocator) (given : List Handle) → AreSpent s given
     → AreSpent (after_flush s) given
-flush-given s given once = record {
-  distinct = once.distinct;
-  spent = All-weaker (IsSpent s)
-      (IsSpent (after_flush s)) (flush-stays_spent s) given once.spent;
-}
+flush-given s given once = search (rules, All-weaker, flush-stays_spent)
 
 -- an allocation gives what was never given
 pub alloc-given : (s : Allocator) (x : Handle) (rest given : List Handle) → IsSound s → s.asked ≡ 0
@@ -199,12 +190,7 @@ alloc-given s x rest given sound flushed front once = record {
 -- a free gives nothing
 pub free-given : (s : Allocator) (x : Handle) (given : List Handle) → IsLive s x → AreSpent s given
     → AreSpent (after_free s x) given
-free-given s x given alive once = record {
-  distinct = once.distinct;
-  spent =
-      All-weaker (IsSpent s) (IsSpent (after_free s x)) (λ h. free-stays_spent s x h alive)
-      given once.spent;
-}
+free-given s x given alive once = search (rules, All-weaker, free-stays_spent)
 
 -- ---- other lists of the same handles, and of fewer
 

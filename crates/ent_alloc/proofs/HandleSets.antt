@@ -1,11 +1,12 @@
 -- Which handles a set or a list of handles has after a change.
-use Rattle.std.proofs.Common.{◌≡◌, ◌≢◌, refl, sym, ap, ◌∙◌, Bool, true, false, not, ◌&&◌}
-use Rattle.std.proofs.Common.{◌||◌, true≢false, List, IsTrue, ◌⊎◌, inl, inr}
-use Rattle.std.proofs.Common.{Contains, subst, All, AllPairs}
+use Rattle.std.proofs.Common.{arith, rules, ◌≡◌, ◌≢◌, refl, sym, ap, ◌∙◌, Bool, true, false, not}
+use Rattle.std.proofs.Common.{◌&&◌, ◌||◌, true≢false, List, IsTrue, ◌⊎◌, inl, inr, Contains, All}
+use Rattle.std.proofs.Common.{AllPairs}
+use Rattle.std.proofs.lemmas.Grind.{common_steps}
 use Rattle.std.specs.FinSet as set
 use Rattle.std.specs.Ordering.{eq_by_cmp}
 use Rattle.std.proofs.lemmas.Cmp.{eq_by_cmp_equiv}
-use Rattle.std.proofs.lemmas.Map.Views.{Contains-from_any, list_any-from_Contains, tells_apart}
+use Rattle.std.proofs.lemmas.Map.Views.{Contains-from_any, tells_apart}
 use Rattle.std.proofs.lemmas.List.Elements.{All-contains}
 use Rattle.ent_handle.specs.Handle.{Handle, handle_cmp, handle_cmp_total}
 use Rattle.ent_handle.specs.Handle.{handle_cmp-IsAntisymmetric}
@@ -42,11 +43,7 @@ itself h = (eq_by_cmp_equiv handle_cmp_total).refl h
 
 -- and with no other
 pub other_handle : (g h : Handle) → g ≢ h → eq_by_cmp handle_cmp g h ≡ false
-other_handle g h apart = elim (eq_by_cmp handle_cmp g h) as (λ b. eq_by_cmp handle_cmp g h ≡ b → b
-    ≡ false) [
-      | true ↦ λ e. absurd (apart (same_handle g h e))
-      | false ↦ λ _. refl
-    ] refl
+other_handle g h apart = grind (arith, common_steps)
 
 -- a list as the specifications ask it
 pub Contains-from_stands_in : (handles : List Handle) (h : Handle) → IsTrue (stands_in handles h)
@@ -56,8 +53,7 @@ Contains-from_stands_in handles h e = Contains-from_any same_handle h handles e
 -- and the other way round
 pub stands_in-from_Contains : (handles : List Handle) (h : Handle) → Contains handles h
     → IsTrue (stands_in handles h)
-stands_in-from_Contains handles h has = list_any-from_Contains (eq_by_cmp_equiv handle_cmp_total) h
-    handles has
+stands_in-from_Contains handles h has = grind (arith, common_steps)
 
 -- what is there after an insert was inserted or was there
 pub in_inserted : (s : Handles) (h x : Handle) → IsTrue (set.contains (set.insert s h) x) → (x ≡ h)
@@ -92,10 +88,7 @@ contains-union_list s more x = set.contains-union handle_cmp_total s (set.from_l
 pub in_union_list : (s : Handles) (more : List Handle) (x : Handle)
     → IsTrue (set.contains (set.union s (set.from_list more)) x) → IsTrue (set.contains s x)
     ⊎ Contains more x
-in_union_list s more x e = elim (either_true _ _ (sym (contains-union_list s more x) ∙ e)) [
-  | inl before ↦ inl before
-  | inr one ↦ inr (Contains-from_stands_in more x one)
-]
+in_union_list s more x e = search (rules, either_true, contains-union_list, Contains-from_stands_in)
 
 -- what was there stays
 pub union_list_keeps : (s : Handles) (more : List Handle) (x : Handle) → IsTrue (set.contains s x)
@@ -105,8 +98,7 @@ union_list_keeps s more x e = contains-union_list s more x ∙ ap (λ b. b || st
 -- what is in the list is there
 pub union_list_has : (s : Handles) (more : List Handle) (x : Handle) → Contains more x
     → IsTrue (set.contains (set.union s (set.from_list more)) x)
-union_list_has s more x has = contains-union_list s more x ∙ ap (λ b. set.contains s x || b)
-    (stands_in-from_Contains more x has) ∙ or_true _
+union_list_has s more x has = search (rules, contains-union_list, stands_in-from_Contains, or_true)
 
 -- one occupant more, of a slot that has none
 pub one_occupant_inserted : (live : set.FinSet handle_cmp) (x : Handle)
@@ -115,16 +107,7 @@ pub one_occupant_inserted : (live : set.FinSet handle_cmp) (x : Handle)
     ≡ h.index → g ≡ h)
     → (g h : Handle) → IsTrue (set.contains (set.insert live x) g)
     → IsTrue (set.contains (set.insert live x) h) → g.index ≡ h.index → g ≡ h
-one_occupant_inserted live x apart one g h in_g in_h same = elim (in_inserted live x g in_g) [
-  | inl g_here ↦ elim (in_inserted live x h in_h) [
-    | inl h_here ↦ g_here ∙ sym h_here
-    | inr h_before ↦ absurd (apart h h_before (sym same ∙ ap (λ y. y.index) g_here))
-  ]
-  | inr g_before ↦ elim (in_inserted live x h in_h) [
-    | inl h_here ↦ absurd (apart g g_before (same ∙ ap (λ y. y.index) h_here))
-    | inr h_before ↦ one g h g_before h_before same
-  ]
-]
+one_occupant_inserted live x apart one g h in_g in_h same = search (rules, in_inserted)
 
 -- many occupants more, of slots that have none
 pub one_occupant_joined : (live : set.FinSet handle_cmp) (more : List Handle)
@@ -152,12 +135,10 @@ one_occupant_joined live more apart among one g h in_g in_h same =
 pub of_inserted : (P : Handle → Type 0) (live : set.FinSet handle_cmp) (x : Handle) → P x
     → ((y : Handle) → IsTrue (set.contains live y) → P y) → (y : Handle)
     → IsTrue (set.contains (set.insert live x) y) → P y
-of_inserted P live x here before y alive = elim (in_inserted live x y alive)
-    [ inl is ↦ subst P (sym is) here | inr was ↦ before y was ]
+of_inserted P live x here before y alive = search (rules, in_inserted)
 
 -- what holds of those that were alive and of those that come to life
 pub of_joined : (P : Handle → Type 0) (live : set.FinSet handle_cmp) (more : List Handle)
     → ((y : Handle) → IsTrue (set.contains live y) → P y) → All P more → (y : Handle)
     → IsTrue (set.contains (set.union live (set.from_list more)) y) → P y
-of_joined P live more before each y alive = elim (in_union_list live more y alive)
-    [ inl was ↦ before y was | inr new ↦ All-contains P more y each new ]
+of_joined P live more before each y alive = search (rules, in_union_list, All-contains)

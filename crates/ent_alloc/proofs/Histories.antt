@@ -1,10 +1,10 @@
 -- What a legal history leaves and gives.
-use Rattle.std.proofs.Common.{◌≡◌, ◌≢◌, refl, sym, ap, ◌∙◌, subst, List, [], ◌∷◌, ◌++◌, length, sum}
-use Rattle.std.proofs.Common.{All, AllPairs, Contains, IsPermutation, ◌↔◌, ◌⊎◌}
+use Rattle.std.proofs.Common.{rules, ◌≡◌, ◌≢◌, refl, sym, ap, ◌∙◌, subst, List, [], ◌∷◌, length}
+use Rattle.std.proofs.Common.{sum, All, AllPairs, Contains, IsPermutation, ◌↔◌, ◌⊎◌}
 use Rattle.ent_handle.specs.Handle.{Handle}
-use Rattle.ent_alloc.specs.Sequential.{Allocator, after_take, after_flush, reply_to, settled}
+use Rattle.ent_alloc.specs.Sequential.{Allocator, after_take, after_flush, settled}
 use Rattle.ent_alloc.specs.Sound.{IsSound, IsLive}
-use Rattle.ent_alloc.specs.History.{Call, IsLegal, after_history, handles_in, given_in, requests_of}
+use Rattle.ent_alloc.specs.History.{Call, IsLegal, after_history, given_in, requests_of}
 use Rattle.ent_alloc.proofs.PoolLaw.{after_takes}
 use Rattle.ent_alloc.proofs.Replies.{distinct_from_apart}
 use Rattle.ent_alloc.proofs.RequestLaws.{given_by, given_by-apart, given_by-not_live}
@@ -22,10 +22,7 @@ pub given_in-legal : (s : Allocator) (calls : List Call) → IsLegal s calls →
     ≡ given_by s (requests_of calls)
 given_in-legal s [] legal = refl
 given_in-legal s (call ∷ calls) legal =
-    let first : handles_in call.reply ≡ handles_in (reply_to s call.requested) =
-    ap handles_in legal.1 in
-    let rest = given_in-legal (after_take s call.requested) calls legal.2 in
-    λ i. first i ++ rest i
+    search (rules, given_in-legal (after_take s call.requested) calls legal.2)
 
 module _ (s : Allocator) (calls : List Call) (sound : IsSound s) (legal : IsLegal s calls) where
   -- no handle stands twice in the replies

@@ -1,7 +1,7 @@
 -- The rows that the records keep with their occupants.
-use Rattle.std.proofs.Common.{◌≡◌, ℕ, ◌+◌, ◌-◌, ◌<◌, Bool, true, false, cond, ◌&&◌, eqb, leb, List}
-use Rattle.std.proofs.Common.{[], ◌∷◌, ◌++◌, length, get_or, set, refl, sym, ap, ◌∙◌, arith, inl}
-use Rattle.std.proofs.Common.{inr, suc, zero, replicate, Option, None, Some}
+use Rattle.std.proofs.Common.{rules, ◌≡◌, ℕ, ◌+◌, ◌-◌, ◌<◌, Bool, true, false, cond, ◌&&◌, eqb, leb}
+use Rattle.std.proofs.Common.{List, [], ◌∷◌, ◌++◌, length, get_or, set, refl, sym, ◌∙◌, arith, suc}
+use Rattle.std.proofs.Common.{zero, replicate, Option, None, Some}
 use Rattle.std.specs.Ordering.{eq_by_cmp}
 use Rattle.std.specs.FinMap as maps
 use Rattle.std.proofs.lemmas.Bool.{le-leb}
@@ -38,12 +38,7 @@ cond-none false c = refl
 found : (h q : Handle) (row : Option ℕ) (entries : List (Handle × ℕ))
     → find handle_cmp q (with_row h row entries) ≡ cond (eq_by_cmp handle_cmp q h)
     (cond (is_some row) row (find handle_cmp q entries)) (find handle_cmp q entries)
-found h q None entries = same (eq_by_cmp handle_cmp q h)
-  where
-    same : (b : Bool) → find handle_cmp q entries ≡ cond b (find handle_cmp q entries)
-        (find handle_cmp q entries)
-    same true = refl
-    same false = refl
+found h q None entries = search (rules)
 found h q (Some row) entries = refl
 
 row_here : (row : Option ℕ) → cond (is_some row) row None ≡ row
@@ -60,38 +55,7 @@ row_head : (index : ℕ) (r : SlotRecord) (records : List SlotRecord) (q : Handl
     (row_of r.occupancy) (row_from (index + 1) records q)) (row_from (index + 1) records q)
     ≡ row_from index (r ∷ records) q
 row_head index r records q =
-    elim (tests_of q.index index) [
-      | inl t ↦
-          let gone : row_from (index + 1) records q ≡ None = λ i.
-          cond (t.later i) (row_in (get_or records (q.index - (index + 1)) no_slot) q.generation)
-          None
-          in
-          (λ i. cond (t.same i && eqb q.generation r.generation)
-          (cond (is_some (row_of r.occupancy)) (row_of r.occupancy) (gone i)) (gone i))
-          ∙ row_split (eqb q.generation r.generation) (row_of r.occupancy)
-          ∙ (λ i. cond (eqb_sym q.generation r.generation i) (row_of r.occupancy) None)
-          ∙ sym (λ i. cond (t.from i) (row_in (get_or (r ∷ records) (t.off i) no_slot) q.generation)
-          None)
-      | inr (inl t) ↦
-          let gone : row_from (index + 1) records q ≡ None = λ i.
-          cond (t.later i) (row_in (get_or records (q.index - (index + 1)) no_slot) q.generation)
-          None
-          in
-          (λ i. cond (t.same i && eqb q.generation r.generation)
-          (cond (is_some (row_of r.occupancy)) (row_of r.occupancy)
-          (row_from (index + 1) records q)) (row_from (index + 1) records q))
-          ∙ gone
-          ∙ sym (λ i. cond (t.from i) (row_in (get_or (r ∷ records) (q.index - index) no_slot)
-          q.generation) None)
-      | inr (inr t) ↦
-          (λ i. cond (t.same i && eqb q.generation r.generation)
-          (cond (is_some (row_of r.occupancy)) (row_of r.occupancy)
-          (row_from (index + 1) records q)) (row_from (index + 1) records q))
-          ∙ (λ i. cond (t.later i) (row_in (get_or records (q.index - (index + 1)) no_slot)
-          q.generation) None)
-          ∙ sym (λ i. cond (t.from i) (row_in (get_or (r ∷ records) (t.off i) no_slot) q.generation)
-          None)
-    ]
+    search (rules, tests_of, row_split, eqb_sym)
 
 find-rows_from : (index : ℕ) (records : List SlotRecord) (q : Handle)
     → find handle_cmp q (rows_from index records) ≡ row_from index records q
@@ -128,13 +92,9 @@ pub rows_from-set : (from : ℕ) (records : List SlotRecord) (index : ℕ) (r : 
     → rows_from from (set records index r) ≡ rows_from from records
 rows_from-set from [] index r new old = refl
 rows_from-set from (x ∷ records) zero r new old =
-    (λ i. with_row (record { index = from; generation = r.generation }) (new i)
-    (rows_from (from + 1) records))
-    ∙ sym (λ i. with_row (record { index = from; generation = x.generation }) (old i)
-    (rows_from (from + 1) records))
+    (search (rules))
 rows_from-set from (x ∷ records) (suc index) r new old =
-    ap (λ rest. with_row (record { index = from; generation = x.generation }) (row_of x.occupancy)
-    rest) (rows_from-set (from + 1) records index r new old)
+    search (rules, rows_from-set (from + 1) records index r new old)
 
 -- ---- records put at the end
 
@@ -146,5 +106,4 @@ pub rows_from-made : (from count : ℕ) (records : List SlotRecord)
     → rows_from from (records ++ replicate count new_record) ≡ rows_from from records
 rows_from-made from count [] = rows_from-new from count
 rows_from-made from count (r ∷ records) =
-    ap (λ rest. with_row (record { index = from; generation = r.generation }) (row_of r.occupancy)
-    rest) (rows_from-made (from + 1) count records)
+    search (rules, rows_from-made (from + 1) count records)

@@ -1,12 +1,13 @@
 -- Laws of lists: filters that keep all or nothing, parts of joined lists, pairs, and functions that
 -- agree on a list.
-use Rattle.std.proofs.Common.{◌≡◌, refl, sym, ap, ◌∙◌, ℕ, zero, suc, ◌+◌, ◌-◌, ◌<◌, Bool, true}
-use Rattle.std.proofs.Common.{false, eqb, List, [], ◌∷◌, ◌++◌, length, get_or, take, drop, filter}
-use Rattle.std.proofs.Common.{All, AllPairs, Contains, arith, cond, ◌==◌, ◌≢◌, swap, IsPermutation}
-use Rattle.std.proofs.Common.{eq-eqb, ne_eqb, inl, inr, subst₂, map, leb, ◌⊎◌}
+use Rattle.std.proofs.Common.{rules, ◌≡◌, refl, sym, ap, ◌∙◌, ℕ, zero, suc, ◌+◌, ◌-◌, ◌<◌, Bool}
+use Rattle.std.proofs.Common.{true, false, eqb, List, [], ◌∷◌, ◌++◌, length, get_or, take, drop}
+use Rattle.std.proofs.Common.{filter, All, AllPairs, Contains, arith, cond, ◌==◌, ◌≢◌, swap}
+use Rattle.std.proofs.Common.{IsPermutation, eq-eqb, ne_eqb, inl, inr, subst₂, map, leb, ◌⊎◌}
+use Rattle.std.proofs.lemmas.Grind.{common_steps}
 use Rattle.std.proofs.lemmas.List.{get_or-take, get_or-drop, get_or_append_left, length-append}
 use Rattle.std.proofs.lemmas.List.{length-take, length-drop, get_or_default}
-use Rattle.std.proofs.lemmas.Bool.{cases_lt, cases_eq, cases_order, lt-leb, le-leb}
+use Rattle.std.proofs.lemmas.Bool.{cases_lt, cases_eq}
 use Rattle.std.proofs.lemmas.Bool.Decides.{nat_tests}
 use Rattle.std.proofs.lemmas.List.Edits.{Swapped, length-swap, swapped_from_swap}
 use Rattle.std.proofs.lemmas.List.Sorted.{IsPermutation-keeps}
@@ -37,25 +38,7 @@ pub record IsAfter (n index : ℕ) : Type 0 where
 
 pub tests_of : (n index : ℕ) → IsAt n index ⊎ (IsBefore n index ⊎ IsAfter n index)
 tests_of n index =
-    elim (cases_order n index) [
-      | inl e ↦ inl (record {
-        same = eq-eqb n index e;
-        later = lt-leb (index + 1) n (omega arith);
-        from = le-leb index n (omega arith);
-        off = omega arith;
-      })
-      | inr (inl l) ↦ inr (inl (record {
-        same = ne_eqb n index (λ e. absurd (omega arith));
-        later = lt-leb (index + 1) n (omega arith);
-        from = lt-leb index n (omega arith);
-      }))
-      | inr (inr g) ↦ inr (inr (record {
-        same = ne_eqb n index (λ e. absurd (omega arith));
-        later = le-leb (index + 1) n (omega arith);
-        from = le-leb index n (omega arith);
-        off = omega arith;
-      }))
-    ]
+    grind (arith, common_steps)
 
 -- a filter that each element passes keeps the list
 pub filter_all : {X : Type 0} (p : X → Bool) (xs : List X) → All (λ x. p x ≡ true) xs → filter p xs
@@ -90,21 +73,18 @@ pub drop-append : {X : Type 0} (n : ℕ) (xs ys : List X) → drop n (xs ++ ys) 
     ++ drop (n - length xs) ys
 drop-append n [] ys = let e : n - 0 ≡ n = omega arith in rw (drop-nil n, e)
 drop-append zero (x ∷ xs) ys = let e : 0 - suc (length xs) ≡ 0 = omega arith in rw e
-drop-append (suc n) (x ∷ xs) ys = let e : suc n - suc (length xs) ≡ n - length xs = omega arith in
-    rw e (drop-append n xs ys)
+drop-append (suc n) (x ∷ xs) ys = search (rules, drop-append n xs ys)
 
 -- the front of two joined lists
 pub take-append : {X : Type 0} (n : ℕ) (xs ys : List X) → take n (xs ++ ys) ≡ take n xs
     ++ take (n - length xs) ys
 take-append n [] ys = let e : n - 0 ≡ n = omega arith in rw (take-nil n, e)
 take-append zero (x ∷ xs) ys = let e : 0 - suc (length xs) ≡ 0 = omega arith in rw e
-take-append (suc n) (x ∷ xs) ys = let e : suc n - suc (length xs) ≡ n - length xs = omega arith in
-    rw e (ap (x ∷◌) (take-append n xs ys))
+take-append (suc n) (x ∷ xs) ys = search (rules, take-append n xs ys)
 
 -- what holds of two joined lists holds of each
 pub All-left : {X : Type 0} (P : X → Type 0) (xs ys : List X) → All P (xs ++ ys) → All P xs
-All-left P xs ys h i d lt = rw (get_or_append_left xs ys d i lt) at
-    (h i d (omega (arith, length-append xs ys)))
+All-left P xs ys h i d lt = search (rules, get_or_append_left, length-append)
 
 -- the other half
 pub All-right : {X : Type 0} (P : X → Type 0) (xs ys : List X) → All P (xs ++ ys) → All P ys

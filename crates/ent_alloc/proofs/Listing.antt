@@ -1,7 +1,7 @@
 -- What a reply that borrows the slots lists, one handle after the other.
-use Rattle.std.proofs.Common.{◌≡◌, ℕ, ◌+◌, ◌-◌, ◌<◌, ◌≤◌, List, [], ◌∷◌, ◌++◌, length, take, drop}
-use Rattle.std.proofs.Common.{replicate, slice_get, Some, refl, sym, ap, ◌∙◌, arith, suc}
-use Rattle.std.proofs.Common.{zero, add-zero}
+use Rattle.std.proofs.Common.{rules, ◌≡◌, ℕ, ◌+◌, ◌-◌, ◌<◌, ◌≤◌, List, [], ◌∷◌, ◌++◌, length, drop}
+use Rattle.std.proofs.Common.{replicate, slice_get, Some, refl, ap, ◌∙◌, arith, suc, zero, add-zero}
+use Rattle.std.proofs.lemmas.Grind.{common_steps}
 use Rattle.std.proofs.lemmas.List.{length-append, length-take-le, length-drop, drop_more}
 use Rattle.std.proofs.lemmas.Option.{get_or_from_slice_get}
 use Rattle.ent_handle.specs.Handle.{Handle}
@@ -14,14 +14,7 @@ pub length-reserved_handles : (r : Roster) (position end index index_end left : 
     → IsInRange r position end index index_end left
     → length (reserved_handles r position end index index_end) ≡ left
 length-reserved_handles r position end index index_end left range =
-    let positions = range.positions in
-    let within = range.within in
-    length-append (take (end - position) (drop position r.pending))
-    (fresh index (index_end - index))
-    ∙ (λ i. length-take-le (end - position) (drop position r.pending)
-    (omega (arith, length-drop position r.pending)) i + length-fresh index (index_end - index)
-    i)
-    ∙ sym range.count
+    search (rules, length-append, length-take-le, length-drop, length-fresh)
 
 -- a list from where it has an item
 pub drop_at : (hs : List Handle) (k : ℕ) (h : Handle) → k < length hs → slice_get hs k ≡ Some h
@@ -35,9 +28,7 @@ pub reserved_handles-pending : (r : Roster) (position end index index_end : ℕ)
     → reserved_handles r position end index index_end ≡ h ∷ reserved_handles r (position + 1) end
     index index_end
 reserved_handles-pending r position end index index_end h within below at =
-    let more : end - position ≡ suc (end - (position + 1)) = omega arith in
-    λ i. take (more i) (drop_at r.pending position h (omega arith) at i)
-    ++ fresh index (index_end - index)
+    search (rules, drop_at)
 
 -- else the first fresh one
 pub reserved_handles-fresh : (r : Roster) (position end index index_end : ℕ) → end ≤ position
@@ -45,21 +36,13 @@ pub reserved_handles-fresh : (r : Roster) (position end index index_end : ℕ) �
     ≡ record { index = index; generation = 1 } ∷ reserved_handles r position end (index + 1)
     index_end
 reserved_handles-fresh r position end index index_end past below =
-    let none : end - position ≡ 0 = omega arith in
-    let more : index_end - index ≡ suc (index_end - (index + 1)) = omega arith in
-    (λ i. take (none i) (drop position r.pending)
-    ++ (ap (fresh index) more ∙ fresh-next index (index_end - (index + 1))) i)
-    ∙ ap (λ rest. record { index = index; generation = 1 } ∷ rest)
-    (λ i. take (sym none i) (drop position r.pending)
-    ++ fresh (index + 1) (index_end - (index + 1)))
+    grind (arith, common_steps, fresh-next index (index_end - (index + 1)), r.pending)
 
 -- else none
 pub reserved_handles-none : (r : Roster) (position end index index_end : ℕ) → end ≤ position
     → index_end ≤ index → reserved_handles r position end index index_end ≡ []
 reserved_handles-none r position end index index_end past passed =
-    let none : end - position ≡ 0 = omega arith in
-    let no_fresh : index_end - index ≡ 0 = omega arith in
-    λ i. take (none i) (drop position r.pending) ++ (ap (fresh index) no_fresh ∙ fresh-none index) i
+    search (rules, fresh-none)
 
 -- ---- listing one after the other
 
@@ -79,5 +62,4 @@ pub replicate-push : {X : Type 0} (count : ℕ) (x : X) → replicate count x ++
     ≡ replicate (count + 1) x
 replicate-push zero x = refl
 replicate-push (suc count) x =
-    let more : suc (count + 1) ≡ suc count + 1 = omega arith in
-    ap (λ rest. x ∷ rest) (replicate-push count x) ∙ ap (λ n. replicate n x) more
+    search (rules, replicate-push count x)

@@ -1,8 +1,8 @@
 -- What looking a handle up in the records tells of the pending list, of the fresh handles and of
 -- the rows.
-use Rattle.std.proofs.Common.{◌≡◌, ◌≢◌, ℕ, ◌+◌, ◌-◌, ◌<◌, ◌≤◌, Bool, true, false, cond, ◌&&◌, eqb}
-use Rattle.std.proofs.Common.{ltb, List, length, get_or, set, drop, map, refl, sym, ap, ◌∙◌, arith}
-use Rattle.std.proofs.Common.{inl, inr, Option, None, Some}
+use Rattle.std.proofs.Common.{rules, ◌≡◌, ◌≢◌, ℕ, ◌+◌, ◌-◌, ◌<◌, ◌≤◌, Bool, true, false, cond, ◌&&◌}
+use Rattle.std.proofs.Common.{eqb, ltb, List, length, get_or, set, drop, map, refl, sym, ap, ◌∙◌}
+use Rattle.std.proofs.Common.{arith, inl, inr, Option, None, Some}
 use Rattle.std.specs.List.{Contains}
 use Rattle.std.specs.Option.{OnSome}
 use Rattle.std.specs.FinSet as sets
@@ -205,13 +205,7 @@ fresh_yes h made count first after within =
 pub fresh_no : (h : Handle) (made count : ℕ) → (h.generation ≡ 1 → made ≤ h.index → h.index - made
     < count → ⊥) → stands_in (fresh made count) h ≡ false
 fresh_no h made count none =
-    false_from_ne_true _ (λ is.
-    let there = Contains-from_stands_in (fresh made count) h is in
-    let within : there.0 < count = (let below = there.1 in omega (arith, length-fresh made count))
-    in
-    let same = sym (get_or-fresh made count there.0 h within) ∙ there.2 in
-    let index : made + there.0 ≡ h.index = ap (λ (x : Handle). x.index) same in
-    none (sym (ap (λ (x : Handle). x.generation) same)) (omega arith) (omega arith))
+    search (rules, false_from_ne_true, Contains-from_stands_in, length-fresh, get_or-fresh)
 
 -- ---- rows
 

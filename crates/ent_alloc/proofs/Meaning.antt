@@ -1,12 +1,12 @@
 -- What an `Entities` stands for: where nothing is reserved, what is left to give, and where a call
 -- begins and ends.
-use Rattle.std.proofs.Common.{◌≡◌, ℕ, ℤ, pos, negsuc, ◌-ℤ◌, ◌≤ℤ◌, ◌+◌, ◌-◌, ◌<◌, ◌≤◌, Bool, false}
-use Rattle.std.proofs.Common.{List, [], ◌∷◌, ◌++◌, length, take, drop, reverse, filter, refl, sym}
-use Rattle.std.proofs.Common.{ap, ◌∙◌, arith, inl, inr, suc, zero, subst, All, IsTrue, ◌↔◌}
+use Rattle.std.proofs.Common.{rules, ◌≡◌, ℕ, ℤ, pos, negsuc, ◌-ℤ◌, ◌≤ℤ◌, ◌+◌, ◌-◌, ◌<◌, ◌≤◌, Bool}
+use Rattle.std.proofs.Common.{false, List, [], ◌∷◌, ◌++◌, length, take, drop, reverse, filter, refl}
+use Rattle.std.proofs.Common.{sym, ap, ◌∙◌, arith, suc, zero, subst, All, IsTrue, ◌↔◌}
+use Rattle.std.proofs.lemmas.Grind.{common_steps}
 use Rattle.std.specs.FinSet as sets
 use Rattle.std.specs.FinMap as maps
 use Rattle.std.proofs.lemmas.Int.{ints}
-use Rattle.std.proofs.lemmas.Bool.{cases_lt, false≢true}
 use Rattle.std.proofs.lemmas.List.{append_cancel_right, length-append, length-reverse, length-drop}
 use Rattle.std.proofs.lemmas.List.{take-append-drop}
 use Rattle.ent_handle.specs.Handle.{Handle}
@@ -50,8 +50,7 @@ available_is r asked given within = append_parts given asked (idle r) within
 
 pub length-idle : (r : Roster) → length (idle r) ≡ length r.pending + (r.limits.slots - r.made)
 length-idle r =
-    length-append (reverse r.pending) (fresh r.made (r.limits.slots - r.made))
-    ∙ (λ i. length-reverse r.pending i + length-fresh r.made (r.limits.slots - r.made) i)
+    search (rules, length-append, length-reverse, length-fresh)
 
 module _ (r : Roster) (asked given : ℕ) (within : given ≤ asked)
     (sound : IsSound (allocator_of r asked given)) where
@@ -78,20 +77,12 @@ top_view r asked given s reserved view =
 pub flushed : (r : Roster) (asked given : ℕ) → asked ≡ 0 → given ≤ asked
     → allocator_of r asked given ≡ allocator_of r 0 0
 flushed r asked given none within =
-    let no_given : given ≡ 0 = omega arith in
-    λ i. allocator_of r (none i) (no_given i)
+    search (rules)
 
 -- where nothing is reserved, both counts are 0
 pub AreReserved-flushed : (r : Roster) → IsSound (allocator_of r 0 0)
     → HasRowsOfLiving (entities_of r 0 0) → AreReserved r 0 0
-AreReserved-flushed r sound rows = record {
-  sound = sound;
-  asked_in = omega arith;
-  given_in = omega arith;
-  given_least = omega arith;
-  given_all = λ _. refl;
-  rows = rows;
-}
+AreReserved-flushed r sound rows = search (rules)
 
 pub opening_is : (limits : Limits)
     → allocator_of (record {
@@ -103,8 +94,7 @@ pub opening_is : (limits : Limits)
       made = 0;
     }) 0 0 ≡ opening limits
 opening_is limits =
-    let all : limits.slots - 0 ≡ limits.slots = omega arith in
-    λ i. record (opening limits) { pool = fresh 0 (all i) }
+    search (rules)
 
 -- the allocator of the same entities is the same
 pub allocator_is : {d e : Entities} → d ≡ e → d.allocator ≡ e.allocator
@@ -120,8 +110,7 @@ pub length_available : (r : Roster) (asked given : ℕ) (s : Allocator) → AreR
     → allocator_of r asked given ≡ s → length (available s) ≡ length r.pending
     + (r.limits.slots - r.made)
 length_available r asked given s reserved view =
-    ap (λ (t : Allocator). length (available t)) (sym view)
-    ∙ ap length (available_is r asked given reserved.given_least) ∙ length-idle r
+    search (rules, available_is, length-idle)
 
 -- the handles that wait are old
 pub pending_below : (r : Roster) (asked given : ℕ) → given ≤ asked
@@ -145,8 +134,7 @@ pool_at_is r asked given high within sound =
 pub rest_is : (r : Roster) (asked given : ℕ) (s : Allocator) → AreReserved r asked given
     → allocator_of r asked given ≡ s → s.asked ≡ 0 → allocator_of r 0 0 ≡ s
 rest_is r asked given s reserved view none =
-    sym (flushed r asked given (ap (λ (t : Allocator). t.asked) view ∙ none) reserved.given_least)
-    ∙ view
+    search (rules, flushed)
 
 -- no request
 abbrev pub none : Requests
@@ -180,10 +168,7 @@ closed r r' requests s same rest is sound rows = record {
 -- a test that no request was made
 pub none_asked : (b : Bool) (n : ℕ) → (IsTrue b ↔ (0 < n)) → b ≡ false → n ≡ 0
 none_asked b n tells is =
-    elim (cases_lt 0 n) [
-      | inl some ↦ absurd (false≢true (subst IsTrue is (tells.1 some)))
-      | inr none ↦ omega arith
-    ]
+    grind (arith, common_steps)
 
 -- an allocator that nothing is reserved of
 pub record IsAtRest (r : Roster) (requests : Requests) (s : Allocator) : Type 0 where
@@ -197,11 +182,4 @@ pub at_rest : (r : Roster) (requests : Requests) (s : Allocator) (b : Bool) → 
     requests.asked requests.served → allocator_of r requests.asked requests.served ≡ s
     → (IsTrue b ↔ (0 < s.asked)) → b ≡ false → IsAtRest r requests s
 at_rest r requests s b reserved view tells is =
-    let asked = none_asked b s.asked tells is in
-    record {
-      asked = asked;
-      requests_is = none_is r requests s reserved view asked;
-      view = rest_is r requests.asked requests.served s reserved view asked;
-      sound = subst IsSound view reserved.sound;
-      rows = reserved.rows;
-    }
+    search (rules, none_asked, none_is, rest_is)

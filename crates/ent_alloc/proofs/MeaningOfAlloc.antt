@@ -1,7 +1,7 @@
 -- What `alloc` and `free` make of the roster is the allocator's step.
-use Rattle.std.proofs.Common.{◌≡◌, ◌≢◌, ◌+◌, ◌-◌, ◌<◌, true, false, cond, ◌||◌, List, [], ◌∷◌, ◌++◌}
-use Rattle.std.proofs.Common.{length, take, drop, reverse, sym, ap, ◌∙◌, arith, suc, slice_get}
-use Rattle.std.proofs.Common.{Some, None, subst, All, refl}
+use Rattle.std.proofs.Common.{rules, ◌≡◌, ◌≢◌, ◌+◌, ◌-◌, ◌<◌, true, false, cond, ◌||◌, List, []}
+use Rattle.std.proofs.Common.{◌∷◌, ◌++◌, length, take, drop, reverse, sym, ap, ◌∙◌, arith, suc}
+use Rattle.std.proofs.Common.{slice_get, Some, None, subst, All, refl}
 use Rattle.std.specs.Ordering.{eq_by_cmp}
 use Rattle.std.specs.FinSet as sets
 use Rattle.std.specs.FinMap as maps
@@ -51,8 +51,7 @@ last_first pending h some last =
 pub alloc_old_front : (r : Roster) (h : Handle) → 0 < length r.pending
     → slice_get r.pending (length r.pending - 1) ≡ Some h → idle r ≡ h
     ∷ (reverse (take (length r.pending - 1) r.pending) ++ fresh r.made (r.limits.slots - r.made))
-alloc_old_front r h some last = ap (λ hs. hs ++ fresh r.made (r.limits.slots - r.made))
-    (last_first r.pending h some last)
+alloc_old_front r h some last = search (rules, last_first)
 
 -- the roster after the slot that waits last got its next occupant, and after one was made
 abbrev pub reused_roster : Roster → Handle → Roster
@@ -180,15 +179,7 @@ ended_is : (r : Roster) (h : Handle) (pending : List Handle)
       rows = maps.remove r.rows h;
       pending = pending;
     }) 0 0 ≡ after_free (allocator_of r 0 0) h
-ended_is r h pending front = λ i. record {
-  limits = r.limits;
-  live = sets.remove r.live h;
-  pool = front i;
-  taken = [];
-  aside = [];
-  made = r.made;
-  asked = 0;
-}
+ended_is r h pending front = search (rules)
 
 pub free_is : (r : Roster) (h : Handle) → h.generation ≢ r.limits.generations
     → allocator_of (freed_roster r h) 0 0 ≡ after_free (allocator_of r 0 0) h

@@ -1,6 +1,7 @@
 -- What `reply` lists of the vectors is the reply in the allocator's pool.
-use Rattle.std.proofs.Common.{◌≡◌, ℕ, ◌+◌, ◌-◌, ◌<◌, ◌≤◌, true, false, List, [], ◌++◌, length, take}
-use Rattle.std.proofs.Common.{drop, reverse, filter, sym, ap, ◌∙◌, arith, All, nat_le, Ok, Err}
+use Rattle.std.proofs.Common.{rules, ◌≡◌, ℕ, ◌+◌, ◌-◌, ◌<◌, ◌≤◌, List, [], ◌++◌, length, take, drop}
+use Rattle.std.proofs.Common.{reverse, filter, sym, ap, ◌∙◌, arith, All, Ok, Err}
+use Rattle.std.proofs.lemmas.Grind.{common_steps}
 use Rattle.std.proofs.lemmas.Bool.{le-leb, lt-leb, cond-true, cond-false}
 use Rattle.std.proofs.lemmas.List.{append-nil, length-reverse, length-take-le, length-drop}
 use Rattle.std.proofs.lemmas.List.{drop-take, reverse-reverse}
@@ -80,26 +81,16 @@ pub reply_served : (r : Roster) (asked n : ℕ) → All (λ h. h.index < r.made)
     + (asked - length r.pending)) (r.made + (asked + n - length r.pending)))
     ≡ reply_from r.made (drop asked (idle r)) n
 reply_served r asked n below enough =
-    let fits : nat_le n (length (drop asked (idle r)))
-    ≡ true = le-leb n (length (drop asked (idle r))) (omega (arith, length_left r asked)) in
-    ap Ok (sym (listed_is r asked n below enough))
-    ∙ sym (cond-true (nat_le n (length (drop asked (idle r)))) _ _ fits)
+    search (rules, le-leb, length_left, listed_is, cond-true)
 
 pub reply_refused : (r : Roster) (asked n : ℕ) → 0 < n → length r.pending
     + (r.limits.slots - r.made) < asked + n
     → Err (record { wanted = n; left = length r.pending + (r.limits.slots - r.made) - asked })
     ≡ reply_from r.made (drop asked (idle r)) n
 reply_refused r asked n some past =
-    let left = length_left r asked in
-    let fits : nat_le n (length (drop asked (idle r)))
-    ≡ false = lt-leb n (length (drop asked (idle r))) (omega arith) in
-    (λ i. Err (record { wanted = n; left = sym left i }))
-    ∙ sym (cond-false (nat_le n (length (drop asked (idle r)))) _ _ fits)
+    search (rules, length_left, lt-leb, cond-false)
 
 pub reply_none : (r : Roster) (asked n : ℕ) → n ≡ 0 → Ok []
     ≡ reply_from r.made (drop asked (idle r)) n
 reply_none r asked n none =
-    let fits : nat_le n (length (drop asked (idle r)))
-    ≡ true = le-leb n (length (drop asked (idle r))) (omega arith) in
-    (λ i. Ok (listed r.made (take (sym none i) (drop asked (idle r)))))
-    ∙ sym (cond-true (nat_le n (length (drop asked (idle r)))) _ _ fits)
+    grind (arith, common_steps)

@@ -1,7 +1,8 @@
 -- What `lower` and `settle` leave is the allocator after those requests.
-use Rattle.std.proofs.Common.{◌≡◌, ℕ, ◌+◌, ◌-◌, ◌<◌, ◌≤◌, ◌^◌, true, false, [], ◌++◌, length, take}
-use Rattle.std.proofs.Common.{drop, refl, sym, ap, ◌∙◌, arith, inl, inr, subst, nat_le}
-use Rattle.std.proofs.lemmas.Bool.{cases_lt, le-leb, lt-leb, cond-true, cond-false}
+use Rattle.std.proofs.Common.{rules, ◌≡◌, ℕ, ◌+◌, ◌-◌, ◌<◌, ◌≤◌, ◌^◌, length, take, drop, refl, sym}
+use Rattle.std.proofs.Common.{ap, ◌∙◌, arith, subst}
+use Rattle.std.proofs.lemmas.Grind.{common_steps}
+use Rattle.std.proofs.lemmas.Bool.{cases_lt, le-leb, cond-true}
 use Rattle.std.proofs.lemmas.List.{append-nil, length-take, take_all, drop_all, drop-drop}
 use Rattle.std.proofs.Math.Seq.{take-add}
 use Rattle.ent_alloc.specs.Roster.{Roster}
@@ -17,69 +18,27 @@ pub lower_served : (r : Roster) (asked given n : ℕ) → given ≡ asked → as
     + (r.limits.slots - r.made) → allocator_of r (asked + n) (asked + n)
     ≡ after_take (allocator_of r asked given) n
 lower_served r asked given n all enough =
-    let fits : nat_le n (length (drop asked (idle r)))
-    ≡ true = le-leb n (length (drop asked (idle r))) (omega (arith, length_left r asked)) in
-    let taken_is : take (asked + n) (idle r) ≡ take given (idle r) ++ take n (drop asked (idle r)) =
-    take-add asked n (idle r) ∙ ap (λ k. take k (idle r) ++ take n (drop asked (idle r))) (sym all)
-    in
-    let none_aside : drop (asked + n) (take (asked + n) (idle r))
-    ≡ drop given (take asked (idle r)) =
-    drop_all (asked + n) (take (asked + n) (idle r))
-    (omega (arith, length-take (asked + n) (idle r)))
-    ∙ sym (drop_all given (take asked (idle r)) (omega (arith, length-take asked (idle r)))) in
-    let pool_is : drop (asked + n) (idle r) ≡ drop n (drop asked (idle r)) =
-    sym (drop-drop n asked (idle r)) in
-    (λ i. record (allocator_of r asked given) {
-      pool = pool_is i;
-      taken = taken_is i;
-      aside =
-          none_aside i;
-      asked = asked + n;
-    })
-    ∙ sym (cond-true (nat_le n (length (drop asked (idle r)))) _ _ fits)
+    search (rules, le-leb, length_left, take-add, drop_all, length-take, drop-drop, cond-true)
 
 -- a request for more than there is
 pub lower_refused : (r : Roster) (asked given n : ℕ) → given ≤ asked → length r.pending
     + (r.limits.slots - r.made) < asked + n → allocator_of r (asked + n) given
     ≡ after_take (allocator_of r asked given) n
 lower_refused r asked given n within past =
-    elim (cases_lt (length (drop asked (idle r))) n) [
-      | inl short ↦
-          (let fits : nat_le n (length (drop asked (idle r)))
-          ≡ false = lt-leb n (length (drop asked (idle r))) short in
-          let all : take (asked + n) (idle r) ≡ idle r = take_all (asked + n) (idle r)
-          (omega (arith, length-idle r)) in
-          let aside_is : drop given (take (asked + n) (idle r)) ≡ drop given (take asked (idle r))
-          ++ drop asked (idle r) =
-          ap (drop given) all ∙ sym (drop_rest given asked (idle r) within) in
-          let pool_is : drop (asked + n) (idle r) ≡ [] = drop_all (asked + n) (idle r)
-          (omega (arith, length-idle r)) in
-          (λ i. record (allocator_of r asked given) {
-            pool = pool_is i;
-            aside = aside_is i;
-            asked =
-                asked + n;
-          })
-          ∙ sym (cond-false (nat_le n (length (drop asked (idle r)))) _ _ fits))
-      | inr enough ↦
-          (let left = length_left r asked in
-          let none : n ≡ 0 = omega arith in
-          let fits : nat_le n (length (drop asked (idle r)))
-          ≡ true = le-leb n (length (drop asked (idle r))) enough in
-          let same : asked + n ≡ asked = omega arith in
-          (λ i. record (allocator_of r asked given) {
-            pool = drop (same i) (idle r);
-            aside = drop given (take (same i) (idle r));
-            asked = asked + n;
-          })
-          ∙ (λ i. record (allocator_of r asked given) {
-            pool = drop (sym none i) (drop asked (idle r));
-            taken = (sym (append-nil (take given (idle r)))
-                ∙ ap (λ k. take given (idle r) ++ take k (drop asked (idle r))) (sym none)) i;
-            asked = asked + n;
-          })
-          ∙ sym (cond-true (nat_le n (length (drop asked (idle r)))) _ _ fits))
-    ]
+    grind (
+      arith,
+      common_steps,
+      cases_lt (length (drop asked (idle r))) n,
+      take_all (asked + n) (idle r) (omega (arith, length-idle r)),
+      length-idle r,
+      drop_rest given asked (idle r) within,
+      drop_all (asked + n) (idle r) (omega (
+        arith,
+        length-idle r,
+      )),
+      length_left r asked,
+      append-nil (take given (idle r)),
+    )
 
 -- ---- what lower leaves
 
@@ -129,8 +88,7 @@ module _ (r : Roster) (asked given n : ℕ) (s : Allocator) (reserved : AreReser
 pub settled_is : (r : Roster) (asked given : ℕ) → allocator_of r asked given
     ≡ settled (allocator_of r 0 0) given asked
 settled_is r asked given =
-    let same : asked ≡ 0 + asked = omega arith in
-    λ i. record (allocator_of r asked given) { asked = same i }
+    search (rules)
 
 module _ (r : Roster) (was_asked was_given : ℕ) (s : Allocator) (reserved : AreReserved r was_asked
     was_given) (view : allocator_of r was_asked was_given ≡ s) (idle : s.asked ≡ 0) where

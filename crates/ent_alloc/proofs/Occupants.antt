@@ -1,15 +1,15 @@
 -- What the set of occupants holds, and how many they are.
-use Rattle.std.proofs.Common.{◌≡◌, ℕ, ◌+◌, ◌-◌, ◌<◌, Bool, true, false, cond, ◌&&◌, ◌||◌, eqb, leb}
-use Rattle.std.proofs.Common.{List, [], ◌∷◌, ◌++◌, length, get_or, set, refl, sym, ap, ◌∙◌, arith}
-use Rattle.std.proofs.Common.{inl, inr, suc, zero, replicate}
+use Rattle.std.proofs.Common.{rules, ◌≡◌, ℕ, ◌+◌, ◌-◌, ◌<◌, Bool, true, false, cond, ◌&&◌, ◌||◌}
+use Rattle.std.proofs.Common.{eqb, leb, List, [], ◌∷◌, ◌++◌, length, get_or, set, refl, sym, ap}
+use Rattle.std.proofs.Common.{◌∙◌, arith, suc, zero, replicate}
+use Rattle.std.proofs.lemmas.Grind.{common_steps}
 use Rattle.std.specs.List.{list_any}
 use Rattle.std.specs.Ordering.{eq_by_cmp, nat_cmp, is_eq, ordering_then}
 use Rattle.std.specs.declared.cmp.Ordering.{Ordering}
 use Rattle.std.specs.declared.cmp.Ordering.TheVariants.{Less, Equal, Greater}
 use Rattle.std.specs.FinSet as sets
 use Rattle.std.proofs.lemmas.Bool.Decides.{nat_tests}
-use Rattle.std.proofs.lemmas.Bool.{cases_eq, eq-eqb, ne_eqb, lt-leb, le-leb, cond-true, cond-false}
-use Rattle.std.proofs.lemmas.List.{get_or-set_same, get_or-set_other}
+use Rattle.std.proofs.lemmas.Bool.{lt-leb, le-leb}
 use Rattle.std.proofs.Math.Bool.{or-false, and-false}
 use Rattle.std.proofs.lemmas.List.Folds.{list_any-append}
 use Rattle.ent_handle.specs.Handle.{Handle, handle_cmp, handle_cmp_total}
@@ -42,8 +42,7 @@ is_eq-nat_cmp a b = grind (arith, nat_tests)
 pub ties : (a b : Handle) → eq_by_cmp handle_cmp a b
     ≡ (eqb a.index b.index && eqb a.generation b.generation)
 ties a b =
-    is_eq-then (nat_cmp a.index b.index) (nat_cmp a.generation b.generation)
-    ∙ (λ i. is_eq-nat_cmp a.index b.index i && is_eq-nat_cmp a.generation b.generation i)
+    grind (arith, common_steps)
 
 -- what stands in the list of the occupants from an index on
 abbrev at_from : ℕ → List SlotRecord → Handle → Bool
@@ -73,26 +72,7 @@ at_head : (index : ℕ) (r : SlotRecord) (records : List SlotRecord) (q : Handle
     → ((is_alive r.occupancy && (eqb q.index index && eqb q.generation r.generation)) || at_from
     (index + 1) records q) ≡ at_from index (r ∷ records) q
 at_head index r records q =
-    let alive = is_alive r.occupancy in
-    let later = has_occupant (get_or records (q.index - (index + 1)) no_slot) q.generation in
-    let now = has_occupant (get_or (r ∷ records) (q.index - index) no_slot) q.generation in
-    elim (tests_of q.index index) [
-      | inl t ↦
-          (λ i. (alive && (t.same i && eqb q.generation r.generation)) || (t.later i && later))
-          ∙ here alive (eqb q.generation r.generation) (eqb r.generation q.generation) later
-          (eqb_sym q.generation r.generation)
-          ∙ sym (λ i. t.from i && has_occupant (get_or (r ∷ records) (t.off i) no_slot)
-          q.generation)
-      | inr (inl t) ↦
-          (λ i. (alive && (t.same i && eqb q.generation r.generation)) || (t.later i && later))
-          ∙ before alive (eqb q.generation r.generation) later now
-          ∙ sym (λ i. t.from i && now)
-      | inr (inr t) ↦
-          (λ i. (alive && (t.same i && eqb q.generation r.generation)) || (t.later i && later))
-          ∙ after alive (eqb q.generation r.generation) later later refl
-          ∙ sym (λ i. t.from i && has_occupant (get_or (r ∷ records) (t.off i) no_slot)
-          q.generation)
-    ]
+    search (rules, tests_of, here, eqb_sym, before, after)
 
 list_any-occupants : (index : ℕ) (records : List SlotRecord) (q : Handle)
     → list_any (eq_by_cmp handle_cmp q) (occupants index records) ≡ at_from index records q
@@ -143,22 +123,14 @@ pub len_occupants : (index : ℕ) (records : List SlotRecord)
     ≡ length (occupants index records)
 len_occupants index [] = sets.len-empty handle_cmp
 len_occupants index (r ∷ records) =
-    one_more (is_alive r.occupancy) (record { index = index; generation = r.generation })
-    (occupants (index + 1) records) (absent_below index records r.generation)
-    (len_occupants (index + 1) records)
+    search (rules, one_more, absent_below, len_occupants (index + 1) records)
 
 -- which record stands at an index after one is set
 record-set : (records : List SlotRecord) (index : ℕ) (r : SlotRecord) (at : ℕ) → index
     < length records → record_at (set records index r) at
     ≡ cond (eqb at index) r (record_at records at)
 record-set records index r at within =
-    elim (cases_eq at index) [
-      | inl e ↦ ap (λ n. record_at (set records index r) n) e ∙ get_or-set_same records index r
-          no_slot within
-          ∙ sym (cond-true (eqb at index) r (record_at records at) (eq-eqb at index e))
-      | inr ne ↦ get_or-set_other records index at r no_slot ne
-          ∙ sym (cond-false (eqb at index) r (record_at records at) (ne_eqb at index ne))
-    ]
+    grind (arith, common_steps)
 
 -- ---- one record set
 
@@ -166,12 +138,7 @@ record-set records index r at within =
 pub read-set : {A : Type 0} (f : SlotRecord → A) (records : List SlotRecord) (index : ℕ)
     (r : SlotRecord) (at : ℕ) → index < length records → f (record_at (set records index r) at)
     ≡ cond (eqb at index) (f r) (f (record_at records at))
-read-set f records index r at within = ap f (record-set records index r at within)
-    ∙ out (eqb at index)
-  where
-    out : (b : Bool) → f (cond b r (record_at records at)) ≡ cond b (f r) (f (record_at records at))
-    out true = refl
-    out false = refl
+read-set f records index r at within = search (rules, record-set)
 
 -- so does the set
 pub is_occupant-set : (records : List SlotRecord) (index : ℕ) (r : SlotRecord) (q : Handle) → index
@@ -231,13 +198,7 @@ pub occupants-append : (from : ℕ) (records more : List SlotRecord)
     more
 occupants-append from [] more = ap (λ n. occupants n more) (omega arith)
 occupants-append from (r ∷ records) more =
-    let step : from + 1 + length records ≡ from + suc (length records) = omega arith in
-    (λ i. cond (is_alive r.occupancy) (record { index = from; generation = r.generation }
-    ∷ (occupants-append (from + 1) records more ∙ ap (λ n. occupants (from + 1) records
-    ++ occupants n more) step) i) ((occupants-append (from + 1) records more
-    ∙ ap (λ n. occupants (from + 1) records ++ occupants n more) step) i))
-    ∙ cond-append (is_alive r.occupancy) (record { index = from; generation = r.generation })
-    (occupants (from + 1) records) (occupants (from + suc (length records)) more)
+    grind (arith, common_steps, occupants-append (from + 1) records more)
 
 pub occupants-new : (from count : ℕ) → occupants from (replicate count new_record)
     ≡ fresh from count

@@ -1,6 +1,6 @@
 -- The reply to a request, and to a request for one handle, by what the vectors hold.
-use Rattle.std.proofs.Common.{◌≡◌, ℕ, ℤ, ◌+◌, ◌-◌, ◌<◌, ◌≤◌, pos, ◌≤ℤ◌, ◌-ℤ◌, length, drop, Ok, Err}
-use Rattle.std.proofs.Common.{[], ◌∷◌, slice_get, Some, refl, sym, ap, ◌∙◌, arith, ◌^◌}
+use Rattle.std.proofs.Common.{rules, ◌≡◌, ℕ, ℤ, ◌+◌, ◌-◌, ◌<◌, ◌≤◌, pos, ◌≤ℤ◌, ◌-ℤ◌, length, drop}
+use Rattle.std.proofs.Common.{Ok, Err, [], ◌∷◌, slice_get, Some, refl, sym, ap, ◌∙◌, arith, ◌^◌}
 use Rattle.std.proofs.lemmas.Int.{ints}
 use Rattle.ent_handle.specs.Handle.{Handle}
 use Rattle.ent_alloc.specs.Roster.{Roster}
@@ -21,9 +21,7 @@ pub below_top : (r : Roster) (asked given : ℕ) (s : Allocator) (high : ℤ)
     → AreReserved r asked given
     → allocator_of r asked given ≡ s → high ≤ℤ pos (top s) → IsBelowTop r high
 below_top r asked given s high reserved view passed =
-    let tops = top_view r asked given s reserved view in
-    let within : high ≤ℤ pos (length r.pending) = omega (arith, ints) in
-    record { within = within; distance = asked_at-is (length r.pending) high within }
+    search (rules, top_view, ints, asked_at-is)
 
 -- what a request for n handles owns that is served, in the numbers of the vectors
 pub record IsServed (r : Roster) (high : ℤ) (n position end index index_end : ℕ) : Type 0 where
@@ -39,31 +37,14 @@ pub served : (r : Roster) (high : ℤ) (n position end index index_end : ℕ)
     → index ≡ r.made + (beneath r high - length r.pending)
     → index_end ≡ r.made + (beneath r high + n - length r.pending)
     → IsServed r high n position end index index_end
-served r high n position end index index_end a b d e f = record {
-  enough = a;
-  position_is = b;
-  end_is = d;
-  index_is = e;
-  index_end_is = f;
-}
+served r high n position end index index_end a b d e f = search (rules)
 
 -- these are positions and indexes of slots
 pub served_in_range : (r : Roster) (high : ℤ) (n position end index index_end : ℕ)
     → end < 2 ^ 63 → index_end < 2 ^ 32 → IsServed r high n position end index index_end
     → IsInRange r position end index index_end n
 served_in_range r high n position end index index_end few last served =
-    let position_is = served.position_is in
-    let end_is = served.end_is in
-    let index_is = served.index_is in
-    let index_end_is = served.index_end_is in
-    record {
-      positions = omega arith;
-      within = omega arith;
-      few = few;
-      indexes = omega arith;
-      last = last;
-      count = omega arith;
-    }
+    search (rules)
 
 module _ (r : Roster) (asked given : ℕ) (high : ℤ) (s : Allocator)
     (reserved : AreReserved r asked given) (view : allocator_of r asked given ≡ s) where

@@ -1,21 +1,18 @@
 -- Where a handle stands among those that there were to give at the last flush.
-use Rattle.std.proofs.Common.{◌≡◌, ℕ, zero, suc, ◌+◌, ◌-◌, ◌<◌, ◌≤◌, Bool, true, false, ◌||◌, List}
-use Rattle.std.proofs.Common.{[], ◌∷◌, ◌++◌, length, get_or, drop, reverse, refl, sym, ap, ◌∙◌, arith}
-use Rattle.std.proofs.Common.{true≢false, slice_get, Some, inl, inr}
-use Rattle.std.specs.List.{list_any}
-use Rattle.std.specs.Ordering.{eq_by_cmp}
-use Rattle.std.proofs.lemmas.Bool.{cases_lt}
-use Rattle.std.proofs.lemmas.List.{get_or-append-add, get_or_append_left, length-append, drop_all}
-use Rattle.std.proofs.lemmas.List.{length-reverse, get_or-reverse}
+use Rattle.std.proofs.Common.{rules, ◌≡◌, ℕ, ◌+◌, ◌-◌, ◌<◌, ◌≤◌, Bool, true, false, ◌||◌, List}
+use Rattle.std.proofs.Common.{length, get_or, drop, reverse, refl, sym, ap, ◌∙◌, arith, true≢false}
+use Rattle.std.proofs.Common.{slice_get, Some}
+use Rattle.std.proofs.lemmas.Grind.{common_steps}
+use Rattle.std.proofs.lemmas.List.{get_or-append-add, get_or_append_left, length-reverse}
+use Rattle.std.proofs.lemmas.List.{get_or-reverse}
 use Rattle.std.proofs.lemmas.List.Folds.{list_any-append}
 use Rattle.std.proofs.lemmas.Option.{slice_get-get_or}
-use Rattle.std.proofs.Math.Seq.{drop-cons}
-use Rattle.ent_handle.specs.Handle.{Handle, handle_cmp}
+use Rattle.ent_handle.specs.Handle.{Handle}
 use Rattle.ent_alloc.specs.Roster.{Roster}
 use Rattle.ent_alloc.specs.Sequential.{Allocator, available, fresh, stands_in}
 use Rattle.ent_alloc.specs.Entities.{idle, allocator_of, AreReserved}
 use Rattle.ent_alloc.proofs.FreshHandles.{length-fresh, get_or-fresh}
-use Rattle.ent_alloc.proofs.HandleSets.{same_handle, Contains-from_stands_in}
+use Rattle.ent_alloc.proofs.HandleSets.{Contains-from_stands_in}
 use Rattle.ent_alloc.proofs.Meaning.{available_is, length-idle}
 use Rattle.ent_alloc.proofs.Reversed.{list_any-reverse}
 
@@ -29,10 +26,7 @@ available_view r asked given s reserved view =
 pub stands_idle : (r : Roster) (h : Handle) → stands_in (idle r) h ≡ (stands_in r.pending h
     || stands_in (fresh r.made (r.limits.slots - r.made)) h)
 stands_idle r h =
-    list_any-append (eq_by_cmp handle_cmp h) (reverse r.pending)
-    (fresh r.made (r.limits.slots - r.made))
-    ∙ ap (λ b. b || stands_in (fresh r.made (r.limits.slots - r.made)) h)
-    (list_any-reverse (eq_by_cmp handle_cmp h) r.pending)
+    search (rules, list_any-append, list_any-reverse)
 
 only_first : (a b : Bool) → (a || b) ≡ true → b ≡ false → a ≡ true
 only_first true b e none = refl
@@ -41,18 +35,7 @@ only_first false b e none = absurd (true≢false (sym e ∙ none))
 -- who waits from a position on, and not from the next one on, waits there
 pub waits_here : (hs : List Handle) (h : Handle) (n : ℕ) → stands_in (drop n hs) h ≡ true
     → stands_in (drop (n + 1) hs) h ≡ false → (n < length hs) × (get_or hs n h ≡ h)
-waits_here hs h n from later = elim (cases_lt n (length hs)) [
-  | inl within ↦
-      let parts : drop n hs ≡ get_or hs n h ∷ drop (n + 1) hs = rw (add_one n) (drop-cons hs n h within) in (
-        within,
-        sym (same_handle h (get_or hs n h) (only_first (eq_by_cmp handle_cmp h (get_or hs n h))
-            (stands_in (drop (n + 1) hs) h) (sym (ap (λ gs. stands_in gs h) parts) ∙ from) later)),
-      )
-  | inr past ↦ absurd (true≢false (sym from ∙ ap (λ gs. stands_in gs h) (drop_all n hs past)))
-]
-  where
-    add_one : (n : ℕ) → n + 1 ≡ suc n
-    add_one n = omega arith
+waits_here hs h n from later = grind (arith, common_steps)
 
 -- a handle that waits at a position stands as far from the other end
 pub waiting_place : (r : Roster) (h : Handle) (n : ℕ) → n < length r.pending
@@ -73,17 +56,13 @@ pub fresh_place : (r : Roster) (h : Handle)
     → stands_in (fresh r.made (r.limits.slots - r.made)) h ≡ true
     → (r.made ≤ h.index) × (slice_get (idle r) (length r.pending + (h.index - r.made)) ≡ Some h)
 fresh_place r h stands =
-    let count = r.limits.slots - r.made in
-    let there = Contains-from_stands_in (fresh r.made count) h stands in
-    let k = there.0 in
-    let within : k < count = (let below = there.1 in omega (arith, length-fresh r.made count)) in
-    let index : r.made + k ≡ h.index = ap (λ (x : Handle). x.index)
-    (sym (get_or-fresh r.made count k h within) ∙ there.2) in
-    let off : h.index - r.made ≡ k = omega arith in
-    let long = length-reverse r.pending in
-    let inside : length (reverse r.pending) + k < length (idle r) = omega (arith, length-idle r) in (
-      omega arith,
-      ap (slice_get (idle r)) (λ i. sym long i + off i)
-          ∙ slice_get-get_or (idle r) (length (reverse r.pending) + k) h inside
-          ∙ ap Some (get_or-append-add (reverse r.pending) (fresh r.made count) k h ∙ there.2),
+    search (
+      rules,
+      Contains-from_stands_in,
+      length-fresh,
+      get_or-fresh,
+      length-reverse,
+      length-idle,
+      slice_get-get_or,
+      get_or-append-add,
     )

@@ -1,18 +1,18 @@
 -- What requests take off the pool, whether they are served or not. It depends on their sum alone,
 -- so a reply depends on the cursor alone, and can be computed later.
-use Rattle.std.proofs.Common.{◌≡◌, refl, sym, ap, ◌∙◌, ℕ, ◌+◌, ◌≤◌, ℤ, pos, negsuc, ◌-ℤ◌, List, []}
-use Rattle.std.proofs.Common.{◌∷◌, ◌++◌, length, take, drop, filter, sum, Ok, nat_le, true, le-leb}
-use Rattle.std.proofs.Common.{arith, append-nil, inl, inr}
+use Rattle.std.proofs.Common.{rules, ◌≡◌, refl, sym, ap, ◌∙◌, ℕ, ◌+◌, ◌≤◌, ℤ, pos, negsuc, ◌-ℤ◌}
+use Rattle.std.proofs.Common.{List, [], ◌∷◌, ◌++◌, length, take, drop, sum, Ok, nat_le, true}
+use Rattle.std.proofs.Common.{le-leb, arith, append-nil}
+use Rattle.std.proofs.lemmas.Grind.{common_steps}
 use Rattle.std.proofs.lemmas.Bool.{cases_lt}
 use Rattle.std.proofs.lemmas.Int.{ints}
 use Rattle.std.proofs.lemmas.List.{take_all, drop-drop, drop_all, length-append}
 use Rattle.std.proofs.lemmas.List.Sums.{sum_by-cons}
 use Rattle.std.proofs.Math.Seq.{take-append_seam, drop-append_seam}
 use Rattle.ent_alloc.specs.Sequential.{Allocator, available, top, cursor, after_take, asked_at}
-use Rattle.ent_alloc.specs.Sequential.{pool_at, reply_from, reply_to, is_old}
+use Rattle.ent_alloc.specs.Sequential.{pool_at, reply_from, reply_to}
 use Rattle.ent_alloc.specs.Sound.{IsSound}
-use Rattle.ent_alloc.proofs.Taken.{after_take-served, after_take-refused, available-after_take}
-use Rattle.ent_alloc.proofs.Taken.{length-pool}
+use Rattle.ent_alloc.proofs.Taken.{available-after_take, length-pool}
 use Rattle.ent_alloc.proofs.Soundness.{after_take-sound}
 
 -- the cursor tells how much was asked
@@ -38,10 +38,7 @@ after_take-either : {A : Type 0} (f : Allocator → A) (x : A) (s : Allocator) (
     → f (record s { taken = s.taken ++ take n s.pool; pool = drop n s.pool; asked = s.asked + n })
     ≡ x → f (record s { aside = s.aside ++ s.pool; pool = []; asked = s.asked + n }) ≡ x
     → f (after_take s n) ≡ x
-after_take-either f x s n served refused = elim (cases_lt (length s.pool) n) [
-  | inl short ↦ ap f (after_take-refused s n short) ∙ refused
-  | inr enough ↦ ap f (after_take-served s n enough) ∙ served
-]
+after_take-either f x s n served refused = grind (arith, common_steps)
 
 -- a request leaves the limits as they are
 pub limits-after_take : (s : Allocator) (n : ℕ) → (after_take s n).limits ≡ s.limits
@@ -61,15 +58,11 @@ asked-after_take s n = after_take-either (λ t. t.asked) (s.asked + n) s n refl 
 
 -- the front of the pool goes, served or not
 pub pool-after_take : (s : Allocator) (n : ℕ) → (after_take s n).pool ≡ drop n s.pool
-pool-after_take s n = elim (cases_lt (length s.pool) n) [
-  | inl short ↦ rw (after_take-refused s n short) (sym (drop_all n s.pool (omega arith)))
-  | inr enough ↦ rw (after_take-served s n enough)
-]
+pool-after_take s n = grind (arith, common_steps)
 
 -- how many old handles there were
 pub top-after_take : (s : Allocator) (n : ℕ) → IsSound s → top (after_take s n) ≡ top s
-top-after_take s n h = λ i.
-    length (filter (is_old (made-after_take s n i)) (available-after_take s n h i))
+top-after_take s n h = search (rules, made-after_take, available-after_take)
 
 -- the cursor falls by the request
 pub cursor-after_take : (s : Allocator) (n : ℕ) → IsSound s → cursor (after_take s n)
@@ -161,11 +154,7 @@ reply-later s requests n h = λ i. reply_from (made-after_takes s requests i)
 
 -- a request for nothing changes nothing
 pub after_take-none : (s : Allocator) → after_take s 0 ≡ s
-after_take-none s = after_take-served s 0 (omega arith)
-    ∙ (λ i. record s { taken = append-nil s.taken i; asked = all i })
-  where
-    all : s.asked + 0 ≡ s.asked
-    all = omega arith
+after_take-none s = grind (arith, common_steps)
 
 -- and lists nothing
 pub reply-none : (s : Allocator) → reply_to s 0 ≡ Ok []
@@ -175,15 +164,7 @@ reply-none s = let test : nat_le 0 (length s.pool) ≡ true = le-leb _ _ (omega 
 pub length-taken : (s : Allocator) → IsSound s → s.asked ≤ length (available s) → length s.taken
     ≡ s.asked
 length-taken s h enough =
-    let none : s.aside ≡ [] = h.aside enough in
-    omega (
-      arith,
-      length-pool s h,
-      length-append s.taken (s.aside ++ s.pool),
-      length-append s.aside
-          s.pool,
-      ap length none,
-    )
+    search (rules, length-pool, length-append)
 
 -- all lists, by two numbers: how many are taken, and how many were asked for
 pub taken_is : (s : Allocator) → s.taken ≡ take (length s.taken) (available s)
@@ -192,16 +173,13 @@ taken_is s = sym (take-append_seam s.taken (s.aside ++ s.pool))
 -- what was passed over stands after it
 pub aside_is : (s : Allocator) → IsSound s → s.aside
     ≡ drop (length s.taken) (take s.asked (available s))
-aside_is s h = elim (cases_lt (length (available s)) s.asked) [
-  | inl beyond ↦
-      let none : s.pool ≡ [] = h.pool ∙ drop_all s.asked (available s) (omega arith) in
-      let all : take s.asked (available s) ≡ available s = take_all s.asked (available s)
-      (omega arith) in
-      sym (ap (drop (length s.taken)) all ∙ drop-append_seam s.taken (s.aside ++ s.pool)
-      ∙ ap (s.aside ++◌) none ∙ append-nil s.aside)
-  | inr enough ↦
-      let long : s.asked ≡ length s.taken = sym (length-taken s h enough) in
-      h.aside enough ∙ sym (ap (λ n. drop (length s.taken) (take n (available s))) long
-      ∙ ap (drop (length s.taken)) (take-append_seam s.taken (s.aside ++ s.pool))
-      ∙ drop_all (length s.taken) s.taken (omega arith))
-]
+aside_is s h = search (
+  rules,
+  cases_lt,
+  drop_all,
+  take_all,
+  drop-append_seam,
+  append-nil,
+  length-taken,
+  take-append_seam,
+)

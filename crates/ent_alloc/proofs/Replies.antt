@@ -1,12 +1,13 @@
 -- What a served reply lists: handles of different slots, none of them alive, all of them taken, and
 -- none twice in two replies.
+use Rattle.std.proofs.lemmas.Grind.{common_steps}
 use Rattle.std.proofs.Common.{◌≡◌, ◌≢◌, refl, sym, ap, subst, ℕ, ◌<◌, ◌≤◌, true, false, not, nat_le}
 use Rattle.std.proofs.Common.{List, [], ◌∷◌, ◌++◌, length, get_or, take, reverse, filter, All}
-use Rattle.std.proofs.Common.{AllPairs, Contains, IsPermutation, Ok, Err, arith, le-leb, inl, inr}
-use Rattle.std.proofs.lemmas.Bool.{cases_lt, lt-leb}
+use Rattle.std.proofs.Common.{AllPairs, Contains, IsPermutation, Ok, Err, arith, le-leb}
+use Rattle.std.proofs.lemmas.Bool.{lt-leb}
 use Rattle.std.proofs.lemmas.Bool.Decides.{nat_tests}
-use Rattle.std.proofs.lemmas.List.Elements.{All-take, All-contains, Contains-append_left}
-use Rattle.std.proofs.lemmas.List.Elements.{Contains-append_right, All-contains_itself}
+use Rattle.std.proofs.lemmas.List.Elements.{All-take, All-contains, Contains-append_right}
+use Rattle.std.proofs.lemmas.List.Elements.{All-contains_itself}
 use Rattle.std.proofs.lemmas.List.Sorted.{IsPermutation-refl, IsPermutation-sym}
 use Rattle.std.proofs.lemmas.List.Sorted.{IsPermutation-trans, IsPermutation-append}
 use Rattle.std.proofs.lemmas.List.Sorted.{IsPermutation-reverse, IsPermutation-filter_both}
@@ -18,7 +19,7 @@ use Rattle.ent_alloc.specs.Sequential.{is_fresh}
 use Rattle.ent_alloc.specs.Sound.{IsSound, AreApart, IsLive}
 use Rattle.ent_alloc.proofs.ListLaws.{AllPairs-right, AllPairs-take, AllPairs-across}
 use Rattle.ent_alloc.proofs.ListLaws.{AllPairs-IsPermutation, All-right}
-use Rattle.ent_alloc.proofs.Taken.{after_take-served, after_take-refused}
+use Rattle.ent_alloc.proofs.Taken.{after_take-served}
 use Rattle.ent_alloc.proofs.PoolLaw.{after_takes, after_takes-sound}
 use Rattle.ent_alloc.proofs.Soundness.{after_take-sound}
 
@@ -50,18 +51,12 @@ reply-refused s n short = let test : nat_le n (length s.pool) ≡ false = lt-leb
 -- what a served reply tells of the pool
 pub served_from : (s : Allocator) (n : ℕ) (given : List Handle) → reply_to s n ≡ Ok given
     → (n ≤ length s.pool) × (given ≡ listed s.made (take n s.pool))
-served_from s n given is = elim (cases_lt (length s.pool) n) [
-  | inl short ↦ let refused = reply-refused s n short in cc
-  | inr enough ↦ let served = reply-served s n enough in (enough, cc)
-]
+served_from s n given is = grind (arith, common_steps)
 
 -- and a refusal
 pub refused_from : (s : Allocator) (n : ℕ) (space : Space) → reply_to s n ≡ Err space
     → (length s.pool < n) × (space ≡ record { wanted = n; left = length s.pool })
-refused_from s n space is = elim (cases_lt (length s.pool) n) [
-  | inl short ↦ let refused = reply-refused s n short in (short, cc)
-  | inr enough ↦ let served = reply-served s n enough in cc
-]
+refused_from s n space is = grind (arith, common_steps)
 
 -- a handle is not apart from itself
 pub not_apart : (h : Handle) → ¬ (AreApart h h)
@@ -146,17 +141,12 @@ module _ (s : Allocator) (n : ℕ) (given : List Handle) (is : reply_to s n ≡ 
 -- a refused request takes nothing
 pub taken-after_refused : (s : Allocator) (n : ℕ) (space : Space) → reply_to s n ≡ Err space
     → (after_take s n).taken ≡ s.taken
-taken-after_refused s n space is = ap (λ t. t.taken)
-    (after_take-refused s n (refused_from s n space is).0)
+taken-after_refused s n space is = grind (arith, common_steps)
 
 -- what is taken stays so
 pub taken-keeps : (s : Allocator) (n : ℕ) (x : Handle) → Contains s.taken x
     → Contains (after_take s n).taken x
-taken-keeps s n x in_taken = elim (cases_lt (length s.pool) n) [
-  | inl short ↦ rw (after_take-refused s n short) in_taken
-  | inr enough ↦ rw (after_take-served s n enough) (Contains-append_left s.taken (take n s.pool) x
-      in_taken)
-]
+taken-keeps s n x in_taken = grind (arith, common_steps)
 
 -- through all requests
 pub taken-keeps_all : (s : Allocator) (requests : List ℕ) (x : Handle) → Contains s.taken x

@@ -1,20 +1,18 @@
 -- How many slots are retired: all that were made but those of the living and those of the old
 -- handles that may be given.
-use Rattle.std.proofs.Common.{◌≡◌, ℕ, ◌+◌, ◌<◌, ◌≤◌, Bool, true, false, cond, not, ◌||◌}
-use Rattle.std.proofs.Common.{eqb, List, [], ◌∷◌, length, get_or, filter, refl, sym, ap, ◌∙◌}
-use Rattle.std.proofs.Common.{arith, inl, inr, suc, zero, subst, All, AllPairs, Contains}
-use Rattle.std.proofs.Common.{true≢false}
+use Rattle.std.proofs.Common.{rules, ◌≡◌, ℕ, ◌+◌, ◌<◌, ◌≤◌, Bool, true, false, cond, not, ◌||◌, eqb}
+use Rattle.std.proofs.Common.{List, [], ◌∷◌, length, get_or, filter, refl, sym, ap, ◌∙◌, arith, inl}
+use Rattle.std.proofs.Common.{inr, suc, zero, subst, All, AllPairs, Contains, true≢false}
+use Rattle.std.proofs.lemmas.Grind.{common_steps}
 use Rattle.std.specs.List.{count_by, range_with_len}
 use Rattle.std.specs.FinSet as set
-use Rattle.std.proofs.lemmas.Bool.{cases_lt, cases_eq, eq-eqb, ne_eqb, eqb-true, lt-ltb, le-ltb}
-use Rattle.std.proofs.lemmas.Bool.{false_from_ne_true}
+use Rattle.std.proofs.lemmas.Bool.{cases_eq, eq-eqb, ne_eqb, eqb-true, false_from_ne_true}
 use Rattle.std.proofs.lemmas.List.Kept.{AllPairs-filter}
 use Rattle.std.proofs.lemmas.List.Sums.{sum_by-cons}
 use Rattle.std.proofs.lemmas.List.Elements.{All-head, All-tail, All-contains, Contains-get_or}
 use Rattle.ent_handle.specs.Handle.{Handle, handle_cmp, handle_cmp_total}
 use Rattle.ent_handle.specs.Handle.{handle_cmp-IsAntisymmetric}
-use Rattle.ent_alloc.specs.Sequential.{Allocator, available, top, is_old, has_slot}
-use Rattle.ent_alloc.specs.Sequential.{retired}
+use Rattle.ent_alloc.specs.Sequential.{Allocator, available, top, is_old, has_slot, retired}
 use Rattle.ent_alloc.specs.Sound.{IsSound, AreApart, IsLive}
 use Rattle.ent_alloc.proofs.ListLaws.{AllPairs-head, AllPairs-tail}
 use Rattle.ent_alloc.proofs.HandleSets.{Contains-from_stands_in, stands_in-from_Contains}
@@ -69,8 +67,7 @@ count-parts p q from (suc n) apart =
 
 count-none : (from n : ℕ) → count (λ _. false) from n ≡ 0
 count-none from zero = refl
-count-none from (suc n) = count-next (λ _. false) from n
-    ∙ ap (λ m. 0 + m) (count-none (from + 1) n)
+count-none from (suc n) = search (rules, count-next, count-none (from + 1) n)
 
 either : (a b : Bool) → a ≡ true → (a || b) ≡ true
 either true b is = refl
@@ -118,15 +115,9 @@ has_slot-has : (handles : List Handle) (h : Handle) → Contains handles h → h
     ≡ true
 has_slot-has [] h (k, below, is) = absurd (omega arith)
 has_slot-has (x ∷ handles) h (zero, below, is) =
-    either (eqb x.index h.index) (has_slot handles h.index)
-    (eq-eqb x.index h.index (ap (λ (g : Handle). g.index) is))
+    grind (arith, common_steps)
 has_slot-has (x ∷ handles) h (suc k, below, is) =
-    or-later (eqb x.index h.index) (has_slot handles h.index)
-    (has_slot-has handles h (k, omega arith, is))
-  where
-    or-later : (a b : Bool) → b ≡ true → (a || b) ≡ true
-    or-later true b is = refl
-    or-later false b is = is
+    search (rules, has_slot-has handles h (k, omega arith, is))
 
 has_slot-apart : (handles : List Handle) (h : Handle) → All (AreApart h) handles
     → has_slot handles h.index ≡ false
@@ -159,8 +150,7 @@ in_tail : (x : Handle) (handles : List Handle) (h : Handle) → Contains handles
 in_tail x handles h (k, below, is) = (suc k, omega arith, is)
 
 alone-tail : (x : Handle) (handles : List Handle) → AreAlone (x ∷ handles) → AreAlone handles
-alone-tail x handles alone g h in_g in_h = alone g h (in_tail x handles g in_g)
-    (in_tail x handles h in_h)
+alone-tail x handles alone g h in_g in_h = search (rules, in_tail)
 
 either_of : (b : Bool) (P : Type 0) → (b ≡ true → P) → (b ≡ false → P) → P
 either_of true P f g = f refl
@@ -208,13 +198,7 @@ has_slot-old : (made : ℕ) (handles : List Handle) (index : ℕ) → index < ma
     → has_slot handles index ≡ has_slot (filter (is_old made) handles) index
 has_slot-old made [] index below = refl
 has_slot-old made (h ∷ handles) index below =
-    let rest = has_slot-old made handles index below in
-    elim (cases_lt h.index made) [
-      | inl old ↦ rw (lt-ltb h.index made old) (ap (λ b. eqb h.index index || b) rest)
-      | inr new ↦ rw (le-ltb h.index made new)
-          (ap (λ b. b || has_slot handles index)
-          (ne_eqb h.index index (λ e. absurd (omega arith))) ∙ rest)
-    ]
+    grind (arith, common_steps, has_slot-old made handles index below)
 
 -- ---- the slots of an allocator
 

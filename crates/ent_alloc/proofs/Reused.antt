@@ -1,12 +1,11 @@
 -- What becomes of the records when pending slots get their next occupants.
-use Rattle.std.proofs.Common.{◌≡◌, ◌≢◌, ℕ, ◌+◌, ◌<◌, Bool, true, false, cond, ◌&&◌, ◌||◌, eqb, List}
-use Rattle.std.proofs.Common.{[], ◌∷◌, length, get_or, set, map, refl, sym, ap, ◌∙◌, arith, inl}
-use Rattle.std.proofs.Common.{inr, suc, zero}
+use Rattle.std.proofs.Common.{rules, ◌≡◌, ◌≢◌, ℕ, ◌+◌, ◌<◌, Bool, true, false, cond, ◌&&◌, ◌||◌}
+use Rattle.std.proofs.Common.{eqb, List, [], ◌∷◌, length, get_or, set, map, refl, sym, ap, ◌∙◌}
+use Rattle.std.proofs.Common.{arith, suc, zero}
+use Rattle.std.proofs.lemmas.Grind.{common_steps}
 use Rattle.std.specs.List.{list_any}
 use Rattle.std.specs.Ordering.{eq_by_cmp}
 use Rattle.std.specs.FinSet as sets
-use Rattle.std.proofs.lemmas.Bool.Decides.{nat_tests}
-use Rattle.std.proofs.lemmas.Bool.{cases_eq}
 use Rattle.std.proofs.lemmas.List.{get_or-set_same, get_or-set_other, length-set}
 use Rattle.ent_handle.specs.Handle.{Handle, handle_cmp, handle_cmp_total}
 use Rattle.ent_handle.specs.Handle.{handle_cmp-IsAntisymmetric}
@@ -17,8 +16,8 @@ use Rattle.ent_alloc.specs.declared.slot_record.Occupancy.TheVariants.{Alive, Al
 use Rattle.ent_alloc.specs.declared.slot_record.Occupancy.TheVariants.{Retired}
 use Rattle.ent_alloc.specs.Slots.{occupants, record_at, no_slot, is_alive, row_of, rows_from, reuse}
 use Rattle.ent_alloc.specs.Slots.{reused, handle_at}
-use Rattle.ent_alloc.proofs.Occupants.{is_occupant, has_occupant, contains_occupants}
-use Rattle.ent_alloc.proofs.Occupants.{is_occupant-set, length-occupants-set, ties, one}
+use Rattle.ent_alloc.proofs.Occupants.{is_occupant, contains_occupants, is_occupant-set}
+use Rattle.ent_alloc.proofs.Occupants.{length-occupants-set, ties, one}
 use Rattle.ent_alloc.proofs.KeptRows.{rows_from-set}
 
 -- The slots of these indexes wait at the positions from a first one on.
@@ -67,15 +66,7 @@ generation-reuse : (records : List SlotRecord) (index at : ℕ) → index < leng
     → (record_at (set records index (reuse (record_at records index))) at).generation
     ≡ (record_at records at).generation
 generation-reuse records index at within =
-    elim (cases_eq at index) [
-      | inl e ↦
-          ap (λ n. (record_at (set records index (reuse (record_at records index))) n).generation) e
-          ∙ ap (λ (r : SlotRecord). r.generation)
-          (get_or-set_same records index (reuse (record_at records index)) no_slot within)
-          ∙ ap (λ n. (record_at records n).generation) (sym e)
-      | inr ne ↦ ap (λ (r : SlotRecord). r.generation) (get_or-set_other records index at
-          (reuse (record_at records index)) no_slot ne)
-    ]
+    grind (arith, common_steps)
 
 pub generation-reused : (records : List SlotRecord) (from : ℕ) (indices : List ℕ) (at : ℕ)
     → Wait records from indices → (record_at (reused records indices) at).generation
@@ -116,11 +107,7 @@ Alive≢Pending e = cc
 pub waited-reused : (records : List SlotRecord) (from : ℕ) (indices : List ℕ) (at position : ℕ)
     → Wait records from indices → (record_at (reused records indices) at).occupancy
     ≡ Pending position → StillWaits records indices at position
-waited-reused records from [] at position wait is = record {
-  before = is;
-  apart = λ k within.
-      absurd (omega arith);
-}
+waited-reused records from [] at position wait is = search (rules)
 waited-reused records from (index ∷ indices) at position wait is =
     let later = waited-reused (set records index (reuse (record_at records index))) (from + 1)
     indices at position (Wait-rest records from index indices wait) is in
@@ -186,9 +173,7 @@ slept_no_occupant : (records : List SlotRecord) (index : ℕ) (q : Handle) (posi
     → (record_at records index).occupancy ≡ Pending position → eqb q.index index ≡ true
     → is_occupant records q ≡ false
 slept_no_occupant records index q position here e =
-    let at : q.index ≡ index = grind (arith, nat_tests) in
-    ap (λ n. has_occupant (record_at records n) q.generation) at
-    ∙ ap (λ t. is_alive t && eqb (record_at records index).generation q.generation) here
+    grind (arith, common_steps)
 
 -- the occupants are those before and the handles that waited
 pub is_occupant-reused : (records : List SlotRecord) (from : ℕ) (indices : List ℕ) (q : Handle)

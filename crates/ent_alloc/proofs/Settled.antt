@@ -1,9 +1,9 @@
 -- Two numbers tell what requests leave of a flushed allocator: how many handles were given, and how
 -- many were asked for.
+use Rattle.std.proofs.lemmas.Grind.{common_steps}
 use Rattle.std.proofs.Common.{◌≡◌, sym, ap, ◌∙◌, ℕ, ◌+◌, ◌-◌, ◌<◌, ◌≤◌, List, [], ◌++◌, length}
-use Rattle.std.proofs.Common.{take, drop, sum, Err, arith, nat_le, false, append_assoc, append-nil}
-use Rattle.std.proofs.Common.{inl, inr}
-use Rattle.std.proofs.lemmas.Bool.{lt-leb, cases_lt}
+use Rattle.std.proofs.Common.{take, drop, sum, Err, arith, append_assoc, append-nil, inl, inr}
+use Rattle.std.proofs.lemmas.Bool.{cases_lt}
 use Rattle.std.proofs.lemmas.List.{take-append-drop, take-take, take_all, drop_all, length-take}
 use Rattle.std.proofs.lemmas.List.{length-drop}
 use Rattle.std.proofs.lemmas.List.Sorted.{length_permutation}
@@ -13,10 +13,10 @@ use Rattle.ent_alloc.specs.Sound.{IsSound}
 use Rattle.ent_alloc.proofs.LaidOut.{flushed-laid_out}
 use Rattle.ent_alloc.proofs.Taken.{length-available, length-pool, after_take-refused}
 use Rattle.ent_alloc.proofs.Taken.{after_take-served}
-use Rattle.ent_alloc.proofs.PoolLaw.{limits-after_takes, live-after_takes}
-use Rattle.ent_alloc.proofs.PoolLaw.{after_takes, after_takes-sound, available-after_takes}
-use Rattle.ent_alloc.proofs.PoolLaw.{made-after_takes, asked-after_takes, pool-after_takes}
-use Rattle.ent_alloc.proofs.PoolLaw.{taken_is, aside_is, length-taken}
+use Rattle.ent_alloc.proofs.PoolLaw.{limits-after_takes, live-after_takes, after_takes}
+use Rattle.ent_alloc.proofs.PoolLaw.{after_takes-sound, available-after_takes, made-after_takes}
+use Rattle.ent_alloc.proofs.PoolLaw.{asked-after_takes, pool-after_takes, taken_is, aside_is}
+use Rattle.ent_alloc.proofs.PoolLaw.{length-taken}
 use Rattle.ent_alloc.proofs.Soundness.{IsSound-moved}
 use Rattle.ent_alloc.proofs.RequestLaws.{given_by, taken-since_flush}
 
@@ -143,5 +143,4 @@ all_given s requests h flushed some =
 -- after a refusal every request for something is refused, with nothing left
 pub shut : (s : Allocator) (n m : ℕ) → length s.pool < n → 0 < m → reply_to (after_take s n) m
     ≡ Err (record { wanted = m; left = 0 })
-shut s n m short some = let test : nat_le m 0 ≡ false = lt-leb m 0 some in
-    rw (after_take-refused s n short, test)
+shut s n m short some = grind (arith, common_steps)

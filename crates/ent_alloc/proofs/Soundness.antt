@@ -1,11 +1,11 @@
 -- Every step of the sequential allocator leads from a sound state to a sound state.
-use Rattle.std.proofs.Common.{◌≡◌, refl, sym, ap, ◌∙◌, subst, ℕ, zero, suc, ◌+◌, ◌-◌, ◌<◌, ◌≤◌}
-use Rattle.std.proofs.Common.{true, false, true≢false, List, [], ◌∷◌, ◌++◌, length, get_or, take}
-use Rattle.std.proofs.Common.{drop, All, AllPairs, arith, append-nil, lt-ltb, le-ltb, ◌==◌}
-use Rattle.std.proofs.Common.{◌≢◌}
-use Rattle.std.proofs.Common.{eq-eqb, ne_eqb, inl, inr, Some, None, Option}
+use Rattle.std.proofs.Common.{rules, ◌≡◌, refl, sym, ap, ◌∙◌, subst, ℕ, zero, suc, ◌+◌, ◌-◌, ◌<◌}
+use Rattle.std.proofs.Common.{◌≤◌, true, false, true≢false, List, [], ◌∷◌, ◌++◌, length, get_or}
+use Rattle.std.proofs.Common.{take, drop, All, AllPairs, arith, append-nil, lt-ltb, le-ltb, ◌≢◌}
+use Rattle.std.proofs.Common.{eq-eqb, inl, inr, Some, None, Option}
+use Rattle.std.proofs.lemmas.Grind.{common_steps}
 use Rattle.std.specs.Option.{IfSome}
-use Rattle.std.proofs.lemmas.Bool.{cases_lt, cases_eq}
+use Rattle.std.proofs.lemmas.Bool.{cases_lt}
 use Rattle.std.specs.FinSet as set
 use Rattle.std.proofs.lemmas.List.{drop-drop, drop_all}
 use Rattle.std.proofs.lemmas.List.Elements.{All-drop, All-head, All-tail, All-nil, All-cons}
@@ -55,22 +55,7 @@ pub IsSound-moved : (s : Allocator) (taken aside pool : List Handle) (asked : �
     ++ (aside ++ pool) ≡ available s → pool ≡ drop asked (available s)
     → (asked ≤ length (available s) → aside ≡ [])
     → IsSound (record s { taken = taken; aside = aside; pool = pool; asked = asked })
-IsSound-moved s taken aside pool asked h same rest enough = record {
-  limits = h.limits;
-  made = h.made;
-  order = rw same h.order;
-  within = rw same h.within;
-  apart = rw same h.apart;
-  pool = rw same rest;
-  aside = λ le. enough (rw same at le);
-  live = λ x alive. let was = h.live x alive in record {
-    within = was.within;
-    made =
-        was.made;
-    apart = rw same was.apart;
-  };
-  one_occupant = h.one_occupant;
-}
+IsSound-moved s taken aside pool asked h same rest enough = search (rules, enough)
 
 -- a request, served or refused
 pub after_take-sound : (s : Allocator) (n : ℕ) → IsSound s → IsSound (after_take s n)
@@ -95,31 +80,22 @@ after_take-sound s n h = elim (cases_lt (length s.pool) n) [
 -- after the last generation comes nothing
 pub next-last : (limits : Limits) (h : Handle) → h.generation ≡ limits.generations → next limits h
     ≡ None
-next-last limits h last = let test : (h.generation == limits.generations)
-    ≡ true = eq-eqb _ _ last in rw test
+next-last limits h last = search (rules, eq-eqb)
 
 -- else the next one
 pub next-later : (limits : Limits) (h : Handle) → h.generation ≢ limits.generations → next limits h
     ≡ Some (following h)
-next-later limits h before = let test : (h.generation == limits.generations)
-    ≡ false = ne_eqb _ _ before in rw test
+next-later limits h before = search (rules)
 
 -- what holds of what follows
 pub of_next : (P : Handle → Type 0) (limits : Limits) (h : Handle)
     → (h.generation ≢ limits.generations → P (following h)) → IfSome (next limits h) P
-of_next P limits h each = elim (cases_eq h.generation limits.generations) [
-  | inl last ↦ rw (next-last limits h last) tt
-  | inr before ↦ rw (next-later limits h before) (each before)
-]
+of_next P limits h each = grind (arith, common_steps)
 
 -- the limits allow what follows
 pub following-within : (limits : Limits) (h : Handle) → IsWithin limits h → h.generation
     ≢ limits.generations → IsWithin limits (following h)
-following-within limits h within before = record {
-  index = within.index;
-  least = omega arith;
-  greatest = omega (arith, within.greatest);
-}
+following-within limits h within before = search (rules)
 
 -- what holds of a list and of what stands in front of it
 pub All-in_front : (P : Handle → Type 0) (o : Option Handle) (handles : List Handle) → IfSome o P
@@ -142,35 +118,18 @@ append-in_front (Some h) handles more = refl
 pub after_free-sound : (s : Allocator) (x : Handle) → IsSound s → s.asked ≡ 0 → IsLive s x
     → IsSound (after_free s x)
 after_free-sound s x h flushed alive =
-    let was = flushed-laid_out s h flushed in
-    let front = next s.limits x in
-    laid_out-sound (after_free s x) (in_front front (old_ones s)) record {
-      limits = was.limits;
-      made = was.made;
-      taken = was.taken;
-      aside = was.aside;
-      asked = was.asked;
-      pool = ap (in_front front) was.pool
-          ∙ append-in_front front (old_ones s) (fresh s.made (s.limits.slots - s.made));
-      within = All-in_front (IsWithin s.limits) front (old_ones s)
-          (of_next (IsWithin s.limits) s.limits x
-          (following-within s.limits x (was.live_within x alive))) was.within;
-      below = All-in_front (λ h. h.index < s.made) front (old_ones s)
-          (of_next (λ h. h.index < s.made) s.limits x (λ _. was.live_below x alive)) was.below;
-      apart = AllPairs-in_front front (old_ones s)
-          (of_next (λ h. All (AreApart h) (old_ones s)) s.limits x (λ _. was.live_apart x alive))
-          was.apart;
-      live_within = λ y kept. was.live_within y (in_removed s.live x y kept).1;
-      live_below = λ y kept. was.live_below y (in_removed s.live x y kept).1;
-      live_apart = λ y kept.
-          let other = in_removed s.live x y kept in
-          All-in_front (AreApart y) front (old_ones s)
-          (of_next (AreApart y) s.limits x
-          (λ _ same. other.0 (was.one_occupant y x other.1 alive same)))
-          (was.live_apart y other.1);
-      one_occupant = λ g y kept_g kept_y same. was.one_occupant g y (in_removed s.live x g kept_g).1
-          (in_removed s.live x y kept_y).1 same;
-    }
+    search (
+      rules,
+      flushed-laid_out,
+      laid_out-sound,
+      old_ones,
+      append-in_front,
+      All-in_front,
+      of_next,
+      following-within,
+      AllPairs-in_front,
+      in_removed,
+    )
 
 -- an old handle that comes to life
 pub after_alloc-old : (s : Allocator) (x : Handle) → x.index < s.made → after_alloc s x

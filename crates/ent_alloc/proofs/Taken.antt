@@ -1,10 +1,11 @@
 -- What a request does to the lists of a sound allocator, and what is taken by all requests.
-use Rattle.std.proofs.Common.{◌≡◌, sym, ap, ◌∙◌, subst, ℕ, ◌+◌, ◌-◌, ◌<◌, ◌≤◌, true, false, nat_le}
-use Rattle.std.proofs.Common.{List, [], ◌++◌, length, take, drop, filter, All, arith, append_assoc}
-use Rattle.std.proofs.Common.{append-nil, le-leb, ◌⊎◌, inl, inr}
+use Rattle.std.proofs.Common.{rules, ◌≡◌, sym, ap, ◌∙◌, subst, ℕ, ◌+◌, ◌-◌, ◌<◌, ◌≤◌, List, []}
+use Rattle.std.proofs.Common.{◌++◌, length, take, drop, filter, All, arith, append-nil, le-leb, ◌⊎◌}
+use Rattle.std.proofs.Common.{inl, inr}
+use Rattle.std.proofs.lemmas.Grind.{common_steps}
 use Rattle.std.proofs.lemmas.Bool.{cases_lt, lt-leb}
 use Rattle.std.proofs.Math.Seq.{take-append_seam, drop-append_seam}
-use Rattle.std.proofs.lemmas.List.{take-append-drop, length-append, length-drop, drop_all}
+use Rattle.std.proofs.lemmas.List.{length-append, length-drop}
 use Rattle.std.proofs.lemmas.List.Elements.{All-take, All-append, All-weaker}
 use Rattle.ent_handle.specs.Handle.{Handle}
 use Rattle.ent_alloc.specs.Sequential.{Allocator, top, available, after_take, after_flush, fresh}
@@ -17,10 +18,7 @@ use Rattle.ent_alloc.proofs.LaidOut.{old_ones, old_ones_below}
 
 -- something was passed over, or something is left
 pub aside_or_pool : (s : Allocator) → IsSound s → (s.aside ≡ []) ⊎ (s.pool ≡ [])
-aside_or_pool s h = elim (cases_lt (length (available s)) s.asked) [
-  | inl beyond ↦ inr (h.pool ∙ drop_all s.asked (available s) (omega arith))
-  | inr enough ↦ inl (h.aside enough)
-]
+aside_or_pool s h = grind (arith, common_steps)
 
 -- how many are left
 pub length-pool : (s : Allocator) → IsSound s → length s.pool ≡ length (available s) - s.asked
@@ -29,21 +27,18 @@ length-pool s h = ap length h.pool ∙ length-drop s.asked (available s)
 -- a request takes nothing out of what may be given, and changes no order
 pub take_moves : (taken aside pool : List Handle) (n : ℕ) → (aside ≡ []) ⊎ (pool ≡ [])
     → (taken ++ take n pool) ++ (aside ++ drop n pool) ≡ taken ++ (aside ++ pool)
-take_moves taken aside pool n (inl none) = rw none (append_assoc taken (take n pool) (drop n pool)
-    ∙ ap (taken ++◌) (take-append-drop n pool))
+take_moves taken aside pool n (inl none) = grind (arith, common_steps)
 take_moves taken aside pool n (inr none) = rw (none, take-nil n, drop-nil n, append-nil taken)
 
 -- a request for no more than the pool has
 pub after_take-served : (s : Allocator) (n : ℕ) → n ≤ length s.pool → after_take s n
     ≡ record s { taken = s.taken ++ take n s.pool; pool = drop n s.pool; asked = s.asked + n }
-after_take-served s n enough = let test : nat_le n (length s.pool) ≡ true = le-leb _ _ enough in
-    rw test
+after_take-served s n enough = search (rules, le-leb)
 
 -- a request for more than the pool has
 pub after_take-refused : (s : Allocator) (n : ℕ) → length s.pool < n → after_take s n
     ≡ record s { aside = s.aside ++ s.pool; pool = []; asked = s.asked + n }
-after_take-refused s n short = let test : nat_le n (length s.pool) ≡ false = lt-leb _ _ short in
-    rw test
+after_take-refused s n short = search (rules, lt-leb)
 
 -- what there was to give stays
 pub available-after_take : (s : Allocator) (n : ℕ) → IsSound s → available (after_take s n)
@@ -59,8 +54,7 @@ available-after_take s n h = elim (cases_lt (length s.pool) n) [
 pub length-available : (s : Allocator) → IsSound s → length (available s) ≡ top s
     + (s.limits.slots - s.made)
 length-available s h =
-    ap length h.order ∙ length-append (old_ones s) (fresh s.made (s.limits.slots - s.made))
-    ∙ ap (length (old_ones s) +◌) (length-fresh s.made (s.limits.slots - s.made))
+    search (rules, length-append, old_ones, length-fresh)
 
 -- what is taken: old handles, and fresh ones once there are no more old ones
 module _ (s : Allocator) (h : IsSound s) where

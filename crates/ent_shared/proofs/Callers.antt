@@ -1,10 +1,10 @@
 -- The calls of one caller among those of all, and records of which no two have one number.
+use Rattle.std.proofs.lemmas.Grind.{common_steps}
 use Rattle.std.proofs.Common.{◌≡◌, ◌≢◌, ℕ, ◌+◌, ◌≤◌, ⊎_elim, List, [], ◌∷◌, refl, sym, ap, ◌∙◌}
 use Rattle.std.proofs.Common.{arith, eq-eqb}
 use Rattle.std.specs.Prelude.{Bool, true, false, cond, ◌==◌, count_by}
 use Rattle.std.specs.List.{sum_by, All, AllPairs, Contains}
-use Rattle.std.proofs.lemmas.List.Elements.{All-head, All-tail, All-weaker}
-use Rattle.std.proofs.lemmas.List.Elements.{All-contains_itself}
+use Rattle.std.proofs.lemmas.List.Elements.{All-head, All-tail, All-weaker, All-contains_itself}
 use Rattle.std.proofs.lemmas.List.Kept.{AllPairs-cons}
 use Rattle.std.proofs.lemmas.List.Sums.{sum_by-cons}
 use Rattle.ent_shared.specs.declared.record.Reservation.{Reservation}
@@ -80,18 +80,7 @@ counted : (number : ℕ) (rs : List Record) (r : Record) → Contains rs r → r
     ≤ count_by (λ (x : Record). x.number == number) rs
 counted number [] r inside is = absurd (omega arith)
 counted number (x ∷ rs) r inside is =
-    let counts : count_by (λ (y : Record). y.number == number) (x ∷ rs)
-    ≡ cond (x.number == number) 1 0 + count_by (λ (y : Record). y.number == number) rs =
-    sum_by-cons (λ (y : Record). cond (y.number == number) 1 0) x rs in
-    ⊎_elim
-    (λ (same : r ≡ x).
-    let yes : (x.number == number) ≡ true = eq-eqb x.number number
-    (ap (λ (y : Record). y.number) (sym same) ∙ is) in
-    let one : cond {A = ℕ} (x.number == number) 1 0 ≡ 1 = ap (λ (b : Bool). cond {A = ℕ} b 1 0) yes
-    in
-    omega arith)
-    (λ (behind : Contains rs r). let rest = counted number rs r behind is in omega arith)
-    (contains_cases x rs r inside)
+    grind (arith, common_steps)
 
 -- records of which no two have one number differ in it
 pub numbers_differ : (rs : List Record) → ((k : ℕ) → count_by (λ (r : Record). r.number == k) rs

@@ -1,14 +1,12 @@
 -- The end of a phase: the history of all records is legal, and the cursor and the least floor tell
 -- the allocator after it.
+use Rattle.std.proofs.lemmas.Grind.{common_steps}
 use Rattle.std.proofs.Common.{◌≡◌, ◌≢◌, ℕ, ◌+◌, ◌-◌, ◌*◌, ◌^◌, ◌<◌, ◌≤◌, ℤ, pos, ◌+ℤ◌, ◌-ℤ◌, ◌≤ℤ◌}
 use Rattle.std.proofs.Common.{◌<ℤ◌, List, [], ◌∷◌, ◌++◌, length, map, refl, sym, ap, subst, ◌∙◌}
 use Rattle.std.proofs.Common.{arith, sum, length-append, All, AllPairs, Contains, inl, inr, ◌↔◌}
 use Rattle.std.proofs.Common.{◌⊎◌}
 use Rattle.std.specs.List.{sum_by}
 use Rattle.std.specs.Int.{int_min}
-use Rattle.std.proofs.lemmas.List.Kept.{AllPairs-cons}
-use Rattle.std.proofs.lemmas.List.Folds.{fold-map}
-use Rattle.std.proofs.lemmas.List.Sums.{sum-map}
 use Rattle.std.proofs.lemmas.Bool.{cases_lt}
 use Rattle.std.proofs.lemmas.List.Sorted.{length_permutation}
 use Rattle.std.proofs.lemmas.Int.{ints}
@@ -43,15 +41,13 @@ use Rattle.ent_shared.proofs.Settling.{floor_sorted, floor_of_all}
 
 pub sum_requests : (cs : List Reservation) → sum (history.requests_of (map as_call cs))
     ≡ sum_by requested cs
-sum_requests cs = sum-map (λ (call : history.Call). call.requested) (map as_call cs)
-    ∙ fold-map (λ (n : ℕ) (call : history.Call). n + call.requested) as_call 0 cs
+sum_requests cs = grind (arith, common_steps)
 
 -- of two reservations of a list that falls the later one is lower
 falls_apart : (cs : List Reservation) → FallsStrictly cs
     → AllPairs (λ earlier later. later.high <ℤ earlier.high) cs
 falls_apart [] falls = λ i j d lt within. absurd (omega arith)
-falls_apart (c ∷ cs) falls = AllPairs-cons (λ earlier later. later.high <ℤ earlier.high) c cs
-    falls.0 (falls_apart cs falls.1)
+falls_apart (c ∷ cs) falls = grind (arith, common_steps, falls_apart cs falls.1)
 
 module _ (start : Allocator) (count : ℕ) (records : List Record) (at : ℤ)
     (k : IsClosed start count records at) (sound : IsSound start) (flushed : start.asked ≡ 0) where

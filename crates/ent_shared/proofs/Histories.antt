@@ -1,13 +1,12 @@
 -- What all records together tell once no thread steps any more: their own calls are the calls that
 -- lead from the top to the cursor.
-use Rattle.std.proofs.Common.{◌≡◌, ℕ, zero, suc, ◌+◌, ◌<◌, ◌≤◌, ⊎_elim, ℤ, ◌≤ℤ◌, ◌<ℤ◌, List}
+use Rattle.std.proofs.Common.{rules, ◌≡◌, ℕ, zero, suc, ◌+◌, ◌<◌, ◌≤◌, ⊎_elim, ℤ, ◌≤ℤ◌, ◌<ℤ◌, List}
 use Rattle.std.proofs.Common.{[], ◌∷◌, length, get_or, refl, sym, ap, subst, ◌∙◌, arith, eq-eqb}
 use Rattle.std.proofs.Common.{Some}
 use Rattle.std.specs.Prelude.{Bool, true, false, cond, ◌==◌}
 use Rattle.std.specs.List.{sum_by, All, Contains}
-use Rattle.std.proofs.lemmas.List.Elements.{All-head, All-tail, All-nil, All-cons}
-use Rattle.std.proofs.lemmas.List.Elements.{All-weaker, All-contains, All-contains_itself}
-use Rattle.std.proofs.lemmas.List.Elements.{All-filter}
+use Rattle.std.proofs.lemmas.List.Elements.{All-head, All-tail, All-nil, All-cons, All-weaker}
+use Rattle.std.proofs.lemmas.List.Elements.{All-contains, All-contains_itself, All-filter}
 use Rattle.std.proofs.lemmas.List.Sums.{sum_by-cons}
 use Rattle.std.proofs.lemmas.Option.{slice_get-get_or}
 use Rattle.std.proofs.lemmas.Int.{ints}
@@ -25,8 +24,7 @@ use Rattle.ent_shared.specs.Order.{FollowsEntries, Respects}
 use Rattle.ent_alloc.proofs.ListLaws.{All-left, All-right}
 use Rattle.ent_seats.proofs.Weighing.{sum_by-flat_map, All-flat_map}
 use Rattle.ent_shared.proofs.Records.{all_own}
-use Rattle.ent_shared.proofs.Callers.{only, sum_by_caller, own_by_caller, of_number}
-use Rattle.ent_shared.proofs.Callers.{one_of_number}
+use Rattle.ent_shared.proofs.Callers.{only, sum_by_caller, own_by_caller, of_number, one_of_number}
 use Rattle.ent_shared.proofs.Sorting.{contains_cases, Falls, FallsStrictly, WeighSame, all_sorted}
 use Rattle.ent_shared.proofs.Sorting.{sum_sorted, falls_sorted, same_fall, follow_falls}
 use Rattle.ent_shared.proofs.Sorting.{follow_requests}
@@ -89,8 +87,7 @@ after_one : (cs before : List Reservation) (later : Reservation) → FallsStrict
     → All (λ (c : Reservation). 0 < c.requested) cs → All (Contains cs) before → Contains cs later
     → All (λ (earlier : Reservation). later.high ≤ℤ low earlier) before
     → All (λ (earlier : Reservation). StandsBefore cs earlier later) before
-after_one cs [] later falls requests in_before in_later order = All-nil (λ (earlier : Reservation).
-    StandsBefore cs earlier later)
+after_one cs [] later falls requests in_before in_later order = search (rules, All-nil)
 after_one cs (earlier ∷ before) later falls requests in_before in_later order =
     let O : Reservation → Type 0 = λ (x : Reservation). later.high ≤ℤ low x in
     let inside : Contains cs earlier = All-head (Contains cs) earlier before in_before in
@@ -110,17 +107,9 @@ after_all : (cs before after : List Reservation) → FallsStrictly cs
     → All (λ (later : Reservation). All (λ (earlier : Reservation). StandsBefore cs earlier
     later) before) after
 after_all cs before [] falls requests in_before in_after order =
-    All-nil (λ (later : Reservation). All (λ (earlier : Reservation). StandsBefore cs earlier later)
-    before)
+    search (rules, All-nil)
 after_all cs before (later ∷ after) falls requests in_before in_after order =
-    let O : Reservation → Type 0 = λ (x : Reservation).
-    All (λ (earlier : Reservation). x.high ≤ℤ low earlier) before in
-    All-cons (λ (x : Reservation). All (λ (earlier : Reservation). StandsBefore cs earlier x)
-    before) later after
-    (after_one cs before later falls requests in_before (All-head (Contains cs) later after
-    in_after) (All-head O later after order))
-    (after_all cs before after falls requests in_before (All-tail (Contains cs) later after
-    in_after) (All-tail O later after order))
+    search (rules, All-cons, after_one, All-head, All-tail)
 
 -- what a record knew before its own calls stands before them
 follows : (cs : List Reservation) (es : List RecordEntry) → FallsStrictly cs
@@ -194,11 +183,7 @@ all_contain_by : (caller : ℕ) (cs own : List Reservation) → All (Contains cs
     own
 all_contain_by caller cs [] inside is = All-nil (Contains (reservations_by caller cs))
 all_contain_by caller cs (c ∷ own) inside is =
-    All-cons (Contains (reservations_by caller cs)) c own
-    (contains_by caller cs c (All-head (Contains cs) c own inside)
-    (All-head (λ (d : Reservation). d.caller ≡ caller) c own is))
-    (all_contain_by caller cs own (All-tail (Contains cs) c own inside)
-    (All-tail (λ (d : Reservation). d.caller ≡ caller) c own is))
+    search (rules, All-cons, contains_by, All-head, All-tail)
 
 sum_same : (g h : Record → ℕ) (rs : List Record) → All (λ (r : Record). g r ≡ h r) rs → sum_by g rs
     ≡ sum_by h rs

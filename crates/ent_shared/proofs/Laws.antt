@@ -1,24 +1,22 @@
 -- What crates above need to know of records: what they were given, one by one and all together.
-use Rattle.std.proofs.Common.{◌≡◌, ◌≢◌, ℕ, ℤ, List, [], ◌∷◌, ◌++◌}
-use Rattle.std.proofs.Common.{refl, sym, ap, subst, ◌∙◌, append_assoc, append-nil}
-use Rattle.std.proofs.Common.{AllPairs, IsPermutation}
+use Rattle.std.proofs.Common.{arith, rules, ◌≡◌, ◌≢◌, ℕ, ℤ, List, [], ◌∷◌, ◌++◌, refl, sym, ap}
+use Rattle.std.proofs.Common.{append-nil, AllPairs, IsPermutation}
+use Rattle.std.proofs.lemmas.Grind.{common_steps}
 use Rattle.std.specs.Prelude.{true, false, cond, int_lt}
 use Rattle.std.specs.List.{flat_map}
 use Rattle.std.proofs.lemmas.List.Sorted.{IsPermutation-refl, IsPermutation-sym}
-use Rattle.std.proofs.lemmas.List.Sorted.{IsPermutation-trans}
-use Rattle.std.proofs.lemmas.List.Sorted.{IsPermutation-append_right}
+use Rattle.std.proofs.lemmas.List.Sorted.{IsPermutation-trans, IsPermutation-append_right}
 use Rattle.ent_seats.proofs.Regrouping.{turned}
 use Rattle.ent_handle.specs.Handle.{Handle}
 use Rattle.ent_alloc.specs.History as history
 use Rattle.ent_alloc.proofs.ListLaws.{AllPairs-IsPermutation}
 use Rattle.ent_shared.specs.declared.record.Reservation.{Reservation}
 use Rattle.ent_shared.specs.declared.record.Record.{Record}
-use Rattle.ent_shared.specs.Record.{own_reservations, known_reservations}
-use Rattle.ent_shared.specs.Record.{reservation_at, after_reservation}
+use Rattle.ent_shared.specs.Record.{own_reservations, known_reservations, reservation_at}
+use Rattle.ent_shared.specs.Record.{after_reservation}
 use Rattle.ent_shared.specs.Moves.{after_meeting}
-use Rattle.ent_shared.specs.Order.{insert_reservation, by_falling_high, own_of_all}
-use Rattle.ent_shared.specs.Order.{history_of, handles_of}
-use Rattle.ent_shared.specs.Order.{handles_given}
+use Rattle.ent_shared.specs.Order.{insert_reservation, by_falling_high, own_of_all, history_of}
+use Rattle.ent_shared.specs.Order.{handles_of, handles_given}
 use Rattle.ent_shared.proofs.Records.{own-made, own-met}
 
 -- A reservation and a meeting, and what they add to a record.
@@ -36,16 +34,12 @@ pub handles_of-append : (xs ys : List Reservation) → handles_of (xs ++ ys) ≡
     ++ handles_of ys
 handles_of-append [] ys = refl
 handles_of-append (x ∷ xs) ys =
-    ap (λ (hs : List Handle). history.handles_in x.reply ++ hs) (handles_of-append xs ys)
-    ∙ sym (append_assoc (history.handles_in x.reply) (handles_of xs) (handles_of ys))
+    grind (arith, common_steps, handles_of-append xs ys)
 
 pub given-reserved : (r : Record) (high : ℤ) (n : ℕ) → handles_given (after_reservation r high n)
     ≡ handles_given r ++ history.handles_in (reservation_at r high n).reply
 given-reserved r high n =
-    let c : Reservation = reservation_at r high n in
-    ap handles_of (own-reserved r high n)
-    ∙ (handles_of-append (own_reservations r.entries) (c ∷ [])
-    ∙ ap (λ (hs : List Handle). handles_given r ++ hs) (append-nil (history.handles_in c.reply)))
+    search (rules, own-reserved, handles_of-append, append-nil)
 
 pub given-after_meeting : (r met : Record) → handles_given (after_meeting r met) ≡ handles_given r
 given-after_meeting r met = ap handles_of (own-after_meeting r met)
@@ -79,15 +73,13 @@ given_sorted (c ∷ cs) =
 given_all : (records : List Record) → handles_of (own_of_all records)
     ≡ flat_map handles_given records
 given_all [] = refl
-given_all (r ∷ records) = handles_of-append (own_reservations r.entries) (own_of_all records)
-    ∙ ap (λ (hs : List Handle). handles_given r ++ hs) (given_all records)
+given_all (r ∷ records) = search (rules, handles_of-append, given_all records)
 
 -- what the reservers were given, one after the other, is what the history gives
 pub given-IsPermutation : (records : List Record) → IsPermutation (flat_map handles_given records)
     (history.given_in (history_of records))
 given-IsPermutation records =
-    subst (λ (hs : List Handle). IsPermutation hs (history.given_in (history_of records)))
-    (given_all records) (given_sorted (own_of_all records))
+    grind (arith, common_steps, given_all records, given_sorted (own_of_all records))
 
 -- so no handle stands twice in that either
 pub given-distinct : (records : List Record)

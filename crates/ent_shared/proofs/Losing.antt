@@ -1,4 +1,5 @@
 -- The end of a phase where some reservers are lost: the front of the pool counts as reserved.
+use Rattle.std.proofs.lemmas.Grind.{common_steps}
 use Rattle.std.proofs.Common.{◌≡◌, ℕ, ◌+◌, ◌-◌, ◌*◌, ◌^◌, ◌<◌, ◌≤◌, ℤ, pos, ◌+ℤ◌, ◌-ℤ◌, ◌≤ℤ◌, List}
 use Rattle.std.proofs.Common.{[], ◌∷◌, ◌++◌, length, take, drop, sym, ap, subst, ◌∙◌, arith, All}
 use Rattle.std.proofs.Common.{Contains, inl, inr, ⊎_elim, ◌⊎◌, neg_ℤ, zero-add, Ok, Err}
@@ -6,9 +7,8 @@ use Rattle.std.specs.Prelude.{Result, Bool, true, false, cond, nat_le}
 use Rattle.std.specs.List.{sum_by, filter}
 use Rattle.std.proofs.lemmas.List.{drop-take, take-take, take_all, drop_all, length-take}
 use Rattle.std.proofs.lemmas.List.{take-append-drop}
-use Rattle.std.proofs.lemmas.List.Elements.{All-head, All-tail, All-nil, All-cons, All-append}
-use Rattle.std.proofs.lemmas.List.Elements.{All-weaker, All-take, All-drop, All-contains}
-use Rattle.std.proofs.lemmas.List.Elements.{All-contains_itself}
+use Rattle.std.proofs.lemmas.List.Elements.{All-head, All-tail, All-nil, All-append, All-weaker}
+use Rattle.std.proofs.lemmas.List.Elements.{All-take, All-drop, All-contains, All-contains_itself}
 use Rattle.std.proofs.lemmas.List.Sorted.{All-permutation}
 use Rattle.std.specs.Int.{int_max}
 use Rattle.std.proofs.lemmas.Int.{ints, by_lt_z}
@@ -87,20 +87,15 @@ reservations_within : (start : Allocator) (high : ℤ) (cs : List Reservation) (
     → high ≤ℤ pos (top start) → pos (top start) ≡ end +ℤ pos asked → Follow high cs end
     → All (λ (c : Reservation). asked_at (top start) c.high + c.requested ≤ asked) cs
     × (end ≤ℤ high)
-reservations_within start high [] end asked up is f = (
-  All-nil (λ (c : Reservation). asked_at (top start) c.high + c.requested ≤ asked),
-  omega
-      (arith, ints, f),
-)
+reservations_within start high [] end asked up is f = (grind (arith, common_steps))
 reservations_within start high (c ∷ cs) end asked up is f =
-    let at : c.high ≡ high = f.0 in
-    let rest = reservations_within start (low c) cs end asked (omega (arith, ints)) is f.2 in
-    let down : end ≤ℤ low c = rest.1 in
-    let passed : pos (asked_at (top start) c.high) ≡ pos (top start) -ℤ c.high =
-    asked_at-is (top start) c.high (omega (arith, ints)) in (
-      All-cons (λ (d : Reservation). asked_at (top start) d.high + d.requested ≤ asked) c cs
-          (omega (arith, ints)) rest.0,
-      omega (arith, ints),
+    grind (
+      arith,
+      common_steps,
+      reservations_within start (low c) cs end asked (omega (
+        arith,
+        ints,
+      )) is f.2,
     )
 
 -- what the closing call with lost reservers owes and gives

@@ -1,6 +1,7 @@
 -- The reservers that are handed in, as their records are merged one by one.
-use Rattle.std.proofs.Common.{◌≡◌, ℕ, ◌+◌, ℤ, List, [], ◌∷◌, ◌++◌, sym, ap, subst, ◌∙◌}
-use Rattle.std.proofs.Common.{append_assoc, length}
+use Rattle.std.proofs.Common.{arith, rules, ◌≡◌, ℕ, ◌+◌, ℤ, List, [], ◌∷◌, ◌++◌, sym, ap, subst}
+use Rattle.std.proofs.Common.{◌∙◌, length}
+use Rattle.std.proofs.lemmas.Grind.{common_steps}
 use Rattle.std.specs.List.{All, sum_by}
 use Rattle.std.specs.Int.{int_min}
 use Rattle.std.proofs.lemmas.List.Elements.{All-head, All-tail, All-nil, All-cons}
@@ -21,8 +22,7 @@ item_is P items yielded now rest r all first holds =
 
 pub items_on : (items yielded now rest : List Reserver) (r : Reserver) → yielded ++ now ≡ items
     → now ≡ r ∷ rest → (yielded ++ r ∷ []) ++ rest ≡ items
-items_on items yielded now rest r all first = append_assoc yielded (r ∷ []) rest
-    ∙ (ap (λ (xs : List Reserver). yielded ++ xs) (sym first) ∙ all)
+items_on items yielded now rest r all first = grind (arith, common_steps)
 
 pub length-records_of : (rs : List Reserver) → length (records_of rs) ≡ length rs
 length-records_of rs = length-map rs (λ (r : Reserver). r.own)
@@ -38,15 +38,13 @@ records_of-append rs r = map-append (λ (x : Reserver). x.own) rs (r ∷ [])
 pub records_on : (before after : List Record) (yielded : List Reserver) (r : Reserver)
     (records : List Record) → before ≡ records_of yielded → after ≡ before ++ records → records
     ≡ r.own ∷ [] → after ≡ records_of (yielded ++ r ∷ [])
-records_on before after yielded r records was now one = now
-    ∙ ((λ i. was i ++ one i) ∙ sym (records_of-append yielded r))
+records_on before after yielded r records was now one = grind (arith, common_steps)
 
 pub floor_on : (top before after own : ℤ) (yielded : List Reserver) (r : Reserver) → before
     ≡ least_floor top (records_of yielded) → after ≡ int_min before own → own ≡ r.own.floor → after
     ≡ least_floor top (records_of (yielded ++ r ∷ []))
 floor_on top before after own yielded r was now is =
-    now ∙ ((λ i. int_min (was i) (is i)) ∙ (sym (least_floor-more top (records_of yielded) r.own)
-    ∙ ap (least_floor top) (sym (records_of-append yielded r))))
+    search (rules, least_floor-more, records_of-append)
 
 -- what holds of all records holds of the reservers that have them
 pub all_owners : (P : Record → Type 0) (rs : List Reserver) → All P (records_of rs)

@@ -1,8 +1,9 @@
 -- What a reservation and a meeting add to a record.
-use Rattle.std.proofs.Common.{◌≡◌, ℕ, ◌+◌, ◌≤◌, ℤ, pos, ◌-ℤ◌, ◌≤ℤ◌, List, [], ◌∷◌, ◌++◌, length}
-use Rattle.std.proofs.Common.{sym, refl, ap, subst, ◌∙◌, arith, append_assoc, append-nil, add-zero}
+use Rattle.std.proofs.Common.{rules, ◌≡◌, ℕ, ◌+◌, ◌≤◌, ℤ, pos, ◌-ℤ◌, ◌≤ℤ◌, List, [], ◌∷◌, ◌++◌}
+use Rattle.std.proofs.Common.{length, sym, refl, ap, subst, ◌∙◌, arith, append-nil, add-zero}
+use Rattle.std.proofs.lemmas.Grind.{common_steps}
 use Rattle.std.specs.Prelude.{nat_le, cond, Bool, true, false}
-use Rattle.std.specs.List.{sum_by, All, Contains}
+use Rattle.std.specs.List.{All, Contains}
 use Rattle.std.specs.Int.{int_min}
 use Rattle.std.proofs.lemmas.List.Elements.{All-head, All-tail, All-nil, All-cons, All-append}
 use Rattle.std.proofs.lemmas.List.Elements.{All-weaker, Contains-append_left, Contains-push}
@@ -36,24 +37,16 @@ own-met (Met ds ∷ es) cs = own-met es cs
 pub known-more : (es : List RecordEntry) (e : RecordEntry) → known_reservations (es ++ e ∷ [])
     ≡ known_reservations es ++ reservations_in e
 known-more [] e = append-nil (reservations_in e)
-known-more (d ∷ es) e = ap (λ cs. reservations_in d ++ cs) (known-more es e)
-    ∙ sym (append_assoc (reservations_in d) (known_reservations es) (reservations_in e))
+known-more (d ∷ es) e = grind (arith, common_steps, known-more es e)
 
 -- how much a reserver has requested after a reservation and after a meeting
 pub requested-reserved : (r : Record) (high : ℤ) (n : ℕ) → requested_by (after_reservation r high n)
     ≡ requested_by r + n
 requested-reserved r high n =
-    let f : Reservation → ℕ = λ (c : Reservation). c.requested in
-    let c : Reservation = reservation_at r high n in
-    let own : List Reservation = own_reservations r.entries in
-    let sums : sum_by f (own ++ c ∷ []) ≡ sum_by f own + sum_by f (c ∷ []) = sum_by-append f own
-    (c ∷ []) in
-    let one : sum_by f (c ∷ []) ≡ n = sum_by-cons f c [] ∙ add-zero n in
-    ap (sum_by f) (own-made r.entries c) ∙ (sums ∙ ap (λ (k : ℕ). sum_by f own + k) one)
+    search (rules, sum_by-append, sum_by-cons, add-zero, own-made)
 
 pub requested-met : (r met : Record) → requested_by (after_meeting r met) ≡ requested_by r
-requested-met r met = ap (sum_by (λ (c : Reservation). c.requested))
-    (own-met r.entries (known_reservations met.entries))
+requested-met r met = search (rules, own-met)
 
 pub credit-reserved : (r : Record) (high : ℤ) (n : ℕ) → n ≤ r.left → r.left + requested_by r
     ≡ credit → (after_reservation r high n).left + requested_by (after_reservation r high n)
@@ -77,11 +70,7 @@ all_own P (Met cs ∷ es) all = all_own P es (All-right P cs (known_reservations
 pub order-made : (es : List RecordEntry) (c : Reservation) → InOrder es
     → All (λ (d : Reservation). c.high ≤ℤ low d) (known_reservations es)
     → InOrder (es ++ Own c ∷ [])
-order-made [] c order below = (
-  All-nil (λ (later : Reservation). All (λ (earlier : Reservation). later.high ≤ℤ low earlier)
-      (c ∷ [])),
-  tt,
-)
+order-made [] c order below = (search (rules, All-nil))
 order-made (e ∷ es) c order below =
     let P : Reservation → Type 0 = λ (d : Reservation). c.high ≤ℤ low d in
     let Q : Reservation → Type 0 = λ (later : Reservation).
@@ -93,16 +82,8 @@ order-made (e ∷ es) c order below =
 
 pub order-met : (es : List RecordEntry) (cs : List Reservation) → InOrder es
     → InOrder (es ++ Met cs ∷ [])
-order-met [] cs order = (
-  All-nil (λ (later : Reservation). All (λ (earlier : Reservation). later.high ≤ℤ low earlier)
-      cs),
-  tt,
-)
-order-met (e ∷ es) cs order = (
-  subst (All (λ (later : Reservation). All (λ (earlier : Reservation). later.high ≤ℤ low earlier)
-      (reservations_in e))) (sym (own-met es cs)) order.0,
-  order-met es cs order.1,
-)
+order-met [] cs order = (search (rules, All-nil))
+order-met (e ∷ es) cs order = (search (rules, own-met, order-met es cs order.1))
 
 -- the least of a reservation that is lower than all others
 lower_first : (a b c : ℤ) (served : Bool) → b ≤ℤ a → int_min a (cond served b c)
@@ -112,18 +93,13 @@ lower_first a b c false le = refl
 
 least_after : (start : Allocator) (at : ℤ) (c : Reservation) → at ≤ℤ low c → at ≤ℤ cursor start
     → at ≤ℤ floor_after start c
-least_after start at c le top = elim (nat_le c.requested (length (pool_at start c.high))) as
-    (λ b. at ≤ℤ cond b (low c) (cursor start)) [ true ↦ le | false ↦ top ]
+least_after start at c le top = search (rules)
 
 pub floor-made : (start : Allocator) (cs : List Reservation) (c : Reservation)
     → All (λ (d : Reservation). low c ≤ℤ low d) cs → low c ≤ℤ cursor start
     → floor_of start (cs ++ c ∷ []) ≡ cond (nat_le c.requested (length (pool_at start c.high)))
     (low c) (floor_of start cs)
-floor-made start [] c below top = elim (nat_le c.requested (length (pool_at start c.high))) as
-    (λ b. int_min (cond b (low c) (cursor start)) (cursor start) ≡ cond b (low c) (cursor start)) [
-      | true ↦ grind (arith, ints)
-      | false ↦ grind (arith, ints)
-    ]
+floor-made start [] c below top = search (rules, ints)
 floor-made start (d ∷ cs) c below top =
     let P : Reservation → Type 0 = λ (e : Reservation). low c ≤ℤ low e in
     let rest = floor-made start cs c (All-tail P d cs below) top in
@@ -135,18 +111,7 @@ floor-made start (d ∷ cs) c below top =
 -- a record stays kept while the cursor goes down and the log grows
 pub kept_on : (start : Allocator) (at now : ℤ) (log more : List Reservation) (r : Record)
     → now ≤ℤ at → IsKept start at log r → IsKept start now (log ++ more) r
-kept_on start at now log more r le k = record {
-  start_is = k.start_is;
-  caller = k.caller;
-  credit = k.credit;
-  marks = record {
-    mark = (let m = k.marks.mark in omega (arith, ints));
-    below = k.marks.below;
-    order = k.marks.order;
-    known = All-weaker (Contains log) (Contains (log ++ more)) (λ c h. Contains-append_left log more
-        c h) (known_reservations r.entries) k.marks.known;
-  };
-}
+kept_on start at now log more r le k = search (rules, ints, All-weaker, Contains-append_left)
 
 pub kept_reserved : (start : Allocator) (at : ℤ) (log : List Reservation) (n : ℕ) (r : Record) → n
     ≤ r.left → at ≤ℤ cursor start → IsKept start at log r
@@ -224,21 +189,13 @@ pub below_reservation : (r : Record) (high : ℤ) (n : ℕ) → All (λ (c : Res
     → All (λ (c : Reservation). (after_reservation r high n).mark ≤ℤ low c)
     (known_reservations (after_reservation r high n).entries)
 below_reservation r high n below le =
-    let c : Reservation = reservation_at r high n in
-    let Q : Reservation → Type 0 = λ (d : Reservation). (high -ℤ pos n) ≤ℤ low d in
-    let lower : All Q (known_reservations r.entries) =
-    All-weaker (λ (d : Reservation). r.mark ≤ℤ low d) Q (λ d h. omega (arith, ints))
-    (known_reservations r.entries) below in
-    subst (All Q) (sym (known-more r.entries (Own c))) (All-append Q (known_reservations r.entries)
-    (c ∷ []) lower (all_one Q c (omega (arith, ints))))
+    grind (arith, common_steps, All-weaker, ints, known-more, All-append, all_one)
 
 pub met_below : (r met : Record) → All (λ (c : Reservation). met.mark ≤ℤ low c)
     (known_reservations met.entries)
     → All (λ (c : Reservation). (after_meeting r met).mark ≤ℤ low c)
     (known_reservations met.entries)
-met_below r met theirs = All-weaker (λ (d : Reservation). met.mark ≤ℤ low d) (λ (d : Reservation).
-    int_min r.mark met.mark ≤ℤ low d) (λ d h. grind (arith, ints)) (known_reservations met.entries)
-    theirs
+met_below r met theirs = grind (arith, common_steps)
 
 pub below_meeting : (r met : Record) → All (λ (c : Reservation). r.mark ≤ℤ low c)
     (known_reservations r.entries) → All (λ (c : Reservation). met.mark ≤ℤ low c)

@@ -1,6 +1,7 @@
 -- What a reservation returns.
-use Rattle.std.proofs.Common.{◌≡◌, ℕ, ◌≤◌, ℤ, pos, ◌-ℤ◌, List, [], length, take, refl, sym, ap, ◌∙◌}
-use Rattle.std.proofs.Common.{arith, Ok, Err}
+use Rattle.std.proofs.Common.{rules, ◌≡◌, ℕ, ◌≤◌, ℤ, pos, ◌-ℤ◌, List, [], length, take, sym, ap}
+use Rattle.std.proofs.Common.{◌∙◌, arith, Ok, Err}
+use Rattle.std.proofs.lemmas.Grind.{common_steps}
 use Rattle.std.specs.Prelude.{Result, OnErr, Bool, nat_le, true, false, cond}
 use Rattle.std.proofs.lemmas.Int.{ints}
 use Rattle.std.proofs.lemmas.List.{length-take-le}
@@ -16,9 +17,7 @@ use Rattle.ent_alloc.specs.Sequential.{Allocator, pool_at, reply_from, listed}
 
 pub reply-none : (made : ℕ) (pool : List Handle) → reply_from made pool 0 ≡ Ok []
 reply-none made pool =
-    let enough : nat_le 0 (length pool) ≡ true = grind (arith, nat_tests) in
-    let space : Space = record { wanted = 0; left = length pool } in
-    ap (λ b. cond {A = Result (List Handle) Space} b (Ok []) (Err space)) enough
+    search (rules, nat_tests)
 
 -- a span of n numbers from high down
 pub low_of : (span : Span) (high : ℤ) (n : ℕ) → span ≡ record { high = high; low = high -ℤ pos n }
@@ -32,12 +31,7 @@ no_space r space good bad = cc
 pub enough_served : (made : ℕ) (pool handles : List Handle) (n : ℕ) → reply_from made pool n
     ≡ Ok handles → nat_le n (length pool) ≡ true
 enough_served made pool handles n is =
-    let space : Space = record { wanted = n; left = length pool } in
-    let goal : Bool → Type 0 = λ b. cond {A = Result (List Handle) Space} b
-    (Ok (listed made (take n pool))) (Err space) ≡ Ok handles → b ≡ true in
-    let all : goal (nat_le n (length pool)) = elim (nat_le n (length pool)) as goal
-    [ true ↦ (λ e. refl) | false ↦ (λ e. cc) ] in
-    all is
+    search (rules)
 
 -- a reply that serves n lists n handles
 pub length-served : (made : ℕ) (pool handles : List Handle) (n : ℕ) → reply_from made pool n
@@ -62,8 +56,7 @@ on_err (Err _) p = p
 pub one_reply : (start : Allocator) (high read : ℤ) (reply : Result (List Handle) Space) → read
     ≡ high → reply ≡ reply_from start.made (pool_at start read) 1 → (k : ℕ) → high -ℤ pos 1
     ≡ high -ℤ pos k → reply ≡ reply_from start.made (pool_at start high) k
-one_reply start high read reply at is k lowered = let one : 1 ≡ k = omega (arith, ints) in is
-    ∙ (λ i. reply_from start.made (pool_at start (at i)) (one i))
+one_reply start high read reply at is k lowered = search (rules, ints)
 
 -- the span of a request, at the cursor as the code reads it
 pub span_at : (span : Span) (high read : ℤ) (n : ℕ) → read ≡ high → span
@@ -79,26 +72,18 @@ pub recorded_reply : (r : Record) (start : Allocator) (high : ℤ) (n : ℕ) (sp
     ≡ reply_from start.made (pool_at start span.high) k) → (reservation_at r high n).reply
     ≡ reply
 recorded_reply r start high n span reply same is replies =
-    let at : span.high ≡ high = ap (λ (s : Span). s.high) is in
-    (λ i. reply_from (same i).made (pool_at (same i) (sym at i)) n)
-    ∙ sym (replies n (low_of span high n is))
+    search (rules, low_of)
 
 pub short_refused : (made : ℕ) (pool : List Handle) (n : ℕ) (refusal : Space)
     → reply_from made pool n ≡ Err refusal → nat_le n (length pool) ≡ false
 short_refused made pool n refusal is =
-    let space : Space = record { wanted = n; left = length pool } in
-    let goal : Bool → Type 0 = λ b. cond {A = Result (List Handle) Space} b
-    (Ok (listed made (take n pool))) (Err space) ≡ Err refusal → b ≡ false in
-    let all : goal (nat_le n (length pool)) = elim (nat_le n (length pool)) as goal
-    [ true ↦ (λ e. cc) | false ↦ (λ e. refl) ] in
-    all is
+    search (rules)
 
 -- the floor after a reservation, if it is known whether there was enough
 floor_is : (r : Record) (start : Allocator) (high at : ℤ) (n : ℕ) (enough : Bool) → r.start ≡ start
     → at ≡ high → nat_le n (length (pool_at start at)) ≡ enough
     → (after_reservation r high n).floor ≡ cond enough (high -ℤ pos n) r.floor
-floor_is r start high at n enough same is test = ap (λ (b : Bool). cond b (high -ℤ pos n) r.floor)
-    ((λ i. nat_le n (length (pool_at (same i) (sym is i)))) ∙ test)
+floor_is r start high at n enough same is test = search (rules)
 
 -- the floor after a reservation that was served, and after one that was refused
 pub served_floor : (r : Record) (start : Allocator) (high : ℤ) (n : ℕ) (span : Span)
@@ -108,10 +93,7 @@ pub served_floor : (r : Record) (start : Allocator) (high : ℤ) (n : ℕ) (span
     ≡ reply_from start.made (pool_at start span.high) k) → reply ≡ Ok handles → span.low
     ≡ (after_reservation r high n).floor
 served_floor r start high n span handles reply same is replies served =
-    let test : nat_le n (length (pool_at start span.high)) ≡ true = enough_served start.made
-    (pool_at start span.high) handles n (sym (replies n (low_of span high n is)) ∙ served) in
-    ap (λ (s : Span). s.low) is
-    ∙ sym (floor_is r start high span.high n true same (ap (λ (s : Span). s.high) is) test)
+    grind (arith, common_steps)
 
 pub refused_floor : (r : Record) (start : Allocator) (high : ℤ) (n : ℕ) (span : Span)
     (refusal : Space) (reply : Result (List Handle) Space) → r.start ≡ start → span
@@ -120,6 +102,4 @@ pub refused_floor : (r : Record) (start : Allocator) (high : ℤ) (n : ℕ) (spa
     ≡ reply_from start.made (pool_at start span.high) k) → reply ≡ Err refusal → r.floor
     ≡ (after_reservation r high n).floor
 refused_floor r start high n span refusal reply same is replies refused =
-    let test : nat_le n (length (pool_at start span.high)) ≡ false = short_refused start.made
-    (pool_at start span.high) n refusal (sym (replies n (low_of span high n is)) ∙ refused) in
-    sym (floor_is r start high span.high n false same (ap (λ (s : Span). s.high) is) test)
+    grind (arith, common_steps)

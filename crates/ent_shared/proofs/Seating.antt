@@ -1,7 +1,7 @@
 -- A reserver after a reservation and after a meeting: its fields say what its record says, and it
 -- stays of its allocator.
-use Rattle.std.proofs.Common.{◌≡◌, ℕ, ◌-◌, ◌≤◌, ℤ, pos, ◌-ℤ◌, ◌≤ℤ◌, List, [], ◌∷◌, ◌++◌, refl, sym}
-use Rattle.std.proofs.Common.{ap, subst, ◌∙◌}
+use Rattle.std.proofs.Common.{rules, ◌≡◌, ℕ, ◌-◌, ◌≤◌, ℤ, pos, ◌-ℤ◌, ◌≤ℤ◌, List, [], ◌∷◌, ◌++◌, ap}
+use Rattle.std.proofs.Common.{subst, ◌∙◌}
 use Rattle.std.specs.Prelude.{Result}
 use Rattle.atomic_table.specs.Seated.{TableId}
 use Rattle.ent_handle.specs.Handle.{Handle}
@@ -23,14 +23,7 @@ pub seated_reservation : (views after : List (List Record)) (number left n : ℕ
     → high ≤ℤ (own_of views).mark → n ≤ (own_of views).left
     → now ≡ (after_reservation (own_of views) high n).floor → IsSeated after number (left - n) now
 seated_reservation views after number left n was high now seated is le within floor =
-    subst (λ (vs : List (List Record)). IsSeated vs number (left - n) now) (sym is) (record {
-      views_is = refl;
-      number_is = seated.number_is;
-      left_is = ap (λ (k : ℕ). k - n) seated.left_is;
-      floor_is = floor;
-      below = below_reservation (own_of views) high n seated.below le;
-      credit = credit-reserved (own_of views) high n within seated.credit;
-    })
+    search (rules, below_reservation, credit-reserved)
 
 pub seated_meeting : (views met after : List (List Record)) (number left met_number met_left : ℕ)
     (floor met_floor : ℤ) → IsSeated views number left floor → IsSeated met met_number met_left
@@ -38,25 +31,11 @@ pub seated_meeting : (views met after : List (List Record)) (number left met_num
     → after ≡ (after_meeting (own_of views) (own_of met) ∷ []) ∷ [] → IsSeated after number left
     floor
 seated_meeting views met after number left met_number met_left floor met_floor seated other is =
-    subst (λ (vs : List (List Record)). IsSeated vs number left floor) (sym is) (record {
-      views_is = refl;
-      number_is = seated.number_is;
-      left_is = seated.left_is;
-      floor_is = seated.floor_is;
-      below = below_meeting (own_of views) (own_of met) seated.below other.below;
-      credit = credit-met (own_of views) (own_of met) seated.credit;
-    })
+    search (rules, below_meeting, credit-met)
 
 of_reserved : (shared : Shared) (r after : Reserver) (high : ℤ) (n : ℕ) → IsOf shared r → n
     ≤ r.own.left → after ≡ record r { own = after_reservation r.own high n } → IsOf shared after
-of_reserved shared r after high n of within is = subst (IsOf shared) (sym is)
-    (record {
-      word = of.word;
-      start = of.start;
-      number = of.number;
-      credit = credit-reserved r.own
-          high n within of.credit;
-    })
+of_reserved shared r after high n of within is = search (rules, credit-reserved)
 
 -- the same, from what the code's step says
 pub of_stepped : (shared : Shared) (r : Reserver) (views after : List (List Record))
@@ -75,14 +54,7 @@ of_stepped shared r views after number left n high floor was now view seated of 
 
 pub of_met : (shared : Shared) (r met after : Reserver) → IsOf shared r → after
     ≡ record r { own = after_meeting r.own met.own } → IsOf shared after
-of_met shared r met after of is = subst (IsOf shared) (sym is)
-    (record {
-      word = of.word;
-      start = of.start;
-      number = of.number;
-      credit =
-          credit-met r.own met.own of.credit;
-    })
+of_met shared r met after of is = search (rules, credit-met)
 
 -- what a reserver was given before, and then what the reply lists
 pub given_now : (views after : List (List Record)) (old : Reserver) (word : TableId)
@@ -94,8 +66,4 @@ pub given_now : (views after : List (List Record)) (old : Reserver) (word : Tabl
     ≡ reply_from start.made (pool_at start span.high) k) → handles_given (own_of after)
     ≡ handles_given old.own ++ handles_in reply
 given_now views after old word start high n span reply view is same span_is replies =
-    ap (λ (vs : List (List Record)). handles_given (own_of vs)) is
-    ∙ (ap (λ (r : Reserver). handles_given (after_reservation r.own high n)) view
-    ∙ (given-reserved old.own high n
-    ∙ ap (λ (x : Result (List Handle) Space). handles_given old.own ++ handles_in x)
-    (recorded_reply old.own start high n span reply same span_is replies)))
+    search (rules, given-reserved, recorded_reply)

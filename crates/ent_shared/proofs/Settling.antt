@@ -1,9 +1,10 @@
 -- Calls that lead from the top down to the cursor are a legal history, and two numbers tell the
 -- allocator after it.
-use Rattle.std.proofs.Common.{◌≡◌, ℕ, ◌+◌, ◌<◌, ◌≤◌, ⊎_elim, ℤ, pos, ◌-ℤ◌, ◌≤ℤ◌, List, [], ◌∷◌}
-use Rattle.std.proofs.Common.{◌++◌, length, map, take, drop, refl, sym, ap, subst, ◌∙◌, arith}
+use Rattle.std.proofs.Common.{rules, ◌≡◌, ℕ, ◌+◌, ◌<◌, ◌≤◌, ⊎_elim, ℤ, pos, ◌-ℤ◌, ◌≤ℤ◌, List, []}
+use Rattle.std.proofs.Common.{◌∷◌, ◌++◌, length, map, take, refl, sym, ap, subst, ◌∙◌, arith}
 use Rattle.std.proofs.Common.{le-leb, length-append}
-use Rattle.std.specs.Prelude.{Bool, true, false, cond, nat_le, int_lt}
+use Rattle.std.proofs.lemmas.Grind.{common_steps}
+use Rattle.std.specs.Prelude.{Bool, true, false, cond, nat_le}
 use Rattle.std.specs.List.{All, filter, flat_map}
 use Rattle.std.specs.Int.{int_min}
 use Rattle.std.proofs.lemmas.Bool.{cases_lt, lt-leb}
@@ -11,7 +12,7 @@ use Rattle.std.proofs.lemmas.List.{length-take-le}
 use Rattle.std.proofs.lemmas.List.Elements.{All-head, All-tail}
 use Rattle.std.proofs.lemmas.Int.{ints}
 use Rattle.ent_handle.specs.Handle.{Handle}
-use Rattle.ent_alloc.specs.Sequential.{Allocator, available, cursor, top, is_old, asked_at, pool_at}
+use Rattle.ent_alloc.specs.Sequential.{Allocator, available, cursor, top, is_old, pool_at}
 use Rattle.ent_alloc.specs.Sequential.{reply_from, after_take}
 use Rattle.ent_alloc.specs.Sound.{IsSound}
 use Rattle.ent_alloc.specs.History as history
@@ -33,18 +34,13 @@ pub record IsLater (start s : Allocator) : Type 0 where
   pub made_is : s.made ≡ start.made
 
 later_take : (start s : Allocator) (n : ℕ) → IsLater start s → IsLater start (after_take s n)
-later_take start s n l = record {
-  sound = after_take-sound s n l.sound;
-  available_is = available-after_take s n l.sound ∙ l.available_is;
-  made_is = made-after_take s n ∙ l.made_is;
-}
+later_take start s n l = search (rules, after_take-sound, available-after_take, made-after_take)
 
 top_later : (start s : Allocator) → IsLater start s → top s ≡ top start
 top_later start s l = λ i. length (filter (is_old (l.made_is i)) (l.available_is i))
 
 pool_later : (start s : Allocator) → IsLater start s → pool_at start (cursor s) ≡ s.pool
-pool_later start s l = (λ i. drop (asked_at (sym (top_later start s l) i) (cursor s))
-    (sym l.available_is i)) ∙ pool_at-cursor s l.sound
+pool_later start s l = search (rules, top_later, pool_at-cursor)
 
 -- the pool where a call's high is the cursor
 pool_there : (start s : Allocator) (c : Reservation) → IsLater start s → c.high ≡ cursor s
@@ -53,8 +49,7 @@ pool_there start s c l at = ap (pool_at start) at ∙ pool_later start s l
 
 follow_on : (s : Allocator) (c : Reservation) (cs : List Reservation) (end : ℤ) → IsSound s → c.high
     ≡ cursor s → Follow (low c) cs end → Follow (cursor (after_take s c.requested)) cs end
-follow_on s c cs end sound at f = subst (λ (z : ℤ). Follow z cs end)
-    (ap (λ (z : ℤ). z -ℤ pos c.requested) at ∙ sym (cursor-after_take s c.requested sound)) f
+follow_on s c cs end sound at f = search (rules, cursor-after_take)
 
 pub legal_from : (start s : Allocator) (cs : List Reservation) (end : ℤ) → IsLater start s
     → Follow (cursor s) cs end → All (HasItsReply start) cs → history.IsLegal s (map as_call cs)
@@ -87,17 +82,14 @@ min_le a b = grind (arith, ints)
 pub floor_below : (start : Allocator) (cs : List Reservation) → floor_of start cs ≤ℤ cursor start
 floor_below start [] = omega (arith, ints)
 floor_below start (c ∷ cs) =
-    let rest = floor_below start cs in
-    let le = min_le (floor_after start c) (floor_of start cs) in
-    omega (arith, ints)
+    grind (arith, common_steps, floor_below start cs)
 
 -- where the least of these calls ends is told by how many handles are taken after them
 pub taken_floor : (start s : Allocator) (cs : List Reservation) (end : ℤ) → start.asked ≡ 0
     → IsLater start s → Follow (cursor s) cs end
     → int_min (pos (top start) -ℤ pos (length s.taken)) (floor_of start cs)
     ≡ pos (top start) -ℤ pos (length (history.after_history s (map as_call cs)).taken)
-taken_floor start s [] end flushed l f = min_left (pos (top start) -ℤ pos (length s.taken))
-    (cursor start) (omega (arith, ints))
+taken_floor start s [] end flushed l f = grind (arith, common_steps)
 taken_floor start s (c ∷ cs) end flushed l f =
     let n : ℕ = c.requested in
     let t : Allocator = after_take s n in
@@ -148,30 +140,18 @@ taken_floor start s (c ∷ cs) end flushed l f =
 floor-append : (start : Allocator) (xs ys : List Reservation) → floor_of start (xs ++ ys)
     ≡ int_min (floor_of start xs) (floor_of start ys)
 floor-append start [] ys = sym (min_right (cursor start) (floor_of start ys) (floor_below start ys))
-floor-append start (x ∷ xs) ys = ap (int_min (floor_after start x)) (floor-append start xs ys)
-    ∙ sym (min_assoc (floor_after start x) (floor_of start xs) (floor_of start ys))
+floor-append start (x ∷ xs) ys = search (rules, min_assoc, floor-append start xs ys)
 
 floor_inserted : (start : Allocator) (c : Reservation) (cs : List Reservation)
     → floor_of start (insert_reservation c cs) ≡ int_min (floor_after start c) (floor_of start cs)
 floor_inserted start c [] = refl
 floor_inserted start c (d ∷ ds) =
-    let rest = floor_inserted start c ds in
-    let x : ℤ = floor_after start c in
-    let y : ℤ = floor_after start d in
-    let z : ℤ = floor_of start ds in
-    let goal : Bool → Type 0 = λ b.
-    floor_of start (cond b (c ∷ d ∷ ds) (d ∷ insert_reservation c ds))
-    ≡ int_min x (int_min y z) in
-    let no : goal false = ap (int_min y) rest
-    ∙ (sym (min_assoc y x z) ∙ (ap (λ (w : ℤ). int_min w z) (min_comm y x) ∙ min_assoc x y z))
-    in
-    elim (int_lt d.high c.high) as goal [ true ↦ refl | false ↦ no ]
+    search (rules, min_assoc, min_comm, floor_inserted start c ds)
 
 pub floor_sorted : (start : Allocator) (cs : List Reservation) → floor_of start (by_falling_high cs)
     ≡ floor_of start cs
 floor_sorted start [] = refl
-floor_sorted start (c ∷ cs) = floor_inserted start c (by_falling_high cs)
-    ∙ ap (int_min (floor_after start c)) (floor_sorted start cs)
+floor_sorted start (c ∷ cs) = search (rules, floor_inserted, floor_sorted start cs)
 
 pub floor_of_all : (start : Allocator) (at : ℤ) (log : List Reservation) (records : List Record)
     → All (IsKept start at log) records → least_floor (cursor start) records
@@ -187,5 +167,4 @@ floor_of_all start at log (r ∷ records) all =
 pub least_floor-more : (high : ℤ) (rs : List Record) (r : Record) → least_floor high (rs ++ r ∷ [])
     ≡ int_min (least_floor high rs) r.floor
 least_floor-more high [] r = min_comm r.floor high
-least_floor-more high (x ∷ rs) r = ap (int_min x.floor) (least_floor-more high rs r)
-    ∙ sym (min_assoc x.floor (least_floor high rs) r.floor)
+least_floor-more high (x ∷ rs) r = search (rules, min_assoc, least_floor-more high rs r)

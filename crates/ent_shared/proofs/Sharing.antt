@@ -1,6 +1,7 @@
 -- The reservers of a phase, as they are made one by one.
-use Rattle.std.proofs.Common.{◌≡◌, ℕ, zero, suc, ◌+◌, ◌-◌, ◌<◌, ◌≤◌, ℤ, ◌≤ℤ◌, List, [], ◌∷◌, ◌++◌}
-use Rattle.std.proofs.Common.{map, take, drop, refl, sym, ap, subst, ◌∙◌, arith}
+use Rattle.std.proofs.Common.{rules, ◌≡◌, ℕ, zero, suc, ◌+◌, ◌-◌, ◌<◌, ◌≤◌, ℤ, ◌≤ℤ◌, List, [], ◌∷◌}
+use Rattle.std.proofs.Common.{◌++◌, map, take, drop, refl, sym, ap, subst, ◌∙◌, arith}
+use Rattle.std.proofs.lemmas.Grind.{common_steps}
 use Rattle.std.specs.FinMap as maps
 use Rattle.std.specs.List.{All}
 use Rattle.std.proofs.lemmas.List.{map-append}
@@ -105,8 +106,7 @@ own_again word (r ∷ rs) = ap (λ xs. r ∷ xs) (own_again word rs)
 pub all_shared : (start : Allocator) (n : ℕ) (word seat : TableId) (made : List Reserver)
     (me : Me (Unit {0}) (List Record)) → AreShared start n n word made seat me
     → map (λ (r : Reserver). r.own) made ≡ opened_records start 0 n
-all_shared start n word seat made me d = ap (map (λ (r : Reserver). r.own)) d.made_is
-    ∙ own_again word (opened_records start 0 n)
+all_shared start n word seat made me d = search (rules, own_again)
 
 all_of : (start : Allocator) (rows : maps.FinMap handle_cmp ℕ) (count : ℕ) (word : TableId)
     (number many : ℕ) → number + many ≤ count
@@ -135,8 +135,7 @@ none_used start word number (suc many) =
 pub all_unused : (start : Allocator) (n : ℕ) (word seat : TableId) (made : List Reserver)
     (me : Me (Unit {0}) (List Record)) → AreShared start n n word made seat me
     → All (λ (r : Reserver). r.own.entries ≡ []) made
-all_unused start n word seat made me d = subst (All (λ (r : Reserver). r.own.entries ≡ []))
-    (sym d.made_is) (none_used start word 0 n)
+all_unused start n word seat made me d = search (rules, none_used)
 
 pub all_own : (start : Allocator) (n : ℕ) (word seat : TableId) (made : List Reserver)
     (me : Me (Unit {0}) (List Record)) → AreShared start n n word made seat me
@@ -144,5 +143,4 @@ pub all_own : (start : Allocator) (n : ℕ) (word seat : TableId) (made : List R
     ≡ record { word = word; start = start; rows = rows; count = n }
     → All (IsOf shared) made
 all_own start n word seat made me d shared rows is =
-    subst (λ (p : Shared × List Reserver). All (IsOf p.0) p.1) (λ i. (sym is i, sym d.made_is i))
-    (all_of start rows n word 0 n (omega arith))
+    grind (arith, common_steps, all_of start rows n word 0 n (omega arith), d.made_is)

@@ -1,7 +1,8 @@
 -- The calls by falling high: a list that falls, has the same elements and weighs the same is the
 -- same list.
-use Rattle.std.proofs.Common.{◌≡◌, ℕ, zero, suc, ◌<◌, ◌⊎◌, inl, inr, ⊎_elim, ℤ, ◌≤ℤ◌, ◌<ℤ◌}
+use Rattle.std.proofs.Common.{rules, ◌≡◌, ℕ, zero, suc, ◌<◌, ◌⊎◌, inl, inr, ⊎_elim, ℤ, ◌≤ℤ◌, ◌<ℤ◌}
 use Rattle.std.proofs.Common.{List, [], ◌∷◌, refl, sym, ap, subst, ◌∙◌, arith}
+use Rattle.std.proofs.lemmas.Grind.{common_steps}
 use Rattle.std.specs.Prelude.{Bool, true, false, cond, int_lt, IsPermutation}
 use Rattle.std.specs.List.{sum_by, All, Contains}
 use Rattle.std.proofs.lemmas.List.Elements.{All-head, All-tail, All-nil, All-cons, All-weaker}
@@ -110,19 +111,13 @@ none_reach at (c ∷ cs) all =
     omega arith
 
 below_at : (at : ℤ) (c : Reservation) → reaches at c ≡ 0 → c.high <ℤ at
-below_at at c is = by_lt_z {P = c.high <ℤ at} c.high at (λ less. less)
-    (λ more. absurd (let b = not_less c.high at more in let one : reaches at c
-    ≡ 1 = ap (λ (b : Bool). cond {A = ℕ} b 0 1) b in omega arith))
+below_at at c is = grind (arith, common_steps)
 
 reached_by_none : (at : ℤ) (cs : List Reservation) → sum_by (reaches at) cs ≡ 0
     → All (λ (c : Reservation). c.high <ℤ at) cs
 reached_by_none at [] none = All-nil (λ (c : Reservation). c.high <ℤ at)
 reached_by_none at (c ∷ cs) none =
-    let sums = sum_by-cons (reaches at) c cs in
-    let here : reaches at c ≡ 0 = omega arith in
-    let rest : sum_by (reaches at) cs ≡ 0 = omega arith in
-    All-cons (λ (d : Reservation). d.high <ℤ at) c cs (below_at at c here)
-    (reached_by_none at cs rest)
+    grind (arith, common_steps)
 
 -- the two lists weigh the same, however each call is weighed
 abbrev pub WeighSame : List Reservation → List Reservation → Type 0
@@ -183,11 +178,7 @@ pub follow_below : (high : ℤ) (cs : List Reservation) (end : ℤ) → Follow h
     → All (λ (c : Reservation). c.high ≤ℤ high) cs
 follow_below high [] end f = All-nil (λ (c : Reservation). c.high ≤ℤ high)
 follow_below high (c ∷ cs) end f =
-    let at : c.high ≡ high = f.0 in
-    let rest = follow_below (low c) cs end f.2 in
-    All-cons (λ (d : Reservation). d.high ≤ℤ high) c cs (omega (arith, ints))
-    (All-weaker (λ (d : Reservation). d.high ≤ℤ low c) (λ (d : Reservation). d.high ≤ℤ high)
-    (λ d le. omega (arith, ints)) cs rest)
+    grind (arith, common_steps, follow_below (low c) cs end f.2)
 
 pub follow_falls : (high : ℤ) (cs : List Reservation) (end : ℤ) → Follow high cs end
     → FallsStrictly cs
@@ -203,5 +194,4 @@ follow_falls high (c ∷ cs) end f =
 pub follow_requests : (high : ℤ) (cs : List Reservation) (end : ℤ) → Follow high cs end
     → All (λ (c : Reservation). 0 < c.requested) cs
 follow_requests high [] end f = All-nil (λ (c : Reservation). 0 < c.requested)
-follow_requests high (c ∷ cs) end f = All-cons (λ (d : Reservation). 0 < d.requested) c cs f.1
-    (follow_requests (low c) cs end f.2)
+follow_requests high (c ∷ cs) end f = search (rules, All-cons, follow_requests (low c) cs end f.2)

@@ -1,7 +1,8 @@
 -- The handles of the living entities that pass, by birth and then by handle.
-use Rattle.std.proofs.Common.{◌≡◌, ◌≢◌, ℕ, zero, suc, ◌<◌, Bool, true, false, cond, List, [], ◌∷◌}
-use Rattle.std.proofs.Common.{map, length, get_or, Option, Some, None, Contains, IsSomeAnd, IsTrue}
-use Rattle.std.proofs.Common.{unwrap_or, refl, sym, ap, subst, ◌∙◌, arith}
+use Rattle.std.proofs.Common.{rules, ◌≡◌, ◌≢◌, ℕ, zero, suc, ◌<◌, Bool, true, false, cond, List, []}
+use Rattle.std.proofs.Common.{◌∷◌, map, length, get_or, Option, Some, None, Contains, IsSomeAnd}
+use Rattle.std.proofs.Common.{IsTrue, unwrap_or, refl, sym, ap, subst, ◌∙◌, arith}
+use Rattle.std.proofs.lemmas.Grind.{common_steps}
 use Rattle.std.specs.declared.cmp.Ordering.{Ordering}
 use Rattle.std.specs.declared.cmp.Ordering.TheVariants.{Less, Equal, Greater}
 use Rattle.std.specs.Ordering.{is_lt, is_eq, eq_by_cmp, ordering_then, ordering_reverse}
@@ -51,12 +52,7 @@ same_entity a b e = ap (λ (o : Option Entity). unwrap_or o a) e
 
 contains_map : {X Y : Type 0} (f : X → Y) (xs : List X) (x : X) → Contains xs x
     → Contains (map f xs) (f x)
-contains_map f xs x h = (
-  h.0,
-  omega (arith, length-map xs f, h.1),
-  get_or-map f xs h.0 x (f x) h.1
-      ∙ ap f h.2,
-)
+contains_map f xs x h = (grind (arith, common_steps))
 
 later : {X : Type 0} (xs : List X) (y x : X) → Contains xs x → Contains (y ∷ xs) x
 later xs y x h = (suc h.0, omega (arith, h.1), h.2)
@@ -65,8 +61,7 @@ contains_filter : {X : Type 0} (p : X → Bool) (xs : List X) (x : X) (k : ℕ) 
     → get_or xs k x ≡ x → p x ≡ true → Contains (filter p xs) x
 contains_filter p [] x k l e pass = absurd (omega arith)
 contains_filter p (y ∷ ys) x zero l e pass =
-    subst (λ b. Contains (cond b (y ∷ filter p ys) (filter p ys)) x) (sym (ap p e ∙ pass))
-    (0, omega arith, e)
+    search (rules)
 contains_filter p (y ∷ ys) x (suc k) l e pass =
     let rest = contains_filter p ys x k (omega arith) e pass in
     elim (p y) as (λ b. Contains (cond b (y ∷ filter p ys) (filter p ys)) x)

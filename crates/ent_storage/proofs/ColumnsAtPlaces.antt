@@ -1,13 +1,13 @@
 -- What columns have at a place, and after each change.
-use Rattle.std.proofs.Common.{◌≡◌, ◌≢◌, ℕ, ℤ, zero, suc, ◌+◌, ◌<◌, ◌≤◌, Bool, true, false, cond, T}
-use Rattle.std.proofs.Common.{◌⊎◌, inl, inr, List, [], ◌∷◌, ◌++◌, length, get_or, set, Option}
-use Rattle.std.proofs.Common.{◌&&◌, Some, None, refl, sym, ap, subst, ◌∙◌, arith}
+use Rattle.std.proofs.Common.{rules, ◌≡◌, ◌≢◌, ℕ, ℤ, zero, suc, ◌+◌, ◌<◌, ◌≤◌, Bool, true, false}
+use Rattle.std.proofs.Common.{cond, T, ◌⊎◌, inl, inr, List, [], ◌∷◌, ◌++◌, length, get_or, set}
+use Rattle.std.proofs.Common.{Option, ◌&&◌, Some, None, refl, sym, ap, subst, ◌∙◌, arith}
+use Rattle.std.proofs.lemmas.Grind.{common_steps}
 use Rattle.std.proofs.lemmas.Option.{none-some}
 use Rattle.std.proofs.lemmas.List.{get_or_past, get_or-set_same, get_or-set_other}
 use Rattle.std.proofs.lemmas.Bool.{cases_lt, cases_eq}
-use Rattle.std.specs.declared.cmp.Ordering.TheVariants.{Less, Equal, Greater}
-use Rattle.std.specs.Ordering.{nat_cmp, eq_by_cmp, is_lt, MatchOrdering}
-use Rattle.std.specs.Cmp.{nat_cmp_total, ranks}
+use Rattle.std.specs.Ordering.{nat_cmp, eq_by_cmp, is_lt}
+use Rattle.std.specs.Cmp.{nat_cmp_total}
 use Rattle.std.specs.FinMap as map
 use Rattle.std.specs.FinMap.{find, is_sorted}
 use Rattle.std.specs.FinMap.Entries.{below_all}
@@ -30,12 +30,7 @@ both true b x y = y
 both false b x y = absurd x
 
 below_less : (a b : ℕ) → a < b → T (is_lt (nat_cmp a b))
-below_less a b l = by (nat_cmp a b) (ranks a b)
-  where
-    by : (r : _) → MatchOrdering r (a < b) (a ≡ b) (b < a) → T (is_lt r)
-    by Less h = tt
-    by Equal h = absurd (omega arith)
-    by Greater h = absurd (omega arith)
+below_less a b l = search (rules)
 
 all_above_value : (k n : ℕ) (o : Option ℤ) (items : List (ComponentId × ℤ)) → k < n
     → T (below_all component_cmp (id_of k) items)
@@ -48,8 +43,7 @@ all_above : (k n : ℕ) (columns : List Column) (place : ℕ) → k < n
     → T (below_all component_cmp (id_of k) (items_from n columns place))
 all_above k n [] place l = tt
 all_above k n (column ∷ columns) place l =
-    all_above_value k n (map.get column.values place) (items_from (suc n) columns place) l
-    (all_above k (suc n) columns place (omega arith))
+    search (rules, all_above_value, all_above k (suc n) columns place (omega arith))
 
 rising_value : (n : ℕ) (o : Option ℤ) (items : List (ComponentId × ℤ))
     → T (below_all component_cmp (id_of n) items) → T (is_sorted component_cmp items)
@@ -62,8 +56,7 @@ pub items_rising : (n : ℕ) (columns : List Column) (place : ℕ)
     → T (is_sorted component_cmp (items_from n columns place))
 items_rising n [] place = tt
 items_rising n (column ∷ columns) place =
-    rising_value n (map.get column.values place) (items_from (suc n) columns place)
-    (all_above n (suc n) columns place (omega arith)) (items_rising (suc n) columns place)
+    search (rules, rising_value, all_above, items_rising (suc n) columns place)
 
 -- ---- the value of each component
 
@@ -72,11 +65,9 @@ find_value : (n : ℕ) (o : Option ℤ) (items : List (ComponentId × ℤ)) (id 
     → find component_cmp id (with_value o n items) ≡ cond (eq_by_cmp nat_cmp id.0 n) o
     (find component_cmp id items)
 find_value n None items id (inl e) none =
-    none e ∙ sym (ap (λ t. cond t None (find component_cmp id items))
-    (tied nat_cmp_total map.nat_cmp-IsAntisymmetric id.0 n (sym e)))
+    search (rules, tied)
 find_value n None items id (inr a) none =
-    sym (ap (λ t. cond t None (find component_cmp id items))
-    (apart nat_cmp_total map.nat_cmp-IsAntisymmetric id.0 n (λ e. a (sym e))))
+    search (rules, apart)
 find_value n (Some v) items id c none = refl
 
 -- components of smaller numbers are not among the items
@@ -84,30 +75,16 @@ find_below : (n : ℕ) (columns : List Column) (place : ℕ) (id : ComponentId) 
     → find component_cmp id (items_from n columns place) ≡ None
 find_below n [] place id l = refl
 find_below n (column ∷ columns) place id l =
-    find_value n (map.get column.values place) (items_from (suc n) columns place) id
-    (cases_eq n id.0) (λ e. absurd (omega arith))
-    ∙ ap (λ t. cond t (map.get column.values place)
-    (find component_cmp id (items_from (suc n) columns place)))
-    (apart nat_cmp_total map.nat_cmp-IsAntisymmetric id.0 n (λ e. absurd (omega arith)))
-    ∙ find_below (suc n) columns place id (omega arith)
+    grind (arith, common_steps, find_below (suc n) columns place id (omega arith))
 
 find_items : (n : ℕ) (columns : List Column) (place : ℕ) (id : ComponentId) (k : ℕ) → n + k ≡ id.0
     → find component_cmp id (items_from n columns place) ≡ map.get (column_at columns k).values
     place
 find_items n [] place id k e = sym (map.get-empty nat_cmp place)
 find_items n (column ∷ columns) place id zero e =
-    find_value n (map.get column.values place) (items_from (suc n) columns place) id
-    (cases_eq n id.0) (λ _. find_below (suc n) columns place id (omega arith))
-    ∙ ap (λ t. cond t (map.get column.values place)
-    (find component_cmp id (items_from (suc n) columns place)))
-    (tied nat_cmp_total map.nat_cmp-IsAntisymmetric id.0 n (omega arith))
+    search (rules, find_value, cases_eq, find_below, tied)
 find_items n (column ∷ columns) place id (suc k) e =
-    find_value n (map.get column.values place) (items_from (suc n) columns place) id
-    (cases_eq n id.0) (λ f. absurd (omega arith))
-    ∙ ap (λ t. cond t (map.get column.values place)
-    (find component_cmp id (items_from (suc n) columns place)))
-    (apart nat_cmp_total map.nat_cmp-IsAntisymmetric id.0 n (λ f. absurd (omega arith)))
-    ∙ find_items (suc n) columns place id k (omega arith)
+    grind (arith, common_steps, find_items (suc n) columns place id k (omega arith))
 
 pub get_components : (columns : List Column) (place : ℕ) (id : ComponentId)
     → map.get (components_at columns place) id ≡ value_at columns place id

@@ -1,15 +1,13 @@
 -- The places of an index that count.
-use Rattle.std.proofs.Common.{◌≡◌, ◌≢◌, ℕ, zero, suc, ◌<◌, ◌≤◌, Bool, true, false, cond, T, ◌⊎◌}
-use Rattle.std.proofs.Common.{inl, inr}
-use Rattle.std.proofs.Common.{List, [], ◌∷◌, ◌+◌, map, ◌++◌, length, get_or, set, filter, Option}
-use Rattle.std.proofs.Common.{Some, None, is_some, Contains}
-use Rattle.std.proofs.Common.{refl, sym, ap, subst, ◌∙◌, arith, eqb, eqb-true}
+use Rattle.std.proofs.Common.{rules, ◌≡◌, ◌≢◌, ℕ, zero, suc, ◌<◌, ◌≤◌, Bool, true, false, cond, T}
+use Rattle.std.proofs.Common.{◌⊎◌, inl, inr, List, [], ◌∷◌, ◌+◌, map, ◌++◌, length, get_or, set}
+use Rattle.std.proofs.Common.{filter, Option, Some, None, is_some, Contains, refl, sym, ap, subst}
+use Rattle.std.proofs.Common.{◌∙◌, arith, eqb, eqb-true}
 use Rattle.std.specs.declared.cmp.Ordering.TheVariants.{Less, Equal, Greater}
 use Rattle.std.specs.Ordering.{is_eq}
 use Rattle.std.specs.Cmp.{tied_itself}
 use Rattle.std.proofs.lemmas.Bool.{false≢true}
-use Rattle.std.proofs.lemmas.List.{get_or-map, get_or_default, length-map, length-set}
-use Rattle.std.proofs.lemmas.List.{length_push}
+use Rattle.std.proofs.lemmas.List.{get_or-map, get_or_default, length-map, length-set, length_push}
 use Rattle.std.specs.List.{AllWithin, insert}
 use Rattle.ent_bundle.specs.Position.{IsGapFor}
 use Rattle.std.proofs.lemmas.List.Elements.{filter_passes}
@@ -28,8 +26,7 @@ use Rattle.ent_storage.proofs.Indexed.{some_not_none, some_entity, indexed_set, 
 use Rattle.ent_storage.proofs.Indexed.{indexed_none, read_handle}
 use Rattle.ent_storage.specs.Components.{Components}
 use Rattle.ent_bundle.proofs.Rising.{rising_at}
-use Rattle.ent_storage.proofs.Rising.{equal}
-use Rattle.ent_storage.proofs.Rising.{get_at, map_insert}
+use Rattle.ent_storage.proofs.Rising.{equal, get_at, map_insert}
 use Rattle.ent_storage.proofs.Overwritten.{is_sorted-filter, find-filter, passed, is_sorted-set}
 use Rattle.ent_storage.proofs.Overwritten.{find-set_same, find-set_other}
 use Rattle.ent_storage.proofs.TakenOut.{indexed_moved, indexed_popped}
@@ -38,8 +35,7 @@ pub stands : (living : List LivingEntity) (q : Handle) (i : ℕ) → has_handle_
     ≡ true → (i < length living) × ((d : LivingEntity) → (get_or living i d).handle ≡ q)
 stands [] q i e = absurd (false≢true e)
 stands (x ∷ living) q zero e = (omega arith, λ d. same x.handle q (equal _ (subst T (sym e) tt)))
-stands (x ∷ living) q (suc i) e = let rest = stands living q i e in
-    (omega (arith, rest.0), λ d. rest.1 d)
+stands (x ∷ living) q (suc i) e = search (rules, stands living q i e)
 
 pub stands_from : (living : List LivingEntity) (q : Handle) (i : ℕ) (d : LivingEntity) → i
     < length living → (get_or living i d).handle ≡ q → has_handle_at living q (Some i) ≡ true
@@ -128,13 +124,7 @@ moved_has living index h m n q i at = by (same_or_apart total same q m)
 pub moved_counts : (living : List LivingEntity) (index : FinMap handle_cmp ℕ) (h m : Handle)
     → is_some (finite.get (finite.remove (counted living index) h) m) ≡ true
     → is_some (finite.get index m) ≡ true
-moved_counts living index h m is = by (finite.get (finite.remove (counted living index) h) m) refl
-    is
-  where
-    by : (o : Option ℕ) → finite.get (finite.remove (counted living index) h) m ≡ o → is_some o
-        ≡ true → is_some (finite.get index m) ≡ true
-    by None at e = absurd (false≢true e)
-    by (Some i) at e = ap is_some (removed_has living index h m i at)
+moved_counts living index h m is = search (rules, false≢true, removed_has)
 
 -- what is left after a sweep counts still
 pub swept_has : (living : List LivingEntity) (index : FinMap handle_cmp ℕ)

@@ -1,12 +1,13 @@
 -- The elements of a list by their positions, after each change, and the first pair of a key.
-use Rattle.std.proofs.Common.{◌≡◌, ◌≢◌, ℕ, ℤ, zero, suc, ◌<◌, ◌≤◌, cond, ◌⊎◌, inl, inr, List, []}
-use Rattle.std.proofs.Common.{◌∷◌, ◌++◌, length, set, Option, Some, None, slice_get, refl, sym, ap}
-use Rattle.std.proofs.Common.{◌∙◌, arith}
-use Rattle.std.proofs.lemmas.Option.{same_Some, some_pair_parts, none-some}
+use Rattle.std.proofs.Common.{rules, ◌≡◌, ◌≢◌, ℕ, ℤ, zero, suc, ◌<◌, ◌≤◌, cond, ◌⊎◌, inl, inr, List}
+use Rattle.std.proofs.Common.{[], ◌∷◌, ◌++◌, length, set, Option, Some, None, slice_get, refl, sym}
+use Rattle.std.proofs.Common.{ap, ◌∙◌, arith}
+use Rattle.std.proofs.lemmas.Grind.{common_steps}
+use Rattle.std.proofs.lemmas.Option.{same_Some, none-some}
 use Rattle.std.specs.Ordering.{nat_cmp}
 use Rattle.std.specs.Cmp.{nat_cmp_total as total}
 use Rattle.std.specs.FinMap.{find, nat_cmp-IsAntisymmetric as same}
-use Rattle.ent_storage.proofs.Keys.{tied, apart, same_or_apart}
+use Rattle.ent_storage.proofs.Keys.{apart, same_or_apart}
 
 -- ---- elements by their positions
 
@@ -35,8 +36,7 @@ pub at_push_end : {X : Type 0} (xs : List X) (y : X) (k : ℕ) → length xs ≤
 at_push_end [] y zero l z e = (refl, same_Some _ _ e)
 at_push_end [] y (suc k) l z e = absurd (none-some z e)
 at_push_end (x ∷ xs) y zero l z e = absurd (omega arith)
-at_push_end (x ∷ xs) y (suc k) l z e = let rest = at_push_end xs y k (omega arith) z e in
-    (ap suc rest.0, rest.1)
+at_push_end (x ∷ xs) y (suc k) l z e = search (rules, at_push_end xs y k (omega arith) z e)
 
 pub at_pushed : {X : Type 0} (xs : List X) (y : X) → slice_get (xs ++ y ∷ []) (length xs) ≡ Some y
 at_pushed [] y = refl
@@ -55,9 +55,7 @@ pub find_at : (D : List (ℕ × ℤ)) (k p : ℕ) (v : ℤ) → slice_get D k �
     → ((j : ℕ) (w : ℤ) → j < k → slice_get D j ≢ Some (p, w)) → find nat_cmp p D ≡ Some v
 find_at [] k p v e first = absurd (none-some (p, v) e)
 find_at (x ∷ D) zero p v e first =
-    let parts = some_pair_parts x.0 p x.1 v e in
-    ap (λ t. cond t (Some x.1) (find nat_cmp p D)) (tied total same p x.0 (sym parts.0))
-    ∙ ap Some parts.1
+    grind (arith, common_steps)
 find_at (x ∷ D) (suc k) p v e first =
     ap (λ t. cond t (Some x.1) (find nat_cmp p D))
     (apart total same p x.0
@@ -68,9 +66,7 @@ find_gives_first : (x : ℕ × ℤ) (D : List (ℕ × ℤ)) (p : ℕ) (v : ℤ)
     → (find nat_cmp p D ≡ Some v → (k : ℕ) × (slice_get D k ≡ Some (p, v))) → (p ≡ x.0) ⊎ (p ≢ x.0)
     → find nat_cmp p (x ∷ D) ≡ Some v → (k : ℕ) × (slice_get (x ∷ D) k ≡ Some (p, v))
 find_gives_first x D p v rest (inl q) e =
-    let is = same_Some _ _
-    (sym (ap (λ t. cond t (Some x.1) (find nat_cmp p D)) (tied total same p x.0 q)) ∙ e) in
-    (0, λ i. Some (sym q i, is i))
+    grind (arith, common_steps)
 find_gives_first x D p v rest (inr n) e =
     let later = rest
     (sym (ap (λ t. cond t (Some x.1) (find nat_cmp p D)) (apart total same p x.0 n)) ∙ e) in
@@ -79,5 +75,4 @@ find_gives_first x D p v rest (inr n) e =
 pub find_gives : (D : List (ℕ × ℤ)) (p : ℕ) (v : ℤ) → find nat_cmp p D ≡ Some v → (k : ℕ)
     × (slice_get D k ≡ Some (p, v))
 find_gives [] p v e = absurd (none-some v e)
-find_gives (x ∷ D) p v e = find_gives_first x D p v (find_gives D p v)
-    (same_or_apart total same p x.0) e
+find_gives (x ∷ D) p v e = search (rules, find_gives_first, same_or_apart, find_gives D p v)

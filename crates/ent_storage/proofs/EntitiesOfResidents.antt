@@ -1,11 +1,11 @@
 -- The living entities that residents and columns stand for, after each change.
-use Rattle.std.proofs.Common.{◌≡◌, ◌≢◌, ℕ, zero, suc, ◌+◌, ◌-◌, ◌<◌, ◌≤◌, false}
-use Rattle.std.proofs.Common.{◌⊎◌, inl, inr, List, [], ◌∷◌, ◌++◌, map, length, get_or, Option}
-use Rattle.std.proofs.Common.{Some, None, slice_get, option_and_then, take, drop, refl, sym, ap}
-use Rattle.std.proofs.Common.{subst, ◌∙◌, arith}
+use Rattle.std.proofs.Common.{rules, ◌≡◌, ◌≢◌, ℕ, zero, suc, ◌+◌, ◌-◌, ◌<◌, ◌≤◌, false, ◌⊎◌, inl}
+use Rattle.std.proofs.Common.{inr, List, [], ◌∷◌, ◌++◌, map, length, get_or, Option, Some, None}
+use Rattle.std.proofs.Common.{slice_get, option_and_then, take, drop, refl, sym, ap, subst, ◌∙◌}
+use Rattle.std.proofs.Common.{arith}
+use Rattle.std.proofs.lemmas.Grind.{common_steps}
 use Rattle.std.proofs.lemmas.Option.{none-some, same_Some, slice_get_past}
 use Rattle.std.proofs.lemmas.Bool.{cases_lt, cases_eq}
-use Rattle.std.proofs.lemmas.List.{length_push, drop_all, append-nil, take_all}
 use Rattle.std.specs.Option.{option_map, option_map_or}
 use Rattle.std.specs.Ordering.{eq_by_cmp}
 use Rattle.std.specs.FinMap as finite
@@ -201,26 +201,18 @@ none_within = record {
 pub pushed_within : (residents : List Resident) (resident : Resident) (columns : List Column)
     → AreColumnsOf (length residents) columns → AreColumnsOf (length (residents ++ resident ∷ []))
     columns
-pushed_within residents resident columns within = record {
-  none_beyond = λ p id l. within.none_beyond p id (omega (arith, length_push residents resident));
-  numbered = within.numbered;
-}
+pushed_within residents resident columns within = grind (arith, common_steps)
 
 pub changed_within : (count place : ℕ) (old new : List Column) → place < count → length new ≤ 256
     → ((p : ℕ) (id : ComponentId) → p ≢ place → value_at new p id ≡ value_at old p id)
     → AreColumnsOf count old → AreColumnsOf count new
-changed_within count place old new inside numbered others within = record {
-  none_beyond = λ p id l. others p id (λ e. absurd (omega arith)) ∙ within.none_beyond p id l;
-  numbered = numbered;
-}
+changed_within count place old new inside numbered others within = search (rules)
 
 -- a slice of a whole vector, written back
 pub written_back : {X : Type 0} (new old : List X) (n : ℕ) → length new ≡ length old → n
     ≡ length old → take n (new ++ drop (length new) old) ≡ new
 written_back new old n same whole =
-    let none : drop (length new) old ≡ [] = drop_all (length new) old (omega arith) in
-    ap (λ rest. take n (new ++ rest)) none ∙ ap (take n) (append-nil new)
-    ∙ take_all n new (omega arith)
+    grind (arith, common_steps)
 
 -- what the entity at a place is tested for
 pub handle_get : (residents : List Resident) (columns : List Column) (n i : ℕ)
@@ -243,30 +235,21 @@ pub value_get : (residents : List Resident) (columns : List Column) (n i : ℕ) 
     (slice_get (entities_from n residents columns) i) ≡ value_at columns (n + i) id
 value_get [] columns n i id l = absurd (omega arith)
 value_get (resident ∷ residents) columns n zero id l =
-    let here : n ≡ n + 0 = omega arith in
-    get_components columns n id ∙ ap (λ (p : ℕ). value_at columns p id) here
+    search (rules, get_components)
 value_get (resident ∷ residents) columns n (suc i) id l =
-    let next : suc n + i ≡ n + suc i = omega arith in
-    value_get residents columns (suc n) i id (omega arith) ∙ ap (λ (p : ℕ). value_at columns p id)
-    next
+    search (rules, value_get residents columns (suc n) i id (omega arith))
 
 pub value_from : (residents : List Resident) (columns : List Column) (i : ℕ) (id : ComponentId)
     → AreColumnsOf (length residents) columns
     → option_and_then (λ (e : LivingEntity). finite.get e.components id)
     (slice_get (entities_from 0 residents columns) i) ≡ value_at columns i id
-value_from residents columns i id within = by (cases_lt i (length residents))
-  where
-    by : (i < length residents) ⊎ (length residents ≤ i)
-        → option_and_then (λ (e : LivingEntity). finite.get e.components id)
-        (slice_get (entities_from 0 residents columns) i) ≡ value_at columns i id
-    by (inl l) =
-        let here : 0 + i ≡ i = omega arith in
-        value_get residents columns 0 i id l ∙ ap (λ (p : ℕ). value_at columns p id) here
-    by (inr l) =
-        ap (option_and_then (λ (e : LivingEntity). finite.get e.components id))
-        (slice_get_past (entities_from 0 residents columns) i
-        (omega (arith, length_from 0 residents columns)))
-        ∙ sym (within.none_beyond i id l)
+value_from residents columns i id within = search (
+  rules,
+  cases_lt,
+  value_get,
+  slice_get_past,
+  length_from,
+)
 
 -- a test of the handle at a place
 test_some : (o : Option LivingEntity) (h q : Handle) → option_map (λ (e : LivingEntity). e.handle) o
@@ -285,19 +268,16 @@ pub test_at : (residents : List Resident) (columns : List Column) (i : ℕ) (res
     → has_handle_at (entities_from 0 residents columns) h (Some i)
     ≡ eq_by_cmp handle_cmp resident.handle h
 test_at residents columns i resident h at =
-    test_some _ h resident.handle (handle_get residents columns 0 i
-    ∙ ap (option_map (λ (r : Resident). r.handle)) at)
+    search (rules, test_some, handle_get)
 
 pub test_past : (residents : List Resident) (columns : List Column) (i : ℕ) (h : Handle)
     → length residents ≤ i → has_handle_at (entities_from 0 residents columns) h (Some i) ≡ false
 test_past residents columns i h l =
-    test_none _ h (handle_get residents columns 0 i ∙ ap (option_map (λ (r : Resident). r.handle))
-    (slice_get_past residents i l))
+    search (rules, test_none, handle_get, slice_get_past)
 
 -- the birth and the handle of each resident
 pub births_from : (n : ℕ) (residents : List Resident) (columns : List Column)
     → map {B = Birth × Handle} (λ resident. (resident.birth, resident.handle)) residents
     ≡ map {B = Birth × Handle} (λ e. (e.birth, e.handle)) (entities_from n residents columns)
 births_from n [] columns = refl
-births_from n (resident ∷ residents) columns = ap (λ (es : List (Birth × Handle)).
-    (resident.birth, resident.handle) ∷ es) (births_from (suc n) residents columns)
+births_from n (resident ∷ residents) columns = search (rules, births_from (suc n) residents columns)

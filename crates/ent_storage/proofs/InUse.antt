@@ -1,9 +1,9 @@
 -- The columns in use, after each change.
-use Rattle.std.proofs.Common.{◌≡◌, ◌≢◌, ℕ, ◌+◌, ◌-◌, ◌<◌, ◌≤◌, ◌⊎◌, inl, inr, List, []}
-use Rattle.std.proofs.Common.{length, get_or, set, Contains, None, refl, sym, ap, subst, ◌∙◌, arith}
+use Rattle.std.proofs.Common.{rules, ◌≡◌, ◌≢◌, ℕ, ◌+◌, ◌-◌, ◌<◌, ◌≤◌, ◌⊎◌, inl, inr, List, []}
+use Rattle.std.proofs.Common.{length, get_or, set, Contains, None, sym, ap, subst, ◌∙◌, arith}
+use Rattle.std.proofs.lemmas.Grind.{common_steps}
 use Rattle.std.proofs.lemmas.Bool.{cases_lt, cases_eq}
 use Rattle.std.proofs.lemmas.List.{get_or_default}
-use Rattle.std.proofs.lemmas.List.{length-set, get_or-set_other}
 use Rattle.std.proofs.lemmas.List.Edits.{length-insert, get_or-insert_below, get_or-insert_at}
 use Rattle.std.proofs.lemmas.List.Edits.{get_or-insert_above}
 use Rattle.std.specs.List.{AllPairs, insert}
@@ -17,45 +17,24 @@ use Rattle.ent_storage.proofs.Keys.{same_or_apart}
 use Rattle.ent_storage.proofs.ColumnsAtPlaces.{column_set, column_kept, moved_none}
 
 pub in_use_none : AreInUse [] []
-in_use_none = record {
-  inside = λ k d l. absurd (omega arith);
-  rising = λ j k d l m. absurd (omega arith);
-  rest = λ n. inr refl;
-}
+in_use_none = search (rules)
 
 -- the columns were changed, and none of the others was
 pub in_use_changed : (used : List ℕ) (old new : List Column) → length old ≤ length new
     → ((n : ℕ) → column_at old n ≡ no_column → Contains used n ⊎ (column_at new n ≡ no_column))
     → AreInUse used old → AreInUse used new
-in_use_changed used old new longer kept in_use = record {
-  inside = λ k d l. omega (arith, in_use.inside k d l, longer);
-  rising = in_use.rising;
-  rest = λ n. by n (in_use.rest n);
-}
-  where
-    by : (n : ℕ) → Contains used n ⊎ (column_at old n ≡ no_column) → Contains used n
-        ⊎ (column_at new n ≡ no_column)
-    by n (inl there) = inl there
-    by n (inr none) = kept n none
+in_use_changed used old new longer kept in_use = search (rules)
 
 -- a column that has had room is in use
 pub in_use_with_room : (used : List ℕ) (columns : List Column) (n : ℕ) → AreInUse used columns
     → 0 < (column_at columns n).places → Contains used n
-in_use_with_room used columns n in_use room = by (in_use.rest n)
-  where
-    by : Contains used n ⊎ (column_at columns n ≡ no_column) → Contains used n
-    by (inl there) = there
-    by (inr none) = absurd (omega (arith, room, ap (λ (c : Column). c.places) none))
+in_use_with_room used columns n in_use room = search (rules)
 
 -- ---- a number is put in its gap
 
 pub rising_from_start : (used : List ℕ) → AllPairs (λ a b. a < b) used → (i j : ℕ) → i ≤ j
     → j < length used → get_or used i 0 ≤ get_or used j 0
-rising_from_start used rising i j l m = by (cases_eq i j)
-  where
-    by : (i ≡ j) ⊎ (i ≢ j) → get_or used i 0 ≤ get_or used j 0
-    by (inl e) = omega (arith, ap (λ (k : ℕ). get_or used k 0) e)
-    by (inr far) = omega (arith, rising i j 0 (omega (arith, far, l)) m)
+rising_from_start used rising i j l m = search (rules, cases_eq)
 
 module _ (used : List ℕ) (gap number : ℕ) (within : gap ≤ length used)
     (below : (k : ℕ) → k < gap → get_or used k 0 < number)
@@ -203,13 +182,7 @@ removed_rest columns id n was is place inside read stays none = by (same_or_apar
 pub in_use_set : (used : List ℕ) (columns : List Column) (id : ℕ) (is : Column) → Contains used id
     → AreInUse used columns → AreInUse used (set columns id is)
 in_use_set used columns id is there in_use =
-    in_use_changed used columns (set columns id is) (omega (arith, length-set columns id is))
-    (λ n none. by n none (same_or_apart total same n id)) in_use
-  where
-    by : (n : ℕ) → column_at columns n ≡ no_column → (n ≡ id) ⊎ (n ≢ id)
-        → Contains used n ⊎ (column_at (set columns id is) n ≡ no_column)
-    by n none (inl e) = inl (subst (λ m. Contains used m) (sym e) there)
-    by n none (inr far) = inr (get_or-set_other columns id n is no_column far ∙ none)
+    grind (arith, common_steps)
 
 -- ---- the columns in use are passed one by one
 

@@ -1,7 +1,7 @@
 -- The living entities and their index: what the map has at a handle, and after each change.
-use Rattle.std.proofs.Common.{◌≡◌, ◌≢◌, ℕ, zero, suc, ◌+◌, ◌<◌, cond, ◌⊎◌, inl}
-use Rattle.std.proofs.Common.{inr, List, [], ◌∷◌, ◌++◌, map, length, get_or, set, Option, Some}
-use Rattle.std.proofs.Common.{None, is_some, refl, sym, ap, ◌∙◌, arith}
+use Rattle.std.proofs.Common.{rules, ◌≡◌, ◌≢◌, ℕ, zero, suc, ◌+◌, ◌<◌, cond, ◌⊎◌, inl, inr, List}
+use Rattle.std.proofs.Common.{[], ◌∷◌, ◌++◌, map, length, get_or, set, Option, Some, None, is_some}
+use Rattle.std.proofs.Common.{refl, sym, ap, ◌∙◌, arith}
 use Rattle.std.proofs.lemmas.List.{get_or_append_left, get_or_push, get_or-set_same}
 use Rattle.std.proofs.lemmas.List.{get_or-set_other, length-set, length_push, map_push}
 use Rattle.std.proofs.lemmas.Bool.{false≢true, cases_lt, cases_eq}
@@ -36,9 +36,7 @@ find_entity : (living : List LivingEntity) (q : Handle) (i : ℕ) (d : LivingEnt
     ≡ Some (entity_of (get_or living i d))
 find_entity [] q i d l at first = absurd (omega arith)
 find_entity (entity ∷ living) q zero d l at first =
-    ap (λ t. cond t (Some (entity_of entity))
-    (find handle_cmp q (map (λ entity. (entity.handle, entity_of entity)) living)))
-    (tied total same q entity.handle (sym at))
+    search (rules, tied)
 find_entity (entity ∷ living) q (suc i) d l at first =
     ap (λ t. cond t (Some (entity_of entity))
     (find handle_cmp q (map (λ entity. (entity.handle, entity_of entity)) living)))

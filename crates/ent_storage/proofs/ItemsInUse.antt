@@ -1,15 +1,16 @@
 -- The items of the columns in use are all items at a place.
+use Rattle.std.proofs.lemmas.Grind.{common_steps}
 use Rattle.std.proofs.Common.{◌≡◌, ◌≢◌, ℕ, ℤ, zero, suc, ◌+◌, ◌<◌, ◌≤◌, ◌⊎◌, inl, inr, cond, List}
-use Rattle.std.proofs.Common.{[], ◌∷◌, length, Contains, Option, None, Some, is_some}
-use Rattle.std.proofs.Common.{refl, sym, ap, ◌∙◌, arith}
+use Rattle.std.proofs.Common.{[], ◌∷◌, length, Contains, Option, None, Some, is_some, refl, sym, ap}
+use Rattle.std.proofs.Common.{◌∙◌, arith}
 use Rattle.std.proofs.lemmas.Bool.{cases_eq}
-use Rattle.std.proofs.lemmas.List.Sums.{sum_by-cons}
 use Rattle.std.specs.List.{All, AllPairs, count_by}
 use Rattle.std.specs.Ordering.{nat_cmp}
 use Rattle.std.specs.FinMap as map
 use Rattle.ent_handle.specs.declared.component.ComponentId.{ComponentId}
 use Rattle.ent_storage.specs.SparseSet.{Column, no_column}
-use Rattle.ent_storage.specs.Living.{column_at, value_at, with_value, items_from, items_of, AreInUse}
+use Rattle.ent_storage.specs.Living.{column_at, value_at, with_value, items_from, items_of}
+use Rattle.ent_storage.specs.Living.{AreInUse}
 
 -- ---- one number after the other
 
@@ -23,16 +24,7 @@ pub count_items : (used : List ℕ) (columns : List Column) (place : ℕ)
     ≡ length (items_of used columns place)
 count_items [] columns place = refl
 count_items (n ∷ used) columns place =
-    let first = sum_by-cons
-    (λ (number : ℕ). cond (is_some (map.get (column_at columns number).values place)) 1 0) n used in
-    let rest = count_items used columns place in
-    omega (
-      arith,
-      first,
-      rest,
-      count_value n (map.get (column_at columns n).values place)
-          (items_of used columns place),
-    )
+    grind (arith, common_steps, count_items used columns place)
 
 -- ---- the columns from a number on
 
@@ -104,7 +96,10 @@ module _ (columns : List Column) (place : ℕ) where
               omega (arith, first, are.rising 0 (suc k) d (omega arith) (omega (arith, l))),
               omega (arith, are.within (suc k) d (omega (arith, l))),
             );
-            rising = λ i j d l m. are.rising (suc i) (suc j) d (omega (arith, l)) (omega (arith, m));
+            rising = λ i j d l m. are.rising (suc i) (suc j) d (omega (arith, l)) (omega (
+              arith,
+              m,
+            ));
             rest = λ number l. by number l (are.rest number (omega (arith, l)));
           }
             where
@@ -128,7 +123,11 @@ module _ (columns : List Column) (place : ℕ) where
               above : All (λ number. n < number) (u ∷ used)
               above zero d l = omega (arith, far, are.within 0 d l)
               above (suc k) d l =
-                  omega (arith, are.within 0 d (omega arith), are.rising 0 (suc k) d (omega arith) l)
+                  omega (
+                    arith,
+                    are.within 0 d (omega arith),
+                    are.rising 0 (suc k) d (omega arith) l,
+                  )
 
   items_left : (left : List Column) (n : ℕ) (used : List ℕ) → AreLeft n used left
       → items_of used columns place ≡ items_from n left place

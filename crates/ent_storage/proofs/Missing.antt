@@ -1,9 +1,8 @@
 -- How many items set a component that is not there.
-use Rattle.std.proofs.Common.{◌≡◌, ℕ, None, Option, ℤ, ◌<◌, ◌≤◌, cond, List}
-use Rattle.std.proofs.Common.{length, get_or, is_none, arith}
-use Rattle.std.proofs.Common.{Result, Ok, Err, OnErr}
+use Rattle.std.proofs.lemmas.Grind.{common_steps}
+use Rattle.std.proofs.Common.{◌≡◌, ℕ, None, Option, ℤ, ◌<◌, ◌≤◌, cond, List, length, get_or}
+use Rattle.std.proofs.Common.{is_none, arith, Result, Ok, Err, OnErr}
 use Rattle.std.specs.FinMap as map
-use Rattle.std.proofs.lemmas.List.Sums.{get_or-le-sum_by}
 use Rattle.ent_handle.specs.declared.component.ComponentId.{ComponentId}
 use Rattle.ent_storage.specs.Components.{Components, missing}
 
@@ -14,12 +13,7 @@ one_if o e = rw e (omega arith)
 pub missing_at : (m : Components) (items : List (ComponentId × ℤ)) (i : ℕ) (d : ComponentId × ℤ) → i
     < length items → map.get m (get_or items i d).0 ≡ None → 0 < missing m items
 missing_at m items i d l none =
-    omega (
-      arith,
-      one_if _ none,
-      get_or-le-sum_by (λ item. cond (is_none (map.get m item.0)) 1 0)
-          items i d l,
-    )
+    grind (arith, common_steps)
 
 -- what holds, holds also if a call was refused
 pub on_err : {X E : Type 0} {P : Type 0} (r : Result X E) → P → OnErr r P

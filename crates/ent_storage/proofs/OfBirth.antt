@@ -1,11 +1,10 @@
 -- The least handle of a birth, among pairs and in the map.
-use Rattle.std.proofs.Common.{◌≡◌, ◌≢◌, ◌⊎◌, inl, inr, List, [], ◌∷◌, ◌++◌, map, length}
-use Rattle.std.proofs.Common.{Option, Some, None, IfSome, IfNone, IsSomeAnd, Contains, true}
-use Rattle.std.proofs.Common.{ℕ, false, ◌<◌, refl, sym, ap, subst, ◌∙◌, arith}
+use Rattle.std.proofs.Common.{rules, ◌≡◌, ◌≢◌, ◌⊎◌, inl, inr, List, [], ◌∷◌, ◌++◌, map, length}
+use Rattle.std.proofs.Common.{Option, Some, None, IfSome, IfNone, IsSomeAnd, Contains, true, ℕ}
+use Rattle.std.proofs.Common.{false, ◌<◌, refl, sym, ap, subst, ◌∙◌, arith}
 use Rattle.std.specs.declared.cmp.Ordering.{Ordering}
 use Rattle.std.specs.declared.cmp.Ordering.TheVariants.{Less, Equal, Greater}
 use Rattle.std.specs.Ordering.{is_eq, eq_by_cmp}
-use Rattle.std.specs.Cmp.{tied_itself}
 use Rattle.std.specs.Option.{option_map}
 use Rattle.std.proofs.lemmas.Bool.{false≢true}
 use Rattle.std.proofs.lemmas.Option.{IfSome_then, same_Some, none-some}
@@ -15,7 +14,7 @@ use Rattle.std.proofs.lemmas.List.Elements.{Contains-append_left}
 use Rattle.std.specs.FinMap as finite
 use Rattle.std.specs.FinMap.{FinMap}
 use Rattle.ent_handle.specs.declared.birth.Birth.{Birth}
-use Rattle.ent_handle.specs.Birth.{birth_cmp, birth_cmp_total, birth_cmp-IsAntisymmetric}
+use Rattle.ent_handle.specs.Birth.{birth_cmp, birth_cmp-IsAntisymmetric}
 use Rattle.ent_handle.specs.Handle.{Handle, handle_cmp, handle_cmp_total as total}
 use Rattle.ent_handle.specs.Handle.{handle_cmp-IsAntisymmetric as same}
 use Rattle.ent_storage.specs.Living.{LivingEntity}
@@ -36,8 +35,7 @@ pub same_birth : (a b : Birth) → eq_by_cmp birth_cmp a b ≡ true → a ≡ b
 same_birth a b e = birth_cmp-IsAntisymmetric a b (equal _ e)
 
 pub other_birth : (a b : Birth) → eq_by_cmp birth_cmp a b ≡ false → a ≢ b
-other_birth a b e is = false≢true (sym e ∙ ap (λ x. eq_by_cmp birth_cmp a x) (sym is)
-    ∙ ap is_eq (tied_itself birth_cmp_total a))
+other_birth a b e is = search (rules, false≢true)
 
 -- ---- a handle that is not after a second one, which is not after a third
 

@@ -1,10 +1,9 @@
 -- Two lists that rise and have the same members are the same: so are the handles of what passes a
 -- test, in the order of births.
-use Rattle.std.proofs.Common.{◌≡◌, zero, suc, Bool, true, List, [], ◌∷◌, Contains}
-use Rattle.std.proofs.Common.{refl, sym, ap, subst, ◌∙◌, arith}
+use Rattle.std.proofs.Common.{rules, ◌≡◌, zero, suc, Bool, true, List, [], ◌∷◌, Contains, refl, sym}
+use Rattle.std.proofs.Common.{ap, subst, ◌∙◌, arith}
 use Rattle.std.specs.declared.cmp.Ordering.{Ordering}
-use Rattle.std.specs.declared.cmp.Ordering.TheVariants.{Less, Greater}
-use Rattle.std.specs.Ordering.{ordering_reverse}
+use Rattle.std.specs.declared.cmp.Ordering.TheVariants.{Less}
 use Rattle.std.specs.Cmp.{IsTotalOrder, then_total, on_total}
 use Rattle.std.specs.Cmp.Lexicographic.{options_total}
 use Rattle.std.specs.List.{AllPairs}
@@ -63,8 +62,7 @@ module _ {X : Type 0} (R : X → X → Type 0) (asym : (a b : X) → R a b → �
 not_both : {K : Type 0} {C : K → K → Ordering} → IsTotalOrder C → (a b : K) → C a b ≡ Less
     → ¬ (C b a ≡ Less)
 not_both o a b r s =
-    let e : Less ≡ Greater = sym r ∙ o.antisymm a b ∙ ap ordering_reverse s in
-    absurd cc
+    search (rules)
 
 birth_order_total : (m : EntityMap) → IsTotalOrder (birth_order m)
 birth_order_total m = then_total (on_total (birth_of m) (options_total birth_cmp_total))

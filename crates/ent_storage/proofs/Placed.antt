@@ -1,6 +1,7 @@
 -- The handles at the places of the residents.
-use Rattle.std.proofs.Common.{◌≡◌, ℕ, zero, suc, ◌+◌, ◌-◌, ◌<◌, List, [], ◌∷◌, length, get_or, set}
-use Rattle.std.proofs.Common.{Some, None, Option, is_some, slice_get, refl, sym, ap, ◌∙◌, arith}
+use Rattle.std.proofs.Common.{rules, ◌≡◌, ℕ, zero, suc, ◌+◌, ◌-◌, ◌<◌, List, [], ◌∷◌, length}
+use Rattle.std.proofs.Common.{get_or, set, Some, None, Option, is_some, slice_get, refl, sym, ap}
+use Rattle.std.proofs.Common.{◌∙◌, arith}
 use Rattle.std.proofs.lemmas.List.{length-map, get_or_default}
 use Rattle.std.specs.FinMap as finite
 use Rattle.std.specs.FinMap.{FinMap}
@@ -20,8 +21,7 @@ pub at_place : (living : List LivingEntity) (i : ℕ) (h : Handle)
     × ((d : LivingEntity) → (get_or living i d).handle ≡ h)
 at_place [] i h e = absurd (some_not_none h None e refl)
 at_place (x ∷ living) zero h e = (omega arith, λ d. same_handle x.handle h e)
-at_place (x ∷ living) (suc i) h e = let rest = at_place living i h e in
-    (omega (arith, rest.0), λ d. rest.1 d)
+at_place (x ∷ living) (suc i) h e = search (rules, at_place living i h e)
 
 pub from_place : (living : List LivingEntity) (i : ℕ) (d : LivingEntity) → i < length living
     → slice_get (handles_by_place living) i ≡ Some (get_or living i d).handle
@@ -93,13 +93,7 @@ pub handles_changed : (living : List LivingEntity) (i : ℕ) (entity : LivingEnt
     (set living i (record { handle = entity.handle; birth = entity.birth; components = held }))
     ≡ handles_by_place living
 handles_changed living i entity read held =
-    handles_set living i (record {
-      handle = entity.handle;
-      birth = entity.birth;
-      components =
-          held;
-    }) (λ d l. ap (λ (r : LivingEntity). r.handle) (read ∙ get_or_default living i entity d
-    l))
+    search (rules, handles_set, get_or_default)
 
 -- a handle has a place if it is in the map
 pub placed_known : (living : List LivingEntity) (index : FinMap handle_cmp ℕ)

@@ -1,6 +1,6 @@
 -- The birth of the entity at a place is changed.
-use Rattle.std.proofs.Common.{◌≡◌, ℕ, zero, suc, ◌<◌, List, [], ◌∷◌, length, get_or, set, Some}
-use Rattle.std.proofs.Common.{Option, refl, sym, ap, subst, ◌∙◌, arith}
+use Rattle.std.proofs.Common.{rules, ◌≡◌, ℕ, zero, suc, ◌<◌, List, [], ◌∷◌, length, get_or, set}
+use Rattle.std.proofs.Common.{Some, Option, refl, sym, ap, subst, ◌∙◌, arith}
 use Rattle.std.proofs.lemmas.List.{get_or_default, length-set}
 use Rattle.std.specs.Option.{option_map_or}
 use Rattle.std.specs.FinMap as finite
@@ -10,9 +10,8 @@ use Rattle.ent_handle.specs.Handle.{Handle, handle_cmp}
 use Rattle.ent_storage.specs.declared.living.Resident.{Resident}
 use Rattle.ent_storage.specs.EntityMap.{Entity, with_birth}
 use Rattle.ent_storage.specs.SparseSet.{Column}
-use Rattle.ent_storage.specs.Living.{LivingEntity, components_at, entities_from, with_birth_at}
-use Rattle.ent_storage.specs.Indexed.{entity_of, map_of, handles_by_place, counted}
-use Rattle.ent_storage.specs.Indexed.{IsKeptIndex}
+use Rattle.ent_storage.specs.Living.{LivingEntity, entities_from, with_birth_at}
+use Rattle.ent_storage.specs.Indexed.{entity_of, map_of, handles_by_place, counted, IsKeptIndex}
 use Rattle.ent_storage.proofs.Indexed.{some_entity, entities_set, indexed_set, read_handle}
 use Rattle.ent_storage.proofs.Indexed.{get_read}
 use Rattle.ent_storage.proofs.Counted.{counted_gives, indexed_counted}
@@ -26,13 +25,9 @@ pub reborn_from : (n : ℕ) (residents : List Resident) (columns : List Column) 
     ≡ with_birth_at (entities_from n residents columns) i birth
 reborn_from n [] columns i birth resident l read = absurd (omega arith)
 reborn_from n (r ∷ residents) columns zero birth resident l read =
-    ap (λ (x : Resident).
-    record { handle = x.handle; birth = birth; components = components_at columns n }
-    ∷ entities_from (suc n) residents columns) read
+    search (rules)
 reborn_from n (r ∷ residents) columns (suc i) birth resident l read =
-    ap (λ (es : List LivingEntity).
-    record { handle = r.handle; birth = r.birth; components = components_at columns n } ∷ es)
-    (reborn_from (suc n) residents columns i birth resident (omega arith) read)
+    search (rules, reborn_from (suc n) residents columns i birth resident (omega arith) read)
 
 pub length_reborn : (living : List LivingEntity) (i : ℕ) (birth : Birth)
     → length (with_birth_at living i birth) ≡ length living

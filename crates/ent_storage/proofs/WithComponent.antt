@@ -1,9 +1,8 @@
 -- The entities that have a component, by the pairs of its dense vector.
-use Rattle.std.proofs.Common.{◌≡◌, ◌≢◌, ℕ, ℤ, ◌<◌, ◌≤◌, Bool, true, List, length, get_or, map}
-use Rattle.std.proofs.Common.{Option, IsSome, [], ◌∷◌}
-use Rattle.std.proofs.Common.{Some, None, slice_get, is_some, pos, Contains, option_and_then, ◌⊎◌}
-use Rattle.std.proofs.Common.{inl, inr}
-use Rattle.std.proofs.Common.{refl, sym, ap, subst, ◌∙◌, arith}
+use Rattle.std.proofs.Common.{rules, ◌≡◌, ◌≢◌, ℕ, ℤ, ◌<◌, ◌≤◌, Bool, true, List, length, get_or}
+use Rattle.std.proofs.Common.{map, Option, IsSome, [], ◌∷◌, Some, None, slice_get, is_some, pos}
+use Rattle.std.proofs.Common.{Contains, option_and_then, ◌⊎◌, inl, inr, refl, sym, ap, subst, ◌∙◌}
+use Rattle.std.proofs.Common.{arith}
 use Rattle.std.specs.Option.{option_map}
 use Rattle.std.specs.List.{All, AllPairs, IsDistinct}
 use Rattle.std.proofs.lemmas.Bool.{cases_lt, false≢true}
@@ -29,14 +28,7 @@ use Rattle.ent_storage.proofs.ByBirth.{born_of, IsBorn, alike, all_there, lists_
 -- a place at which an entity has a value is inside
 value_inside : (living : List LivingEntity) (p : ℕ) (id : ComponentId) (v : ℤ)
     → IsValueAt living p id v → p < length living
-value_inside living p id v is = by (cases_lt p (length living))
-  where
-    by : (p < length living) ⊎ (length living ≤ p) → p < length living
-    by (inl l) = l
-    by (inr g) =
-        absurd (none-some v
-        (sym (ap (option_and_then (λ (e : LivingEntity). finite.get e.components id))
-        (slice_get_past living p g)) ∙ is))
+value_inside living p id v is = search (rules, cases_lt, none-some, slice_get_past)
 
 pub pair_inside : (living : List LivingEntity) (id : ComponentId) (pairs : List (ℕ × ℤ))
     → ((p : ℕ) (v : ℤ) → Contains pairs (p, v) → IsValueAt living p id v) → (k : ℕ) (d : ℕ × ℤ) → k
@@ -86,8 +78,7 @@ pub as_many : (living : List LivingEntity) (births : List (Birth × Handle)) (pa
     → map {B = Option (Birth × Handle)} Some births
     ≡ map (λ (pair : ℕ × ℤ). born_at living pair.0) pairs → length births ≡ length pairs
 as_many living births pairs are =
-    sym (length-map {B = Option (Birth × Handle)} births Some) ∙ ap length are
-    ∙ length-map pairs (λ (pair : ℕ × ℤ). born_at living pair.0)
+    search (rules, length-map)
 
 module _ (living : List LivingEntity) (index : FinMap handle_cmp ℕ)
     (indexed : IsIndexed living index) (id : ComponentId)

@@ -1,8 +1,7 @@
 -- What enters the map after a flush is each handle that is born, with its birth.
-use Rattle.std.proofs.Common.{◌≡◌, refl, sym, ap, ◌∙◌, ℕ, ◌+◌, ◌≤◌, ◌^◌, Bool, true, false, cond}
-use Rattle.std.proofs.Common.{not}
-use Rattle.std.proofs.Common.{◌&&◌, ◌||◌, true≢false, List, [], ◌∷◌, ◌++◌, length, drop, eqb}
-use Rattle.std.proofs.Common.{Option, Some, None, is_some, is_none, inl, inr, unwrap_or, arith}
+use Rattle.std.proofs.Common.{rules, ◌≡◌, refl, sym, ap, ◌∙◌, ℕ, ◌+◌, ◌≤◌, ◌^◌, Bool, true, false}
+use Rattle.std.proofs.Common.{cond, not, ◌&&◌, ◌||◌, true≢false, List, [], ◌∷◌, ◌++◌, length, drop}
+use Rattle.std.proofs.Common.{eqb, Option, Some, None, is_some, is_none, inl, inr, unwrap_or, arith}
 use Rattle.std.specs.Ordering.{eq_by_cmp}
 use Rattle.std.specs.Option.{option_map_or}
 use Rattle.std.specs.List.{position_from}
@@ -23,8 +22,8 @@ use Rattle.ent_alloc.proofs.Flushes.{born-apart, born-not_live}
 use Rattle.ent_storage.specs.EntityMap.{Entity, EntityMap, newborn}
 use Rattle.ent_queue.specs.Command.{Command}
 use Rattle.ent_world.specs.World.{AreLiving}
-use Rattle.ent_world.specs.Sync.{ordinal, no_system, handles_listed, ordinal_among, at_ordinal}
-use Rattle.ent_world.specs.Sync.{listed_birth, unlisted, unlisted_birth, birth_in, with_born}
+use Rattle.ent_world.specs.Sync.{ordinal, no_system, listed_birth, unlisted, unlisted_birth}
+use Rattle.ent_world.specs.Sync.{birth_in, with_born}
 use Rattle.ent_world.specs.Entering.{first_birth, AreNew, is_unnamed, named_queues, numbered}
 use Rattle.ent_world.proofs.BirthsByQueues.{or_named, given, or_named-none, IsOfSystem}
 use Rattle.ent_world.proofs.BirthsByQueues.{birth_by_index, listed_of_system, get-named_queues}
@@ -60,12 +59,7 @@ listed_anyhow : (queues : List (List Command)) (phase system other : ℕ) (h : H
     → is_none (listed_birth 0 other queues h) ≡ not (is_some (listed_birth phase system queues h))
 listed_anyhow [] phase system other h = refl
 listed_anyhow (q ∷ queues) phase system other h =
-    elim (ordinal_among (handles_listed q) h) as
-    (λ index. is_none (at_ordinal 0 other index (listed_birth 0 (other + 1) queues h))
-    ≡ not (is_some (at_ordinal phase system index (listed_birth phase (system + 1) queues h)))) [
-      | Some k ↦ refl
-      | None ↦ listed_anyhow queues phase (system + 1) (other + 1) h
-    ]
+    search (rules, listed_anyhow queues phase (system + 1) (other + 1) h)
 
 pub no_entity : (o : Option Entity) → is_some o ≡ false → o ≡ None
 no_entity None _ = refl

@@ -1,6 +1,7 @@
 -- Commands in order: what was applied so far, one more, and where it stopped.
-use Rattle.std.proofs.Common.{◌≡◌, refl, sym, ap, ◌∙◌, ℕ, suc, ◌+◌, ◌<◌, List, [], ◌∷◌, ◌++◌}
+use Rattle.std.proofs.Common.{rules, ◌≡◌, refl, sym, ap, ◌∙◌, ℕ, ◌+◌, ◌<◌, List, [], ◌∷◌, ◌++◌}
 use Rattle.std.proofs.Common.{length, take, drop, get_or, arith}
+use Rattle.std.proofs.lemmas.Grind.{common_steps}
 use Rattle.std.proofs.lemmas.List.{take_more, drop_more, length-drop}
 use Rattle.ent_handle.specs.Handle.{Handle}
 use Rattle.ent_queue.specs.Command.{Command, Spawn, SpawnMany, Insert, Remove, Despawn, Refused}
@@ -12,8 +13,7 @@ use Rattle.ent_world.specs.Sync.{first_part}
 -- the next element of a list, of which the first ones are done
 pub next_below : {X : Type 0} (xs rest : List X) (k : ℕ) (x : X) → drop k xs ≡ x ∷ rest → k
     < length xs
-next_below xs rest k x left = let len : length (drop k xs) ≡ suc (length rest) = ap length left in
-    omega (arith, length-drop k xs)
+next_below xs rest k x left = grind (arith, common_steps)
 
 pub next_taken : {X : Type 0} (xs rest : List X) (k : ℕ) (x : X) → drop k xs ≡ x ∷ rest
     → take (k + 1) xs ≡ take k xs ++ x ∷ []
@@ -34,8 +34,7 @@ next_left xs rest k x left =
 
 -- some are left before the end
 pub some_left : {X : Type 0} (xs : List X) (k : ℕ) → k < length xs → drop k xs ≡ [] → ⊥
-some_left xs k lt none = let len : length (drop k xs) ≡ 0 = ap length none in
-    omega (arith, length-drop k xs)
+some_left xs k lt none = grind (arith, common_steps, length-drop k xs)
 
 -- Handles.
 
@@ -51,13 +50,12 @@ on_each-append system command change (x ∷ xs) ys a = on_each-append system com
 pub after_commands-append : (system command : ℕ) (xs ys : List Command) (a : Applied)
     → after_commands system command (xs ++ ys) a ≡ after_commands system (command + length xs) ys
     (after_commands system command xs a)
-after_commands-append system command [] ys a = let same : command ≡ command + 0 = omega arith in
-    ap (λ n. after_commands system n ys a) same
+after_commands-append system command [] ys a = search (rules)
 after_commands-append system command (x ∷ xs) ys a =
-    let same : (command + 1) + length xs ≡ command + length (x ∷ xs) = omega arith in
-    after_commands-append system (command + 1) xs ys (after_command system command x a)
-    ∙ ap (λ n. after_commands system n ys (after_commands system (command + 1) xs
-    (after_command system command x a))) same
+    search (
+      rules,
+      after_commands-append system (command + 1) xs ys (after_command system command x a),
+    )
 
 pub first_alone : (done : ℕ) (c : Command) (rest : List Command) → first_part done (c ∷ rest)
     ≡ first_part done (c ∷ [])
@@ -73,9 +71,6 @@ first_alone done (Refused wanted why) rest = refl
 pub after_queues-append : (system : ℕ) (xs ys : List (List Command)) (a : Applied)
     → after_queues system (xs ++ ys) a ≡ after_queues (system + length xs) ys
     (after_queues system xs a)
-after_queues-append system [] ys a = let same : system ≡ system + 0 = omega arith in
-    ap (λ n. after_queues n ys a) same
+after_queues-append system [] ys a = search (rules)
 after_queues-append system (x ∷ xs) ys a =
-    let same : (system + 1) + length xs ≡ system + length (x ∷ xs) = omega arith in
-    after_queues-append (system + 1) xs ys (after_commands system 0 x a)
-    ∙ ap (λ n. after_queues n ys (after_queues (system + 1) xs (after_commands system 0 x a))) same
+    search (rules, after_queues-append (system + 1) xs ys (after_commands system 0 x a))

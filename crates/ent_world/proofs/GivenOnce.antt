@@ -1,14 +1,14 @@
 -- Over the frames of a run no handle is given twice: each frame keeps the list of all given handles
 -- free of repetitions.
-use Rattle.std.proofs.Common.{◌≡◌, refl, sym, ◌∙◌, subst, append-nil, append_assoc, arith}
-use Rattle.std.proofs.Common.{ℕ, true, List, [], ◌∷◌, ◌++◌, Result, Ok, Err}
+use Rattle.std.proofs.Common.{rules, ◌≡◌, refl, sym, ◌∙◌, subst, append-nil, append_assoc, ℕ, true}
+use Rattle.std.proofs.Common.{List, [], ◌∷◌, ◌++◌, Result, Ok, Err}
 use Rattle.std.proofs.lemmas.List.Elements.{All-nil}
 use Rattle.ent_handle.specs.Handle.{Handle}
 use Rattle.ent_alloc.specs.Limits.{Limits, AreLimits}
 use Rattle.ent_alloc.specs.declared.space.Space.{Space}
 use Rattle.ent_alloc.specs.Sequential.{Allocator, opening, after_take, reply_to, born}
 use Rattle.ent_alloc.specs.Sound.{IsSound, IsLive}
-use Rattle.ent_alloc.specs.Spent.{IsSpent, AreSpent}
+use Rattle.ent_alloc.specs.Spent.{AreSpent}
 use Rattle.ent_alloc.specs.History.{Call, IsLegal, after_history, handles_in, given_in}
 use Rattle.ent_alloc.proofs.Soundness.{opening-sound, after_take-sound, after_flush-sound}
 use Rattle.ent_alloc.proofs.Soundness.{after_free-sound}
@@ -28,8 +28,7 @@ call-given : (s : Allocator) (n : ℕ) (reply : Result (List Handle) Space) (giv
     → IsSound s → reply ≡ reply_to s n → AreSpent s given
     → AreSpent (after_take s n) (given ++ handles_in reply)
 call-given s n (Ok more) given sound is once = take-given s n given more sound (sym is) once
-call-given s n (Err space) given sound is once = subst (AreSpent (after_take s n))
-    (sym (append-nil given)) (refused-given s n given once)
+call-given s n (Err space) given sound is once = search (rules, append-nil, refused-given)
 
 -- a legal history gives what was never given
 pub history-given : (s : Allocator) (history : List Call) (given : List Handle) → IsSound s
@@ -177,11 +176,7 @@ frame-living queues history w sound living = sync-living queues (after_calls his
 
 -- nothing was given
 pub opening-given : (limits : Limits) → AreSpent (opening limits) []
-opening-given limits = record {
-  distinct = λ i j d lt within. absurd (omega arith);
-  spent =
-      All-nil (IsSpent (opening limits));
-}
+opening-given limits = search (rules, All-nil)
 
 pub first_world-sound : (limits : Limits) → AreLimits limits
     → IsSound (first_world limits).allocator

@@ -1,5 +1,5 @@
 -- What each change of a living entity keeps, commands keep, and so do queues of them.
-use Rattle.std.proofs.Common.{◌≡◌, refl, ℕ, ◌+◌, true, false, cond, List, [], ◌∷◌}
+use Rattle.std.proofs.Common.{rules, ◌≡◌, ℕ, ◌+◌, true, List, [], ◌∷◌}
 use Rattle.std.specs.FinMap as map
 use Rattle.ent_handle.specs.Handle.{Handle}
 use Rattle.ent_storage.specs.Components.{Components, with_items}
@@ -7,9 +7,8 @@ use Rattle.ent_storage.specs.EntityMap.{with_components}
 use Rattle.ent_queue.specs.Command.{Command, Spawn, SpawnMany, Insert, Remove, Despawn, Refused}
 use Rattle.ent_world.specs.declared.fault.FaultKind.TheVariants as kind
 use Rattle.ent_world.specs.World.{World, lives_in}
-use Rattle.ent_world.specs.Effects.{Applied, on_entity, on_each, with_fault, after_insert}
-use Rattle.ent_world.specs.Effects.{after_remove, after_despawn, after_command, after_commands}
-use Rattle.ent_world.specs.Effects.{after_queues}
+use Rattle.ent_world.specs.Effects.{Applied, on_entity, on_each, after_insert, after_remove}
+use Rattle.ent_world.specs.Effects.{after_despawn, after_command, after_commands, after_queues}
 
 -- A fact about worlds that holds after each change of a living entity, if it held before.
 pub record IsKept (P : World → Type 0) : Type 0 where
@@ -23,12 +22,7 @@ on_entity-keeps : (P : World → Type 0) (system command : ℕ) (change : Handle
     → ((h : Handle) (w : World) → lives_in w h ≡ true → P w → P (change h w))
     → (h : Handle) (a : Applied) → P a.world → P (on_entity system command change h a).world
 on_entity-keeps P system command change keeps h a before =
-    elim (lives_in a.world h) as (λ b. lives_in a.world h ≡ b
-    → P (cond b (record a { world = change h a.world })
-    (with_fault system command (kind.NotAlive h) a)).world) [
-      | true ↦ λ there. keeps h a.world there before
-      | false ↦ λ _. before
-    ] refl
+    search (rules)
 
 -- many handles
 on_each-keeps : (P : World → Type 0) (system command : ℕ) (change : Handle → World → World)

@@ -1,5 +1,6 @@
 -- What is left of a list after a stop, one element after the other: none before the stop, the rest
 -- of the element at the stop, and each later one whole.
+use Rattle.std.proofs.lemmas.Grind.{common_steps}
 use Rattle.std.proofs.Common.{◌≡◌, refl, sym, ap, ◌∙◌, ℕ, zero, suc, ◌+◌, ◌-◌, ◌<◌, ◌≤◌, List, []}
 use Rattle.std.proofs.Common.{◌∷◌, ◌++◌, length, take, drop, arith, inl, inr}
 use Rattle.std.specs.Prelude.{◌⊎◌}
@@ -68,8 +69,7 @@ pub each_left-skip : (system command : ℕ) (change : Handle → World → World
     → on_each system command change (drop d (take (k + 1) hs)) a
     ≡ on_each system command change (drop d (take k hs)) a
 each_left-skip system command change hs rest k d h a left lt =
-    ap (λ xs. on_each system command change xs a) (none_after hs rest k h left d lt
-    ∙ sym (none_before hs rest k h left d (omega arith)))
+    grind (arith, common_steps)
 
 pub each_left-next : (system command : ℕ) (change : Handle → World → World) (hs rest : List Handle)
     (k d : ℕ) (h : Handle) (a : Applied) → drop k hs ≡ h ∷ rest → d ≤ k

@@ -1,13 +1,13 @@
 -- The entities of a world's map are those whose handle is alive, also after each change of the two.
-use Rattle.std.proofs.Common.{◌≡◌, refl, sym, ap, ◌∙◌, Bool, true, false, cond, not, ◌&&◌, ◌||◌}
-use Rattle.std.proofs.Common.{Option, Some, None, is_some, List}
+use Rattle.std.proofs.Common.{rules, ◌≡◌, refl, sym, ap, ◌∙◌, Bool, true, false, cond, not, ◌&&◌}
+use Rattle.std.proofs.Common.{◌||◌, Option, Some, None, is_some, List}
 use Rattle.std.specs.Ordering.{eq_by_cmp}
 use Rattle.std.specs.Option.{option_map_or}
 use Rattle.std.specs.FinSet as set
 use Rattle.std.specs.FinMap as map
 use Rattle.ent_handle.specs.Handle.{Handle, handle_cmp, handle_cmp_total}
 use Rattle.ent_alloc.specs.Sequential.{Allocator}
-use Rattle.ent_alloc.specs.History.{Call, after_history, requests_of}
+use Rattle.ent_alloc.specs.History.{Call, after_history}
 use Rattle.ent_alloc.proofs.Histories.{after_history-takes}
 use Rattle.ent_alloc.proofs.PoolLaw.{live-after_takes}
 use Rattle.ent_alloc.proofs.HandleSets.{same_handle}
@@ -55,9 +55,7 @@ keys-remove live m h same g =
 pub living-history : (s t : Allocator) (calls : List Call) (m : EntityMap) → AreLiving s m → t
     ≡ after_history s calls → AreLiving t m
 living-history s t calls m same after h =
-    same h ∙ ap (λ live. set.contains live h)
-    (sym (ap (λ a. a.live) (after ∙ after_history-takes s calls)
-    ∙ live-after_takes s (requests_of calls)))
+    search (rules, after_history-takes, live-after_takes)
 
 -- other components of an entity that is there, or of none
 pub same_keys-components : (m : EntityMap) (h : Handle) (change : Components → Components)

@@ -1,10 +1,10 @@
 -- The handle that is given next, and an entity that is made or taken back.
-use Rattle.std.proofs.Common.{◌≡◌, refl, sym, ap, ◌∙◌, subst, ℕ, ◌<◌, ◌≤◌, Bool, true, false, cond}
-use Rattle.std.proofs.Common.{not, true≢false, List, [], ◌∷◌, ◌++◌, length, take, reverse, filter}
-use Rattle.std.proofs.Common.{slice_get, All, arith, pos, ◌-ℤ◌, suc, ◌⊎◌, inl, inr, length-append}
-use Rattle.std.proofs.Common.{Option, Some, None, IfSome, Result, Ok, Err, OnOk, OnErr, is_err}
+use Rattle.std.proofs.Common.{rules, ◌≡◌, refl, sym, ap, ◌∙◌, subst, ℕ, ◌<◌, ◌≤◌, Bool, true, false}
+use Rattle.std.proofs.Common.{cond, true≢false, List, [], ◌∷◌, ◌++◌, length, take, slice_get, All}
+use Rattle.std.proofs.Common.{arith, pos, ◌-ℤ◌, suc, ◌⊎◌, inl, inr, length-append, Option, Some}
+use Rattle.std.proofs.Common.{None, IfSome, Result, Ok, Err, OnOk, OnErr, is_err}
+use Rattle.std.proofs.lemmas.Grind.{common_steps}
 use Rattle.std.specs.Ordering.{eq_by_cmp}
-use Rattle.std.specs.Option.{option_map, option_map_or}
 use Rattle.std.specs.FinSet as set
 use Rattle.std.specs.FinMap as map
 use Rattle.std.proofs.lemmas.List.Elements.{All-head}
@@ -15,16 +15,15 @@ use Rattle.ent_handle.specs.Handle.{Handle, handle_cmp, handle_cmp_total}
 use Rattle.ent_handle.specs.Handle.{handle_cmp-IsAntisymmetric}
 use Rattle.ent_alloc.specs.declared.space.Space.{Space}
 use Rattle.ent_alloc.specs.declared.span.Span.{Span}
-use Rattle.ent_alloc.specs.Sequential.{Allocator, is_old, is_fresh, listed, reply_to, reply_from}
-use Rattle.ent_alloc.specs.Sequential.{pool_at, cursor, top}
+use Rattle.ent_alloc.specs.Sequential.{Allocator, listed, reply_to, reply_from, pool_at, cursor}
+use Rattle.ent_alloc.specs.Sequential.{top}
 use Rattle.ent_alloc.specs.Sound.{IsSound, IsLive}
 use Rattle.ent_alloc.proofs.HandleSets.{same_handle, itself}
 use Rattle.std.proofs.lemmas.Int.{ints}
 use Rattle.ent_alloc.proofs.PoolLaw.{reply-cursor}
-use Rattle.ent_alloc.proofs.Replies.{fresh_is_not_old, served_from, refused_from, reply-not_live}
+use Rattle.ent_alloc.proofs.Replies.{reply-not_live}
 use Rattle.ent_storage.specs.Components.{with_items, missing}
-use Rattle.ent_storage.specs.EntityMap.{Entity, EntityMap, newborn, with_components}
-use Rattle.ent_storage.specs.EntityMap.{components_of}
+use Rattle.ent_storage.specs.EntityMap.{Entity, EntityMap, newborn, with_components, components_of}
 use Rattle.ent_storage.specs.Places.{AreWithout}
 use Rattle.ent_storage.proofs.ElementsAt.{at_push_before}
 use Rattle.ent_bundle.specs.Bundle.{Bundle}
@@ -48,11 +47,7 @@ on_either (Err e) p q = inr q
 
 alone : (made : ℕ) (h : Handle) → listed made (h ∷ []) ≡ h ∷ []
 alone made h =
-    elim (is_old made h) as (λ b. is_fresh made h ≡ not b → reverse (cond b (h ∷ []) [])
-    ++ filter (is_fresh made) (h ∷ []) ≡ h ∷ []) [
-      | true ↦ λ is. ap (λ b. h ∷ cond b (h ∷ []) []) is
-      | false ↦ λ is. ap (λ b. cond b (h ∷ []) []) is
-    ] (fresh_is_not_old made h)
+    grind (arith, common_steps)
 
 front_of : (made : ℕ) (pool : List Handle) → 1 ≤ length pool → (h : Handle)
     × (slice_get pool 0 ≡ Some h) × (listed made (take 1 pool) ≡ h ∷ [])
@@ -63,18 +58,11 @@ front_of made (h ∷ pool) some = (h, refl, alone made h)
 pub one_given : (s : Allocator) (given rest : List Handle) (h : Handle) → reply_to s 1 ≡ Ok given
     → given ≡ h ∷ rest → slice_get s.pool 0 ≡ Some h
 one_given s given rest h is first =
-    let served = served_from s 1 given is in
-    let front = front_of s.made s.pool served.0 in
-    let same : front.0 ∷ [] ≡ h ∷ rest = sym front.2 ∙ sym served.1 ∙ first in
-    let head : front.0 ≡ h = cc in
-    front.1 ∙ ap Some head
+    grind (arith, common_steps)
 
 pub some_given : (s : Allocator) (given : List Handle) → reply_to s 1 ≡ Ok given → given ≡ [] → ⊥
 some_given s given is none =
-    let served = served_from s 1 given is in
-    let front = front_of s.made s.pool served.0 in
-    let same : front.0 ∷ [] ≡ [] = sym front.2 ∙ sym served.1 ∙ none in
-    cc
+    grind (arith, common_steps)
 
 pub given_new : (s : Allocator) (given rest : List Handle) (h : Handle) → IsSound s → reply_to s 1
     ≡ Ok given → given ≡ h ∷ rest → set.contains s.live h ≡ false
@@ -87,15 +75,10 @@ given_new s given rest h sound is first = by_test (set.contains s.live h) refl
         (reply-not_live s 1 given is sound)) lives)
 
 pub none_given : (s : Allocator) (space : Space) → reply_to s 1 ≡ Err space → s.pool ≡ []
-none_given s space is = empty s.pool (refused_from s 1 space is).0
-  where
-    empty : (pool : List Handle) → length pool < 1 → pool ≡ []
-    empty [] _ = refl
-    empty (h ∷ pool) none = absurd (omega arith)
+none_given s space is = grind (arith, common_steps)
 
 pub pool_some : (s : Allocator) (given : List Handle) → reply_to s 1 ≡ Ok given → s.pool ≡ [] → ⊥
-pool_some s given is none = let served = served_from s 1 given is in let len : length s.pool
-    ≡ 0 = ap length none in omega arith
+pool_some s given is none = grind (arith, common_steps)
 
 -- the reply where nothing is requested
 pub reply_at_top : (s : Allocator) (span : Span) (r : Result (List Handle) Space) → IsSound s
@@ -133,11 +116,7 @@ pub some_items : (m n : EntityMap) (h : Handle) (birth : Birth) (items : Bundle)
     → n ≡ map.insert m h (newborn birth)
     → IfSome (components_of n h) (λ held. 0 < missing held items) → 0 < length items
 some_items m n h birth [] made some =
-    let here : components_of n h ≡ Some (newborn birth).components = ap (λ k. components_of k h) made
-    ∙ ap (option_map (λ e. e.components)) (get_inserted m h (newborn birth)) in
-    let none : 0 < missing (newborn birth).components [] =
-    subst (λ o. IfSome o (λ held. 0 < missing held [])) here some in
-    absurd (omega (arith, none))
+    search (rules, get_inserted)
 some_items m n h birth (x ∷ items) made some = omega arith
 
 -- a newborn entity and its components
@@ -145,12 +124,7 @@ pub made_whole : (m : EntityMap) (h : Handle) (birth : Birth) (items : Bundle)
     → with_components (map.insert m h (newborn birth)) h (λ held. with_items held items)
     ≡ map.insert m h (spawned birth items)
 made_whole m h birth items =
-    let n = map.insert m h (newborn birth) in
-    ap (λ (o : Option Entity).
-    option_map_or
-    (λ e. map.insert n h (record e { components = with_items e.components items })) o n)
-    (get_inserted m h (newborn birth))
-    ∙ insert_twice m h (newborn birth) (spawned birth items)
+    search (rules, get_inserted, insert_twice)
 
 -- an entity that came and went
 pub taken_back : (m : EntityMap) (h : Handle) (e : Entity) → map.get m h ≡ None
@@ -177,14 +151,11 @@ same_lists (x ∷ xs) (y ∷ ys) each =
 -- a handle that came to the end of the places and went
 pub end_taken_back : (places left : List Handle) (h : Handle)
     → AreWithout (length places) (places ++ h ∷ []) left → left ≡ places
-end_taken_back places left h without = same_lists left places (λ k. at k (cases_lt k (length places)))
-  where
-    at : (k : ℕ) → (k < length places) ⊎ (length places ≤ k) → slice_get left k ≡ slice_get places k
-    at k (inl below) =
-        let long = length-append places (h ∷ []) in
-        without.others k (λ e. absurd (omega arith)) (omega arith)
-        ∙ at_push_before places h k below
-    at k (inr past) =
-        let long = length-append places (h ∷ []) in
-        let less = without.one_less in
-        slice_get_past left k (omega arith) ∙ sym (slice_get_past places k past)
+end_taken_back places left h without = search (
+  rules,
+  same_lists,
+  cases_lt,
+  length-append,
+  at_push_before,
+  slice_get_past,
+)

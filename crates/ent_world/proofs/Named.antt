@@ -1,9 +1,10 @@
 -- One induction over queues, and so one file of more than 400 lines: queues do to a world what the
 -- same queues by births do to births alone. If the births told what the world was, they tell what
 -- it is afterwards, and the faults are the same.
-use Rattle.std.proofs.Common.{◌≡◌, refl, sym, ap, ◌∙◌, subst, ℕ, ◌+◌, Bool, true, false}
-use Rattle.std.proofs.Common.{cond, not, T, true≢false, List, [], ◌∷◌, ◌++◌, map, filter, All}
-use Rattle.std.proofs.Common.{Option, Some, None, is_some, option_map, unwrap_or}
+use Rattle.std.proofs.Common.{arith, rules, ◌≡◌, refl, sym, ap, ◌∙◌, subst, ℕ, ◌+◌, Bool, true}
+use Rattle.std.proofs.Common.{false, cond, not, T, true≢false, List, [], ◌∷◌, ◌++◌, map, filter}
+use Rattle.std.proofs.Common.{All, Option, Some, None, is_some, option_map, unwrap_or}
+use Rattle.std.proofs.lemmas.Grind.{common_steps}
 use Rattle.std.specs.List.{AllZip}
 use Rattle.std.specs.Option.{option_map_or}
 use Rattle.std.specs.Ordering.{eq_by_cmp}
@@ -27,11 +28,10 @@ use Rattle.ent_alloc.proofs.HandleSets.{same_handle, itself}
 use Rattle.ent_storage.specs.Components.{Components, with_items}
 use Rattle.ent_storage.specs.EntityMap.{Entity, EntityMap, birth_of, with_components}
 use Rattle.ent_bundle.specs.Bundle.{Bundle, with_put}
-use Rattle.ent_queue.specs.Command.{Command, Spawn, SpawnMany, Insert, Remove}
-use Rattle.ent_queue.specs.Command.{Despawn, Refused}
+use Rattle.ent_queue.specs.Command.{Command, Spawn, SpawnMany, Insert, Remove, Despawn, Refused}
 use Rattle.ent_world.specs.declared.fault.FaultKind.TheVariants as kind
 use Rattle.ent_world.specs.World.{World, lives_in}
-use Rattle.ent_world.specs.Effects.{Applied, applied, on_entity, on_each, with_fault, after_insert}
+use Rattle.ent_world.specs.Effects.{Applied, on_entity, on_each, with_fault, after_insert}
 use Rattle.ent_world.specs.Effects.{after_remove, after_despawn, after_command, after_commands}
 use Rattle.ent_world.specs.Effects.{after_queues}
 use Rattle.ent_world.specs.BirthsAlone.{BirthMap, BirthCommand, BirthFault, AppliedAlone, held_by}
@@ -385,8 +385,7 @@ entity_with m h birth is = by (finite.get m h) refl
 pub birth_by_name : (name : Handle → Birth) (m : EntityMap) (h : Handle) → AreNames name m
     → IsThere m h → birth_of m h ≡ Some (name h)
 birth_by_name name m h names there =
-    let found = entity_there m h there in
-    ap (λ o. option_map (λ e. e.birth) o) found.1 ∙ ap Some (sym (names h found.0 found.1))
+    grind (arith, common_steps)
 
 -- the names of entities with births of their own are distinct
 pub names_apart : (name : Handle → Birth) (m : EntityMap) (births : BirthMap) → AreNamed m births
@@ -398,26 +397,7 @@ names_apart name m births named names g h g_there h_there same =
 
 told_at_start : (name : Handle → Birth) (m : EntityMap) (births : BirthMap) → AreNamed m births
     → AreNames name m → AreTold m name m births
-told_at_start name m births named names = record {
-  rising = named.rising;
-  lived = λ h there. there;
-  named = names;
-  there = λ h here.
-      let found = entity_there m h here in
-      ap (λ b. find birth_cmp b births) (names h found.0 found.1)
-      ∙ named.there h found.0 found.1
-      ∙ sym (ap told found.1);
-  only = λ birth some. by birth (find birth_cmp birth births) refl some;
-}
-  where
-    by : (birth : Birth) (o : Option Bundle) → find birth_cmp birth births ≡ o
-        → is_some (find birth_cmp birth births) ≡ true
-        → (h : Handle) × (IsThere m h × (name h ≡ birth))
-    by birth None none some = absurd (true≢false (sym some ∙ ap is_some none))
-    by birth (Some items) is some =
-        let owner = named.only birth items is in
-        let found = entity_with m owner.0 birth owner.1 in
-        (owner.0, (ap is_some found.1.0, names owner.0 found.0 found.1.0 ∙ found.1.1))
+told_at_start name m births named names = grind (arith, common_steps)
 
 named_at_end : (start : EntityMap) (name : Handle → Birth) (m : EntityMap) (births : BirthMap)
     → AreDistinct name start → AreTold start name m births → AreNamed m births
@@ -474,6 +454,4 @@ pub sync-named : (name : Handle → Birth) (queues : List (List Command))
     → AreNamedAfter name (sync queues w)
     (after_birth_queues 0 births (record { entities = m; faults = [] }))
 sync-named name queues births w m named names are =
-    queues-named name 0 queues births (applied (after_births queues w) [])
-    (record { entities = m; faults = [] })
-    (record { entities = named; names = names; faults = tt }) are
+    search (rules, queues-named)

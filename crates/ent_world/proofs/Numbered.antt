@@ -1,7 +1,8 @@
 -- The handles that no queue lists: each gets the birth of its ordinal among them.
-use Rattle.std.proofs.Common.{◌≡◌, refl, sym, ap, ◌∙◌, ℕ, ◌+◌, Bool, true, false, cond, eqb}
-use Rattle.std.proofs.Common.{◌||◌, true≢false, List, [], ◌∷◌, filter, All, AllPairs}
+use Rattle.std.proofs.Common.{arith, rules, ◌≡◌, refl, sym, ap, ◌∙◌, ℕ, ◌+◌, Bool, true, false}
+use Rattle.std.proofs.Common.{cond, eqb, ◌||◌, true≢false, List, [], ◌∷◌, filter, All, AllPairs}
 use Rattle.std.proofs.Common.{Option, Some, None}
+use Rattle.std.proofs.lemmas.Grind.{common_steps}
 use Rattle.std.specs.Ordering.{eq_by_cmp}
 use Rattle.std.specs.Option.{option_map, option_map_or}
 use Rattle.std.specs.List.{position_from}
@@ -26,13 +27,7 @@ AreDistinct [] = Unit {0}
 AreDistinct (h ∷ hs) = (stands_in hs h ≡ false) × AreDistinct hs
 
 no_other : (h : Handle) (hs : List Handle) → All (AreApart h) hs → stands_in hs h ≡ false
-no_other h hs apart = by_test (stands_in hs h) refl
-  where
-    by_test : (b : Bool) → stands_in hs h ≡ b → b ≡ false
-    by_test false _ = refl
-    by_test true there =
-        absurd (not_apart h (All-contains (AreApart h) hs h apart
-        (Contains-from_stands_in hs h there)))
+no_other h hs apart = search (rules, not_apart, All-contains, Contains-from_stands_in)
 
 pub distinct : (hs : List Handle) → AllPairs AreApart hs → AreDistinct hs
 distinct [] apart = tt
@@ -111,12 +106,7 @@ waiting m hs = filter (is_unnamed m) hs
 
 apart_in : (h g : Handle) (hs : List Handle) → stands_in hs h ≡ false → stands_in hs g ≡ true
     → eq_by_cmp handle_cmp g h ≡ false
-apart_in h g hs none there = by_test (eq_by_cmp handle_cmp g h) refl
-  where
-    by_test : (b : Bool) → eq_by_cmp handle_cmp g h ≡ b → b ≡ false
-    by_test false _ = refl
-    by_test true tied = absurd (true≢false (sym there ∙ ap (stands_in hs) (same_handle g h tied)
-        ∙ none))
+apart_in h g hs none there = grind (arith, common_steps)
 
 -- one more birth changes nothing of the others
 waiting-others : (h : Handle) (birth : Birth) (hs : List Handle) (m : EntityMap) → stands_in hs h

@@ -1,6 +1,6 @@
 -- The rows of entities stay their places, after each change of the two, and there are as many places
 -- as handles live.
-use Rattle.std.proofs.Common.{◌≡◌, ◌≢◌, refl, sym, ap, subst, ◌∙◌, ℕ, suc, ◌+◌, ◌-◌, ◌<◌}
+use Rattle.std.proofs.Common.{rules, ◌≡◌, ◌≢◌, refl, sym, ap, subst, ◌∙◌, ℕ, suc, ◌+◌, ◌-◌, ◌<◌}
 use Rattle.std.proofs.Common.{◌≤◌, ◌^◌, Bool, true, false, true≢false, cond, ◌||◌, not, ◌&&◌, ◌⊎◌}
 use Rattle.std.proofs.Common.{inl, inr, List, [], ◌∷◌, ◌++◌, length, slice_get, Option, Some, None}
 use Rattle.std.proofs.Common.{is_some, arith, append-nil, length-append}
@@ -48,10 +48,7 @@ pub rows-components : (rows : Rows) (places left : List Handle) (m n : EntityMap
     (change : Components → Components) → AreRows rows places m → left ≡ places
     → n ≡ with_components m h change → AreRows rows left n
 rows-components rows places left m n h change are stay changed =
-    rw (stay, changed) (record {
-      at = are.at;
-      each = λ g. are.each g ∙ sym (same_keys-components m h change g);
-    })
+    search (rules, same_keys-components)
 
 -- one entity more, at the next place
 module _ (rows : Rows) (places : List Handle) (m : EntityMap) (h : Handle) (e : Entity)
@@ -316,10 +313,7 @@ rows-count s rows places m are living =
 -- no more live than there are slots
 few_live : (s : Allocator) → IsSound s → set.len s.live < 2 ^ 32
 few_live s sound =
-    let rest = retired-rest s sound in
-    let made = sound.made in
-    let slots = sound.limits.slots in
-    omega arith
+    search (rules, retired-rest)
 
 -- and there will be no more once all that is reserved is born
 pub born-fit : (s : Allocator) (rows : Rows) (places : List Handle) (m : EntityMap) → IsSound s

@@ -1,12 +1,12 @@
 -- A sync that is cut anywhere, and goes on with what is left, is the whole sync; and faults are
 -- only added to those that there were.
-use Rattle.std.proofs.Common.{◌≡◌, refl, sym, ap, ◌∙◌, ℕ, zero, suc, ◌+◌, List, [], ◌∷◌, ◌++◌, Bool}
-use Rattle.std.proofs.Common.{take, drop, arith, true, false, inl, inr, ◌≤◌, append-nil}
+use Rattle.std.proofs.Common.{rules, ◌≡◌, refl, sym, ap, ◌∙◌, ℕ, zero, suc, ◌+◌, List, [], ◌∷◌}
+use Rattle.std.proofs.Common.{◌++◌, Bool, take, drop, arith, true, false, inl, inr, ◌≤◌, append-nil}
+use Rattle.std.proofs.lemmas.Grind.{common_steps}
 use Rattle.std.specs.Prelude.{if◌then◌else◌}
 use Rattle.std.proofs.lemmas.List.{append_assoc, take-take}
 use Rattle.ent_handle.specs.Handle.{Handle}
-use Rattle.ent_queue.specs.Command.{Command, Spawn, SpawnMany, Insert, Remove, Despawn}
-use Rattle.ent_queue.specs.Command.{Refused}
+use Rattle.ent_queue.specs.Command.{Command, Spawn, SpawnMany, Insert, Remove, Despawn, Refused}
 use Rattle.ent_world.specs.World.{World, lives_in}
 use Rattle.ent_world.specs.declared.fault.Fault.{Fault}
 use Rattle.ent_world.specs.declared.fault.FaultKind.{FaultKind}
@@ -15,8 +15,8 @@ use Rattle.ent_world.specs.Effects.{Applied, applied, on_entity, on_each, with_f
 use Rattle.ent_world.specs.Effects.{after_remove, after_despawn, refused, after_command}
 use Rattle.ent_world.specs.Effects.{after_commands, after_queues}
 use Rattle.ent_world.specs.Sync.{first_part, cut_commands, cut}
-use Rattle.ent_world.specs.Rest.{last_part, left_commands, after_left_queues, after_left}
-use Rattle.ent_world.specs.Rest.{IsLaterIn, IsLater}
+use Rattle.ent_world.specs.Rest.{last_part, left_commands, after_left_queues, after_left, IsLaterIn}
+use Rattle.ent_world.specs.Rest.{IsLater}
 use Rattle.ent_world.proofs.Folds.{first_alone}
 
 -- ---- cut and gone on
@@ -36,8 +36,7 @@ parts_split : (system command done : ℕ) (cs : List Command) (a : Applied)
 parts_split system command done [] a = refl
 parts_split system command done (Spawn h items ∷ cs) a = refl
 parts_split system command done (SpawnMany hs items ∷ cs) a =
-    ap (after_commands system (command + 1) cs)
-    (each_split system command (after_insert items) done hs a)
+    search (rules, each_split)
 parts_split system command done (Insert h items ∷ cs) a = refl
 parts_split system command done (Remove h id ∷ cs) a = refl
 parts_split system command done (Despawn h ∷ cs) a = refl
@@ -49,24 +48,16 @@ commands_split : (system from command done : ℕ) (q : List Command) (a : Applie
     ≡ after_commands system (from + command) (left_commands command done q)
     (after_commands system from (cut_commands command done q) a)
 commands_split system from zero done q a =
-    parts_split system from done q a
-    ∙ ap (λ n. after_commands system n (last_part done q) (after_commands system from
-    (first_part done q) a)) (omega arith)
+    search (rules, parts_split)
 commands_split system from (suc command) done [] a = refl
 commands_split system from (suc command) done (c ∷ q) a =
-    commands_split system (from + 1) command done q (after_command system from c a)
-    ∙ ap (λ n. after_commands system n (left_commands command done q)
-    (after_commands system (from + 1) (cut_commands command done q)
-    (after_command system from c a)))
-    (omega arith)
+    search (rules, commands_split system (from + 1) command done q (after_command system from c a))
 
 commands_whole : (system command done : ℕ) (q : List Command) (a : Applied)
     → after_commands system 0 q a ≡ after_commands system command (left_commands command done q)
     (after_commands system 0 (cut_commands command done q) a)
 commands_whole system command done q a =
-    commands_split system 0 command done q a
-    ∙ ap (λ n. after_commands system n (left_commands command done q)
-    (after_commands system 0 (cut_commands command done q) a)) (omega arith)
+    search (rules, commands_split)
 
 -- from the queue of a number on, if the first of these has that number
 queues_split : (from system command done : ℕ) (qs : List (List Command)) (a : Applied)
@@ -75,24 +66,17 @@ queues_split : (from system command done : ℕ) (qs : List (List Command)) (a : 
     (after_queues from (cut system command done qs) a)
 queues_split from zero command done [] a = refl
 queues_split from zero command done (q ∷ qs) a =
-    ap (after_queues (from + 1) qs) (commands_whole from command done q a)
-    ∙ ap (λ n. after_left_queues n command done (q ∷ qs)
-    (after_commands from 0 (cut_commands command done q) a)) (omega arith)
+    search (rules, commands_whole)
 queues_split from (suc system) command done [] a = refl
 queues_split from (suc system) command done (q ∷ qs) a =
-    queues_split (from + 1) system command done qs (after_commands from 0 q a)
-    ∙ ap (λ n. after_left_queues n command done (drop system qs)
-    (after_queues (from + 1) (cut system command done qs) (after_commands from 0 q a)))
-    (omega arith)
+    search (rules, queues_split (from + 1) system command done qs (after_commands from 0 q a))
 
 -- The sync that is cut there and then goes on has applied all queues.
 pub cut_and_left : (system command done : ℕ) (queues : List (List Command)) (a : Applied)
     → after_left system command done queues (after_queues 0 (cut system command done queues) a)
     ≡ after_queues 0 queues a
 cut_and_left system command done queues a =
-    sym (queues_split 0 system command done queues a
-    ∙ ap (λ n. after_left_queues n command done (drop system queues)
-    (after_queues 0 (cut system command done queues) a)) (omega arith))
+    grind (arith, common_steps, queues_split 0 system command done queues a)
 
 -- ---- a cut in a cut
 

@@ -1,16 +1,15 @@
 -- Entering one by one, with room for all, and who stands from a place on.
-use Rattle.std.proofs.Common.{◌≡◌, ◌≢◌, refl, sym, ap, ◌∙◌, ◌+◌, ◌<◌, ◌≤◌, Bool, true, false, cond}
-use Rattle.std.proofs.Common.{true≢false, ℕ, zero, suc, ◌-◌, List, [], ◌∷◌, ◌++◌, drop}
-use Rattle.std.proofs.Common.{slice_get, is_some, arith}
+use Rattle.std.proofs.Common.{rules, ◌≡◌, ◌≢◌, refl, sym, ap, ◌∙◌, ◌+◌, ◌<◌, ◌≤◌, Bool, true, false}
+use Rattle.std.proofs.Common.{cond, true≢false, ℕ, zero, suc, ◌-◌, List, [], ◌∷◌, ◌++◌, drop}
+use Rattle.std.proofs.Common.{slice_get, is_some, arith, Some, None, is_err, Result, Ok, Err, OnOk}
+use Rattle.std.proofs.Common.{IfErr, IsErrOf, IsTrue, ◌||◌, ◌↔◌}
 use Rattle.std.proofs.lemmas.Option.{none-some, same_Some}
-use Rattle.std.proofs.Common.{Some, None, is_err, Result, Ok, Err, OnOk, IfErr, IsErrOf, IsTrue}
-use Rattle.std.proofs.Common.{◌||◌, ◌↔◌}
 use Rattle.std.specs.Ordering.{eq_by_cmp}
 use Rattle.std.specs.FinSet as set
 use Rattle.std.specs.FinMap as map
 use Rattle.ent_handle.specs.declared.birth.Birth.{Birth}
 use Rattle.ent_handle.specs.Handle.{Handle, handle_cmp, handle_cmp_total}
-use Rattle.ent_alloc.specs.declared.state.State.TheVariants.{Alive, Reserved, Gone}
+use Rattle.ent_alloc.specs.declared.state.State.TheVariants.{Alive}
 use Rattle.ent_alloc.specs.Sequential.{Allocator, stands_in, state_of}
 use Rattle.ent_alloc.proofs.HandleSets.{same_handle, itself}
 use Rattle.ent_storage.specs.EntityMap.{Entity, EntityMap, Store, newborn}
@@ -87,8 +86,7 @@ slice_get-drop : (places : List Handle) (n i : ℕ) → slice_get (drop n places
 slice_get-drop places zero i = let same : i ≡ 0 + i = omega arith in ap (slice_get places) same
 slice_get-drop [] (suc n) i = refl
 slice_get-drop (x ∷ places) (suc n) i =
-    let next : suc (n + i) ≡ suc n + i = omega arith in
-    slice_get-drop places n i ∙ ap (slice_get (x ∷ places)) next
+    search (rules, slice_get-drop places n i)
 
 some_one : (x h : Handle) → Some x ≡ Some h → eq_by_cmp handle_cmp h x ≡ true
 some_one x h is = ap (λ y. eq_by_cmp handle_cmp h y) (same_Some x h is) ∙ itself h
@@ -97,11 +95,7 @@ pub stands_at : (places : List Handle) (i : ℕ) (h : Handle) → slice_get plac
     → stands_in places h ≡ true
 stands_at [] i h is = absurd (none-some h is)
 stands_at (x ∷ places) zero h is = ap (λ b. b || stands_in places h) (some_one x h is)
-stands_at (x ∷ places) (suc i) h is = later (eq_by_cmp handle_cmp h x) (stands_at places i h is)
-  where
-    later : (a : Bool) → stands_in places h ≡ true → (a || stands_in places h) ≡ true
-    later true there = refl
-    later false there = there
+stands_at (x ∷ places) (suc i) h is = search (rules, stands_at places i h is)
 
 pub place_of : (places : List Handle) (h : Handle) → stands_in places h ≡ true → (i : ℕ)
     × (slice_get places i ≡ Some h)
@@ -123,34 +117,15 @@ stands_from places n i h is after =
 -- a handle that stands before, and at no other place
 pub stands_before : (places : List Handle) (n i : ℕ) (h : Handle) → ((k : ℕ) → slice_get places k
     ≡ Some h → Some i ≡ Some k) → i < n → stands_in (drop n places) h ≡ false
-stands_before places n i h once before = by_test (stands_in (drop n places) h) refl
-  where
-    by_test : (b : Bool) → stands_in (drop n places) h ≡ b → b ≡ false
-    by_test false _ = refl
-    by_test true there =
-        let other = place_of (drop n places) h there in
-        let same : i ≡ n + other.0 = same_Some i (n + other.0) (once (n + other.0)
-        (sym (slice_get-drop places n other.0) ∙ other.1)) in
-        absurd (omega arith)
+stands_before places n i h once before = search (rules, place_of, same_Some, slice_get-drop)
 
 -- a handle that stands at no place
 pub stands_nowhere : (places : List Handle) (n : ℕ) (h : Handle)
     → ((k : ℕ) → slice_get places k ≢ Some h) → stands_in (drop n places) h ≡ false
-stands_nowhere places n h nowhere = by_test (stands_in (drop n places) h) refl
-  where
-    by_test : (b : Bool) → stands_in (drop n places) h ≡ b → b ≡ false
-    by_test false _ = refl
-    by_test true there =
-        let other = place_of (drop n places) h there in
-        absurd (nowhere (n + other.0) (sym (slice_get-drop places n other.0) ∙ other.1))
+stands_nowhere places n h nowhere = search (rules, place_of, slice_get-drop)
 
 -- whose state is alive lives
 pub alive_by_state : (s : Allocator) (h : Handle) → state_of s h ≡ Alive → set.contains s.live h
     ≡ true
 alive_by_state s h is =
-    elim (set.contains s.live h) as (λ b. cond b Alive (cond (stands_in s.taken h) Reserved Gone)
-    ≡ Alive → b ≡ true) [
-      | true ↦ λ _. refl
-      | false ↦ elim (stands_in s.taken h) as (λ b. cond b Reserved Gone ≡ Alive → false ≡ true)
-          [ true ↦ λ e. cc | false ↦ λ e. cc ]
-    ] is
+    search (rules)

@@ -1,19 +1,19 @@
 -- How many slots wait after each step of an allocator, against the room that a storage has.
-use Rattle.std.proofs.Common.{◌≡◌, refl, sym, ap, ◌∙◌, ℕ, ◌+◌, ◌-◌, ◌≤◌, ◌<◌, Bool, true, false, cond}
-use Rattle.std.proofs.Common.{true≢false, List, [], ◌∷◌, ◌++◌, length, drop, filter, slice_get, arith}
-use Rattle.std.proofs.Common.{Option, Some, None, All, ◌⊎◌, inl, inr, length-append, zero, suc}
+use Rattle.std.proofs.Common.{rules, ◌≡◌, refl, sym, ap, ◌∙◌, ℕ, ◌+◌, ◌-◌, ◌≤◌, ◌<◌, Bool, true}
+use Rattle.std.proofs.Common.{false, cond, List, [], ◌∷◌, ◌++◌, length, drop, filter, slice_get}
+use Rattle.std.proofs.Common.{arith, Some, All, length-append, zero, suc}
+use Rattle.std.proofs.lemmas.Grind.{common_steps}
 use Rattle.std.proofs.lemmas.List.Elements.{filter_passes, All-head}
-use Rattle.std.proofs.lemmas.List.{take-append-drop}
 use Rattle.std.specs.FinSet as set
 use Rattle.ent_handle.specs.Handle.{Handle}
-use Rattle.ent_alloc.specs.Sequential.{Allocator, available, top, is_old, fresh, next, in_front}
-use Rattle.ent_alloc.specs.Sequential.{after_flush, after_alloc, after_free}
+use Rattle.ent_alloc.specs.Sequential.{Allocator, available, top, is_old, fresh, after_flush}
+use Rattle.ent_alloc.specs.Sequential.{after_alloc, after_free}
 use Rattle.ent_alloc.specs.Sound.{IsSound}
 use Rattle.ent_alloc.specs.History.{Call, after_history, requests_of}
 use Rattle.ent_alloc.proofs.Histories.{after_history-takes}
 use Rattle.ent_alloc.proofs.PoolLaw.{top-after_takes}
 use Rattle.ent_alloc.proofs.Retired.{retired-rest}
-use Rattle.ent_alloc.proofs.Soundness.{after_flush-sound, after_alloc-sound, after_free-sound}
+use Rattle.ent_alloc.proofs.Soundness.{after_flush-sound, after_alloc-sound}
 use Rattle.ent_alloc.proofs.Taken.{length-available, made-after_flush}
 use Rattle.ent_shared.specs.Phase.{after_loss}
 
@@ -45,10 +45,7 @@ none_waits : (s : Allocator) (h : Handle) (rest waiting : List Handle) → avail
     → All (λ x. is_old s.made x ≡ true) waiting → is_old s.made h ≡ false → length waiting ≡ 0
 none_waits s h rest [] at order old new = refl
 none_waits s h rest (x ∷ waiting) at order old new =
-    let same : h ∷ rest ≡ x ∷ (waiting ++ fresh s.made (s.limits.slots - s.made)) = sym at ∙ order in
-    let head : h ≡ x = cc in
-    absurd (true≢false (sym (All-head (λ x. is_old s.made x ≡ true) x waiting old)
-    ∙ ap (is_old s.made) (sym head) ∙ new))
+    search (rules, All-head)
 
 -- the one that is given is the last that waited, or none did
 pub top-after_alloc : (s : Allocator) (h : Handle) (rest : List Handle) → IsSound s → s.asked ≡ 0
@@ -105,16 +102,7 @@ pub room-after_alloc : (s : Allocator) (h : Handle) (spare left : ℕ) → IsSou
     → slice_get s.pool 0 ≡ Some h → top s ≤ spare → (0 < spare → left + 1 ≡ spare)
     → top (after_alloc s h) ≤ left
 room-after_alloc s h spare left sound flushed first room less =
-    let pool = front s.pool h first in
-    let is = top-after_alloc s h pool.0 sound flushed pool.1 in
-    elim (some_or_none spare) [
-      | inl some ↦ let one = less some in omega (arith, is, room, one)
-      | inr none ↦ omega (arith, is, room, none)
-    ]
-  where
-    some_or_none : (n : ℕ) → (0 < n) ⊎ (n ≡ 0)
-    some_or_none zero = inr refl
-    some_or_none (suc n) = inl (omega arith)
+    search (rules, front, top-after_alloc)
 
 -- the place of one that came and went is there again
 pub room_again : (waiting spare less left : ℕ) → waiting ≤ spare → (0 < spare → less + 1 ≡ spare)
@@ -127,20 +115,7 @@ room_again waiting (suc spare) less left room one more =
 pub room-after_free : (s : Allocator) (h : Handle) (spare left : ℕ) → IsSound s → s.asked ≡ 0
     → set.contains s.live h ≡ true → top s ≤ spare → left ≡ spare + 1 → top (after_free s h) ≤ left
 room-after_free s h spare left sound flushed lived room more =
-    let after = after_free-sound s h sound flushed lived in
-    let before = length-available s sound in
-    let later = length-available (after_free s h) after in
-    let whole = length-append s.taken (s.aside ++ s.pool) in
-    let half = length-append s.aside s.pool in
-    let pool = in_front (next s.limits h) s.pool in
-    let whole_later = length-append s.taken (s.aside ++ pool) in
-    let half_later = length-append s.aside pool in
-    let most = one_more (next s.limits h) s.pool in
-    omega (arith, before, later, whole, half, whole_later, half_later, most, room, more)
-  where
-    one_more : (o : Option Handle) (hs : List Handle) → length (in_front o hs) ≤ length hs + 1
-    one_more None hs = omega arith
-    one_more (Some g) hs = omega arith
+    grind (arith, common_steps)
 
 -- reservations change nothing of it
 pub top-after_history : (s : Allocator) (history : List Call) → IsSound s
@@ -151,5 +126,4 @@ top-after_history s history sound =
 pub top-after_loss : (s : Allocator) (asked : ℕ) → IsSound s → s.asked ≡ 0
     → top (after_loss s asked) ≡ top s
 top-after_loss s asked sound flushed =
-    let all : s.pool ≡ available s = sound.pool ∙ ap (λ n. drop n (available s)) flushed in
-    ap (λ hs. length (filter (is_old s.made) hs)) (take-append-drop asked s.pool ∙ all)
+    grind (arith, common_steps)

@@ -1,16 +1,14 @@
 -- Where a command may take memory.
-use Rattle.std.proofs.Common.{◌≡◌, sym, ap, ◌∙◌, refl, subst, ℕ, ◌+◌, ◌<◌, true, not, ◌||◌}
-use Rattle.std.proofs.Common.{nat_lt, List, [], ◌∷◌, length, drop, get_or, slice_get, Some}
-use Rattle.std.proofs.Common.{arith, zero, suc}
+use Rattle.std.proofs.Common.{rules, ◌≡◌, sym, ap, ◌∙◌, refl, ℕ, ◌+◌, ◌<◌, true, List, [], ◌∷◌}
+use Rattle.std.proofs.Common.{length, drop, get_or, slice_get, Some, arith, zero, suc}
 use Rattle.std.specs.Prelude.{max}
-use Rattle.std.specs.Option.{IsSomeAnd}
 use Rattle.std.proofs.lemmas.Bool.Decides.{nat_tests}
 use Rattle.std.proofs.lemmas.List.{drop_more}
 use Rattle.std.proofs.lemmas.Option.{slice_get-get_or}
 use Rattle.ent_handle.specs.Handle.{Handle}
 use Rattle.ent_bundle.specs.Bundle.{Bundle}
 use Rattle.ent_queue.specs.Command.{Command}
-use Rattle.ent_world.specs.World.{World, lives_in}
+use Rattle.ent_world.specs.World.{World}
 use Rattle.ent_world.specs.Memory.{insert_takes_memory, one_takes_memory, command_takes_memory}
 use Rattle.ent_world.specs.Memory.{TakesMemoryIn, TakesMemoryAt}
 use Rattle.ent_world.proofs.Folds.{next_below}
@@ -28,8 +26,7 @@ at_left xs rest k x left =
 some_items : (w : World) (items : Bundle) (h : Handle) → 0 < length items
     → insert_takes_memory w items h ≡ true
 some_items w items h some =
-    let test : nat_lt 0 (length items) ≡ true = grind (arith, nat_tests) in
-    ap (λ b. b || not (lives_in w h)) test
+    search (rules, nat_tests)
 
 at_takes_memory : (w : World) (items : Bundle) (hs : List Handle) (k : ℕ) → k < length hs
     → 0 < length items → one_takes_memory w items (slice_get hs k) ≡ true
@@ -48,20 +45,17 @@ stop_takes_memory w items (h ∷ hs) k some_handle lt some =
 pub next_takes_memory : (w : World) (items : Bundle) (hs rest : List Handle) (k : ℕ) (h : Handle)
     → drop k hs ≡ h ∷ rest → insert_takes_memory w items h ≡ true
     → one_takes_memory w items (slice_get hs k) ≡ true
-next_takes_memory w items hs rest k h left takes = ap (one_takes_memory w items)
-    (at_left hs rest k h left) ∙ takes
+next_takes_memory w items hs rest k h left takes = search (rules, at_left)
 
 -- at this command of a queue
 pub takes_memory_in : (w : World) (q rest : List Command) (k done : ℕ) (c : Command) → drop k q ≡ c
     ∷ rest → command_takes_memory w done c ≡ true → TakesMemoryIn w k done q
 takes_memory_in w q rest k done c left takes =
-    subst (λ o. IsSomeAnd o (λ d. command_takes_memory w done d ≡ true))
-    (sym (at_left q rest k c left)) takes
+    search (rules, at_left)
 
 -- in this queue
 pub takes_memory_at : (w : World) (qs : List (List Command)) (k command done : ℕ) (q : List Command)
     → k < length qs → q ≡ get_or qs k q → TakesMemoryIn w command done q
     → TakesMemoryAt w k command done qs
 takes_memory_at w qs k command done q lt is takes =
-    subst (λ o. IsSomeAnd o (λ p. TakesMemoryIn w command done p))
-    (sym (slice_get-get_or qs k q lt ∙ ap Some (sym is))) takes
+    search (rules, slice_get-get_or)

@@ -1,4 +1,4 @@
-use Rattle.std.proofs.Common.{rules, ◌≡◌, arith, subst, ◌∙◌, to_z, of_z, w64}
+use Rattle.std.proofs.Common.{rules, ◌≡◌, arith, ◌∙◌, to_z, of_z, w64}
 use Rattle.std.proofs.lemmas.Int.{ints}
 use Rattle.ent_alloc.specs.Sequential.{cursor}
 use Rattle.ent_shared.specs.Phase.{own_of}
@@ -8,12 +8,7 @@ use Rattle.ent_shared.proofs.Sharing.{all_unused, all_own}
 use Rattle.ent_shared.proofs.phase.share.Goals as goal
 
 pub loop-number-init : goal.loop-number-init
-loop-number-init c = record {
-  first = none_shared c.args.entities.allocator c.args.n _ _ _ c.in-Ok-open.all.me c.in-Ok.ensures.items
-      c.in-Ok-open.ensures.seat.0 c.in-Ok-open.ensures.seat.1;
-  count = search rules;
-  room = (let e = c.in-Ok.ensures.exact in omega arith);
-}
+loop-number-init c = search (rules, none_shared)
 
 pub split_first-requires-clause-rule : goal.split_first-requires-clause-rule
 split_first-requires-clause-rule c = goes_by_records _ _
@@ -54,11 +49,7 @@ made : (c : goal.After-drop-all) → AreShared c.args.entities.allocator c.args.
     c.in-Ok-open.word.shared.table_id c.loop-number.reservers.items c.loop-number.all.table_id
     c.loop-number.all.me
 made c =
-    let all : c.loop-number.number ≡ c.args.n = (let end = c.loop-number.auto.number-end in
-    let last = c.loop-number-test.false in omega arith) in
-    subst (λ k. AreShared c.args.entities.allocator c.args.n k c.in-Ok-open.word.shared.table_id
-    c.loop-number.reservers.items c.loop-number.all.table_id c.loop-number.all.me) all
-    c.loop-number.invariant.first
+    search (rules, AreShared)
 
 pub returns-clause-reservers : goal.returns-clause-reservers
 returns-clause-reservers c = all_shared c.args.entities.allocator c.args.n _ _ _ _ (made c)

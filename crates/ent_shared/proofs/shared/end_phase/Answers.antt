@@ -1,8 +1,7 @@
-use Rattle.std.proofs.Common.{◌≡◌, w64, to_z, of_z, List, [], ◌∷◌, arith, sym, ap, subst, ◌∙◌}
-use Rattle.std.proofs.lemmas.Int.{ints, to_z-of_z}
-use Rattle.ent_shared.specs.declared.record.Record.{Record}
-use Rattle.ent_shared.specs.Phase.{Reserver, own_of, records_of}
-use Rattle.ent_shared.specs.Rule.{IsClosed, least_floor}
+use Rattle.std.proofs.Common.{rules, ◌≡◌, w64, to_z, of_z, [], ◌∷◌, arith, ap, ◌∙◌}
+use Rattle.std.proofs.lemmas.Grind.{common_steps}
+use Rattle.std.proofs.lemmas.Int.{ints}
+use Rattle.ent_shared.specs.Phase.{Reserver, own_of}
 use Rattle.ent_seats.proofs.HandedIn.{items_all}
 use Rattle.ent_shared.proofs.Steps.{goes_by_records}
 use Rattle.ent_shared.proofs.Merging.{item_is, items_on, records_on, floor_on}
@@ -59,23 +58,12 @@ close-requires c =
 -- all that were handed in were taken in
 all_in : (c : goal.After-close) → c.loop-reserver.yielded ≡ c.args.reservers.items
 all_in c =
-    let ok = c.loop-reserver.reserver-iterator.rest.ok in
-    items_all c.args.reservers.items c.loop-reserver.yielded
-    c.loop-reserver.reserver-iterator.rest.items c.loop-reserver.invariant.all
-    (sym ok.0 ∙ c.in-None.ensures.steps.0)
+    search (rules, items_all)
 
 pub returns-clause-cursor : goal.returns-clause-cursor
 returns-clause-cursor c =
-    let i = c.loop-reserver.invariant in
-    let records : c.loop-reserver.all.me.0 ≡ records_of c.args.reservers.items = i.records
-    ∙ ap records_of (all_in c) in
-    let fits = c.close.type_inv in
-    let at : to_z w64 (of_z w64 c.close.result) ≡ c.close.result = omega (arith, ints) in
-    rw at (subst (λ (rs : List Record). IsClosed c.args.word.shared.key.entities.allocator
-    c.args.word.shared.key.count rs c.close.result) records c.close.ensures)
+    grind (arith, common_steps)
 
 pub returns-clause-floor : goal.returns-clause-floor
 returns-clause-floor c =
-    let i = c.loop-reserver.invariant in
-    let top : to_z w64 (of_z w64 c.args.top) ≡ c.args.top = to_z-of_z w64 c.args.top c.ranges.top in
-    i.floor ∙ (λ k. least_floor (top k) (records_of (all_in c k)))
+    grind (arith, common_steps)

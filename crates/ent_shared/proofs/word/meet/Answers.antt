@@ -5,17 +5,11 @@ use Rattle.ent_shared.proofs.word.meet.Goals as goal
 
 first : (c : goal.After-seat-1) → c.into_seat-seat.result.me.0 ≡ own_of c.args.a.now.views ∷ []
 first c =
-    let e = c.into_seat-seat.ensures.2 in
-    let same = c.replace.ensures.value in
-    let alone = c.requires.first in
-    cc
+    search (rules)
 
 second : (c : goal.After-seat-1) → c.into_seat-other.result.me.0 ≡ own_of c.args.b.now.views ∷ []
 second c =
-    let e = c.into_seat-other.ensures.2 in
-    let same = c.replace-2.ensures.value in
-    let alone = c.requires.second in
-    cc
+    search (rules)
 
 pub join_seat-requires : goal.join_seat-requires
 join_seat-requires c = (

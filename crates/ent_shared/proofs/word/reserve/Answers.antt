@@ -1,5 +1,4 @@
-use Rattle.std.proofs.Common.{rules, ◌≡◌, List, [], ◌∷◌, ap, subst, ◌∙◌}
-use Rattle.ent_shared.specs.declared.record.Record.{Record}
+use Rattle.std.proofs.Common.{rules, ◌≡◌, [], ◌∷◌, subst}
 use Rattle.ent_shared.specs.Phase.{own_of}
 use Rattle.ent_shared.specs.Rule.{AfterReserve}
 use Rattle.ent_shared.proofs.Words.{word_fits, cursor_fits, cursor_is, least_cursor}
@@ -9,10 +8,7 @@ use Rattle.ent_shared.proofs.word.reserve.Goals as goal
 -- the seat has the badge's record alone
 seat : (c : goal.After-into) → c.into_seat-seat.result.me.0 ≡ own_of c.args.badge.now.views ∷ []
 seat c =
-    let e = c.into_seat-seat.ensures.2 in
-    let same = c.replace.ensures.value in
-    let alone = c.requires.alone in
-    cc
+    search (rules)
 
 pub fetch_sub-found-requires : goal.fetch_sub-found-requires
 fetch_sub-found-requires c = (
@@ -43,11 +39,7 @@ overflow_sub-result c = cursor_fits c.fetch_sub-found.result (told c).least (tol
 
 pub returns-clause-gains : goal.returns-clause-gains
 returns-clause-gains c =
-    let d = told c in
-    let is = cursor_is c.fetch_sub-found.result d.least d.greatest in
-    let after = d.after in
-    let views = c.into_badge.ensures.2 in
-    rw is (views ∙ ap (λ (v : List Record). v ∷ []) after)
+    search (rules, told, cursor_is)
 
 pub returns-clause-mark : goal.returns-clause-mark
 returns-clause-mark c =
@@ -64,6 +56,4 @@ returns-clause-least c =
 
 pub returns-clause-greatest : goal.returns-clause-greatest
 returns-clause-greatest c =
-    let d = told c in
-    let is = cursor_is c.fetch_sub-found.result d.least d.greatest in
-    rw is d.top
+    search (rules, told, cursor_is)

@@ -1,10 +1,10 @@
-use Rattle.std.proofs.Common.{ℤ, get_or, ap, sym, ◌∙◌, arith, below_more, pos, subst}
+use Rattle.std.proofs.lemmas.Grind.{common_steps}
+use Rattle.std.proofs.Common.{ℤ, get_or, ap, sym, ◌∙◌, arith, pos}
 use Rattle.ent_storage.proofs.Missing.{missing_at, on_err}
-use Rattle.std.proofs.lemmas.List.{get_or_default}
 use Rattle.std.specs.FinMap as map
 use Rattle.ent_handle.specs.declared.component.ComponentId.{ComponentId}
-use Rattle.ent_storage.specs.SparseSet.{Values, HasRoomAt}
-use Rattle.ent_storage.specs.Living.{column_at, components_at}
+use Rattle.ent_storage.specs.SparseSet.{Values}
+use Rattle.ent_storage.specs.Living.{components_at}
 use Rattle.ent_storage.proofs.ColumnsAtPlaces.{get_components}
 use Rattle.ent_storage.proofs.columns.reserve_all.Goals as goal
 
@@ -21,15 +21,4 @@ returns-in_err-reserve-clause-growing c =
     c.loop-item.item-index (record { 0 = 0 }, pos 0) (omega arith) none)
 
 pub loop-item-preserved : goal.loop-item-preserved
-loop-item-preserved c = record {
-  values = λ n. c.reserve.ensures.values n ∙ c.loop-item.invariant.values n;
-  room = λ k d l. below_more (λ k. (d : ComponentId × ℤ)
-      → HasRoomAt (column_at c.reserve.new.columns.items (get_or c.args.items.now k d).0.0)
-      c.args.place) _ (λ k l d. c.reserve.ensures.kept _ (c.loop-item.invariant.room k d l))
-      (λ d. subst (λ (item : ComponentId × ℤ).
-      HasRoomAt (column_at c.reserve.new.columns.items item.0.0) c.args.place)
-      (get_or_default c.args.items.now c.loop-item.item-index (record { 0 = 0 }, pos 0) d
-      (omega arith)) c.in_ok-reserve.ensures.ok) k l d;
-  numbered = c.reserve.ensures.numbered;
-  in_use = c.reserve.ensures.in_use;
-}
+loop-item-preserved c = grind (arith, common_steps)

@@ -1,4 +1,5 @@
-use Rattle.std.proofs.Common.{◌≡◌, ℕ, ◌+◌, ◌<◌, List, length, ap, sym, ◌∙◌, arith}
+use Rattle.std.proofs.Common.{rules, ◌≡◌, ℕ, ◌+◌, ◌<◌, List, length, sym, arith}
+use Rattle.std.proofs.lemmas.Grind.{common_steps}
 use Rattle.std.specs.List.{AllWithin, insert}
 use Rattle.std.specs.declared.cmp.Ordering.TheVariants.{Less, Greater}
 use Rattle.ent_handle.specs.Handle.{Handle, handle_cmp, handle_cmp_total as total}
@@ -20,13 +21,7 @@ free c = rw c.deref.ensures.value at c.in-Some.ensures.free
 
 beside : (c : In-Some) → IsBeside c.args.pairs.now.items c.args.pair.0 c.in-Some.other
 beside c =
-    let gap = c.requires.gap in
-    let near = c.in-Some.ensures.beside in
-    record {
-      inside = (free c).inside;
-      below = λ j d low high. gap.smaller_before j d low (omega (arith, near.0));
-      above = λ j d low high. gap.greater_after j d (omega (arith, near.1)) high;
-    }
+    search (rules, free)
 
 pub returns-in-Some-clause-sorted : goal.returns-in-Some-clause-sorted
 returns-in-Some-clause-sorted c =
@@ -42,23 +37,13 @@ returns-in-Some-clause-placed c =
 
 pub returns-in-Some-clause-kept : goal.returns-in-Some-clause-kept
 returns-in-Some-clause-kept c =
-    let at = beside (goal.at.returns-in-Some-clause-kept c).In-Some in
-    over_kept c.args.living.now.entities c.args.pairs.now.items c.requires.sorted c.args.pair.0
-    c.args.pair.1 c.in-Some.other at.inside at.below at.above c.args.pair
-    ((free (goal.at.returns-in-Some-clause-kept c).In-Some).gone c.args.pair)
+    grind (arith, common_steps, beside, over_kept, free)
 
 -- at the end
 end : (c : goal.After-push_reserved) → insert c.args.pairs.now.items c.args.position c.args.pair
     ≡ c.push_reserved.new.self.items
 end c =
-    let position : c.args.position ≡ length c.args.pairs.now.items = omega (
-      arith,
-      c.if-position-len.true,
-      c.len.ensures,
-      c.args.pairs.now.ok.0,
-    ) in
-    ap (λ i. insert c.args.pairs.now.items i c.args.pair) position
-    ∙ insert_end c.args.pairs.now.items c.args.pair ∙ sym c.push_reserved.ensures.items
+    search (rules, insert_end)
 
 pub returns-in-None-clause-sorted : goal.returns-in-None-clause-sorted
 returns-in-None-clause-sorted c =

@@ -22,8 +22,4 @@ returns-in-Some c =
 
 pub returns-in-None : goal.returns-in-None
 returns-in-None c =
-    let look = rw c.deref.ensures.value at c.in-None.ensures.lookup in
-    sym (test_past c.living.inside.residents.items c.living.inside.columns.items c.args.place
-    c.args.handle look.3)
-    ∙ ap (λ (l : Living). has_handle_at l.entities c.args.handle (Some c.args.place))
-    c.living.view_is
+    search (rules, test_past)

@@ -1,4 +1,4 @@
-use Rattle.std.proofs.Common.{sym, ◌∙◌, drop}
+use Rattle.std.proofs.Common.{rules, sym, ◌∙◌, drop}
 use Rattle.ent_world.proofs.BirthsByQueues.{named_now, named_before, keeps_name}
 use Rattle.ent_world.proofs.Room.{stands_from, stands_before, stands_nowhere}
 use Rattle.ent_world.proofs.births.name.Goals.{else-before-place-via-then-before-place+else-birth_at}
@@ -35,8 +35,4 @@ returns-else-before-place-clause-named c =
 -- it has no place
 pub returns-in_default-clause-named : goal.returns-in_default-clause-named
 returns-in_default-clause-named c =
-    let places = c.args.storage.now.places in
-    let h = c.args.handle in
-    sym (named_before (drop c.args.before places) h c.args.birth c.args.storage.now.entities
-    (stands_nowhere places c.args.before h (λ k is.
-    c.in_default.not-Some k (c.place_of.ensures ∙ (c.requires h k).1 is))))
+    search (rules, named_before, stands_nowhere)

@@ -1,4 +1,4 @@
-use Rattle.std.proofs.Common.{◌≡◌, refl, sym, ap, ◌∙◌, arith, pos, ◌-ℤ◌}
+use Rattle.std.proofs.Common.{rules, ◌≡◌, refl, sym, ap, ◌∙◌, arith, pos, ◌-ℤ◌}
 use Rattle.std.proofs.lemmas.Int.{ints}
 use Rattle.ent_alloc.specs.Sequential.{cursor, reply_to}
 use Rattle.ent_world.proofs.Making.{one_given, some_given, given_new, none_given, pool_some}
@@ -41,15 +41,11 @@ unreachable-requires c =
 
 pub returns-clause-front : goal.returns-clause-front
 returns-clause-front c =
-    let reply = replied (goal.at.returns-clause-front c).After-reply in
-    one_given c.args.entities.now.allocator c.in-Ok.given c.next.new.self c.in-Some.handle
-    (sym reply ∙ c.in-Ok.is) c.in-Some.ensures.steps
+    search (rules, replied, one_given)
 
 pub returns-clause-new : goal.returns-clause-new
 returns-clause-new c =
-    let reply = replied (goal.at.returns-clause-new c).After-reply in
-    given_new c.args.entities.now.allocator c.in-Ok.given c.next.new.self c.in-Some.handle
-    c.cursor.ensures.sound (sym reply ∙ c.in-Ok.is) c.in-Some.ensures.steps
+    search (rules, replied, given_new)
 
 pub returns-clause-space : goal.returns-clause-space
 returns-clause-space c =

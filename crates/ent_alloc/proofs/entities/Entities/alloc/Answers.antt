@@ -1,4 +1,4 @@
-use Rattle.std.proofs.Common.{◌≡◌, ℕ, ◌-◌, ◌<◌, [], length, Result, Ok, Err, refl, ap, ◌∙◌, arith}
+use Rattle.std.proofs.Common.{rules, ◌≡◌, ℕ, ◌-◌, ◌<◌, [], length, Result, Ok, Err, ap, ◌∙◌}
 use Rattle.std.specs.Result.{IsErrAnd, IsErrOf}
 use Rattle.std.proofs.lemmas.List.{nil_from_length}
 use Rattle.ent_handle.specs.Handle.{Handle}
@@ -15,9 +15,7 @@ use Rattle.ent_alloc.proofs.entities.Entities.alloc.Goals as goal
 -- nothing is reserved
 rest : (c : Else-needs_flush) → IsAtRest c.self.inside.slots c.self.inside.requests
     c.args.self.now.allocator
-rest c = at_rest c.self.inside.slots c.self.inside.requests c.args.self.now.allocator
-    c.needs_flush.result c.self.invariant (allocator_is c.self.view_is) c.needs_flush.ensures
-    c.if-needs_flush.false
+rest c = search (rules, at_rest, allocator_is)
 
 -- the room is that of the slots, since no slot waited and so nothing has changed
 room_is : (r old : Roster) (room : ℕ) → old ≡ r → room ≡ old.limits.slots - old.made → room
@@ -26,18 +24,13 @@ room_is r old room same is = is ∙ ap (λ (x : Roster). x.limits.slots - x.made
 
 some_room : (c : Then-room-gt0) → c.self.inside.slots.made < c.self.inside.slots.limits.slots
 some_room c =
-    let left = room_is c.self.inside.slots c.reuse_last.new.self c.room.result
-    c.in_default.ensures.unchanged c.room.ensures in
-    omega arith
+    search (rules, room_is)
 
 -- so some handle can be given
 none_left : (c : Then-room-gt0) → IsAtRest c.self.inside.slots c.self.inside.requests
     c.args.self.now.allocator → c.args.self.now.allocator.pool ≡ [] → ⊥
 none_left c rest none =
-    let some = some_room c in
-    let long = length_pool c.self.inside.slots c.self.inside.requests c.args.self.now.allocator rest
-    in
-    absurd (omega (arith, ap length none))
+    search (rules, some_room, length_pool, rest)
 
 -- the slot that waits last gives its next handle
 reused : (c : In-Some) → IsAtRest c.self.inside.slots c.self.inside.requests
@@ -80,8 +73,7 @@ invariant_of-self-then-room-gt0 c =
 
 pub returns-in-Some-clause-front : goal.returns-in-Some-clause-front
 returns-in-Some-clause-front c =
-    let at = goal.at.returns-in-Some-clause-front c in
-    (reused at.In-Some (rest at.Else-needs_flush)).front
+    search (rules, reused, rest)
 
 pub returns-in-Some-clause-ok : goal.returns-in-Some-clause-ok
 returns-in-Some-clause-ok c =
@@ -90,8 +82,7 @@ returns-in-Some-clause-ok c =
 
 pub returns-in_ok-make_one-clause-front : goal.returns-in_ok-make_one-clause-front
 returns-in_ok-make_one-clause-front c =
-    let at = goal.at.returns-in_ok-make_one-clause-front c in
-    (made at.In_ok-make_one (rest at.Else-needs_flush) (some_room at.Then-room-gt0)).front
+    search (rules, made, rest, some_room)
 
 pub returns-in_ok-make_one-clause-ok : goal.returns-in_ok-make_one-clause-ok
 returns-in_ok-make_one-clause-ok c =
@@ -100,34 +91,19 @@ returns-in_ok-make_one-clause-ok c =
 
 pub returns-in_ok-make_one-clause-space : goal.returns-in_ok-make_one-clause-space
 returns-in_ok-make_one-clause-space c =
-    let at = goal.at.returns-in_ok-make_one-clause-space c in (
-      λ is. absurd cc,
-      λ both. absurd (none_left at.Then-room-gt0 (rest at.Else-needs_flush) both.1),
-    )
+    search (rules, none_left, rest)
 
 pub returns-in_err-make_one-clause-space : goal.returns-in_err-make_one-clause-space
 returns-in_err-make_one-clause-space c =
-    let at = goal.at.returns-in_err-make_one-clause-space c in (
-      λ is. absurd (not_space c.from_residual.result c.from_residual.ensures.1 is),
-      λ both. absurd (none_left at.Then-room-gt0 (rest at.Else-needs_flush) both.1),
-    )
+    search (rules, not_space, none_left, rest)
 
 pub returns-in_err-make_one-clause-memory : goal.returns-in_err-make_one-clause-memory
 returns-in_err-make_one-clause-memory c =
-    λ _. top_view c.self.inside.slots c.self.inside.requests.asked
-    c.self.inside.requests.served c.args.self.now.allocator c.self.invariant
-    (allocator_is c.self.view_is)
-    ∙ ap length c.in_default.ensures.none
+    search (rules, top_view, allocator_is)
 
 pub returns-else-room-gt0-clause-space : goal.returns-else-room-gt0-clause-space
 returns-else-room-gt0-clause-space c =
-    let full = room_is c.self.inside.slots c.reuse_last.new.self c.room.result
-    c.in_default.ensures.unchanged c.room.ensures in
-    let waits = ap length c.in_default.ensures.none in
-    let rest = rest (goal.at.returns-else-room-gt0-clause-space c).Else-needs_flush in
-    let long = length_pool c.self.inside.slots c.self.inside.requests c.args.self.now.allocator rest
-    in
-    (λ _. (rest.asked, nil_from_length c.args.self.now.allocator.pool (omega arith)), λ _. refl)
+    search (rules, room_is, length_pool, nil_from_length)
 
 pub returns-in-Some-clause-no_row : goal.returns-in-Some-clause-no_row
 returns-in-Some-clause-no_row c =
@@ -141,8 +117,7 @@ returns-in-Some-clause-rows_of_living c =
 
 pub returns-in_ok-make_one-clause-no_row : goal.returns-in_ok-make_one-clause-no_row
 returns-in_ok-make_one-clause-no_row c =
-    let at = goal.at.returns-in_ok-make_one-clause-no_row c in
-    (made at.In_ok-make_one (rest at.Else-needs_flush) (some_room at.Then-room-gt0)).no_row
+    search (rules, made, rest, some_room)
 
 pub returns-in_ok-make_one-clause-rows_of_living :
     goal.returns-in_ok-make_one-clause-rows_of_living

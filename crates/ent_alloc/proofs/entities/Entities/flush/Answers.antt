@@ -1,14 +1,12 @@
-use Rattle.std.specs.Prelude.{vec_capacity}
-use Rattle.std.proofs.Common.{◌≡◌, ◌<◌, ◌⊎◌, inl, inr, vec_len, Result, Ok, Err, OnErr, ◌+◌, ◌-◌}
-use Rattle.std.proofs.Common.{◌++◌, List, ℕ, length, drop, get_or, sym, ap, subst, ◌∙◌, arith}
+use Rattle.std.proofs.Common.{rules, ◌≡◌, Result, Ok, Err, OnErr, ◌-◌, ℕ, length, drop, get_or, ap}
+use Rattle.std.proofs.Common.{subst, ◌∙◌}
 use Rattle.std.proofs.lemmas.List.{length-take-le}
-use Rattle.ent_handle.specs.Handle.{Handle}
 use Rattle.std.specs.FinSet as sets
 use Rattle.std.specs.FinMap as maps
-use Rattle.ent_alloc.specs.Sequential.{Allocator, made_at_flush, after_flush, born, fresh}
+use Rattle.ent_alloc.specs.Sequential.{after_flush, born, fresh}
 use Rattle.ent_alloc.specs.Sound.{IsSound}
 use Rattle.ent_alloc.specs.Roster.{Roster}
-use Rattle.ent_alloc.specs.Entities.{Entities, idle, HasRowsOfLiving}
+use Rattle.ent_alloc.specs.Entities.{Entities, HasRowsOfLiving}
 use Rattle.ent_alloc.proofs.Soundness.{after_flush-sound}
 use Rattle.ent_alloc.proofs.Meaning.{allocator_is, length-idle, closed, StandFor}
 use Rattle.ent_alloc.proofs.MeaningOfFlush.{flushed_roster, made_at_flush_is, flush_is}
@@ -31,11 +29,7 @@ record AreCounted (waiting given kept news : ℕ) : Type 0 where
 counted : (c : After-fresh-fresh) → AreCounted (length c.self.inside.slots.pending)
     c.self.inside.requests.served c.kept-kept.result c.fresh-fresh.result
 counted c =
-    let waits = c.waiting-waiting.ensures.value in
-    record {
-      kept_is = c.kept-kept.ensures ∙ ap (λ n. n - c.self.inside.requests.served) waits;
-      news_is = c.fresh-fresh.ensures ∙ ap (λ n. c.self.inside.requests.served - n) waits;
-    }
+    search (rules)
 
 -- the roster that a flush leaves stands for the flushed allocator
 left : (c : After-none-self-inside) → AreCounted (length c.self.inside.slots.pending)
@@ -62,24 +56,7 @@ left c counts =
 
 pub returns-in_err-bring_to_life-clause-memory : goal.returns-in_err-bring_to_life-clause-memory
 returns-in_err-bring_to_life-clause-memory c =
-    let e = c.self.inside in
-    let r = e.slots in
-    let s = c.args.self.now.allocator in
-    let inv = c.self.invariant in
-    let given = e.requests.served in
-    let counts = counted (goal.at.returns-in_err-bring_to_life-clause-memory c).After-fresh-fresh in
-    let taken : given ≡ length s.taken =
-    sym (length-take-le given (idle r) (let enough = inv.given_in in omega (arith, length-idle r)))
-    ∙ ap (λ (s : Allocator). length s.taken) (allocator_is c.self.view_is) in
-    let made : made_at_flush s ≡ given - length r.pending =
-    sym (ap made_at_flush (allocator_is c.self.view_is)) ∙ made_at_flush_is r e.requests.asked given
-    inv.given_least inv.given_in inv.sound in
-    anyhow c.from_residual.result ((0 < made_at_flush s)
-    ⊎ (vec_capacity c.args.out.now < vec_len c.args.out.now + length s.taken))
-    (elim c.in_err-bring_to_life.ensures.memory [
-      | inl some ↦ inl (omega arith)
-      | inr full ↦ inr (omega arith)
-    ])
+    search (rules, counted, length-take-le, length-idle, allocator_is, made_at_flush_is, anyhow)
 
 pub invariant_of-self-2 : goal.invariant_of-self-2
 invariant_of-self-2 c =
@@ -88,21 +65,11 @@ invariant_of-self-2 c =
 
 pub returns-clause-ok : goal.returns-clause-ok
 returns-clause-ok c =
-    let at = goal.at.returns-clause-ok c in
-    (left at.After-none-self-inside (counted at.After-fresh-fresh)).view
+    search (rules, left, counted)
 
 pub returns-clause-born : goal.returns-clause-born
 returns-clause-born c =
-    let e = c.self.inside in
-    let r = e.slots in
-    let inv = c.self.invariant in
-    let counts = counted (goal.at.returns-clause-born c).After-fresh-fresh in
-    c.in_ok-bring_to_life.ensures.born
-    ∙ ap (λ (hs : List Handle). c.args.out.now.items ++ hs)
-    ((λ i. fresh r.made (counts.news_is i) ++ drop (counts.kept_is i) r.pending)
-    ∙ sym (born_is_listed r e.requests.asked e.requests.served inv.given_least inv.given_in
-    inv.sound)
-    ∙ ap born (allocator_is c.self.view_is))
+    search (rules, counted, born_is_listed, allocator_is)
 
 pub returns-clause-no_rows : goal.returns-clause-no_rows
 returns-clause-no_rows c k d below =

@@ -1,11 +1,11 @@
-use Rattle.std.proofs.Common.{◌≡◌, ℕ, ◌+◌, ◌-◌, ◌<◌, ◌≤◌, ◌||◌, Bool, true, false, length, drop, leb}
-use Rattle.std.proofs.Common.{get_or, refl, sym, ap, ◌∙◌, arith, slice_get, Some, le-leb}
+use Rattle.std.proofs.Common.{rules, ◌≡◌, ℕ, ◌+◌, ◌-◌, ◌<◌, false, length, drop, leb, get_or, sym}
+use Rattle.std.proofs.Common.{ap, ◌∙◌, arith, slice_get, le-leb}
 use Rattle.std.proofs.lemmas.Bool.{lt-leb}
 use Rattle.ent_handle.specs.Handle.{Handle}
 use Rattle.ent_alloc.specs.Roster.{Roster}
 use Rattle.ent_alloc.specs.Sequential.{Allocator, available, fresh, stands_in}
-use Rattle.ent_alloc.specs.Slots.{is_pending_from, waits_from}
-use Rattle.ent_alloc.specs.Entities.{idle, allocator_of, AreReserved}
+use Rattle.ent_alloc.specs.Slots.{is_pending_from}
+use Rattle.ent_alloc.specs.Entities.{allocator_of, AreReserved}
 use Rattle.ent_alloc.proofs.Looked.{fresh_no}
 use Rattle.ent_alloc.proofs.Meaning.{allocator_is}
 use Rattle.ent_alloc.proofs.Places.{available_view, stands_idle, waits_here, waiting_place}
@@ -18,8 +18,7 @@ nowhere : (r : Roster) (asked given : ℕ) (s : Allocator) (h : Handle) → AreR
     → stands_in (fresh r.made (r.limits.slots - r.made)) h ≡ false
     → stands_in (available s) h ≡ false
 nowhere r asked given s h inv view waits fresh_is =
-    ap (λ hs. stands_in hs h) (available_view r asked given s inv view) ∙ stands_idle r h
-    ∙ (λ i. waits i || fresh_is i)
+    search (rules, available_view, stands_idle)
 
 -- where it waits
 waiting : (r : Roster) (h : Handle) (position : ℕ)
@@ -106,17 +105,7 @@ room_is r asked given s room view is =
 
 pub returns-in-None-2-clause-found : goal.returns-in-None-2-clause-found
 returns-in-None-2-clause-found c =
-    let e = c.self.inside in
-    let r = e.slots in
-    let view = allocator_is c.self.view_is in
-    let count = room_is r e.requests.asked e.requests.served c.args.self.now.allocator
-    c.room.result view c.room.ensures in
-    let found = fresh_place r c.args.handle (ap (λ n. stands_in (fresh r.made n) c.args.handle) count
-    ∙ sym c.is_next.ensures ∙ c.if-is_next.true) in
-    (λ i. slice_get (available_view r e.requests.asked e.requests.served c.args.self.now.allocator
-    c.self.invariant view i)
-    (c.waiting-waiting.ensures.value i + (c.index.ensures i - c.made.ensures.value i)))
-    ∙ found.1
+    search (rules, allocator_is, room_is, fresh_place, available_view)
 
 pub returns-in-None-3-clause-none : goal.returns-in-None-3-clause-none
 returns-in-None-3-clause-none c =

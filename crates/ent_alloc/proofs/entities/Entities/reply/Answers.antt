@@ -1,9 +1,8 @@
-use Rattle.std.proofs.Common.{◌≡◌, ◌+◌, pos, ◌-ℤ◌, nat_abs, length, ap, ◌∙◌, Ok, arith, to_z, of_z}
-use Rattle.std.proofs.Common.{w64, ℕ}
+use Rattle.std.proofs.Common.{rules, ◌≡◌, ◌+◌, pos, ◌-ℤ◌, nat_abs, length, ap, ◌∙◌, Ok, arith, to_z}
+use Rattle.std.proofs.Common.{of_z, w64, ℕ}
 use Rattle.std.proofs.lemmas.Int.{ints}
 use Rattle.ent_alloc.specs.Limits.{Limits}
 use Rattle.ent_alloc.specs.Sequential.{pool_at, reply_from}
-use Rattle.ent_alloc.specs.Entities.{beneath}
 use Rattle.ent_alloc.proofs.FreshHandles.{fresh-none}
 use Rattle.ent_alloc.proofs.Meaning.{allocator_is}
 use Rattle.ent_alloc.proofs.MeaningOfReplies.{reply_none}
@@ -15,9 +14,7 @@ use Rattle.ent_alloc.proofs.entities.Entities.reply.Goals as goal
 
 -- where the span lies
 lies : (c : After-self) → IsBelowTop c.self.inside.slots c.args.span.high
-lies c = below_top c.self.inside.slots c.self.inside.requests.asked c.self.inside.requests.served
-    c.args.self.now.allocator c.args.span.high c.self.invariant (allocator_is c.self.view_is)
-    c.requires.passed
+lies c = search (rules, below_top, allocator_is)
 
 -- how many slots may be made
 slots_is : (c : After-slots) → c.slots.result ≡ c.self.inside.slots.limits.slots
@@ -29,19 +26,11 @@ lists : (c : After-self) (n position end index index_end : ℕ)
     → Ok (reserved_handles c.self.inside.slots position end index index_end)
     ≡ reply_from c.args.self.now.allocator.made
     (pool_at c.args.self.now.allocator c.args.span.high) n
-lists c = several c.self.inside.slots c.self.inside.requests.asked c.self.inside.requests.served
-    c.args.span.high c.args.self.now.allocator c.self.invariant (allocator_is c.self.view_is)
+lists c = search (rules, several, allocator_is)
 
 pub returns-then-low-high : goal.returns-then-low-high
 returns-then-low-high c =
-    let e = c.self.inside in
-    let at = lies (goal.at.returns-then-low-high c).After-self in
-    λ n requested.
-    let none : n ≡ 0 = (let same = c.if-low-high.true in omega (arith, ints)) in
-    ap Ok (c.new.ensures ∙ fresh-none 0) ∙ reply_none e.slots
-    (beneath e.slots c.args.span.high) n none
-    ∙ replied e.slots e.requests.asked e.requests.served c.args.span.high c.args.self.now.allocator
-    c.self.invariant (allocator_is c.self.view_is) n
+    search (rules, lies, ints, fresh-none, reply_none, replied, allocator_is)
 
 pub new-requires-then-low-ge0 : goal.new-requires-then-low-ge0
 new-requires-then-low-ge0 c =

@@ -1,4 +1,4 @@
-use Rattle.std.proofs.Common.{◌≡◌, ℕ, ◌+◌, pos, ◌-ℤ◌, nat_abs, ap, ◌∙◌, ◌∷◌, [], Ok, arith}
+use Rattle.std.proofs.Common.{rules, ◌≡◌, ℕ, ◌+◌, pos, ◌-ℤ◌, nat_abs, ap, ◌∙◌, ◌∷◌, [], Ok, arith}
 use Rattle.std.proofs.Common.{to_z, of_z, w64}
 use Rattle.std.proofs.lemmas.Int.{ints}
 use Rattle.ent_handle.specs.Handle.{Handle}
@@ -10,9 +10,7 @@ use Rattle.ent_alloc.proofs.entities.Entities.reply_one.Goals as goal
 
 -- where the position lies
 lies : (c : After-self) → IsBelowTop c.self.inside.slots c.args.high
-lies c = below_top c.self.inside.slots c.self.inside.requests.asked c.self.inside.requests.served
-    c.args.self.now.allocator c.args.high c.self.invariant (allocator_is c.self.view_is)
-    c.requires.passed
+lies c = search (rules, below_top, allocator_is)
 
 -- how many slots may be made
 slots_is : (c : After-slots) → c.slots.result ≡ c.self.inside.slots.limits.slots
@@ -20,11 +18,7 @@ slots_is c = c.slots.ensures ∙ ap (λ (l : Limits). l.slots) c.limits.ensures
 
 pub returns-then-high-gt0 : goal.returns-then-high-gt0
 returns-then-high-gt0 c =
-    let e = c.self.inside in
-    let at = lies (goal.at.returns-then-high-gt0 c).After-self in
-    one_pending e.slots e.requests.asked e.requests.served c.args.high c.args.self.now.allocator
-    c.self.invariant (allocator_is c.self.view_is) c.pending_at.result _ (omega (arith, ints))
-    at.within c.pending_at.ensures
+    search (rules, lies, one_pending, allocator_is, ints)
 
 pub returns-then-index-from : goal.returns-then-index-from
 returns-then-index-from c =

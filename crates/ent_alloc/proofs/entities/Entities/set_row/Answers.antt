@@ -1,11 +1,10 @@
-use Rattle.std.proofs.Common.{◌≡◌, ℕ, true, sym, ap, subst, ◌∙◌}
+use Rattle.std.proofs.Common.{arith, rules, ◌≡◌, ℕ, true, sym, subst}
+use Rattle.std.proofs.lemmas.Grind.{common_steps}
 use Rattle.std.specs.FinSet as sets
 use Rattle.std.specs.FinMap as maps
 use Rattle.ent_handle.specs.Handle.{Handle}
 use Rattle.ent_alloc.specs.Roster.{Roster}
-use Rattle.ent_alloc.specs.Sequential.{Allocator}
 use Rattle.ent_alloc.specs.Entities.{AreReserved}
-use Rattle.ent_alloc.proofs.Meaning.{allocator_is}
 use Rattle.ent_alloc.proofs.RowsOfLiving.{rows-inserted}
 use Rattle.ent_alloc.proofs.entities.Entities.set_row.Goals.{After-set_row}
 use Rattle.ent_alloc.proofs.entities.Entities.set_row.Goals as goal
@@ -14,18 +13,10 @@ use Rattle.ent_alloc.proofs.entities.Entities.set_row.Goals as goal
 with_row : (r : Roster) (asked given : ℕ) (h : Handle) (row : ℕ)
     → sets.contains r.live h ≡ true → AreReserved r asked given
     → AreReserved (record r { rows = maps.insert r.rows h row }) asked given
-with_row r asked given h row lives reserved = record {
-  sound = reserved.sound;
-  asked_in = reserved.asked_in;
-  given_in = reserved.given_in;
-  given_least = reserved.given_least;
-  given_all = reserved.given_all;
-  rows = rows-inserted r.live h row r.rows lives reserved.rows;
-}
+with_row r asked given h row lives reserved = search (rules, rows-inserted, lives)
 
 lives : (c : After-set_row) → sets.contains c.self.inside.slots.live c.args.handle ≡ true
-lives c = ap (λ (s : Allocator). sets.contains s.live c.args.handle) (allocator_is c.self.view_is)
-    ∙ c.requires
+lives c = grind (arith, common_steps)
 
 pub invariant_of-self : goal.invariant_of-self
 invariant_of-self c =

@@ -1,4 +1,5 @@
-use Rattle.std.proofs.Common.{◌≡◌, ℕ, ℤ, length, sym, ap, subst, ◌∙◌, arith, to_z, of_z, w64}
+use Rattle.std.proofs.Common.{rules, ◌≡◌, ℕ, ℤ, length, sym, ap, subst, ◌∙◌, arith}
+use Rattle.std.proofs.lemmas.Grind.{common_steps}
 use Rattle.std.proofs.lemmas.Int.{ints}
 use Rattle.ent_alloc.specs.Sequential.{top, asked_at, settled, Allocator}
 use Rattle.ent_alloc.specs.Sound.{IsSound}
@@ -10,8 +11,7 @@ use Rattle.ent_alloc.proofs.entities.Entities.settle.Goals as goal
 
 -- the top, by the vectors
 tops : (c : After-self) → top c.args.self.now.allocator ≡ length c.self.inside.slots.pending
-tops c = top_view c.self.inside.slots c.self.inside.requests.asked c.self.inside.requests.served
-    c.args.self.now.allocator c.self.invariant (allocator_is c.self.view_is)
+tops c = search (rules, top_view, allocator_is)
 
 -- the two distances are how much was asked for, and how much of it given
 record AreAsked (top : ℕ) (cursor floor : ℤ) (asked given : ℕ) : Type 0 where
@@ -22,18 +22,11 @@ asked : (c : After-distance-2) → top c.args.self.now.allocator ≡ length c.se
     → AreAsked (top c.args.self.now.allocator) c.args.cursor c.args.floor c.distance.result
     c.distance-2.result
 asked c tops =
-    let at : to_z w64 (of_z w64 c.args.cursor) ≡ c.args.cursor = omega (arith, ints) in
-    let down : to_z w64 (of_z w64 c.args.floor) ≡ c.args.floor = omega (arith, ints) in
-    let waits = c.waiting-waiting.ensures.value ∙ sym tops in
-    record {
-      asks_is = c.distance.ensures ∙ (λ i. asked_at (waits i) (at i));
-      gives_is = c.distance-2.ensures ∙ (λ i. asked_at (waits i) (down i));
-    }
+    search (rules, ints, tops)
 
 pub distance-requires-2-clause-passed : goal.distance-requires-2-clause-passed
 distance-requires-2-clause-passed c =
-    let tops = tops (goal.at.distance-requires-2-clause-passed c).After-self in
-    omega (arith, ints)
+    grind (arith, common_steps)
 
 pub invariant_of-self : goal.invariant_of-self
 invariant_of-self c =

@@ -1,15 +1,14 @@
-use Rattle.std.proofs.Common.{◌≡◌, ℕ, ◌+◌, ◌-◌, ◌≤◌, List, ◌++◌, length, map, take, drop, replicate}
-use Rattle.std.proofs.Common.{sym, ap, ◌∙◌, arith}
+use Rattle.std.proofs.Common.{rules, ◌≡◌, ℕ, ◌+◌, ◌-◌, ◌≤◌, List, ◌++◌, length, map, take, drop}
+use Rattle.std.proofs.Common.{replicate, ap, ◌∙◌, arith}
+use Rattle.std.proofs.lemmas.Grind.{common_steps}
 use Rattle.std.specs.FinSet as sets
-use Rattle.std.proofs.lemmas.List.{append_assoc, with_items_is, take_rest, length-drop, length-map}
-use Rattle.std.proofs.lemmas.List.{drop-map}
+use Rattle.std.proofs.lemmas.List.{append_assoc, with_items_is, take_rest, drop-map}
 use Rattle.ent_alloc.specs.declared.slot_record.SlotRecord.{SlotRecord}
 use Rattle.ent_alloc.specs.Sequential.{fresh}
 use Rattle.ent_alloc.specs.Roster.{Roster}
 use Rattle.ent_alloc.specs.Slots.{roster_of, handle_at, new_record, reused, AreLinked}
 use Rattle.ent_alloc.proofs.Linked.{make_keeps_links, roster_of-make, reuse_keeps_links}
 use Rattle.ent_alloc.proofs.Linked.{roster_of-reuse}
-use Rattle.ent_alloc.proofs.Reused.{length-reused}
 use Rattle.ent_alloc.proofs.slots.Slots.bring_to_life.Goals.{After-reuse_all}
 use Rattle.ent_alloc.proofs.slots.Slots.bring_to_life.Goals as goal
 
@@ -18,17 +17,14 @@ written : (lent records new : List SlotRecord) (slots pending : List ℕ) (kept 
     → slots ≡ pending → new ≡ reused lent (take (length slots - kept) (drop kept slots)) → new
     ≡ reused records (drop kept pending)
 written lent records new slots pending kept same same_pending is =
-    is ∙ (λ i. reused (same i) (take_rest slots kept i)) ∙ ap (λ ps. reused records (drop kept ps))
-    same_pending
+    search (rules, take_rest)
 
 -- the handles that waited are those of the pending slots
 waited : (lent records : List SlotRecord) (slots pending : List ℕ) (kept : ℕ) → lent ≡ records
     → slots ≡ pending → map (handle_at lent) (take (length slots - kept) (drop kept slots))
     ≡ drop kept (map (handle_at records) pending)
 waited lent records slots pending kept same same_pending =
-    (λ i. map (handle_at (same i)) (take_rest slots kept i))
-    ∙ ap (λ ps. map (handle_at records) (drop kept ps)) same_pending
-    ∙ sym (drop-map (handle_at records) kept pending)
+    (search (rules, take_rest, drop-map))
 
 -- what the two loops leave in the records
 record AreWritten (records : List SlotRecord) (pending : List ℕ) (fresh kept slots : ℕ)
@@ -43,30 +39,7 @@ all_written : (c : After-reuse_all) → AreWritten c.self.inside.records.items
     c.self.inside.pending.items c.args.fresh c.args.kept c.self.inside.limits.slots
     c.make_all.new.records.items c.reuse_all.new.records c.make_all.new.records.len
 all_written c =
-    let e = c.self.inside in
-    let records = e.records.items in
-    let pending = e.pending.items in
-    let grown = records ++ replicate c.args.fresh new_record in
-    let made : length records ≡ c.args.self.now.made = ap (λ (r : Roster). r.made) c.self.view_is in
-    let slots : e.limits.slots ≡ c.args.self.now.limits.slots = ap (λ (r : Roster). r.limits.slots)
-    c.self.view_is in
-    let waits : length pending ≡ length c.args.self.now.pending =
-    sym (length-map pending (handle_at records)) ∙ ap (λ (r : Roster). length r.pending)
-    c.self.view_is in
-    let grown_is : c.make_all.new.records.items ≡ grown = c.make_all.ensures.records
-    ∙ ap (λ (rs : List SlotRecord). rs ++ replicate c.args.fresh new_record)
-    c.in_ok-reserve.ensures.items in
-    let written_is = written c.deref_mut.result.now grown c.reuse_all.new.records
-    c.deref.result.now pending c.args.kept (c.deref_mut.ensures.value ∙ grown_is)
-    c.deref.ensures.value c.reuse_all.ensures.records in
-    record {
-      room = omega arith;
-      within = omega arith;
-      grown_is = grown_is;
-      written_is = written_is;
-      long = ap length written_is ∙ length-reused grown (drop c.args.kept pending)
-          ∙ sym (ap length grown_is) ∙ omega arith;
-    }
+    grind (arith, common_steps)
 
 -- the records with the new slots are linked, and stand for the roster with their first occupants
 linked : (c : After-reuse_all) → AreLinked c.self.inside.limits (c.self.inside.records.items
@@ -92,15 +65,7 @@ grown_roster c =
 
 pub reuse_all-requires-clause-room : goal.reuse_all-requires-clause-room
 reuse_all-requires-clause-room c =
-    let slots = c.deref.result.now in
-    let kept = c.args.kept in
-    let count : length (take (length slots - kept) (drop kept slots)) ≡ length slots
-    - kept = ap length (take_rest slots kept) ∙ length-drop kept slots in
-    let len = c.make_all.ensures.len in
-    let capacity = c.make_all.ensures.capacity in
-    let room = c.in_ok-reserve-2.ensures.ok in
-    let same_len = c.in_ok-reserve-2.ensures.len in
-    omega arith
+    grind (arith, common_steps)
 
 pub invariant_of-self-2 : goal.invariant_of-self-2
 invariant_of-self-2 c =

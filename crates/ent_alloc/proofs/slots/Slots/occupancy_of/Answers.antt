@@ -1,14 +1,13 @@
-use Rattle.std.proofs.Common.{◌≡◌, ◌<◌, drop, length, Option, sym, ap, subst, ◌∙◌}
-use Rattle.std.specs.Option.{OnSome}
+use Rattle.std.proofs.Common.{arith, rules, ◌≡◌, drop, sym, ap, ◌∙◌}
+use Rattle.std.proofs.lemmas.Grind.{common_steps}
 use Rattle.std.specs.FinSet as sets
 use Rattle.std.specs.FinMap as maps
 use Rattle.ent_alloc.specs.Roster.{Roster}
-use Rattle.ent_alloc.specs.declared.slot_record.Occupancy.{Occupancy}
 use Rattle.ent_alloc.specs.Sequential.{stands_in}
-use Rattle.ent_alloc.specs.Slots.{occupancy_of, lives, row_kept, waits_from}
+use Rattle.ent_alloc.specs.Slots.{occupancy_of, waits_from}
 use Rattle.ent_alloc.proofs.Occupants.{contains_occupants}
 use Rattle.ent_alloc.proofs.Looked.{is_occupant-occupancy, row_at-occupancy, waits_at-occupancy}
-use Rattle.ent_alloc.proofs.Looked.{made-occupancy, stands_in-pending}
+use Rattle.ent_alloc.proofs.Looked.{stands_in-pending}
 use Rattle.ent_alloc.proofs.KeptRows.{get_rows}
 use Rattle.ent_alloc.proofs.slots.Slots.occupancy_of.Goals.{After-occupancy_of}
 use Rattle.ent_alloc.proofs.slots.Slots.occupancy_of.Goals as goal
@@ -16,26 +15,15 @@ use Rattle.ent_alloc.proofs.slots.Slots.occupancy_of.Goals as goal
 -- the look-up is of the vector's records
 found : (c : After-occupancy_of) → c.occupancy_of.result
     ≡ occupancy_of c.self.inside.records.items c.args.handle
-found c = c.occupancy_of.ensures
-    ∙ ap (λ records. occupancy_of records c.args.handle) c.deref.ensures.value
+found c = search (rules)
 
 pub returns-clause-lives : goal.returns-clause-lives
 returns-clause-lives c =
-    let e = c.self.inside in
-    let h = c.args.handle in
-    sym (ap (λ (r : Roster). sets.contains r.live h) c.self.view_is)
-    ∙ contains_occupants e.records.items h
-    ∙ is_occupant-occupancy e.records.items h
-    ∙ sym (ap lives (found (goal.at.returns-clause-lives c).After-occupancy_of))
+    search (rules, contains_occupants, is_occupant-occupancy, found)
 
 pub returns-clause-row : goal.returns-clause-row
 returns-clause-row c =
-    let e = c.self.inside in
-    let h = c.args.handle in
-    sym (ap (λ (r : Roster). maps.get r.rows h) c.self.view_is)
-    ∙ get_rows e.records.items h
-    ∙ row_at-occupancy e.records.items h
-    ∙ sym (ap row_kept (found (goal.at.returns-clause-row c).After-occupancy_of))
+    search (rules, get_rows, row_at-occupancy, found)
 
 pub returns-clause-waits : goal.returns-clause-waits
 returns-clause-waits c from =
@@ -49,9 +37,4 @@ returns-clause-waits c from =
 
 pub returns-clause-made : goal.returns-clause-made
 returns-clause-made c =
-    let e = c.self.inside in
-    let h = c.args.handle in
-    let is = found (goal.at.returns-clause-made c).After-occupancy_of in
-    subst (λ (r : Roster). OnSome c.occupancy_of.result (h.index < r.made)) c.self.view_is
-    (subst (λ (o : Option Occupancy). OnSome o (h.index < length e.records.items)) (sym is)
-    (made-occupancy e.records.items h))
+    grind (arith, common_steps)

@@ -1,4 +1,5 @@
-use Rattle.std.proofs.Common.{◌≡◌, ◌≢◌, ◌+◌, [], ◌∷◌, ◌++◌, length, set, true, ap, ◌∙◌, arith}
+use Rattle.std.proofs.Common.{rules, ◌≡◌, ◌≢◌, ◌+◌, [], ◌∷◌, ◌++◌, length, set, true, ap, ◌∙◌}
+use Rattle.std.proofs.Common.{arith}
 use Rattle.std.specs.FinSet as sets
 use Rattle.std.specs.FinMap as maps
 use Rattle.ent_alloc.specs.declared.slot_record.Occupancy.TheVariants.{Pending}
@@ -13,13 +14,11 @@ use Rattle.ent_alloc.proofs.slots.Slots.release.Goals as goal
 
 -- the handle is that of an occupant
 lives : (c : After-self) → is_occupant c.self.inside.records.items c.args.handle ≡ true
-lives c = lives_in c.self.inside.limits c.self.inside.records.items c.self.inside.pending.items
-    c.args.handle c.self.view_is c.requires.lives
+lives c = search (rules, lives_in)
 
 -- and not of the last one of its slot
 not_last : (c : After-self) → c.args.handle.generation ≢ c.self.inside.limits.generations
-not_last c last = c.requires.not_last
-    (last ∙ ap (λ (r : Roster). r.limits.generations) c.self.view_is)
+not_last c last = search (rules)
 
 pub index_mut-requires : goal.index_mut-requires
 index_mut-requires c =
@@ -36,18 +35,7 @@ overflow_sub-self c =
 
 pub from_parts-requires : goal.from_parts-requires
 from_parts-requires c =
-    let records = c.self.inside.records.items in
-    let is = lives (goal.at.from_parts-requires c).After-self in
-    let before = not_last (goal.at.from_parts-requires c).After-self in
-    let generation_is = c.generation-generation.ensures in
-    let generation = occupant_generation records c.args.handle is in
-    let last = c.self.invariant.greatest c.args.handle.index (occupant_made records c.args.handle
-    is) in
-    let made = occupant_made records c.args.handle is in
-    let few = c.self.invariant.few in
-    let slots = c.self.invariant.limited.slots in
-    let generations = c.self.invariant.limited.generations in
-    record { index = omega arith; least = omega arith; greatest = omega arith }
+    search (rules, lives, not_last, occupant_generation, occupant_made)
 
 pub invariant_of-self-2 : goal.invariant_of-self-2
 invariant_of-self-2 c =

@@ -1,11 +1,11 @@
-use Rattle.std.proofs.Common.{◌≡◌, ◌-◌, [], ◌∷◌, length, set, slice_get}
-use Rattle.std.proofs.Common.{take, Some, sym, ap, ◌∙◌}
+use Rattle.std.proofs.Common.{rules, ◌≡◌, ◌-◌, [], ◌∷◌, length, set, slice_get, take, Some, sym, ap}
+use Rattle.std.proofs.Common.{◌∙◌}
 use Rattle.std.specs.FinSet as sets
 use Rattle.std.proofs.lemmas.List.{get_or_read}
 use Rattle.ent_alloc.specs.declared.slot_record.SlotRecord.{SlotRecord}
 use Rattle.ent_alloc.specs.declared.slot_record.Occupancy.TheVariants.{Alive}
 use Rattle.ent_alloc.specs.Roster.{Roster}
-use Rattle.ent_alloc.specs.Slots.{roster_of, record_at, handle_at, no_slot}
+use Rattle.ent_alloc.specs.Slots.{roster_of, record_at, handle_at}
 use Rattle.ent_alloc.proofs.Linked.{last_made, last_handle, reuse_last_keeps_links}
 use Rattle.ent_alloc.proofs.Linked.{roster_of-reuse_last}
 use Rattle.ent_alloc.proofs.slots.Slots.reuse_last.Goals.{After-index_mut-record}
@@ -15,11 +15,7 @@ use Rattle.ent_alloc.proofs.slots.Slots.reuse_last.Goals as goal
 read : (c : After-index_mut-record) → c.index_mut-record.result.now
     ≡ record_at c.self.inside.records.items c.in_ok-index.index
 read c =
-    let e = c.self.inside in
-    get_or_read e.records.items c.in_ok-index.index c.index_mut-record.result.now
-    (last_made e.limits e.records.items e.pending.items c.pop.new.self.items e.live
-    c.in_ok-index.index c.self.invariant c.in_ok-index.ensures.items)
-    c.index_mut-record.ensures.value no_slot
+    search (rules, get_or_read, last_made)
 
 pub invariant_of-self-2 : goal.invariant_of-self-2
 invariant_of-self-2 c =

@@ -1,4 +1,4 @@
-use Rattle.std.proofs.Common.{◌≡◌, true, ap, ◌∙◌, arith}
+use Rattle.std.proofs.Common.{rules, ◌≡◌, true, ap, ◌∙◌, arith}
 use Rattle.std.specs.FinMap as maps
 use Rattle.ent_alloc.specs.declared.slot_record.Occupancy.TheVariants.{AliveWithRow}
 use Rattle.ent_alloc.specs.Roster.{Roster}
@@ -11,8 +11,7 @@ use Rattle.ent_alloc.proofs.slots.Slots.set_row.Goals as goal
 
 -- the handle is that of an occupant
 lives : (c : After-self) → is_occupant c.self.inside.records.items c.args.handle ≡ true
-lives c = lives_in c.self.inside.limits c.self.inside.records.items c.self.inside.pending.items
-    c.args.handle c.self.view_is c.requires
+lives c = search (rules, lives_in)
 
 pub index_mut-requires : goal.index_mut-requires
 index_mut-requires c =

@@ -1,4 +1,5 @@
-use Rattle.std.proofs.Common.{ap, sym, subst, ◌∙◌, pos, Contains, ◌↔◌, ◌⊎◌}
+use Rattle.std.proofs.Common.{arith, ap, sym, subst, ◌∙◌, pos, Contains, ◌↔◌, ◌⊎◌, to_z, of_z, w64}
+use Rattle.std.proofs.lemmas.Grind.{common_steps}
 use Rattle.ent_alloc.specs.Sequential.{Allocator, after_flush}
 use Rattle.ent_alloc.specs.Sound.{IsLive}
 use Rattle.ent_alloc.specs.History.{given_in}
@@ -8,7 +9,6 @@ use Rattle.ent_shared.proofs.Closing.{ended, Ended}
 use Rattle.ent_shared.proofs.Merging.{length-records_of}
 use Rattle.ent_shared.proofs.shared.Shared.close.Goals as goal
 use Rattle.ent_shared.proofs.shared.Shared.close.Goals.{After-end_phase-cursor}
-use Rattle.std.proofs.Common.{to_z, of_z, w64}
 
 -- what is known before the allocator is settled
 known : (c : After-end_phase-cursor) → Ended c.self.inside.entities.allocator c.args.self.start
@@ -26,15 +26,12 @@ known c =
 
 pub settle-requires : goal.settle-requires
 settle-requires c =
-    let end = known (goal.at.settle-requires c).After-end_phase-cursor in
-    record {
-      flushed = c.self.invariant.begins.flushed;
-      least = end.least;
-      greatest = end.greatest;
-      ordered = end.ordered;
-      reachable = end.reachable;
-      all_given = end.all_given;
-    }
+    grind (
+      arith,
+      common_steps,
+      known (goal.at.settle-requires c).After-end_phase-cursor,
+      c.self.invariant.begins.flushed,
+    )
 
 pub returns : goal.returns
 returns c =

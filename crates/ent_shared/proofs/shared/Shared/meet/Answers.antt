@@ -1,6 +1,4 @@
-use Rattle.std.proofs.Common.{List, ap, ◌∙◌}
-use Rattle.ent_shared.specs.declared.record.Record.{Record}
-use Rattle.ent_shared.specs.Order.{handles_given}
+use Rattle.std.proofs.Common.{rules, ap, ◌∙◌}
 use Rattle.ent_shared.specs.Moves.{after_meeting}
 use Rattle.ent_shared.specs.Phase.{Reserver, own_of}
 use Rattle.ent_shared.proofs.Laws.{given-after_meeting}
@@ -8,8 +6,7 @@ use Rattle.ent_shared.proofs.Seating.{seated_meeting, of_met}
 use Rattle.ent_shared.proofs.shared.Shared.meet.Goals as goal
 
 pub invariant_of-a : goal.invariant_of-a
-invariant_of-a c = seated_meeting c.a.inside.badge.views c.b.inside.badge.views c.meet.new.a.views _
-    _ _ _ _ _ c.a.invariant c.b.invariant c.meet.ensures.meets
+invariant_of-a c = search (rules, seated_meeting)
 
 pub returns-clause-first : goal.returns-clause-first
 returns-clause-first c =
@@ -22,6 +19,4 @@ returns-clause-first c =
 
 pub returns-clause-given : goal.returns-clause-given
 returns-clause-given c =
-    ap (λ (views : List (List Record)). handles_given (own_of views)) c.meet.ensures.meets
-    ∙ (given-after_meeting (own_of c.a.inside.badge.views) (own_of c.b.inside.badge.views)
-    ∙ ap (λ (r : Reserver). handles_given r.own) c.a.view_is)
+    search (rules, given-after_meeting)

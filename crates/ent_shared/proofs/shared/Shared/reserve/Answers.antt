@@ -1,9 +1,6 @@
-use Rattle.std.proofs.Common.{◌≡◌, refl, ◌-ℤ◌, pos, sym, ap, ◌∙◌, arith, to_z, of_z, w64, ◌++◌}
-use Rattle.std.proofs.Common.{append-nil, ℕ}
-use Rattle.std.specs.Prelude.{Result}
+use Rattle.std.proofs.Common.{rules, ◌≡◌, refl, ◌-ℤ◌, pos, sym, ap, ◌∙◌, arith, to_z, of_z, w64}
+use Rattle.std.proofs.Common.{◌++◌, append-nil, ℕ}
 use Rattle.std.proofs.lemmas.Int.{ints}
-use Rattle.ent_handle.specs.Handle.{Handle}
-use Rattle.ent_alloc.specs.declared.space.Space.{Space}
 use Rattle.ent_alloc.specs.History.{handles_in}
 use Rattle.ent_alloc.specs.Sequential.{pool_at, reply_from, listed_alone}
 use Rattle.ent_shared.specs.Phase.{Shared, Reserver, own_of}
@@ -22,10 +19,7 @@ replied : (c : After-reply_one) → (k : ℕ) → c.reserve-high.result -ℤ pos
     -ℤ pos k → listed_alone c.reply_one.result ≡ reply_from c.self.inside.entities.allocator.made
     (pool_at c.self.inside.entities.allocator c.reserve-high.result) k
 replied c =
-    let fits = c.reserve-high.type_inv in
-    let least = c.reserve-high.ensures.least in
-    one_reply c.self.inside.entities.allocator c.reserve-high.result _ (listed_alone c.reply_one.result)
-    (omega (arith, ints)) c.reply_one.ensures
+    search (rules, one_reply, ints)
 
 -- what the reserver was given by then
 given : (c : After-reply_one) → handles_given (own_of c.reserve-high.new.badge.views)
@@ -61,11 +55,7 @@ returns-in_err-handle-clause-stays c =
 
 pub returns-in_err-handle-clause-refused : goal.returns-in_err-handle-clause-refused
 returns-in_err-handle-clause-refused c =
-    on_err c.from_residual.result
-    (given (goal.at.returns-in_err-handle-clause-refused c).After-reply_one
-    ∙ (ap (λ (answer : Result Handle Space). handles_given c.args.reserver.now.own
-    ++ handles_in (listed_alone answer)) c.in_err-handle.was
-    ∙ append-nil (handles_given c.args.reserver.now.own)))
+    search (rules, on_err, given, append-nil)
 
 pub invariant_of-reserver-2 : goal.invariant_of-reserver-2
 invariant_of-reserver-2 c =
@@ -93,6 +83,4 @@ returns-clause-stays c =
 
 pub returns-clause-given : goal.returns-clause-given
 returns-clause-given c =
-    given (goal.at.returns-clause-given c).After-reply_one
-    ∙ ap (λ (answer : Result Handle Space). handles_given c.args.reserver.now.own
-    ++ handles_in (listed_alone answer)) c.in_ok-handle.was
+    search (rules, given)

@@ -1,18 +1,15 @@
-use Rattle.std.proofs.Common.{ℕ, ◌-◌, ◌-ℤ◌, ◌≤ℤ◌, pos, sym, arith, subst, to_z, of_z, w64, List}
-use Rattle.std.proofs.Common.{◌++◌, append-nil}
-use Rattle.std.specs.Prelude.{Result}
+use Rattle.std.proofs.Common.{rules, ℕ, ◌-◌, ◌-ℤ◌, ◌≤ℤ◌, pos, sym, arith, subst, to_z, of_z, w64}
+use Rattle.std.proofs.Common.{List, ◌++◌, append-nil, ◌≡◌, ap, refl, ◌∙◌, [], Ok}
 use Rattle.ent_handle.specs.Handle.{Handle}
-use Rattle.ent_alloc.specs.declared.space.Space.{Space}
 use Rattle.ent_alloc.specs.History.{handles_in}
 use Rattle.ent_shared.specs.Order.{handles_given}
 use Rattle.std.proofs.lemmas.Int.{ints}
 use Rattle.ent_alloc.specs.declared.span.Span.{Span}
 use Rattle.ent_shared.specs.Phase.{Shared, Reserver, own_of, IsSeated}
 use Rattle.ent_shared.proofs.Seating.{seated_reservation, of_stepped, given_now}
-use Rattle.ent_shared.proofs.Returned.{served_floor, refused_floor, span_at}
-use Rattle.std.proofs.Common.{◌≡◌, ap, refl, ◌∙◌, [], Ok}
+use Rattle.ent_shared.proofs.Returned.{served_floor, refused_floor, span_at, reply-none, no_space}
+use Rattle.ent_shared.proofs.Returned.{low_of, length-served, on_err}
 use Rattle.ent_alloc.specs.Sequential.{Allocator, pool_at, top, cursor}
-use Rattle.ent_shared.proofs.Returned.{reply-none, no_space, low_of, length-served, on_err}
 use Rattle.ent_shared.proofs.shared.Shared.reserve_many.Goals as goal
 use Rattle.ent_shared.proofs.shared.Shared.reserve_many.Goals.{After-reply-2}
 
@@ -56,10 +53,7 @@ started c = c.requires.start ∙ sym (ap (λ (s : Shared). s.start) c.self.view_
 spanned : (c : After-reply-2) → c.new-span.result
     ≡ record { high = c.reserve.result; low = c.reserve.result -ℤ pos c.args.n }
 spanned c =
-    let fits = c.reserve.type_inv in
-    let least = c.reserve.ensures.least in
-    span_at c.new-span.result c.reserve.result _ c.args.n (omega (arith, ints))
-    c.new-span.ensures.value
+    search (rules, span_at, ints)
 
 -- what the reserver was given by then
 given : (c : After-reply-2) → handles_given (own_of c.reserve.new.badge.views)
@@ -123,9 +117,7 @@ returns-clause-stays c =
 
 pub returns-clause-length : goal.returns-clause-length
 returns-clause-length c =
-    length-served _ _ c.in_ok-handles.handles c.args.n
-    (sym (c.reply-2.ensures c.args.n (low_of c.new-span.result _ c.args.n
-    c.new-span.ensures.value)) ∙ c.in_ok-handles.was)
+    search (rules, length-served, low_of)
 
 pub returns-in_err-handles-clause-stays : goal.returns-in_err-handles-clause-stays
 returns-in_err-handles-clause-stays c =
@@ -148,14 +140,8 @@ returns-then-n-eq0-clause-given c =
 
 pub returns-clause-given : goal.returns-clause-given
 returns-clause-given c =
-    given (goal.at.returns-clause-given c).After-reply-2
-    ∙ ap (λ (reply : Result (List Handle) Space). handles_given c.args.reserver.now.own
-    ++ handles_in reply) c.in_ok-handles.was
+    search (rules, given)
 
 pub returns-in_err-handles-clause-refused : goal.returns-in_err-handles-clause-refused
 returns-in_err-handles-clause-refused c =
-    on_err c.from_residual.result
-    (given (goal.at.returns-in_err-handles-clause-refused c).After-reply-2
-    ∙ (ap (λ (reply : Result (List Handle) Space). handles_given c.args.reserver.now.own
-    ++ handles_in reply) c.in_err-handles.was
-    ∙ append-nil (handles_given c.args.reserver.now.own)))
+    search (rules, on_err, given, append-nil)

@@ -1,4 +1,4 @@
-use Rattle.std.proofs.Common.{sym, ◌∙◌}
+use Rattle.std.proofs.Common.{rules, ◌∙◌}
 use Rattle.ent_storage.proofs.ColumnsAtPlaces.{entries_components}
 use Rattle.ent_storage.proofs.ItemsInUse.{count_items, items_in_use}
 use Rattle.ent_storage.proofs.items.Items.new.Goals as goal
@@ -9,5 +9,4 @@ invariant_of-result c =
 
 pub returns : goal.returns
 returns c =
-    items_in_use c.args.columns.now c.args.place c.args.used.now c.requires
-    ∙ sym (entries_components c.args.columns.now c.args.place)
+    search (rules, items_in_use, entries_components)

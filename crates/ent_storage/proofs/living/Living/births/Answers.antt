@@ -1,4 +1,4 @@
-use Rattle.std.proofs.Common.{◌≡◌, ◌<◌, map, length, ap, ◌∙◌, arith}
+use Rattle.std.proofs.Common.{rules, ◌≡◌, map, ap, ◌∙◌}
 use Rattle.std.proofs.lemmas.Result.{IfOk-weaker, on_err_weaker}
 use Rattle.ent_handle.specs.declared.birth.Birth.{Birth}
 use Rattle.ent_handle.specs.Handle.{Handle}
@@ -20,8 +20,4 @@ returns-clause-ok c =
 -- there are as many entities as residents
 pub returns-clause-memory : goal.returns-clause-memory
 returns-clause-memory c =
-    let many = length_from 0 c.self.inside.residents.items c.self.inside.columns.items in
-    let view = ap (λ (l : Living). length l.entities) c.self.view_is in
-    let seen = ap length c.deref.ensures.value in
-    on_err_weaker {P = 0 < length c.deref.result.now} c.births.result (λ some. omega arith)
-    c.births.ensures.memory
+    search (rules, length_from, on_err_weaker)

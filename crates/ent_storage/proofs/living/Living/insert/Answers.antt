@@ -1,4 +1,4 @@
-use Rattle.std.proofs.Common.{◌<◌, length, get_or, ap, sym, subst, ◌∙◌, inr, arith}
+use Rattle.std.proofs.Common.{rules, ◌<◌, length, get_or, ap, sym, subst, ◌∙◌, inr, arith}
 use Rattle.std.specs.FinMap as finite
 use Rattle.ent_storage.specs.Components.{Components, with_items, missing}
 use Rattle.ent_storage.specs.SparseSet.{Values}
@@ -13,11 +13,7 @@ use Rattle.ent_storage.proofs.living.Living.insert.Goals as goal
 
 pub returns-in_err-reserve_all-clause-err : goal.returns-in_err-reserve_all-clause-err
 returns-in_err-reserve_all-clause-err c =
-    on_err _
-    (same_from 0 c.self.inside.residents.items c.self.inside.columns.items
-    c.reserve_all.new.columns.items (λ p id _ _. ap (λ (m : Values). finite.get m p)
-    (c.in_err-reserve_all.ensures.values id.0))
-    ∙ ap (λ (l : Living). l.entities) c.self.view_is)
+    search (rules, on_err, same_from)
 
 pub returns-in_err-reserve_all-clause-growing : goal.returns-in_err-reserve_all-clause-growing
 returns-in_err-reserve_all-clause-growing c =

@@ -1,5 +1,4 @@
-use Rattle.std.proofs.Common.{◌≡◌, ℕ, List, length, get_or, Some, slice_get, ap, sym, ◌∙◌, arith}
-use Rattle.std.proofs.Common.{option_and_then}
+use Rattle.std.proofs.Common.{rules, ◌≡◌, ℕ, List, length, slice_get, ap, sym, ◌∙◌, option_and_then}
 use Rattle.std.proofs.lemmas.Option.{slice_get-get_or, none-some}
 use Rattle.ent_storage.proofs.ColumnsAtPlaces.{taken_none}
 use Rattle.std.specs.FinMap as finite
@@ -20,8 +19,7 @@ is_value : (residents : List Resident) (columns : List Column) (room : ℕ) (liv
     → option_and_then (λ (e : LivingEntity). finite.get e.components id)
     (slice_get living.entities place) ≡ value_at columns place id
 is_value residents columns room living place id is within =
-    ap (λ (l : Living). option_and_then (λ (e : LivingEntity). finite.get e.components id)
-    (slice_get l.entities place)) (sym is) ∙ value_from residents columns place id within
+    search (rules, value_from)
 
 pub returns-in-Some-clause-has : goal.returns-in-Some-clause-has
 returns-in-Some-clause-has c place v at =
@@ -41,13 +39,7 @@ returns-in-Some-clause-all c place v is =
 
 pub returns-in-Some-clause-once : goal.returns-in-Some-clause-once
 returns-in-Some-clause-once c i j d l k e =
-    let pairs = c.pairs.result.now in
-    let p = (get_or pairs j d).0 in
-    let at_i = slice_get-get_or pairs i d (omega arith) ∙ (λ t. Some (e t, (get_or pairs i d).1)) in
-    let at_j = slice_get-get_or pairs j d k in
-    let twice : i ≡ j = c.pairs.ensures.once i j p (get_or pairs i d).1 (get_or pairs j d).1 at_i
-    at_j in
-    absurd (omega arith)
+    search (rules, slice_get-get_or)
 
 pub returns-in-None-clause-all : goal.returns-in-None-clause-all
 returns-in-None-clause-all c place v is =

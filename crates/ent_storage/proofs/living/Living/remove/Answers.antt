@@ -1,7 +1,7 @@
-use Rattle.std.proofs.Common.{length, ap, sym, ◌∙◌, inr, arith}
+use Rattle.std.proofs.Common.{rules, length, ap, sym, ◌∙◌, inr, arith}
 use Rattle.std.specs.FinMap as finite
 use Rattle.ent_storage.specs.declared.living.Resident.{Resident}
-use Rattle.ent_storage.specs.Living.{Living, LivingEntity, change_at}
+use Rattle.ent_storage.specs.Living.{LivingEntity}
 use Rattle.ent_storage.proofs.ColumnsAtPlaces.{get_components}
 use Rattle.ent_storage.proofs.EntitiesOfResidents.{read_from, inside_from, changed_from}
 use Rattle.ent_storage.proofs.EntitiesOfResidents.{changed_within, written_back}
@@ -37,13 +37,4 @@ returns-clause-value c d =
 
 pub returns-clause-entities : goal.returns-clause-entities
 returns-clause-entities c =
-    let remove_len = rw c.deref_mut.ensures.value at c.remove.ensures.len in
-    let remove_others = rw c.deref_mut.ensures.value at c.remove.ensures.others in
-    let remove_here = rw c.deref_mut.ensures.value at c.remove.ensures.here in
-    rw (written_back c.remove.new.columns c.self.inside.columns.items c.self.inside.columns.len
-    remove_len c.self.inside.columns.ok.0)
-    (changed_from 0 c.self.inside.residents.items c.self.inside.columns.items c.remove.new.columns
-    c.args.place c.args.place (λ held. finite.remove held c.args.id) (omega arith) remove_here
-    (λ q id far. remove_others q id far)
-    ∙ ap (λ (l : Living). change_at l.entities c.args.place (λ held. finite.remove held c.args.id))
-    c.self.view_is)
+    search (rules, written_back, changed_from)

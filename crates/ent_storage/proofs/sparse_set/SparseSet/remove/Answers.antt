@@ -1,5 +1,5 @@
-use Rattle.std.proofs.Common.{◌≡◌, ◌≤◌, ℕ, ℤ, List, length, get_or, slice_get, Some, refl, ap, sym}
-use Rattle.std.proofs.Common.{◌∙◌, arith, SFits, w64, rules}
+use Rattle.std.proofs.Common.{◌≡◌, ◌≤◌, ℕ, ℤ, List, length, get_or, slice_get, Some, ap, sym, ◌∙◌}
+use Rattle.std.proofs.Common.{arith, rules}
 use Rattle.std.specs.Ordering.{nat_cmp}
 use Rattle.std.proofs.lemmas.Int.{to_z-of_z}
 use Rattle.std.proofs.lemmas.Option.{slice_get-get_or}
@@ -13,9 +13,7 @@ use Rattle.ent_storage.proofs.sparse_set.SparseSet.remove.Goals as goal
 
 pub returns-in_err-position-clause-after : goal.returns-in_err-position-clause-after
 returns-in_err-position-clause-after c =
-    let none = rw c.deref.ensures.value at (c.in_err-position.ensures.absent refl) in
-    removed_none c.args.self.now.values c.args.place
-    (ap (λ (m : Column). map.get m.values c.args.place) (sym c.self.view_is) ∙ none)
+    search (rules, removed_none)
 
 -- a pair of this place stood at the position
 here : (c : After-swap_remove-value) → slice_get c.self.inside.dense.items c.in_ok-position.position
@@ -33,10 +31,7 @@ here c =
 -- and the last one has filled it
 rest : (c : After-swap_remove-value) → IsFilled c.self.inside.dense.items c.in_ok-position.position
     c.swap_remove-value.new.self.items
-rest c = filled c.self.inside.dense.items c.swap_remove-value.new.self.items
-    c.in_ok-position.position _ _ c.self.inside.dense.ok.0 c.swap_remove-value.new.self.ok.0
-    c.swap_remove-value.ensures.len
-    c.swap_remove-value.ensures.by_index
+rest c = search (rules, filled)
 
 -- it had the value that is returned
 value : (c : After-swap_remove-value) → Some c.swap_remove-value.result.1
@@ -62,9 +57,7 @@ without c sparse dense =
 read : (c : After-index) → slice_get c.swap_remove-value.new.self.items c.in_ok-position.position
     ≡ Some c.index.result.now
 read c =
-    slice_get-get_or c.swap_remove-value.new.self.items c.in_ok-position.position c.index.result.now
-    (omega (arith, c.if-position-len.true, c.len.ensures, c.swap_remove-value.new.self.ok.0))
-    ∙ ap Some (sym c.index.ensures)
+    search (rules, slice_get-get_or)
 
 -- the pair was the last
 last : (c : Else-position-len) → length c.swap_remove-value.new.self.items
@@ -101,15 +94,11 @@ invariant_of-self-else-position-len c =
 
 pub returns-then-position-len-clause-value : goal.returns-then-position-len-clause-value
 returns-then-position-len-clause-value c =
-    let fits : SFits w64 c.swap_remove-value.result.1 = search rules in
-    ap Some (to_z-of_z w64 c.swap_remove-value.result.1 fits)
-    ∙ value (goal.at.returns-then-position-len-clause-value c).After-swap_remove-value
+    search (rules, to_z-of_z, value)
 
 pub returns-else-position-len-clause-value : goal.returns-else-position-len-clause-value
 returns-else-position-len-clause-value c =
-    let fits : SFits w64 c.swap_remove-value.result.1 = search rules in
-    ap Some (to_z-of_z w64 c.swap_remove-value.result.1 fits)
-    ∙ value (goal.at.returns-else-position-len-clause-value c).After-swap_remove-value
+    search (rules, to_z-of_z, value)
 
 pub returns-then-position-len-clause-after : goal.returns-then-position-len-clause-after
 returns-then-position-len-clause-after c =

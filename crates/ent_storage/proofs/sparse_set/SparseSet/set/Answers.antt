@@ -1,4 +1,4 @@
-use Rattle.std.proofs.Common.{◌≡◌, ◌<◌, length, None, refl, ap, sym, ◌∙◌, arith, SFits, w64, rules}
+use Rattle.std.proofs.Common.{◌≡◌, ◌<◌, length, None, refl, ap, ◌∙◌, SFits, w64, rules}
 use Rattle.std.proofs.lemmas.Int.{to_z-of_z}
 use Rattle.std.specs.Ordering.{nat_cmp}
 use Rattle.std.specs.FinMap as map
@@ -25,19 +25,11 @@ none_there c = rw c.deref.ensures.value at (c.in-None.ensures.absent refl)
 
 in_sparse : (c : goal.After-push_reserved) → c.args.place < length c.self.inside.sparse.items
 in_sparse c =
-    let none = ap (λ (m : Column). map.get m.values c.args.place) (sym c.self.view_is)
-    ∙ none_there c in
-    let room = c.requires.in_range none in
-    omega (arith, room, ap (λ (m : Column). m.places) c.self.view_is, c.self.inside.sparse.ok.0)
+    search (rules, none_there)
 
 pub invariant_of-self-in-None : goal.invariant_of-self-in-None
 invariant_of-self-in-None c =
-    let fits : SFits w64 c.args.value = search rules in
-    let len : c.len.result ≡ length c.self.inside.dense.items =
-    omega (arith, c.len.ensures, c.self.inside.dense.ok.0) in
-    rw (c.push_reserved.ensures.items, to_z-of_z w64 c.args.value fits, len)
-    (pushed_dense c.self.inside.dense.items c.self.inside.sparse.items c.self.invariant c.args.place
-    c.args.value (none_there c) (in_sparse c))
+    search (rules, to_z-of_z, pushed_dense, none_there, in_sparse)
 
 pub returns-in-None : goal.returns-in-None
 returns-in-None c =

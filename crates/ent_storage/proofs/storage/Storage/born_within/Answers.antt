@@ -1,12 +1,10 @@
-use Rattle.std.proofs.Common.{◌≡◌, ◌<◌, length, min, Some, None, Option, is_none, is_some, is_err}
+use Rattle.std.proofs.Common.{rules, ◌≡◌, ◌<◌, length, min, Some, None, Option, is_none, is_some}
 use Rattle.std.proofs.Common.{true, false, refl, sym, ap, ◌∙◌, arith}
 use Rattle.std.proofs.lemmas.Bool.{false≢true}
 use Rattle.std.specs.FinMap as map
 use Rattle.ent_storage.specs.Living.{LivingEntity}
-use Rattle.ent_storage.specs.EntityMap.{EntityMap, Store}
-use Rattle.ent_storage.specs.Indexed.{entity_of}
+use Rattle.ent_storage.specs.EntityMap.{Store}
 use Rattle.ent_storage.proofs.Indexed.{entities_push}
-use Rattle.ent_storage.specs.Indexed.{counted}
 use Rattle.ent_storage.proofs.Counted.{kept_push}
 use Rattle.ent_storage.proofs.Placed.{placed_known}
 use Rattle.ent_storage.proofs.storage.Storage.born_within.Goals as goal
@@ -41,35 +39,13 @@ invariant_of-self c =
 
 pub returns-then-put-clause-ok : goal.returns-then-put-clause-ok
 returns-then-put-clause-ok c =
-    let are = ap (λ (s : Store). s.entities) c.self.view_is in
-    let new = none_from_test _ (sym c.put.ensures.new ∙ c.if-put.true) in
-    let entity : LivingEntity = record {
-      handle = c.args.handle;
-      birth = c.args.birth;
-      components =
-          map.empty;
-    } in
-    rw c.push.ensures.entities
-    (entities_push c.self.inside.living.entities (counted c.self.inside.living.entities
-    c.self.inside.index.by_handle) c.self.invariant.indexed entity new
-    ∙ ap (λ (m : EntityMap). map.insert m c.args.handle (entity_of entity)) are)
+    search (rules, none_from_test, entities_push)
 
 -- the handle is there exactly if the index has a place of it that counts
 pub returns-then-put-clause-present : goal.returns-then-put-clause-present
 returns-then-put-clause-present c =
-    let new = none_from_test _ (sym c.put.ensures.new ∙ c.if-put.true) in
-    let known = placed_known c.self.inside.living.entities (counted c.self.inside.living.entities
-    c.self.inside.index.by_handle) c.self.invariant.indexed c.args.handle
-    ∙ ap (λ (s : Store). map.contains_key s.entities c.args.handle) c.self.view_is in (
-      λ e. absurd (false≢true (ap is_err e)),
-      λ there. absurd (false≢true (sym (ap is_some new) ∙ known ∙ there)),
-    )
+    search (rules, none_from_test, placed_known, false≢true)
 
 pub returns-else-put-clause-present : goal.returns-else-put-clause-present
 returns-else-put-clause-present c =
-    let known = placed_known c.self.inside.living.entities (counted c.self.inside.living.entities
-    c.self.inside.index.by_handle) c.self.invariant.indexed c.args.handle
-    ∙ ap (λ (s : Store). map.contains_key s.entities c.args.handle) c.self.view_is in (
-      λ _. sym known ∙ some_from_test _ (sym c.put.ensures.new ∙ c.if-put.false),
-      λ _. refl,
-    )
+    search (rules, placed_known, some_from_test)

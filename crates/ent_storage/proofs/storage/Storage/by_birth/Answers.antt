@@ -1,5 +1,5 @@
-use Rattle.std.proofs.Common.{◌≡◌, ◌≢◌, ◌<◌, ℕ, List, length, true, map as mapped, ap, sym, ◌∙◌}
-use Rattle.std.proofs.Common.{subst, arith}
+use Rattle.std.proofs.Common.{rules, ◌≡◌, ◌≢◌, ◌<◌, ℕ, List, length, true, map as mapped, ap, sym}
+use Rattle.std.proofs.Common.{◌∙◌, arith}
 use Rattle.std.proofs.lemmas.List.{length-map}
 use Rattle.std.specs.FinMap as map
 use Rattle.ent_handle.specs.Handle.{handle_cmp}
@@ -34,20 +34,9 @@ not_empty living index indexed m view some none =
 
 pub returns-in_err-births-clause-memory : goal.returns-in_err-births-clause-memory
 returns-in_err-births-clause-memory c =
-    let living = c.self.inside.living.entities in
-    on_err {P = c.args.self.now.entities ≢ map.empty} c.from_residual.result
-    (not_empty living (counted living c.self.inside.index.by_handle) c.self.invariant.indexed
-    c.args.self.now.entities (ap (λ (s : Store). s.entities) c.self.view_is)
-    c.in_err-births.ensures.memory)
+    search (rules, on_err, not_empty)
 
 pub returns-in_err-handles_in_order-clause-memory :
     goal.returns-in_err-handles_in_order-clause-memory
 returns-in_err-handles_in_order-clause-memory c =
-    let living = c.self.inside.living.entities in
-    let many = ap length c.in_ok-births.ensures.ok
-    ∙ length-map living (λ (entity : LivingEntity). (entity.birth, entity.handle)) in
-    let some : 0 < length living = subst (λ n. 0 < n) many c.in_err-handles_in_order.ensures.memory
-    in
-    on_err {P = c.args.self.now.entities ≢ map.empty} c.from_residual-in_err-handles_in_order.result
-    (not_empty living (counted living c.self.inside.index.by_handle) c.self.invariant.indexed
-    c.args.self.now.entities (ap (λ (s : Store). s.entities) c.self.view_is) some)
+    search (rules, length-map, on_err, not_empty)

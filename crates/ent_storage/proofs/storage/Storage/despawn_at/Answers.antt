@@ -1,11 +1,11 @@
-use Rattle.std.proofs.Common.{◌≡◌, ℕ, ◌<◌, ◌≤◌, List, length, get_or, min, Some, slice_get, ap, sym}
-use Rattle.std.proofs.Common.{◌∙◌, arith}
+use Rattle.std.proofs.Common.{rules, ◌≡◌, ℕ, ◌<◌, ◌≤◌, List, length, get_or, min, Some, slice_get}
+use Rattle.std.proofs.Common.{ap, sym, ◌∙◌, arith}
+use Rattle.std.proofs.lemmas.Grind.{common_steps}
 use Rattle.std.specs.FinMap as map
-use Rattle.std.proofs.lemmas.List.{length-map, get_or_default}
+use Rattle.std.proofs.lemmas.List.{length-map}
 use Rattle.std.proofs.lemmas.Option.{slice_get_past}
 use Rattle.ent_handle.specs.Handle.{Handle}
 use Rattle.ent_storage.specs.EntityMap.{Store}
-use Rattle.ent_storage.specs.Places.{Places}
 use Rattle.ent_storage.specs.Living.{LivingEntity}
 use Rattle.ent_storage.specs.Indexed.{counted, handles_by_place}
 use Rattle.ent_storage.proofs.Indexed.{some_entity}
@@ -23,8 +23,7 @@ at c = ap (λ (s : Store). slice_get s.places c.args.place) c.self.view_is ∙ c
 
 placed : (c : After-self) → map.get (counted c.self.inside.living.entities
     c.self.inside.index.by_handle) c.args.handle ≡ Some c.args.place
-placed c = placed_from_place c.self.inside.living.entities (counted c.self.inside.living.entities
-    c.self.inside.index.by_handle) c.self.invariant.indexed c.args.handle c.args.place (at c)
+placed c = search (rules, placed_from_place)
 
 -- the entity that is now in the place was the last
 abbrev now_at : (left : List LivingEntity) (h : Handle) (place : ℕ) → LivingEntity
@@ -38,21 +37,14 @@ record IsMoved (left : List LivingEntity) (h moved : Handle) (place : ℕ) : Typ
 moved : (c : After-handle-moved) → IsMoved c.swap_remove.new.self.entities c.args.handle
     c.handle-moved.result c.args.place
 moved c =
-    let room : c.args.place < length c.swap_remove.new.self.entities = omega arith in
-    record {
-      room = room;
-      read = get_or_default c.swap_remove.new.self.entities c.args.place
-          (some_entity c.args.handle) _ room;
-      is = c.handle-moved.ensures (some_entity c.args.handle);
-    }
+    grind (arith, common_steps)
 
 -- or the one that is gone was
 last : (c : Else-place-len) → length c.swap_remove.new.self.entities ≤ c.args.place
 last c = omega arith
 
 pub swap_remove-requires : goal.swap_remove-requires
-swap_remove-requires c = (at_place c.self.inside.living.entities c.args.place c.args.handle
-    (at (goal.at.swap_remove-requires c).After-self)).0
+swap_remove-requires c = search (rules, at_place)
 
 pub handle-moved-requires : goal.handle-moved-requires
 handle-moved-requires c = omega arith
@@ -107,10 +99,7 @@ invariant_of-self-else-place-len c =
 
 pub returns-else-place-len-clause-entities : goal.returns-else-place-len-clause-entities
 returns-else-place-len-clause-entities c =
-    let at = goal.at.returns-else-place-len-clause-entities c in
-    entities_popped c.self.inside.living.entities _ c.self.invariant.indexed c.args.handle
-    c.args.place (placed at.After-self) _ c.swap_remove.ensures.entities (last at.Else-place-len)
-    ∙ ap (λ (s : Store). map.remove s.entities c.args.handle) c.self.view_is
+    search (rules, entities_popped, placed, last)
 
 pub returns-else-place-len-clause-places : goal.returns-else-place-len-clause-places
 returns-else-place-len-clause-places c =
@@ -122,29 +111,12 @@ returns-else-place-len-clause-places c =
 
 pub returns-else-place-len-clause-moved : goal.returns-else-place-len-clause-moved
 returns-else-place-len-clause-moved c =
-    let left = c.swap_remove.new.self.entities in
-    let past = last (goal.at.returns-else-place-len-clause-moved c).Else-place-len in
-    sym (slice_get_past (handles_by_place left) c.args.place
-    (omega (arith, length-map left (λ (e : LivingEntity). e.handle))))
+    search (rules, last, slice_get_past, length-map)
 
 pub returns-then-place-len-clause-spare : goal.returns-then-place-len-clause-spare
 returns-then-place-len-clause-spare c =
-    omega (
-      arith,
-      ap (λ (p : Places). p.room) c.set_place.ensures,
-      c.swap_remove.ensures.room,
-      c.swap_remove.ensures.entities.one_less,
-      c.self.invariant.fits,
-      ap (λ (s : Store). s.spare)
-          c.self.view_is,
-    )
+    search (rules)
 
 pub returns-else-place-len-clause-spare : goal.returns-else-place-len-clause-spare
 returns-else-place-len-clause-spare c =
-    omega (
-      arith,
-      c.swap_remove.ensures.room,
-      c.swap_remove.ensures.entities.one_less,
-      c.self.invariant.fits,
-      ap (λ (s : Store). s.spare) c.self.view_is,
-    )
+    search (rules)

@@ -1,4 +1,4 @@
-use Rattle.std.proofs.Common.{Option, option_and_then, ap, sym, ◌∙◌}
+use Rattle.std.proofs.Common.{rules, Option, option_and_then, ap, sym, ◌∙◌}
 use Rattle.std.specs.FinMap as map
 use Rattle.ent_storage.specs.EntityMap.{Entity}
 use Rattle.ent_storage.proofs.Indexed.{some_entity}
@@ -9,8 +9,7 @@ use Rattle.ent_storage.proofs.storage.Storage.get_at.Goals as goal
 -- the place is that of the handle
 at : (c : After-self) → IsEntityAt c.self.inside.living.entities c.args.self.now c.args.handle
     c.args.place
-at c = entity_at _ _ _ _ c.self.invariant.indexed c.self.view_is c.args.handle c.args.place
-    c.requires
+at c = search (rules, entity_at)
 
 pub value-requires : goal.value-requires
 value-requires c = (at (goal.at.value-requires c).After-self).inside

@@ -1,5 +1,4 @@
-use Rattle.std.proofs.Common.{◌<◌, IfSome, Result, Ok, Err, OnErr, min}
-use Rattle.std.proofs.Common.{ap}
+use Rattle.std.proofs.Common.{rules, ◌<◌, IfSome, Result, Ok, Err, OnErr, min, ap}
 use Rattle.std.specs.Option.{option_map}
 use Rattle.ent_storage.specs.Components.{with_items, missing}
 use Rattle.ent_storage.specs.EntityMap.{Entity, components_of}
@@ -12,8 +11,7 @@ use Rattle.ent_storage.proofs.storage.Storage.insert_at.Goals as goal
 -- the place is that of the handle
 at : (c : After-self) → IsEntityAt c.self.inside.living.entities c.args.self.now c.args.handle
     c.args.place
-at c = entity_at _ _ _ _ c.self.invariant.indexed c.self.view_is c.args.handle c.args.place
-    c.requires
+at c = search (rules, entity_at)
 
 pub insert-requires : goal.insert-requires
 insert-requires c = (at (goal.at.insert-requires c).After-self).inside

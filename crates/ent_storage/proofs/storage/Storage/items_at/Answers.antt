@@ -1,4 +1,4 @@
-use Rattle.std.proofs.Common.{Some, Option, ap, sym, ◌∙◌}
+use Rattle.std.proofs.Common.{rules, Some, Option, ap, sym, ◌∙◌}
 use Rattle.std.specs.Option.{option_map}
 use Rattle.std.specs.FinMap as map
 use Rattle.ent_storage.specs.EntityMap.{Entity}
@@ -10,8 +10,7 @@ use Rattle.ent_storage.proofs.storage.Storage.items_at.Goals as goal
 -- the place is that of the handle
 at : (c : After-self) → IsEntityAt c.self.inside.living.entities c.args.self.now c.args.handle
     c.args.place
-at c = entity_at _ _ _ _ c.self.invariant.indexed c.self.view_is c.args.handle c.args.place
-    c.requires
+at c = search (rules, entity_at)
 
 pub items-requires : goal.items-requires
 items-requires c = (at (goal.at.items-requires c).After-self).inside

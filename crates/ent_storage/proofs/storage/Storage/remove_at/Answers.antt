@@ -1,4 +1,4 @@
-use Rattle.std.proofs.Common.{Option, min, option_and_then, ap, sym, ◌∙◌}
+use Rattle.std.proofs.Common.{rules, Option, min, option_and_then, ap, sym, ◌∙◌}
 use Rattle.std.specs.FinMap as map
 use Rattle.ent_storage.specs.EntityMap.{Entity}
 use Rattle.ent_storage.proofs.Indexed.{some_entity}
@@ -10,8 +10,7 @@ use Rattle.ent_storage.proofs.storage.Storage.remove_at.Goals as goal
 -- the place is that of the handle
 at : (c : After-self) → IsEntityAt c.self.inside.living.entities c.args.self.now c.args.handle
     c.args.place
-at c = entity_at _ _ _ _ c.self.invariant.indexed c.self.view_is c.args.handle c.args.place
-    c.requires
+at c = search (rules, entity_at)
 
 pub remove-requires : goal.remove-requires
 remove-requires c = (at (goal.at.remove-requires c).After-self).inside
@@ -20,11 +19,7 @@ remove-requires c = (at (goal.at.remove-requires c).After-self).inside
 after : (c : After-remove) → IsChanged c.args.self.now c.args.handle
     (λ held. map.remove held c.args.id) c.remove.new.self.entities
     c.self.inside.index.by_handle (min c.remove.new.self.room c.self.inside.index.room)
-after c = changed c.self.inside.living.entities c.self.inside.index.by_handle
-    c.self.inside.living.room c.self.inside.index.room c.args.self.now c.self.invariant
-    c.self.view_is c.args.handle c.args.place (placed_at _ _ _ _
-    c.self.invariant.indexed c.self.view_is c.args.handle c.args.place c.requires)
-    (λ held. map.remove held c.args.id) _ _ c.remove.ensures.entities c.remove.ensures.room
+after c = search (rules, changed, placed_at)
 
 -- the component is that of the entity
 pub returns-clause-value : goal.returns-clause-value

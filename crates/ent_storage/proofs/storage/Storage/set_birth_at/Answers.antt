@@ -1,4 +1,4 @@
-use Rattle.std.proofs.Common.{◌≡◌, min, Some, slice_get, ap, ◌∙◌}
+use Rattle.std.proofs.Common.{rules, ◌≡◌, min, Some, slice_get, ap, ◌∙◌}
 use Rattle.std.specs.FinMap as map
 use Rattle.ent_storage.specs.EntityMap.{Store, with_birth}
 use Rattle.ent_storage.specs.Indexed.{counted, handles_by_place}
@@ -14,12 +14,10 @@ at c = ap (λ (s : Store). slice_get s.places c.args.place) c.self.view_is ∙ c
 
 placed : (c : After-self) → map.get (counted c.self.inside.living.entities
     c.self.inside.index.by_handle) c.args.handle ≡ Some c.args.place
-placed c = placed_from_place c.self.inside.living.entities (counted c.self.inside.living.entities
-    c.self.inside.index.by_handle) c.self.invariant.indexed c.args.handle c.args.place (at c)
+placed c = search (rules, placed_from_place)
 
 pub set_birth-requires : goal.set_birth-requires
-set_birth-requires c = (at_place c.self.inside.living.entities c.args.place c.args.handle
-    (at (goal.at.set_birth-requires c).After-self)).0
+set_birth-requires c = search (rules, at_place)
 
 pub invariant_of-self : goal.invariant_of-self
 invariant_of-self c =
@@ -39,12 +37,7 @@ returns-clause-entities c =
 
 pub returns-clause-spare : goal.returns-clause-spare
 returns-clause-spare c =
-    rw (
-      c.set_birth.ensures.entities,
-      c.set_birth.ensures.room,
-      length_reborn c.self.inside.living.entities c.args.place c.args.birth,
-    )
-    (ap (λ (s : Store). s.spare) c.self.view_is)
+    search (rules, length_reborn)
 
 -- no handle is changed
 pub returns-clause-places : goal.returns-clause-places

@@ -1,14 +1,7 @@
-use Rattle.std.proofs.Common.{arith}
+use Rattle.std.proofs.Common.{rules}
 use Rattle.ent_storage.proofs.storage.Storage.spare.Goals as goal
 
 -- there is room for the entities that are there
 pub overflow_sub-result : goal.overflow_sub-result
 overflow_sub-result c =
-    omega (
-      arith,
-      c.self.invariant.fits,
-      c.len.ensures,
-      c.capacity.ensures,
-      c.room.ensures,
-      c.min-room.ensures,
-    )
+    search (rules)

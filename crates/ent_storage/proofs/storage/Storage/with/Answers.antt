@@ -1,4 +1,5 @@
-use Rattle.std.proofs.Common.{◌≡◌, ◌<◌, ℕ, ℤ, List, length, Contains, IsSome, ap, subst}
+use Rattle.std.proofs.Common.{arith, ◌≡◌, ◌<◌, ℕ, ℤ, List, length, Contains, IsSome, ap, subst}
+use Rattle.std.proofs.lemmas.Grind.{common_steps}
 use Rattle.std.specs.FinMap as map
 use Rattle.ent_handle.specs.Handle.{Handle, handle_cmp}
 use Rattle.ent_handle.specs.declared.component.ComponentId.{ComponentId}
@@ -29,8 +30,7 @@ somebody : (living : List LivingEntity) (index : map.FinMap handle_cmp ℕ)
     (pairs : List (ℕ × ℤ)) → ((p : ℕ) (v : ℤ) → Contains pairs (p, v) → IsValueAt living p id v)
     → 0 < length pairs → (h : Handle) × IsSome (value_of m h id)
 somebody living index indexed m view id pairs has some =
-    subst (λ (m : EntityMap). (h : Handle) × IsSome (value_of m h id)) view
-    (some_with living index indexed id pairs has some)
+    grind (arith, common_steps, some_with living index indexed id pairs has some)
 
 pub returns-in_err-births-clause-memory : goal.returns-in_err-births-clause-memory
 returns-in_err-births-clause-memory c =

@@ -1,4 +1,4 @@
-use Rattle.std.proofs.Common.{◌≡◌, ap, ◌∙◌, ℕ, List, []}
+use Rattle.std.proofs.Common.{rules, ◌≡◌, ap, ◌∙◌, ℕ, List, []}
 use Rattle.ent_world.specs.declared.fault.Fault.{Fault}
 use Rattle.ent_world.specs.Effects.{Applied, applied}
 use Rattle.ent_world.specs.Sync.{after_births, sync, sync_until, cut}
@@ -14,10 +14,7 @@ all_done : (system command done : ℕ) (queues : List (List Command)) (before w 
     → HasStoppedSo system command done queues before w earlier
     → with_faults_before earlier now ≡ sync queues before
 all_done system command done queues before w earlier none now nothing is stopped =
-    ap (with_faults_before earlier) (is ∙ ap (λ (fs : List Fault). after_left system command done
-    queues (applied w fs)) nothing)
-    ∙ gone_on system command done queues (applied (after_births queues before) []) w earlier
-    stopped.world stopped.faults_are
+    search (rules, with_faults_before, gone_on)
 
 pub returns-in-Ok-clause-whole_world : goal.returns-in-Ok-clause-whole_world
 returns-in-Ok-clause-whole_world c before earlier stopped =

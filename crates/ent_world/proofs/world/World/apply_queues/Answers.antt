@@ -1,11 +1,10 @@
-use Rattle.std.proofs.Common.{◌≡◌, sym, ap, ◌+◌, ◌∙◌, subst, List, ◌∷◌, drop, arith}
+use Rattle.std.proofs.Common.{rules, ◌≡◌, sym, ap, ◌+◌, ◌∙◌, List, ◌∷◌, drop, arith}
 use Rattle.std.proofs.lemmas.Result.{err_from_is_err_and}
 use Rattle.std.proofs.lemmas.List.{drop_more}
 use Rattle.ent_queue.specs.Command.{Command}
 use Rattle.ent_world.specs.declared.stop.Stop.{Stop}
 use Rattle.ent_world.specs.Effects.{applied, after_commands}
 use Rattle.ent_world.specs.Sync.{cut_commands, cut}
-use Rattle.ent_world.specs.Memory.{TakesMemoryAt}
 use Rattle.ent_world.specs.Rest.{left_commands, after_left}
 use Rattle.ent_world.proofs.Left.{queues_left-step, queues_cut-step}
 use Rattle.ent_world.proofs.TakesMemory.{takes_memory_at}
@@ -47,19 +46,7 @@ returns-in_err-apply_queue-clause-err c =
 
 pub returns-in_err-apply_queue-clause-memory : goal.returns-in_err-apply_queue-clause-memory
 returns-in_err-apply_queue-clause-memory c =
-    let qs = c.args.queues.now in
-    let le = c.if-system-from.false in
-    let stop = c.in_err-apply_queue.field-0.0 in
-    let world = c.apply_queue.new.self in
-    let number = c.in_queue.ensures.system (omega (arith, le)) in
-    let p = err_from_is_err_and c.from_residual.result c.from_residual.ensures.1 in
-    rw (p.1, p.2) (
-    subst (λ n. TakesMemoryAt world n stop.at.command stop.done qs)
-    (sym (c.in_err-apply_queue.ensures.at ∙ number))
-    (takes_memory_at world qs c.loop-system.system stop.at.command stop.done
-    c.index-queues-system.result c.loop-system-test.true c.index-queues-system.is
-    c.in_err-apply_queue.ensures.memory)
-    )
+    search (rules, err_from_is_err_and, takes_memory_at)
 
 -- one queue more
 pub loop-system-preserved : goal.loop-system-preserved

@@ -1,4 +1,4 @@
-use Rattle.std.proofs.Common.{◌≡◌, sym, ap, ◌∙◌, ℕ, ◌≤◌, ◌++◌, length, drop, arith}
+use Rattle.std.proofs.Common.{rules, ◌≡◌, sym, ap, ◌∙◌, ℕ, ◌≤◌, ◌++◌, length, drop, arith}
 use Rattle.std.proofs.lemmas.List.Sorted.{length_permutation}
 use Rattle.ent_alloc.specs.Sequential.{born, top, after_flush}
 use Rattle.ent_alloc.proofs.Flushes.{born-IsPermutation, born-lives}
@@ -21,28 +21,19 @@ next_place c = c.len-first.ensures ∙ rows-count c.self.inside.entities.allocat
 
 -- what the flush lists is what is born
 are_born : (c : After-deref) → c.deref.result.now ≡ born c.self.inside.entities.allocator
-are_born c = c.deref.ensures.value ∙ c.in_ok-flush.ensures.born
-    ∙ ap (λ hs. hs ++ born c.self.inside.entities.allocator) c.new-handles.ensures.items
+are_born c = search (rules)
 
 pub enter_all-requires-clause-new : goal.enter_all-requires-clause-new
 enter_all-requires-clause-new c =
-    rw (are_born c, c.reserve.ensures.entities)
-    (born-new c.self.inside.entities.allocator c.self.inside.storage.entities
-    c.self.invariant.world.sound c.self.invariant.world.living)
+    search (rules, are_born, born-new)
 
 pub enter_all-requires-clause-room : goal.enter_all-requires-clause-room
 enter_all-requires-clause-room c =
-    let s = c.self.inside.entities.allocator in
-    let same = length_permutation s.taken (born s) (born-IsPermutation s) in
-    let all = ap length (are_born c) in
-    omega (arith, same, all, c.reserved.ensures, c.in_ok-reserve.ensures.ok)
+    search (rules, length_permutation, born-IsPermutation, are_born)
 
 pub set_rows-requires-clause-living : goal.set_rows-requires-clause-living
 set_rows-requires-clause-living c =
-    let s = c.self.inside.entities.allocator in
-    let at = (goal.at.set_rows-requires-clause-living c).After-deref in
-    rw (c.deref-2.ensures.value ∙ sym c.deref.ensures.value ∙ are_born at, c.in_ok-flush.ensures.ok)
-    (born-lives s)
+    search (rules, are_born, born-lives)
 
 pub set_rows-requires-clause-fits : goal.set_rows-requires-clause-fits
 set_rows-requires-clause-fits c =
@@ -58,9 +49,7 @@ set_rows-requires-clause-fits c =
 -- those that are born stand after the others
 stood : (c : After-set_rows) → c.enter_all.new.storage.places
     ≡ c.self.inside.storage.places ++ born c.self.inside.entities.allocator
-stood c = c.enter_all.ensures.places
-    ∙ (λ i. c.reserve.ensures.places i ++ (c.deref.ensures.value ∙ c.in_ok-flush.ensures.born
-    ∙ ap (λ hs. hs ++ born c.self.inside.entities.allocator) c.new-handles.ensures.items) i)
+stood c = search (rules)
 
 -- and have their places as rows
 kept : (c : After-set_rows) → c.set_rows.new.entities.rows ≡ with_rows c.self.inside.entities.rows
@@ -94,9 +83,7 @@ stand c =
 
 pub number_others-requires : goal.number_others-requires
 number_others-requires c =
-    ap (drop c.len-first.result) c.name_listed.ensures.places
-    ∙ stand (goal.at.number_others-requires c).After-set_rows
-    ∙ c.deref.ensures.value ∙ sym c.deref-3.ensures.value
+    search (rules, stand)
 
 -- all that are born have their births
 entered : (c : After-number_others) → drop c.len-first.result c.enter_all.new.storage.places
@@ -180,6 +167,4 @@ returns-clause-ok c =
 
 pub returns-clause-world : goal.returns-clause-world
 returns-clause-world c =
-    let at = (goal.at.returns-clause-world c).After-set_rows in
-    let last = (goal.at.returns-clause-world c).After-number_others in
-    risen last c.saturating_add-self-inside.result (entered last (stand at))
+    search (rules, risen, entered, stand)

@@ -1,4 +1,4 @@
-use Rattle.std.proofs.Common.{◌≡◌, ◌<◌, ◌≤◌, refl, sym, subst, ◌∙◌, arith, Option, Some}
+use Rattle.std.proofs.Common.{rules, ◌≡◌, ◌<◌, ◌≤◌, refl, sym, subst, ◌∙◌, arith, Option, Some}
 use Rattle.std.specs.FinMap as map
 use Rattle.ent_handle.specs.Handle.{Handle, handle_cmp_total, handle_cmp-IsAntisymmetric}
 use Rattle.ent_alloc.specs.Sequential.{top}
@@ -8,8 +8,8 @@ use Rattle.ent_world.specs.Rows.{AreRows, with_moved}
 use Rattle.ent_world.proofs.PlacedRows.{rows-remove, has_row-lives}
 use Rattle.ent_world.proofs.SpareRoom.{room-after_free}
 use Rattle.ent_world.proofs.Worlds.{after_despawn-world}
-use Rattle.ent_world.proofs.world.World.despawn.Goals.{After-despawn_at}
-use Rattle.ent_world.proofs.world.World.despawn.Goals.{in-Some-despawn_at, in_default-despawn_at}
+use Rattle.ent_world.proofs.world.World.despawn.Goals.{After-despawn_at, in-Some-despawn_at}
+use Rattle.ent_world.proofs.world.World.despawn.Goals.{in_default-despawn_at}
 use Rattle.ent_world.proofs.world.World.despawn.Goals as goal
 
 -- the entity is gone, and its handle is free
@@ -58,12 +58,7 @@ moved_placed c moved is = subst (λ (o : Option Handle). AreRows
 -- the slot that waits now has the place of the entity that is gone
 left_room : (c : After-despawn_at) → top c.free.new.self.allocator ≤ c.despawn_at.new.self.spare
 left_room c =
-    let none : 0 < c.self.inside.entities.allocator.asked → ⊥ = λ some. let refused =
-    c.in_ok-freed.ensures.needs_flush.1 some in cc in
-    let flushed : c.self.inside.entities.allocator.asked ≡ 0 = omega arith in
-    rw c.in_ok-freed.ensures.ok (room-after_free c.self.inside.entities.allocator c.args.handle
-    c.self.inside.storage.spare c.despawn_at.new.self.spare c.self.invariant.world.sound flushed
-    c.in_ok-freed.ensures.lived c.self.invariant.room c.despawn_at.ensures.spare)
+    search (rules, room-after_free)
 
 pub set_row-requires : goal.set_row-requires
 set_row-requires c =

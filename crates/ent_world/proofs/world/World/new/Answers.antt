@@ -1,5 +1,4 @@
-use Rattle.std.proofs.Common.{ap}
-use Rattle.ent_alloc.specs.Sequential.{Allocator}
+use Rattle.std.proofs.Common.{rules}
 use Rattle.ent_world.specs.World.{IsWorld}
 use Rattle.ent_world.proofs.Living.{keys-empty}
 use Rattle.ent_world.proofs.PlacedRows.{rows-empty}
@@ -20,12 +19,7 @@ begun c = record {
 }
 
 pub invariant_of-result : goal.invariant_of-result
-invariant_of-result c = record {
-  world = begun (goal.at.invariant_of-result c).After-new;
-  rows = rw (c.new-entities.ensures.rows, c.new.ensures.places, c.new.ensures.entities) rows-empty;
-  room = none_made c.new-entities.result.allocator c.new.result.spare c.cursor.ensures.sound
-      (ap (λ (s : Allocator). s.made) c.new-entities.ensures.allocator);
-}
+invariant_of-result c = search (rules, begun, rows-empty, none_made)
 
 pub returns-clause-world : goal.returns-clause-world
 returns-clause-world c = begun (goal.at.returns-clause-world c).After-new

@@ -1,4 +1,6 @@
-use Rattle.std.proofs.Common.{◌≡◌, ◌≤◌, sym, ap, subst, ◌∙◌, ℕ, List, is_some, Some, length}
+use Rattle.std.proofs.Common.{arith, rules, ◌≡◌, ◌≤◌, sym, ap, subst, ◌∙◌, ℕ, List, is_some, Some}
+use Rattle.std.proofs.Common.{length}
+use Rattle.std.proofs.lemmas.Grind.{common_steps}
 use Rattle.std.specs.FinMap as map
 use Rattle.ent_handle.specs.Handle.{Handle}
 use Rattle.ent_alloc.specs.Sequential.{top}
@@ -25,20 +27,12 @@ make-requires-clause-next c = next_place (goal.at.make-requires-clause-next c).A
 
 pub despawn_at-requires : goal.despawn_at-requires
 despawn_at-requires c =
-    let next = next_place (goal.at.despawn_at-requires c).After-items in
-    rw (c.in_ok-make.ensures.placed, next) (at_pushed c.self.inside.storage.places
-    c.in_ok-handle.handle)
+    grind (arith, common_steps, next_place, at_pushed)
 
 -- the entity that was made is taken back
 back : (c : After-despawn_at) → c.despawn_at.new.self.entities ≡ c.self.inside.storage.entities
 back c =
-    let m = c.self.inside.storage.entities in
-    let h = c.in_ok-handle.handle in
-    let e = spawned c.args.birth c.items.result.now in
-    let none = no_entity (map.get m h) (c.self.invariant.world.living h
-    ∙ c.in_ok-handle.ensures.new) in
-    c.despawn_at.ensures.entities ∙ ap (λ n. map.remove n h) c.in_ok-make.ensures.ok
-    ∙ taken_back m h e none
+    search (rules, no_entity, taken_back)
 
 place_back : (c : After-despawn_at) → c.despawn_at.new.self.places ≡ c.self.inside.storage.places
 place_back c =
