@@ -155,7 +155,8 @@ spawn-wanted bundle _ is = absurd is
 
 many-wanted : (count : ℕ) (bundle : List (ComponentId × ℤ)) (issued : List Command)
     → IsSpawnMany count bundle issued → wanted_in issued ≡ count
-many-wanted count bundle (SpawnMany hs items ∷ []) is = let long = is.0 in omega arith
+many-wanted count bundle (SpawnMany [] items ∷ []) is = let long = is.0 in omega arith
+many-wanted count bundle (SpawnMany (h ∷ hs) items ∷ []) is = let long = is.0 in omega arith
 many-wanted count bundle (Refused wanted why ∷ []) is = omega arith
 many-wanted count bundle _ is = absurd is
 
