@@ -1,16 +1,16 @@
 -- The map that slots stand for: its entries, and what it has at each handle.
-use Rattle.std.proofs.Common.{◌≡◌, ◌≢◌, ℕ, zero, suc, ◌+◌, ◌-◌, ◌<◌, ◌≤◌, Bool, true, false, cond}
-use Rattle.std.proofs.Common.{◌&&◌, ◌⊎◌, inl, inr, eqb, T, List, [], ◌∷◌, ◌++◌, length, get_or, set}
-use Rattle.std.proofs.Common.{replicate, Option, None, Some, refl, sym, ap, ◌∙◌, arith}
+use Rattle.std.proofs.Common.{rules, ◌≡◌, ◌≢◌, ℕ, zero, suc, ◌+◌, ◌-◌, ◌<◌, ◌≤◌, Bool, true, false}
+use Rattle.std.proofs.Common.{cond, ◌&&◌, ◌⊎◌, inl, inr, eqb, T, List, [], ◌∷◌, ◌++◌, length}
+use Rattle.std.proofs.Common.{get_or, set, replicate, Option, None, Some, refl, sym, ap, ◌∙◌, arith}
 use Rattle.std.proofs.Common.{not, All, AllPairs}
+use Rattle.std.proofs.lemmas.Grind.{common_steps}
 use Rattle.std.proofs.lemmas.List.Kept.{AllPairs-cons}
 use Rattle.std.proofs.lemmas.Bool.{cases_eq, eq-eqb, ne_eqb}
 use Rattle.std.proofs.lemmas.Bool.Decides.{nat_tests}
 use Rattle.std.proofs.lemmas.List.{get_or_past, get_or-set_same, get_or-set_other}
 use Rattle.std.specs.declared.cmp.Ordering.{Ordering}
 use Rattle.std.specs.declared.cmp.Ordering.TheVariants.{Less, Equal, Greater}
-use Rattle.std.specs.Ordering.{nat_cmp, eq_by_cmp, is_eq, is_lt, ordering_then, MatchOrdering}
-use Rattle.std.specs.Cmp.{ranks}
+use Rattle.std.specs.Ordering.{nat_cmp, eq_by_cmp, is_eq, is_lt, ordering_then}
 use Rattle.std.specs.FinMap as map
 use Rattle.std.specs.FinMap.{find, is_sorted}
 use Rattle.std.specs.FinMap.Entries.{below_all}
@@ -30,14 +30,7 @@ both false b p q = absurd p
 
 -- a handle of an earlier slot comes first
 less_by_index : (g h : Handle) → g.index < h.index → T (is_lt (handle_cmp g h))
-less_by_index g h l = by (nat_cmp g.index h.index) (ranks g.index h.index)
-  where
-    by : (r : Ordering)
-        → MatchOrdering r (g.index < h.index) (g.index ≡ h.index) (h.index < g.index)
-        → T (is_lt (ordering_then r (nat_cmp g.generation h.generation)))
-    by Less is = tt
-    by Equal is = absurd (omega arith)
-    by Greater is = absurd (omega arith)
+less_by_index g h l = search (rules)
 
 is_eq-then : (x y : Ordering) → is_eq (ordering_then x y) ≡ (is_eq x && is_eq y)
 is_eq-then Less y = refl
@@ -51,8 +44,7 @@ is_eq-nat_cmp a b = grind (arith, nat_tests)
 ties : (a b : Handle) → eq_by_cmp handle_cmp a b
     ≡ (eqb a.index b.index && eqb a.generation b.generation)
 ties a b =
-    is_eq-then (nat_cmp a.index b.index) (nat_cmp a.generation b.generation)
-    ∙ (λ i. is_eq-nat_cmp a.index b.index i && is_eq-nat_cmp a.generation b.generation i)
+    grind (arith, common_steps)
 
 -- of count_at slot
 ties_here : (a b : Handle) → a.index ≡ b.index → eq_by_cmp handle_cmp a b
@@ -61,16 +53,14 @@ ties_here a b e = ties a b ∙ ap (λ x. x && eqb a.generation b.generation) (eq
 
 -- of two
 ties_apart : (a b : Handle) → a.index ≢ b.index → eq_by_cmp handle_cmp a b ≡ false
-ties_apart a b ne = ties a b
-    ∙ ap (λ x. x && eqb a.generation b.generation) (ne_eqb a.index b.index ne)
+ties_apart a b ne = grind (arith, common_steps)
 
 eqb_sym : (a b : ℕ) → eqb a b ≡ eqb b a
 eqb_sym a b = grind (arith, nat_tests)
 
 alike : (h : Handle) (q x : Handle) → handle_cmp q x ≡ Equal
     → not (eqb x.index h.index) ≡ not (eqb q.index h.index)
-alike h q x e = ap (λ (y : Handle). not (eqb y.index h.index))
-    (sym (handle_cmp-IsAntisymmetric q x e))
+alike h q x e = grind (arith, common_steps)
 
 module _ {X : Type 0} where
   -- ---- the entries rise

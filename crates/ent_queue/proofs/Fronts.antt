@@ -1,17 +1,15 @@
 -- What bytes that begin with a command let be read, kind by kind.
-use Rattle.std.proofs.Common.{◌≡◌, refl, ℕ, ◌+◌, ◌*◌, ◌<◌, ◌≤◌, List, [], ◌∷◌, ◌++◌, length, drop}
-use Rattle.std.proofs.Common.{arith, ap, sym, ◌∙◌, subst, length-drop, slice_index}
+use Rattle.std.proofs.Common.{rules, ◌≡◌, refl, ℕ, ◌+◌, ◌*◌, ◌<◌, ◌≤◌, List, [], ◌∷◌, ◌++◌, length}
+use Rattle.std.proofs.Common.{drop, arith, sym, subst, length-drop, slice_index}
 use Rattle.std.specs.List.{All, flat_map}
 use Rattle.ent_handle.specs.Handle.{Handle, IsHandle}
-use Rattle.ent_bundle.specs.Bundle.{Bundle}
-use Rattle.ent_queue.specs.Command.{Command, Spawn, SpawnMany, Insert, Remove, Despawn}
-use Rattle.ent_bundle.specs.Bundle.{IsBundle}
-use Rattle.ent_queue.specs.Command.{Refused, IsRefusal, IsCommand}
+use Rattle.ent_bundle.specs.Bundle.{Bundle, IsBundle}
+use Rattle.ent_queue.specs.Command.{Command, Spawn, SpawnMany, Insert, Remove, Despawn, Refused}
+use Rattle.ent_queue.specs.Command.{IsRefusal, IsCommand}
 use Rattle.ent_queue.specs.Packing.{bytes_4, handle_bytes, bundle_bytes, refusal_bytes}
 use Rattle.ent_queue.specs.Packing.{command_bytes}
 use Rattle.ent_queue.specs.Unpacking.{number_2, number_4, unpacked_handle, unpacked_handles}
-use Rattle.ent_queue.specs.Unpacking.{unpacked_bundle}
-use Rattle.ent_queue.specs.Unpacking.{unpacked_refusal, after_first, BeginsWith}
+use Rattle.ent_queue.specs.Unpacking.{unpacked_bundle, unpacked_refusal, after_first, BeginsWith}
 use Rattle.ent_queue.proofs.Parts.{BundleBegins}
 use Rattle.ent_queue.proofs.Queues.{WithBundle, with_bundle, with_handles, with_component}
 use Rattle.ent_queue.proofs.Queues.{handle_alone, with_reason, after_first-bytes}
@@ -28,12 +26,7 @@ pub record BundleAt (bytes rest : List ℕ) : Type 0 where
 
 bundle_at : (items : Bundle) (bytes rest : List ℕ) → IsBundle items → BundleBegins items bytes rest
     → BundleAt bytes rest
-bundle_at items bytes rest is begins = record {
-  header = omega (arith, begins.length_is);
-  items = omega (arith, begins.length_is, begins.count);
-  is = subst IsBundle (sym begins.items_are) is;
-  rest_is = ap (λ n. drop (9 * n) (drop 2 bytes)) begins.count ∙ begins.rest_is;
-}
+bundle_at items bytes rest is begins = search (rules)
 
 pub record HandleAndBundle (parts rest : List ℕ) : Type 0 where
   pub long : 8 ≤ length parts
@@ -65,11 +58,7 @@ pub record Reason (parts rest : List ℕ) : Type 0 where
 
 handle_and_bundle : (h : Handle) (items : Bundle) (parts rest : List ℕ) → IsHandle h
     → IsBundle items → WithBundle h items parts rest → HandleAndBundle parts rest
-handle_and_bundle h items parts rest is bundle w = record {
-  long = omega (arith, w.length_is);
-  is = subst IsHandle (sym w.handle) is;
-  bundle = bundle_at items (drop 8 parts) rest bundle w.bundle;
-}
+handle_and_bundle h items parts rest is bundle w = search (rules, bundle_at)
 
 -- what may be read after the byte for each kind
 pub record Kinds (kind : ℕ) (parts rest : List ℕ) : Type 0 where

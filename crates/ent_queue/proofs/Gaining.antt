@@ -1,14 +1,14 @@
 -- How a reserver's record gains what commands have asked of it.
-use Rattle.std.proofs.Common.{◌≡◌, refl, ℕ, ◌+◌, ◌-◌, ◌<◌, ◌≤◌, ℤ, List, [], ◌∷◌, ◌++◌, length, map}
-use Rattle.std.proofs.Common.{arith, ap, sym, ◌∙◌, subst, append_assoc, append-nil, Result, Ok, Err}
-use Rattle.std.proofs.Common.{inl, inr, take, Bool, true, false, cond, nat_le}
+use Rattle.std.proofs.Common.{rules, ◌≡◌, refl, ℕ, ◌+◌, ◌-◌, ◌<◌, ◌≤◌, ℤ, List, [], ◌∷◌, ◌++◌, map}
+use Rattle.std.proofs.Common.{arith, ap, sym, ◌∙◌, subst, append_assoc, Result, Ok, Err, inl, inr}
+use Rattle.std.proofs.lemmas.Grind.{common_steps}
 use Rattle.std.specs.List.{All, flat_map, sum_by}
 use Rattle.std.proofs.lemmas.List.Elements.{All-nil, All-cons, All-append}
 use Rattle.std.proofs.lemmas.Bool.{cases_lt}
 use Rattle.std.proofs.lemmas.List.Sums.{sum_by-append, sum_by-cons}
 use Rattle.ent_handle.specs.Handle.{Handle}
 use Rattle.ent_alloc.specs.declared.space.Space.{Space as OutOfSpace}
-use Rattle.ent_alloc.specs.Sequential.{pool_at, reply_from, listed}
+use Rattle.ent_alloc.specs.Sequential.{reply_from, listed_alone}
 use Rattle.ent_shared.specs.declared.record.Reservation.{Reservation}
 use Rattle.ent_shared.specs.declared.record.RecordEntry.TheVariants.{Own}
 use Rattle.ent_shared.specs.declared.record.Record.{Record}
@@ -16,39 +16,18 @@ use Rattle.ent_shared.specs.declared.refused.Refused.{Refused as Refusal}
 use Rattle.ent_shared.specs.declared.refused.Refused.TheVariants.{Space, Quota}
 use Rattle.ent_shared.specs.Phase.{Shared, Reserver}
 use Rattle.ent_shared.specs.Record.{after_reservation, reservation_at}
-use Rattle.ent_alloc.specs.Sequential.{listed_alone}
 use Rattle.ent_shared.specs.Replies.{Reserves}
 use Rattle.ent_queue.specs.Command.{Command, Refused, HasRange, IsRefusal}
 use Rattle.ent_queue.specs.Reserving.{stands_for, cost, FitsCredit, FitCredit, Gains, IsReturned}
 use Rattle.ent_queue.specs.Reserving.{as_fault, refused_by}
 
 pub gains_nothing : (r : Record) → Gains r [] r
-gains_nothing r = record {
-  start = refl;
-  number = refl;
-  reservations = [];
-  entries = sym (append-nil r.entries);
-  requests = refl;
-  callers = All-nil (λ (c : Reservation). c.caller ≡ r.number);
-  left = omega arith;
-  within = tt;
-}
+gains_nothing r = grind (arith, common_steps)
 
 -- a command that stands for no reservation
 pub gains_none : (r : Record) (c : Command) → stands_for c ≡ [] → FitsCredit r.left c
     → Gains r (c ∷ []) r
-gains_none r c none within = record {
-  start = refl;
-  number = refl;
-  reservations = [];
-  entries = sym (append-nil r.entries);
-  requests = sym (ap (λ rs. rs ++ []) none);
-  callers = All-nil (λ (k : Reservation). k.caller ≡ r.number);
-  left = let free : cost c
-      ≡ 0 = ap (sum_by (λ (request : ℕ × Result (List Handle) OutOfSpace). request.0)) none in
-      omega arith;
-  within = (within, tt);
-}
+gains_none r c none within = grind (arith, common_steps)
 
 -- a command that stands for one reservation
 pub gains_one : (r : Record) (high : ℤ) (n : ℕ) (c : Command) → n ≤ r.left → stands_for c
@@ -72,8 +51,7 @@ requests_both : (cs ds : List Command) → flat_map stands_for (cs ++ ds) ≡ fl
     ++ flat_map stands_for ds
 requests_both [] ds = refl
 requests_both (c ∷ cs) ds =
-    ap (λ rs. stands_for c ++ rs) (requests_both cs ds)
-    ∙ sym (append_assoc (stands_for c) (flat_map stands_for cs) (flat_map stands_for ds))
+    grind (arith, common_steps, requests_both cs ds)
 
 map_both : {X Y : Type 0} (f : X → Y) (xs ys : List X) → map f (xs ++ ys) ≡ map f xs ++ map f ys
 map_both f [] ys = refl
@@ -81,8 +59,7 @@ map_both f (x ∷ xs) ys = ap (λ zs. f x ∷ zs) (map_both f xs ys)
 
 within_both : (left : ℕ) (cs ds : List Command) → FitCredit left cs
     → FitCredit (left - sum_by cost cs) ds → FitCredit left (cs ++ ds)
-within_both left [] ds first second = let same : left - sum_by cost [] ≡ left = omega arith in
-    subst (λ n. FitCredit n ds) same second
+within_both left [] ds first second = search (rules)
 within_both left (c ∷ cs) ds first second =
     let rest : left - sum_by cost (c ∷ cs) ≡ left - cost c - sum_by cost cs =
     omega (arith, sum_by-cons cost c cs) in
@@ -170,45 +147,17 @@ pub replies_alone : (shared : Shared) (before after : Reserver) (result : Result
     → (before.own.left ≡ 0 → (result ≡ Err (Quota 0)) × (after ≡ before))
     → (0 < before.own.left → Reserves shared before after 1 (listed_alone result))
     → IsReturned shared before after 1 (listed_alone result)
-replies_alone shared before after result quota gains = record {
-  quota = λ short. let none : before.own.left ≡ 0 = omega arith in (
-    ap listed_alone (quota none).0
-        ∙ ap (λ n. Err (Quota n)) (sym none),
-    (quota none).1,
-  );
-  nothing = λ e. absurd (omega arith);
-  gains = λ some enough. gains enough;
-}
+replies_alone shared before after result quota gains = search (rules)
 
 space_wanted : (made : ℕ) (pool : List Handle) (n wanted left : ℕ) → reply_from made pool n
     ≡ Err (record { wanted = wanted; left = left }) → wanted ≡ n
-space_wanted made pool n wanted left e = by (nat_le n (length pool)) e
-  where
-    by : (b : Bool) → cond {A = Result (List Handle) OutOfSpace} b (Ok (listed made (take n pool)))
-        (Err (record { wanted = n; left = length pool }))
-        ≡ Err (record { wanted = wanted; left = left }) → wanted ≡ n
-    by true e = absurd (cc)
-    by false e = let same : ◌≡◌ {A = OutOfSpace} (record { wanted = n; left = length pool })
-        (record { wanted = wanted; left = left }) = cc in
-        sym (ap (λ (s : OutOfSpace). s.wanted) same)
+space_wanted made pool n wanted left e = search (rules)
 
 -- a refusal by the pool says how many handles were requested
 pub is_refusal : (shared : Shared) (before after : Reserver) (n : ℕ) (why : Refusal)
     → IsReturned shared before after n (Err why) → HasRange why → IsRefusal n why
 is_refusal shared before after n (Space wanted left) replied range =
-    elim (cases_lt before.own.left n) [
-      | inl short ↦ let no = (replied.quota short).0 in absurd (cc)
-      | inr enough ↦ elim (cases_lt 0 n) [
-        | inl some ↦
-            let g = replied.gains some enough in (
-              space_wanted shared.start.made (pool_at shared.start g.high) n wanted left
-                  (sym g.reply
-                  ∙ g.recorded),
-              range,
-            )
-        | inr nothing ↦ let no = (replied.nothing (omega arith)).0 in absurd (cc)
-      ]
-    ]
+    grind (arith, common_steps)
 is_refusal shared before after n (Quota left) replied range = range
 
 pub refused_by_fault : (n : ℕ) (why : Refusal) → refused_by n (as_fault why) ≡ Refused n why ∷ []

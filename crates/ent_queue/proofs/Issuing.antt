@@ -1,7 +1,8 @@
 -- What a call of `Commands` adds.
-use Rattle.std.proofs.Common.{◌≡◌, refl, ℕ, List, [], ◌∷◌, ◌++◌, length, ap, sym, ◌∙◌, subst}
-use Rattle.std.proofs.Common.{append-nil, Result, Ok, Err, IfOk, IfErr, OnOk, OnErr, IsErrOf, Vec}
-use Rattle.std.proofs.Common.{Global, ◌≤◌, ◌<◌, arith}
+use Rattle.std.proofs.Common.{rules, ◌≡◌, refl, ℕ, List, [], ◌∷◌, ◌++◌, length, ap, sym, subst}
+use Rattle.std.proofs.Common.{Result, Ok, Err, IfOk, IfErr, OnOk, OnErr, IsErrOf, Vec, Global, ◌≤◌}
+use Rattle.std.proofs.Common.{◌<◌, arith}
+use Rattle.std.proofs.lemmas.Grind.{common_steps}
 use Rattle.ent_handle.specs.Handle.{Handle}
 use Rattle.ent_handle.specs.declared.memory.Memory.{Memory}
 use Rattle.ent_shared.specs.declared.record.Record.{Record}
@@ -28,14 +29,7 @@ pub record Added (old new : List Command) (before after : Record) : Type 0 where
 pub extends_added : (a b : Issued) → b.reserver.ghost_name ≡ a.reserver.ghost_name
     → shared_of b ≡ shared_of a → IsReady b
     → Added (queue_of a) (queue_of b) (reserver_of a).own (reserver_of b).own → Extends a b
-extends_added a b same shared ready more = record {
-  same = same;
-  shared = shared;
-  ready = ready;
-  added = more.added;
-  queue = more.queue;
-  gains = more.gains;
-}
+extends_added a b same shared ready more = search (rules)
 
 many_request : (hs : List Handle) (items : Bundle) (n : ℕ) → length hs ≡ n → 0 < n
     → stands_for (SpawnMany hs items) ≡ (n, Ok hs) ∷ []
@@ -46,18 +40,8 @@ many_request (h ∷ hs) items n e some = ap (λ k. (k, Ok (h ∷ hs)) ∷ []) e
 pub added_none : (r : Record) (c : Command) (result : Result (Unit {0}) Memory)
     (old new : List Command) → stands_for c ≡ [] → FitsCredit r.left c
     → OnOk result (new ≡ old ++ c ∷ []) → OnErr result (new ≡ old) → Added old new r r
-added_none r c (Ok u) old new none within ok err = record {
-  added = c ∷ [];
-  queue = ok;
-  gains =
-      gains_none r c none within;
-}
-added_none r c (Err e) old new none within ok err = record {
-  added = [];
-  queue = err
-      ∙ sym (append-nil old);
-  gains = gains_nothing r;
-}
+added_none r c (Ok u) old new none within ok err = search (rules, gains_none)
+added_none r c (Err e) old new none within ok err = grind (arith, common_steps)
 
 pub queued_ok : (reply : Result (List Handle) Refusal) (hs : List Handle) → Ok hs ≡ queued reply
     → Ok hs ≡ reply

@@ -1,8 +1,8 @@
 -- Numbers as bytes, and back.
-use Rattle.std.proofs.Common.{◌≡◌, refl, ℕ, ◌^◌, ◌<◌, List, ◌++◌, length, take, drop, arith, ap}
-use Rattle.std.proofs.Common.{◌∙◌}
+use Rattle.std.proofs.Common.{rules, ◌≡◌, refl, ℕ, ◌^◌, ◌<◌, List, ◌++◌, length, take, drop, arith}
+use Rattle.std.proofs.lemmas.Grind.{common_steps}
 use Rattle.std.proofs.lemmas.Nat.{from_le_bytes-to_le_bytes_2, from_le_bytes-to_le_bytes_4}
-use Rattle.std.proofs.lemmas.Nat.{from_le_bytes-to_le_bytes_8, shr_high, mod_low}
+use Rattle.std.proofs.lemmas.Nat.{from_le_bytes-to_le_bytes_8}
 use Rattle.ent_handle.specs.Handle.{Handle, IsHandle, bits}
 use Rattle.ent_queue.specs.Packing.{bytes_2, bytes_4, bytes_8, handle_bytes}
 use Rattle.ent_queue.specs.Unpacking.{number_2, number_4, number_8, handle_of_bits, unpacked_handle}
@@ -56,16 +56,11 @@ bits_below h is = omega (arith, is.index, is.greatest)
 
 pub handle_of_bits-bits : (h : Handle) → IsHandle h → handle_of_bits (bits h) ≡ h
 handle_of_bits-bits h is =
-    let below : h.index < 2 ^ 32 = omega (arith, is.index) in
-    let index = mod_low h.generation 32 h.index below in
-    let generation = shr_high h.generation 32 h.index below in
-    λ i. record { index = index i; generation = generation i }
+    grind (arith, common_steps)
 
 pub unpacked_handle-bytes : (h : Handle) (rest : List ℕ) → IsHandle h
     → unpacked_handle (handle_bytes h ++ rest) ≡ h
-unpacked_handle-bytes h rest is = ap handle_of_bits (number_8-bytes (bits h) rest (bits_below h is))
-    ∙ handle_of_bits-bits h is
+unpacked_handle-bytes h rest is = search (rules, number_8-bytes, bits_below, handle_of_bits-bits)
 
 pub unpacked_handle-alone : (h : Handle) → IsHandle h → unpacked_handle (handle_bytes h) ≡ h
-unpacked_handle-alone h is = ap handle_of_bits (number_8-alone (bits h) (bits_below h is))
-    ∙ handle_of_bits-bits h is
+unpacked_handle-alone h is = search (rules, number_8-alone, bits_below, handle_of_bits-bits)

@@ -1,18 +1,19 @@
 -- Handles, items and bundles as bytes, and back.
-use Rattle.std.proofs.Common.{◌≡◌, refl, ℕ, suc, ◌+◌, ◌*◌, ◌^◌, ◌<◌, ℤ, List, [], ◌∷◌, ◌++◌, length}
-use Rattle.std.proofs.Common.{take, drop, map, arith, ap, sym, ◌∙◌, append_assoc, length-append}
+use Rattle.std.proofs.Common.{rules, ◌≡◌, refl, ℕ, ◌+◌, ◌*◌, ◌^◌, ◌<◌, ℤ, List, [], ◌∷◌, ◌++◌}
+use Rattle.std.proofs.Common.{length, take, drop, map, arith, ap, append_assoc, length-append}
+use Rattle.std.proofs.lemmas.Grind.{common_steps}
 use Rattle.std.specs.List.{All, flat_map}
 use Rattle.std.proofs.lemmas.List.Elements.{All-head, All-tail}
 use Rattle.std.proofs.Math.Seq.{drop-append_seam}
 use Rattle.std.specs.Simd.{first_chunks}
-use Rattle.std.specs.Int.{w64, cast_unsigned, cast_signed}
+use Rattle.std.specs.Int.{w64, cast_unsigned}
 use Rattle.std.specs.Int.RustNames.{FitsSigned}
 use Rattle.std.proofs.lemmas.Int.{to_z-of_z}
 use Rattle.std.proofs.Math.Facts.{Fits-lt-pow, Fits-of_z}
 use Rattle.ent_handle.specs.declared.component.ComponentId.{ComponentId}
-use Rattle.ent_handle.specs.Handle.{Handle, IsHandle, bits}
+use Rattle.ent_handle.specs.Handle.{Handle, IsHandle}
 use Rattle.ent_bundle.specs.Bundle.{Bundle, IsItem}
-use Rattle.ent_queue.specs.Packing.{bytes_2, handle_bytes, item_bytes, bundle_bytes}
+use Rattle.ent_queue.specs.Packing.{handle_bytes, item_bytes, bundle_bytes}
 use Rattle.ent_queue.specs.Unpacking.{number_2, unpacked_handles, unpacked_item, unpacked_bundle}
 use Rattle.ent_queue.proofs.Numbers.{length-bytes_2, length-bytes_8, number_2-bytes, number_8-alone}
 use Rattle.ent_queue.proofs.Numbers.{drop-bytes_2, drop-bytes_8, take-bytes_8}
@@ -21,8 +22,7 @@ use Rattle.ent_queue.proofs.Numbers.{unpacked_handle-alone}
 pub length-handles : (hs : List Handle) → length (flat_map handle_bytes hs) ≡ 8 * length hs
 length-handles [] = refl
 length-handles (h ∷ hs) =
-    length-append (handle_bytes h) (flat_map handle_bytes hs)
-    ∙ omega (arith, length-bytes_8 (bits h), length-handles hs)
+    search (rules, length-append, length-bytes_8, length-handles hs)
 
 pub unpacked_handles-bytes : (hs : List Handle) (rest : List ℕ) → All IsHandle hs
     → unpacked_handles (length hs) (flat_map handle_bytes hs ++ rest) ≡ hs
@@ -40,8 +40,7 @@ unpacked_handles-bytes (h ∷ hs) rest all =
 pub drop-handles : (hs : List Handle) (rest : List ℕ)
     → drop (8 * length hs) (flat_map handle_bytes hs ++ rest) ≡ rest
 drop-handles hs rest =
-    ap (λ n. drop n (flat_map handle_bytes hs ++ rest)) (sym (length-handles hs))
-    ∙ drop-append_seam (flat_map handle_bytes hs) rest
+    grind (arith, common_steps, length-handles, drop-append_seam)
 
 take-item : (item : ComponentId × ℤ) (rest : List ℕ) → take 9 (item_bytes item ++ rest)
     ≡ item_bytes item
@@ -56,43 +55,36 @@ unsigned_below z fits = Fits-lt-pow (Fits-of_z fits)
 unpacked_item-alone : (item : ComponentId × ℤ) → IsItem item → unpacked_item (item_bytes item)
     ≡ item
 unpacked_item-alone item is =
-    let value = ap (cast_signed w64) (number_8-alone (cast_unsigned w64 item.1)
-    (unsigned_below item.1 is.value)) ∙ to_z-of_z w64 item.1 is.value in
-    λ i. (item.0, value i)
+    search (rules, number_8-alone, unsigned_below, to_z-of_z)
 
 pub length-items : (items : Bundle) → length (flat_map item_bytes items) ≡ 9 * length items
 length-items [] = refl
 length-items (item ∷ items) =
-    length-append (item_bytes item) (flat_map item_bytes items)
-    ∙ omega (arith, length-bytes_8 (cast_unsigned w64 item.1), length-items items)
+    search (rules, length-append, length-bytes_8, length-items items)
 
 pub items_in-bytes : (items : Bundle) (rest : List ℕ) → All IsItem items
     → map unpacked_item (first_chunks 9 (length items) (flat_map item_bytes items ++ rest)) ≡ items
 items_in-bytes [] rest all = refl
 items_in-bytes (item ∷ items) rest all =
-    let more = flat_map item_bytes items ++ rest in
-    let regroup : flat_map item_bytes (item ∷ items) ++ rest ≡ item_bytes item
-    ++ more = append_assoc (item_bytes item) (flat_map item_bytes items) rest in
-    let first : unpacked_item (take 9 (item_bytes item ++ more))
-    ≡ item = ap unpacked_item (take-item item more)
-    ∙ unpacked_item-alone item (All-head IsItem item items all) in
-    let others : map unpacked_item
-    (first_chunks 9 (length items) (drop 9 (item_bytes item ++ more)))
-    ≡ items = ap (λ bytes. map unpacked_item (first_chunks 9 (length items) bytes))
-    (drop-item item more) ∙ items_in-bytes items rest (All-tail IsItem item items all) in
-    ap (λ bytes. map unpacked_item (first_chunks 9 (suc (length items)) bytes)) regroup
-    ∙ (λ i. first i ∷ others i)
+    search (
+      rules,
+      append_assoc,
+      take-item,
+      unpacked_item-alone,
+      All-head,
+      drop-item,
+      All-tail,
+      items_in-bytes items rest (All-tail IsItem item items all),
+    )
 
 pub drop-items : (items : Bundle) (rest : List ℕ)
     → drop (9 * length items) (flat_map item_bytes items ++ rest) ≡ rest
 drop-items items rest =
-    ap (λ n. drop n (flat_map item_bytes items ++ rest)) (sym (length-items items))
-    ∙ drop-append_seam (flat_map item_bytes items) rest
+    grind (arith, common_steps, length-items, drop-append_seam)
 
 pub length-bundle : (items : Bundle) → length (bundle_bytes items) ≡ 2 + 9 * length items
 length-bundle items =
-    length-append (bytes_2 (length items)) (flat_map item_bytes items)
-    ∙ omega (arith, length-bytes_2 (length items), length-items items)
+    search (rules, length-append, length-bytes_2, length-items)
 
 -- What a bundle's bytes say of the bytes that begin with them.
 pub record BundleBegins (items : Bundle) (bytes rest : List ℕ) : Type 0 where
@@ -104,16 +96,13 @@ pub record BundleBegins (items : Bundle) (bytes rest : List ℕ) : Type 0 where
 pub bundle_begins : (items : Bundle) (rest bytes : List ℕ) → All IsItem items → length items
     < 2 ^ 16 → bytes ≡ bundle_bytes items ++ rest → BundleBegins items bytes rest
 bundle_begins items rest bytes all few e =
-    let regroup : bytes ≡ bytes_2 (length items) ++ (flat_map item_bytes items ++ rest) = e
-    ∙ append_assoc (bytes_2 (length items)) (flat_map item_bytes items) rest in
-    let count : number_2 bytes ≡ length items = ap number_2 regroup ∙ number_2-bytes (length items)
-    _ few in
-    let after : drop 2 bytes ≡ flat_map item_bytes items ++ rest = ap (drop 2) regroup
-    ∙ drop-bytes_2 (length items) _ in
-    record {
-      count = count;
-      items_are = rw (count, after) (items_in-bytes items rest all);
-      length_is = ap length e ∙ length-append (bundle_bytes items) rest
-          ∙ ap (λ n. n + length rest) (length-bundle items);
-      rest_is = rw after (drop-items items rest);
-    }
+    search (
+      rules,
+      append_assoc,
+      number_2-bytes,
+      drop-bytes_2,
+      items_in-bytes,
+      length-append,
+      length-bundle,
+      drop-items,
+    )

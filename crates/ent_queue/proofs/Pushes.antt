@@ -1,13 +1,14 @@
 -- A command at the end of a queue.
-use Rattle.std.proofs.Common.{◌≡◌, ℕ, ◌+◌, ◌≤◌, List, [], ◌∷◌, ◌++◌, length, arith, ap, sym, ◌∙◌}
-use Rattle.std.proofs.Common.{subst, append_assoc, append-nil, length-append, Fits, Vec, w64}
+use Rattle.std.proofs.Common.{rules, ◌≡◌, ℕ, ◌+◌, ◌≤◌, List, [], ◌∷◌, ◌++◌, length, arith, ap, sym}
+use Rattle.std.proofs.Common.{◌∙◌, subst, append-nil, length-append, Fits, Vec, w64}
+use Rattle.std.proofs.lemmas.Grind.{common_steps}
 use Rattle.std.proofs.Math.Facts.{Fits-of_lt}
 use Rattle.std.specs.List.{All, flat_map}
 use Rattle.std.proofs.lemmas.List.Elements.{All-nil, All-push}
 use Rattle.ent_handle.specs.Handle.{Handle}
 use Rattle.ent_bundle.specs.Bundle.{Bundle}
-use Rattle.ent_queue.specs.Command.{Command, Spawn, SpawnMany, Insert, Remove, Despawn}
-use Rattle.ent_queue.specs.Command.{Refused, IsCommand}
+use Rattle.ent_queue.specs.Command.{Command, Spawn, SpawnMany, Insert, Remove, Despawn, Refused}
+use Rattle.ent_queue.specs.Command.{IsCommand}
 use Rattle.ent_queue.specs.Packing.{command_bytes, queue_bytes, bytes_4, handle_bytes, bundle_bytes}
 use Rattle.ent_queue.specs.Unpacking.{unpacked_commands, ArePacked}
 use Rattle.ent_queue.proofs.Queues.{unpacked_commands-bytes, are_packed, length_of_commands}
@@ -16,8 +17,7 @@ queue_bytes-push : (cs : List Command) (c : Command) → queue_bytes (cs ++ c �
     ++ command_bytes c
 queue_bytes-push [] c = append-nil (command_bytes c)
 queue_bytes-push (d ∷ cs) c =
-    ap (λ bytes. command_bytes d ++ bytes) (queue_bytes-push cs c)
-    ∙ sym (append_assoc (command_bytes d) (queue_bytes cs) (command_bytes c))
+    grind (arith, common_steps, queue_bytes-push cs c)
 
 -- The bytes of some commands, and then those of one more, are those of one more command.
 pub record Pushed (count : ℕ) (bytes new : List ℕ) (c : Command) : Type 0 where
@@ -51,12 +51,7 @@ some_bytes (Refused wanted why) = omega arith
 
 counted : (cs : List Command) → length cs ≤ length (queue_bytes cs)
 counted [] = omega arith
-counted (c ∷ cs) = omega (
-  arith,
-  length-append (command_bytes c) (queue_bytes cs),
-  some_bytes c,
-  counted cs,
-)
+counted (c ∷ cs) = grind (arith, common_steps, counted cs)
 
 -- there are no more commands than bytes
 count_le_bytes : (count : ℕ) (bytes : List ℕ) → ArePacked count bytes → count ≤ length bytes
@@ -73,8 +68,7 @@ count_le_bytes count bytes packed =
 pub count_fits : {Z : Type 0} (count : ℕ) (bytes : Vec ℕ Z) → ArePacked count bytes.items
     → Fits w64 (count + 1)
 count_fits count bytes packed =
-    let few = count_le_bytes count bytes.items packed in
-    Fits-of_lt (omega (arith, few, bytes.ok.0, bytes.small))
+    search (rules, count_le_bytes, Fits-of_lt)
 
 pub nothing_packed : ArePacked 0 []
 nothing_packed = are_packed [] (All-nil IsCommand)
@@ -84,7 +78,4 @@ pub many_written : (old : List ℕ) (hs : List Handle) (items : Bundle) (n : ℕ
     → (old ++ 1 ∷ (bytes_4 n ++ flat_map handle_bytes hs)) ++ bundle_bytes items ≡ old
     ++ command_bytes (SpawnMany hs items)
 many_written old hs items n e =
-    append_assoc old (1 ∷ (bytes_4 n ++ flat_map handle_bytes hs)) (bundle_bytes items)
-    ∙ ap (λ bytes. old ++ 1 ∷ bytes) (append_assoc (bytes_4 n) (flat_map handle_bytes hs)
-    (bundle_bytes items))
-    ∙ ap (λ k. old ++ 1 ∷ (bytes_4 k ++ (flat_map handle_bytes hs ++ bundle_bytes items))) (sym e)
+    grind (arith, common_steps)

@@ -8,22 +8,18 @@ use Rattle.std.proofs.Math.Seq.{drop-append_seam}
 use Rattle.ent_handle.specs.Handle.{Handle, IsHandle, bits}
 use Rattle.ent_shared.specs.declared.refused.Refused.{Refused as Refusal}
 use Rattle.ent_shared.specs.declared.refused.Refused.TheVariants.{Space, Quota}
-use Rattle.ent_bundle.specs.Bundle.{Bundle}
-use Rattle.ent_queue.specs.Command.{Command, Spawn, SpawnMany, Insert, Remove, Despawn}
-use Rattle.ent_bundle.specs.Bundle.{IsBundle}
-use Rattle.ent_queue.specs.Command.{Refused, IsRefusal, IsCommand}
+use Rattle.ent_bundle.specs.Bundle.{Bundle, IsBundle}
+use Rattle.ent_queue.specs.Command.{Command, Spawn, SpawnMany, Insert, Remove, Despawn, Refused}
+use Rattle.ent_queue.specs.Command.{IsRefusal, IsCommand}
 use Rattle.ent_queue.specs.Packing.{bytes_4, bytes_8, handle_bytes, bundle_bytes, refusal_bytes}
 use Rattle.ent_queue.specs.Packing.{command_bytes, queue_bytes}
 use Rattle.ent_queue.specs.Unpacking.{number_4, number_8, unpacked_handle, unpacked_handles}
-use Rattle.ent_queue.specs.Unpacking.{unpacked_bundle}
-use Rattle.ent_queue.specs.Unpacking.{unpacked_refusal, unpacked_command, after_first}
-use Rattle.ent_queue.specs.Unpacking.{unpacked_commands, ArePacked}
-use Rattle.ent_queue.specs.Unpacking.{BeginsWith}
+use Rattle.ent_queue.specs.Unpacking.{unpacked_bundle, unpacked_refusal, unpacked_command}
+use Rattle.ent_queue.specs.Unpacking.{after_first, unpacked_commands, ArePacked, BeginsWith}
 use Rattle.ent_queue.proofs.Numbers.{number_4-bytes, number_8-bytes, drop-bytes_4, drop-bytes_8}
 use Rattle.ent_queue.proofs.Numbers.{unpacked_handle-bytes, length-bytes_4, length-bytes_8}
 use Rattle.ent_queue.proofs.Parts.{length-handles, unpacked_handles-bytes, drop-handles}
-use Rattle.ent_queue.proofs.Parts.{BundleBegins}
-use Rattle.ent_queue.proofs.Parts.{bundle_begins}
+use Rattle.ent_queue.proofs.Parts.{BundleBegins, bundle_begins}
 use Rattle.ent_bundle.proofs.Few.{few_items}
 
 -- What the parts after the byte for a kind say: a handle and a bundle, many handles and a bundle,
@@ -94,17 +90,7 @@ pub record WithComponent (h : Handle) (id : ℕ) (parts rest : List ℕ) : Type 
 pub with_component : (h : Handle) (id : ℕ) (parts rest : List ℕ) → IsHandle h → parts
     ≡ (handle_bytes h ++ id ∷ []) ++ rest → WithComponent h id parts rest
 with_component h id parts rest is e =
-    let regroup : parts ≡ handle_bytes h ++ (id ∷ rest) = e ∙ append_assoc (handle_bytes h)
-    (id ∷ []) rest in
-    let after : drop 8 parts ≡ id ∷ rest = ap (drop 8) regroup ∙ drop-bytes_8 (bits h) (id ∷ rest)
-    in
-    record {
-      length_is = ap length regroup ∙ length-append (handle_bytes h) (id ∷ rest)
-          ∙ omega (arith, length-bytes_8 (bits h));
-      handle = ap unpacked_handle regroup ∙ unpacked_handle-bytes h (id ∷ rest) is;
-      id_is = ap (λ bytes. slice_index bytes 0) after;
-      rest_is = ap (drop 1) after;
-    }
+    search (rules, append_assoc, drop-bytes_8, length-append, length-bytes_8, unpacked_handle-bytes)
 
 pub record HandleAlone (h : Handle) (parts rest : List ℕ) : Type 0 where
   pub length_is : length parts ≡ 8 + length rest
@@ -136,23 +122,16 @@ reason_parts : (wanted kind left : ℕ) (parts rest : List ℕ) → wanted < 2 ^
     → parts ≡ (bytes_4 wanted ++ kind ∷ bytes_8 left) ++ rest
     → ReasonParts wanted kind left parts rest
 reason_parts wanted kind left parts rest few e =
-    let more = kind ∷ (bytes_8 left ++ rest) in
-    let regroup : parts ≡ bytes_4 wanted ++ more = e ∙ append_assoc (bytes_4 wanted)
-    (kind ∷ bytes_8 left) rest in
-    let after : drop 4 parts ≡ more = ap (drop 4) regroup ∙ drop-bytes_4 wanted more in
-    record {
-      length_is = ap length regroup ∙ length-append (bytes_4 wanted) more
-          ∙ omega (
-            arith,
-            length-bytes_4 wanted,
-            length-append (bytes_8 left) rest,
-            length-bytes_8
-                left,
-          );
-      wanted_is = ap number_4 regroup ∙ number_4-bytes wanted more few;
-      after = after;
-      rest_is = ap (λ bytes. drop 8 (drop 1 bytes)) after ∙ drop-bytes_8 left rest;
-    }
+    search (
+      rules,
+      append_assoc,
+      drop-bytes_4,
+      length-append,
+      length-bytes_4,
+      length-bytes_8,
+      number_4-bytes,
+      drop-bytes_8,
+    )
 
 pub with_reason : (wanted : ℕ) (why : Refusal) (parts rest : List ℕ) → wanted < 2 ^ 32
     → IsRefusal wanted why → parts ≡ (bytes_4 wanted ++ refusal_bytes why) ++ rest
@@ -207,8 +186,7 @@ unpacked_command-bytes (Refused wanted why) rest is =
 pub after_first-bytes : (c : Command) (rest : List ℕ) → IsCommand c
     → after_first (command_bytes c ++ rest) ≡ rest
 after_first-bytes c rest is =
-    ap (λ d. drop (length (command_bytes d)) (command_bytes c ++ rest))
-    (unpacked_command-bytes c rest is) ∙ drop-append_seam (command_bytes c) rest
+    search (rules, unpacked_command-bytes, drop-append_seam)
 
 pub unpacked_commands-bytes : (commands : List Command) → All IsCommand commands
     → unpacked_commands (length commands) (queue_bytes commands) ≡ commands
@@ -224,10 +202,7 @@ unpacked_commands-bytes (c ∷ commands) all =
 
 pub are_packed : (commands : List Command) → All IsCommand commands → ArePacked (length commands)
     (queue_bytes commands)
-are_packed commands all = record {
-  bytes_are = ap queue_bytes (sym (unpacked_commands-bytes commands all));
-  each = subst (All IsCommand) (sym (unpacked_commands-bytes commands all)) all;
-}
+are_packed commands all = search (rules, unpacked_commands-bytes)
 
 pub length_of_commands : (count : ℕ) (bytes : List ℕ) → length (unpacked_commands count bytes)
     ≡ count

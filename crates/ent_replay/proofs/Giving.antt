@@ -1,5 +1,5 @@
 -- No handle is given twice in a run.
-use Rattle.std.proofs.Common.{◌≡◌, ◌≢◌, refl, sym, ap, subst, ◌∙◌, ℕ, zero, suc, ◌<◌, List}
+use Rattle.std.proofs.Common.{rules, ◌≡◌, ◌≢◌, refl, sym, ap, subst, ◌∙◌, ℕ, zero, suc, ◌<◌, List}
 use Rattle.std.proofs.Common.{[], ◌∷◌, ◌++◌, append-nil, append_assoc, Some, None, Result, Ok, Err}
 use Rattle.std.proofs.Common.{AllPairs, IsPermutation, inl, inr, arith}
 use Rattle.std.specs.Ordering.{nat_cmp}
@@ -15,7 +15,7 @@ use Rattle.ent_alloc.specs.Sequential.{Allocator, after_take, after_alloc, after
 use Rattle.ent_alloc.specs.Sequential.{reply_to}
 use Rattle.ent_alloc.specs.Sound.{IsSound}
 use Rattle.ent_alloc.specs.Spent as spent
-use Rattle.ent_alloc.specs.History.{handles_in}
+use Rattle.ent_alloc.specs.History.{handles_in, AreGivenOnce}
 use Rattle.ent_alloc.proofs.ListLaws.{All-right, AllPairs-left, AllPairs-right}
 use Rattle.ent_alloc.proofs.RequestLaws.{requested-given}
 use Rattle.ent_alloc.proofs.GivenOnce.{alloc-given, free-given, flush-given, given-IsPermutation}
@@ -29,7 +29,6 @@ use Rattle.ent_replay.specs.Schedule.{MachineState, OpenCall, Reply, Returned, o
 use Rattle.ent_replay.specs.Schedule.{after_event, outcomes_of, reported, callers}
 use Rattle.ent_replay.specs.Held.{joined, held_by, held, all_held}
 use Rattle.ent_replay.specs.Histories.{given_by, given_by_all}
-use Rattle.ent_alloc.specs.History.{AreGivenOnce}
 use Rattle.ent_replay.proofs.Maps.{get-inserted, get-insert_other, get-removed, get-remove_other}
 use Rattle.ent_replay.proofs.Moves.{Move, move, stays, allocates, frees, flushes, begins, steps}
 use Rattle.ent_replay.proofs.Moves.{answers}
@@ -84,8 +83,7 @@ joined-more f g c (suc n) lt none alike = elim (cases_lt c n) [
 -- ---- the handles that are kept for open calls
 
 pub all_held-none : (calls : FinMap nat_cmp OpenCall) → calls ≡ finite.empty → all_held calls ≡ []
-all_held-none calls none = joined-none (λ q. held (finite.get calls q)) callers
-    (λ q. ap (λ m. held (finite.get m q)) none ∙ ap held (get-empty nat_cmp q))
+all_held-none calls none = search (rules, joined-none, get-empty)
 
 module _ (calls : FinMap nat_cmp OpenCall) (caller : ℕ) (below : caller < callers) where
   all_held-inserted : (new : OpenCall) → held (finite.get calls caller) ≡ []
@@ -226,11 +224,7 @@ given-right s xs ys h = record {
 
 -- so was an empty list
 pub given-none : (s : Allocator) (hs : List Handle) → hs ≡ [] → spent.AreSpent s hs
-given-none s hs none = subst (spent.AreSpent s) (sym none)
-    (record {
-      distinct = λ i j d lt in_part. absurd (omega arith);
-      spent = All-nil (spent.IsSpent s);
-    })
+given-none s hs none = search (rules, All-nil)
 
 pub all_held-next : (s : MachineState) (e : Event) (r : Result Outcome ReplayFault)
     (t : MachineState) → on_event s e ≡ (r, t) → IsSound s.allocator → spent.AreSpent s.allocator

@@ -1,10 +1,9 @@
 -- The reservations of a run, in the order of their steps, are a legal history, and each answer
 -- tells a reply of it.
-use Rattle.std.proofs.Common.{◌≡◌, ◌≢◌, refl, sym, ap, subst, ◌∙◌, ℕ, zero, suc, ◌+◌, Bool, true}
-use Rattle.std.proofs.Common.{false, cond, List, [], ◌∷◌, ◌++◌, append-nil, Some, None, Result, Ok}
+use Rattle.std.proofs.Common.{rules, ◌≡◌, ◌≢◌, refl, sym, ap, subst, ◌∙◌, ℕ, zero, suc, ◌+◌, Bool}
+use Rattle.std.proofs.Common.{true, false, List, [], ◌∷◌, ◌++◌, append-nil, Some, None, Result, Ok}
 use Rattle.std.proofs.Common.{Err, ◌⊎◌, inl, inr, arith}
 use Rattle.std.specs.Prelude.{◌==◌}
-use Rattle.std.specs.Option.{option_or}
 use Rattle.std.specs.Ordering.{nat_cmp}
 use Rattle.std.specs.FinMap as finite
 use Rattle.std.specs.FinMap.{FinMap, get-empty}
@@ -21,8 +20,8 @@ use Rattle.ent_replay.specs.declared.fault.ReplayFault.{ReplayFault}
 use Rattle.ent_replay.specs.Schedule.{MachineState, OpenCall, Reply, outcome_of, after_event}
 use Rattle.ent_replay.specs.Schedule.{outcomes_of, reported}
 use Rattle.ent_replay.specs.Histories.{reserved_by_request, reservations, Phase, phase_after}
-use Rattle.ent_replay.specs.Histories.{last_of, TellsOf}
-use Rattle.ent_replay.specs.Histories.{TellsReply, StandInHistory, IsAtRest, new_phase}
+use Rattle.ent_replay.specs.Histories.{last_of, TellsOf, TellsReply, StandInHistory, IsAtRest}
+use Rattle.ent_replay.specs.Histories.{new_phase}
 use Rattle.ent_replay.proofs.Maps.{get-inserted, get-insert_other, get-removed, get-remove_other}
 use Rattle.ent_replay.proofs.Conditions.{when, unless}
 use Rattle.ent_replay.proofs.Moves.{Move, move, stays, allocates, frees, flushes, begins, steps}
@@ -45,15 +44,13 @@ after_history-append s (call ∷ calls) more = after_history-append (after_take 
 last_of-append : (q : ℕ) (calls : List Call) (call : Call) → call.caller ≡ q
     → last_of q (calls ++ call ∷ []) ≡ Some call
 last_of-append q [] call own = when (call.caller == q) _ _ (grind (arith, nat_tests))
-last_of-append q (c ∷ calls) call own = ap (λ o. option_or o (cond (c.caller == q) (Some c) None))
-    (last_of-append q calls call own)
+last_of-append q (c ∷ calls) call own = search (rules, last_of-append q calls call own)
 
 last_of-append_other : (q : ℕ) (calls : List Call) (call : Call) → call.caller ≢ q
     → last_of q (calls ++ call ∷ []) ≡ last_of q calls
 last_of-append_other q [] call other = unless (call.caller == q) _ _ (grind (arith, nat_tests))
 last_of-append_other q (c ∷ calls) call other =
-    ap (λ o. option_or o (cond (c.caller == q) (Some c) None)) (last_of-append_other q calls call
-    other)
+    search (rules, last_of-append_other q calls call other)
 
 -- ---- what is kept from event to event
 
@@ -87,8 +84,7 @@ pub record IsFollowed (p : Phase) (s : MachineState) : Type 0 where
 
 no_calls : (calls : FinMap nat_cmp OpenCall) → calls ≡ finite.empty → (q : ℕ) (call : OpenCall)
     → finite.get calls q ≡ Some call → ⊥
-no_calls calls none q call at = let nothing : finite.get calls q ≡ None = ap (λ m. finite.get m q)
-    none ∙ get-empty nat_cmp q in cc
+no_calls calls none q call at = search (rules, get-empty)
 
 -- a fact on the requests and replies of all open calls but one, and on that one's
 module _ (P : ℕ → ℕ → Reply → Type 0) (calls : FinMap nat_cmp OpenCall) (caller : ℕ)

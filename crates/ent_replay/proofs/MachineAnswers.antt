@@ -1,7 +1,8 @@
 -- What a test of a machine's answer tells, and what a refusal for want of memory has to be.
-use Rattle.std.proofs.Common.{◌≡◌, refl, sym, ap, ◌∙◌, ℕ, ◌<◌, suc, Bool, true, false, nat_lt, List}
-use Rattle.std.proofs.Common.{[], ◌∷◌, length, drop, filter, slice_get, Option, Some, None, Result}
-use Rattle.std.proofs.Common.{Ok, Err, arith, inl, inr, subst}
+use Rattle.std.proofs.Common.{rules, ◌≡◌, refl, sym, ap, ◌∙◌, ℕ, ◌<◌, Bool, true, false, nat_lt}
+use Rattle.std.proofs.Common.{List, [], ◌∷◌, length, drop, filter, slice_get, Option, Some, None}
+use Rattle.std.proofs.Common.{Result, Ok, Err, arith, inr, subst}
+use Rattle.std.proofs.lemmas.Grind.{common_steps}
 use Rattle.std.specs.Option.{option_map, is_some}
 use Rattle.std.specs.Result.{OnOk, OnErr, is_err}
 use Rattle.std.proofs.lemmas.Bool.Decides.{nat_tests}
@@ -14,7 +15,6 @@ use Rattle.ent_replay.specs.declared.fault.ReplayFault.{ReplayFault}
 use Rattle.ent_replay.specs.declared.fault.ReplayFault.TheVariants as fault
 use Rattle.ent_replay.specs.Schedule.{MachineState, Returned, alloc_front, event_takes_memory}
 use Rattle.ent_replay.specs.Machine.{Makes, machine_state, AreConsistent}
-use Rattle.ent_replay.proofs.Conditions.{when}
 use Rattle.ent_replay.proofs.Maps.{no_test}
 use Rattle.std.specs.Ordering.{nat_cmp}
 use Rattle.ent_replay.specs.declared.stored_call.StoredCall.{StoredCall}
@@ -26,11 +26,7 @@ pub done : (on : MachineState → Returned) (inside now : MachineState) → insi
     → after ≡ next
     → on inside ≡ (answer, next) → Makes (on now) now result after
 done on inside now view result answer is after next is_next step =
-    inl (
-      is ∙ ap (λ p. p.0) (sym step) ∙ ap (λ v. (on v).0) view,
-      is_next ∙ ap (λ p. p.1) (sym step)
-          ∙ ap (λ v. (on v).1) view,
-    )
+    search (rules)
 
 -- It found a fault, and changed nothing.
 pub faulty : (on : MachineState → Returned) (inside now : MachineState) → inside ≡ now
@@ -116,26 +112,14 @@ none_is_none f (Some x) is = absurd cc
 -- with no old handle in it, the pool gives a fresh one
 front_is_fresh : (made : ℕ) (pool : List Handle) (h : Handle) (rest : List Handle) → pool ≡ h ∷ rest
     → length (filter (is_old made) pool) ≡ 0 → is_fresh made h ≡ true
-front_is_fresh made pool h rest is none = go (is_old made h) refl
-  where
-    go : (b : Bool) → is_old made h ≡ b → is_fresh made h ≡ true
-    go true old =
-        let few : length (filter (is_old made) (h ∷ rest))
-        ≡ 0 = ap (λ hs. length (filter (is_old made) hs)) (sym is) ∙ none in
-        let some : length (filter (is_old made) (h ∷ rest))
-        ≡ suc (length (filter (is_old made) rest)) =
-        ap length (when (is_old made h) (h ∷ filter (is_old made) rest)
-        (filter (is_old made) rest) old) in
-        absurd (omega arith)
-    go false fresh = grind (arith, nat_tests)
+front_is_fresh made pool h rest is none = grind (arith, common_steps)
 
 -- to take the front of a pool takes memory if it makes a slot
 pub front_takes_memory : (s : MachineState) (pool : List Handle) → ¬ (pool ≡ [])
     → length (filter (is_old s.allocator.made) pool) ≡ 0
     → event_takes_memory s (alloc_front s pool).0 ≡ true
 front_takes_memory s [] some none = absurd (some refl)
-front_takes_memory s (h ∷ rest) some none = front_is_fresh s.allocator.made (h ∷ rest) h rest refl
-    none
+front_takes_memory s (h ∷ rest) some none = grind (arith, common_steps)
 
 -- a list that is not empty
 pub some_handles : (hs : List Handle) → 0 < length hs → nat_lt 0 (length hs) ≡ true

@@ -1,13 +1,12 @@
 -- Maps of callers: what a tree's entries stand for, and the values of a map under a function.
-use Rattle.std.proofs.Common.{◌≡◌, ◌≢◌, refl, sym, ap, subst, ◌∙◌, ℕ, Bool, true, false, cond, List}
+use Rattle.std.proofs.Common.{rules, ◌≡◌, ◌≢◌, refl, sym, ap, ◌∙◌, ℕ, Bool, true, false, cond, List}
 use Rattle.std.proofs.Common.{[], ◌∷◌, map, Option, Some, None, arith, eq-eqb, ne_eqb}
-use Rattle.std.specs.Option.{option_map}
+use Rattle.std.proofs.lemmas.Grind.{common_steps}
+use Rattle.std.specs.Option.{option_map, IsSome}
 use Rattle.std.specs.Ordering.{nat_cmp, eq_by_cmp}
 use Rattle.std.specs.Cmp.{nat_cmp_total, eq_by_cmp_equiv, unsigned_tied}
-use Rattle.std.specs.Prelude.{◌==◌}
 use Rattle.std.proofs.lemmas.Bool.Decides.{nat_tests}
 use Rattle.std.specs.Map.{lookup, set_value}
-use Rattle.std.specs.Option.{IsSome}
 use Rattle.std.proofs.lemmas.Map.{lookup-set_value}
 use Rattle.std.specs.BTreeMap as tree
 use Rattle.std.specs.BTreeMap.{BTreeMap, is_at}
@@ -29,8 +28,7 @@ apart : (q k : ℕ) → q ≢ k → eq_by_cmp nat_cmp q k ≡ false
 apart q k other = unsigned_tied q k ∙ ne_eqb q k other
 
 same_caller : (q k : ℕ) → eq_by_cmp nat_cmp q k ≡ true → q ≡ k
-same_caller q k tied = let test : (q == k) ≡ true = sym (unsigned_tied q k)
-    ∙ tied in grind (arith, nat_tests)
+same_caller q k tied = search (rules, nat_tests)
 
 -- ---- trees
 
@@ -86,8 +84,7 @@ from_entries-set es k w there =
 
 pub get-inserted : {X : Type 0} (m : FinMap nat_cmp X) (k : ℕ) (v : X)
     → finite.get (finite.insert m k v) k ≡ Some v
-get-inserted m k v = get-insert nat_cmp_total m k v k ∙ ap (λ b. cond b (Some v) (finite.get m k))
-    (itself k)
+get-inserted m k v = grind (arith, common_steps, get-insert nat_cmp_total m k v k, itself k)
 
 pub get-insert_other : {X : Type 0} (m : FinMap nat_cmp X) (k : ℕ) (v : X) (q : ℕ) → q ≢ k
     → finite.get (finite.insert m k v) q ≡ finite.get m q
@@ -106,31 +103,14 @@ get-remove_other m k q other = get-remove nat_cmp_total m k q
 -- to take out what was put where nothing was is to change nothing
 pub insert-remove : {X : Type 0} (m : FinMap nat_cmp X) (k : ℕ) (v : X) → finite.get m k ≡ None
     → finite.remove (finite.insert m k v) k ≡ m
-insert-remove {X} m k v none = maps_alike (finite.remove (finite.insert m k v) k) m
-    (λ q. at q (eq_by_cmp nat_cmp q k) refl)
-  where
-    at : (q : ℕ) (b : Bool) → eq_by_cmp nat_cmp q k ≡ b
-        → finite.get (finite.remove (finite.insert m k v) k) q ≡ finite.get m q
-    at q true tied = let same : q ≡ k = same_caller q k tied in
-        get-remove nat_cmp_total (finite.insert m k v) k q
-        ∙ ap (λ b. cond b None (finite.get (finite.insert m k v) q)) tied ∙ sym none
-        ∙ ap (finite.get m) (sym same)
-    at q false other =
-        get-remove nat_cmp_total (finite.insert m k v) k q
-        ∙ ap (λ b. cond b None (finite.get (finite.insert m k v) q)) other
-        ∙ get-insert nat_cmp_total m k v q ∙ ap (λ b. cond b (Some v) (finite.get m q)) other
+insert-remove {X} m k v none = search (rules, maps_alike, same_caller, get-remove, get-insert)
 
 -- ---- the values under a function
 
 find-values : {X Y : Type 0} (f : X → Y) (q : ℕ) (es : List (ℕ × X))
     → find nat_cmp q (map (λ e. (e.0, f e.1)) es) ≡ option_map f (find nat_cmp q es)
 find-values f q [] = refl
-find-values f q (e ∷ es) = elim (eq_by_cmp nat_cmp q e.0) as
-    (λ b. cond b (Some (f e.1)) (find nat_cmp q (map (λ e. (e.0, f e.1)) es))
-    ≡ option_map f (cond b (Some e.1) (find nat_cmp q es))) [
-      | true ↦ refl
-      | false ↦ find-values f q es
-    ]
+find-values f q (e ∷ es) = search (rules, find-values f q es)
 
 pub get-map_values : {X Y : Type 0} (f : X → Y) (m : FinMap nat_cmp X) (q : ℕ)
     → finite.get (map_values f m) q ≡ option_map f (finite.get m q)
@@ -149,37 +129,19 @@ mapped_none f false o = refl
 
 pub map_values-insert : {X Y : Type 0} (f : X → Y) (m : FinMap nat_cmp X) (k : ℕ) (v : X)
     → map_values f (finite.insert m k v) ≡ finite.insert (map_values f m) k (f v)
-map_values-insert f m k v = maps_alike (map_values f (finite.insert m k v))
-    (finite.insert (map_values f m) k (f v)) (λ q.
-    get-map_values f (finite.insert m k v) q
-    ∙ ap (option_map f) (get-insert nat_cmp_total m k v q)
-    ∙ mapped f (eq_by_cmp nat_cmp q k) v (finite.get m q)
-    ∙ ap (cond (eq_by_cmp nat_cmp q k) (Some (f v))) (sym (get-map_values f m q))
-    ∙ sym (get-insert nat_cmp_total (map_values f m) k (f v) q))
+map_values-insert f m k v = search (rules, maps_alike, get-map_values, get-insert, mapped)
 
 pub map_values-remove : {X Y : Type 0} (f : X → Y) (m : FinMap nat_cmp X) (k : ℕ)
     → map_values f (finite.remove m k) ≡ finite.remove (map_values f m) k
-map_values-remove f m k = maps_alike (map_values f (finite.remove m k))
-    (finite.remove (map_values f m) k) (λ q.
-    get-map_values f (finite.remove m k) q
-    ∙ ap (option_map f) (get-remove nat_cmp_total m k q)
-    ∙ mapped_none f (eq_by_cmp nat_cmp q k) (finite.get m q)
-    ∙ ap (cond (eq_by_cmp nat_cmp q k) None) (sym (get-map_values f m q))
-    ∙ sym (get-remove nat_cmp_total (map_values f m) k q))
+map_values-remove f m k = search (rules, maps_alike, get-map_values, get-remove, mapped_none)
 
 pub map_values-empty : {X Y : Type 0} (f : X → Y) → map_values f finite.empty ≡ finite.empty
-map_values-empty f = maps_alike (map_values f finite.empty) finite.empty (λ q.
-    get-map_values f finite.empty q ∙ ap (option_map f) (get-empty nat_cmp q)
-    ∙ sym (get-empty nat_cmp q))
+map_values-empty f = search (rules, maps_alike, get-map_values, get-empty)
 
 -- ---- emptiness
 
 something : {X : Type 0} (x : X) → Some x ≢ None
-something x is = subst (λ o. IsTrue_of o) is tt
-  where
-    IsTrue_of : {X : Type 0} → Option X → Type 0
-    IsTrue_of (Some x) = Unit {0}
-    IsTrue_of None = ⊥
+something x is = search (rules)
 
 pub from_entries-empty : {X : Type 0} (es : List (ℕ × X)) → finite.from_entries {R = nat_cmp} es
     ≡ finite.empty → es ≡ []

@@ -1,23 +1,21 @@
 -- An event is read from its own text and from no other.
-use Rattle.std.proofs.Common.{◌≡◌, ◌≢◌, ℕ, ◌^◌, ◌<◌, ◌⊎◌, Bool, true, false, not, cond, ltb, eqb}
+use Rattle.std.proofs.Common.{rules, ◌≡◌, ◌≢◌, ℕ, ◌^◌, ◌<◌, ◌⊎◌, Bool, true, false, not, cond, eqb}
 use Rattle.std.proofs.Common.{List, [], ◌∷◌, ◌++◌, All, Result, Ok, Err, refl, sym, ap, subst, ◌∙◌}
 use Rattle.std.proofs.Common.{inl, inr, append_assoc, arith}
+use Rattle.std.proofs.lemmas.Grind.{common_steps}
 use Rattle.std.specs.Prelude.{codes}
 use Rattle.std.specs.Char.{is_ascii_digit}
 use Rattle.std.specs.Fmt.{decimal}
 use Rattle.std.specs.List.{join_with_byte, list_all, slice_split}
 use Rattle.std.specs.Str.{bytes_eq}
-use Rattle.std.specs.Str.Parse.{digits_value}
-use Rattle.std.proofs.lemmas.Bool.{cases_Bool, and_parts, and_from, ltb-true, eqb-true, true≢false}
-use Rattle.std.proofs.lemmas.Bool.{false≢true}
+use Rattle.std.proofs.lemmas.Bool.{and_parts, and_from, false≢true}
 use Rattle.std.proofs.lemmas.List.Folds.{list_all-append}
 use Rattle.std.proofs.lemmas.List.Splits.{slice_split_none, slice_split_at}
 use Rattle.std.proofs.lemmas.List.Sums.{AllPass-from_list_all}
 use Rattle.std.proofs.lemmas.Slice.Eq.{bytes_eq-Decides}
 use Rattle.ent_handle.specs.Handle.{Handle, IsHandle}
-use Rattle.ent_handle.specs.Text.{is_decimal, number_of, handle_of, handle_text}
+use Rattle.ent_handle.specs.Text.{number_of, handle_of, handle_text}
 use Rattle.ent_handle.specs.declared.text.TextFault.{TextFault}
-use Rattle.ent_handle.specs.declared.text.TextFault.TheVariants.{Shape, Range}
 use Rattle.ent_handle.proofs.Decimals.{plain_from_decimal, decimal_is_decimal, number_found}
 use Rattle.ent_handle.proofs.Decimals.{number_of-decimal}
 use Rattle.ent_handle.proofs.HandleTexts.{handle_found, handle_of_text}
@@ -27,9 +25,8 @@ use Rattle.ent_replay.specs.declared.event.Event.TheVariants.{Answer}
 use Rattle.ent_replay.specs.declared.read_fault.Cause.{Cause}
 use Rattle.ent_replay.specs.declared.read_fault.Cause.TheVariants as cause
 use Rattle.ent_replay.specs.ScheduleText.{◌>>=◌, event_text, IsEvent, words_of, or_cause}
-use Rattle.ent_replay.specs.ScheduleText.{number_word}
-use Rattle.ent_replay.specs.ScheduleText.{handle_word, none, one, two, begin_of, event_with}
-use Rattle.ent_replay.specs.ScheduleText.{event_of}
+use Rattle.ent_replay.specs.ScheduleText.{number_word, handle_word, none, one, two, begin_of}
+use Rattle.ent_replay.specs.ScheduleText.{event_with, event_of}
 
 -- ---- steps that did not fail
 
@@ -68,8 +65,7 @@ two_ok : (words : List (List ℕ)) (pair : List ℕ × List ℕ) → two words �
     ∷ pair.1 ∷ []
 two_ok [] pair h = absurd cc
 two_ok (first ∷ []) pair h = absurd cc
-two_ok (first ∷ second ∷ []) pair h = ap (λ (p : List ℕ × List ℕ). p.0 ∷ p.1 ∷ [])
-    (ok_is (first, second) pair h)
+two_ok (first ∷ second ∷ []) pair h = search (rules, ok_is)
 two_ok (first ∷ second ∷ third ∷ more) pair h = absurd cc
 
 abbrev text_fault : {A : Type 0} → TextFault → Result A TextFault
@@ -77,17 +73,7 @@ text_fault f = Err f
 
 number_is_small : (word : List ℕ) (n : ℕ) → number_of word ≡ Ok n → n < 2 ^ 32
 number_is_small word n e =
-    let value = digits_value 10 word in
-    elim (chosen (is_decimal word) (cond (ltb value (2 ^ 32)) (Ok value) (Err Range))
-    (text_fault Shape) (Ok n) e) [
-      | inr shapeless ↦ let f = shapeless.1 in absurd cc
-      | inl digits ↦ elim (chosen (ltb value (2 ^ 32)) (Ok value) (text_fault Range) (Ok n)
-          digits.1) [
-            | inr large ↦ let f = large.1 in absurd cc
-            | inl small ↦ let is : value ≡ n = (let f = small.1 in cc) in
-                subst (λ (m : ℕ). m < 2 ^ 32) is (ltb-true _ _ small.0)
-          ]
-    ]
+    grind (arith, common_steps)
 
 number_ok : (word : List ℕ) (n : ℕ) → number_word word ≡ Ok n → (n < 2 ^ 32) × (word ≡ decimal n)
 number_ok word n e =
@@ -112,10 +98,7 @@ lacks separator bytes = list_all (λ byte. not (eqb byte separator)) bytes
 digit_is_other : (separator c : ℕ) → is_ascii_digit separator ≡ false → is_ascii_digit c ≡ true
     → not (eqb c separator) ≡ true
 digit_is_other separator c h d =
-    elim (cases_Bool (eqb c separator)) [
-      | inl same ↦ absurd (true≢false (sym d ∙ ap is_ascii_digit (eqb-true _ _ same) ∙ h))
-      | inr other ↦ ap not other
-    ]
+    grind (arith, common_steps)
 
 digits_lack : (separator : ℕ) (ds : List ℕ) → is_ascii_digit separator ≡ false
     → list_all is_ascii_digit ds ≡ true → lacks separator ds ≡ true
@@ -190,9 +173,7 @@ word_is word text e = (bytes_eq-Decides word text).0 e
 alone_found : (word : List ℕ) (others : List (List ℕ)) (event e : Event) → word ≡ event_text event
     → IsEvent event → none event others ≡ Ok e → IsRead (word ∷ others) e
 alone_found word others event e is fits h =
-    let p = none_ok event others e h in
-    subst (λ (x : Event). IsRead (word ∷ others) x) p.1
-    (fits, ap (λ (ws : List (List ℕ)). joined (word ∷ ws)) p.0 ∙ is)
+    search (rules, none_ok)
 
 free_found : (word : List ℕ) (others : List (List ℕ)) (e : Event) → word ≡ codes "free"
     → (one others >>= handle_word >>= λ h. Ok (Free h)) ≡ Ok e → IsRead (word ∷ others) e
@@ -213,15 +194,7 @@ caller_found : (make : ℕ → Event) (keyword : List ℕ) → ((n : ℕ) → n 
     → (one others >>= number_word >>= λ caller. Ok (make caller)) ≡ Ok e
     → IsRead (word ∷ others) e
 caller_found make keyword fits text word others e is h =
-    let b = bind_ok (one others >>= number_word) (λ caller. Ok (make caller)) e h in
-    let a = bind_ok (one others) number_word b.0 b.1 in
-    let p = number_ok a.0 b.0 a.2 in
-    subst (λ (x : Event). IsRead (word ∷ others) x) (ok_is (make b.0) e b.2) (
-      fits b.0 p.0,
-      ap (λ (ws : List (List ℕ)). joined (word ∷ ws)) (one_ok others a.0 a.1)
-          ∙ ap (λ (w : List ℕ). w ++ 32 ∷ a.0) is ∙ ap (λ (w : List ℕ). keyword ++ 32 ∷ w) p.1
-          ∙ sym (text b.0),
-    )
+    search (rules, bind_ok, number_ok, ok_is, one_ok)
 
 begin_found : (word : List ℕ) (others : List (List ℕ)) (e : Event) → word ≡ codes "begin"
     → begin_of others ≡ Ok e → IsRead (word ∷ others) e
@@ -250,11 +223,7 @@ tested : (word : List ℕ) (others : List (List ℕ)) (e : Event) (keyword : Lis
     → (word ≡ keyword → x ≡ Ok e → IsRead (word ∷ others) e) → (y ≡ Ok e → IsRead (word ∷ others) e)
     → IsRead (word ∷ others) e
 tested word others e keyword x y h found goes_on =
-    elim (chosen (bytes_eq word keyword) x y (Ok e) h) [
-      | inl p ↦ found (word_is word keyword p.0)
-          p.1
-      | inr p ↦ goes_on p.1
-    ]
+    search (rules, chosen, word_is)
 
 pub event_found : (words : List (List ℕ)) (e : Event) → event_of words ≡ Ok e → IsRead words e
 unfolding event_with
@@ -306,5 +275,4 @@ event_again (Answer caller) is =
 -- a line that is refused is no event's text
 pub event_refused : (line : List ℕ) (c : Cause) → event_of (words_of line) ≡ Err c → (e : Event)
     → IsEvent e → line ≢ event_text e
-event_refused line c refused e is spelled = let f = sym refused
-    ∙ ap (λ (l : List ℕ). event_of (words_of l)) spelled ∙ event_again e is in cc
+event_refused line c refused e is spelled = search (rules, event_again)

@@ -1,11 +1,11 @@
 -- What is read is spelled so, what is spelled so is read, and a refused text has events up to the
 -- line that is named.
-use Rattle.std.proofs.Common.{◌≡◌, ℕ, ◌+◌, ◌<◌, ◌⊎◌, Bool, eqb, List, [], ◌∷◌, ◌++◌, length, map}
-use Rattle.std.proofs.Common.{Result, Ok, Err, refl, sym, ap, subst, ◌∙◌, inl, inr, append_assoc}
-use Rattle.std.proofs.Common.{arith}
+use Rattle.std.proofs.Common.{rules, ◌≡◌, ℕ, ◌+◌, ◌<◌, ◌⊎◌, Bool, eqb, List, [], ◌∷◌, ◌++◌, length}
+use Rattle.std.proofs.Common.{map, Result, Ok, Err, refl, sym, ap, subst, ◌∙◌, inl, inr}
+use Rattle.std.proofs.Common.{append_assoc, arith}
+use Rattle.std.proofs.lemmas.Grind.{common_steps}
 use Rattle.std.specs.List.{flat_map, join_with_byte, slice_split, onto_first}
-use Rattle.std.proofs.lemmas.Bool.{cases_Bool, eqb-true, ne_eqb, cond-true, cond-false}
-use Rattle.std.proofs.lemmas.List.{append-nil, nil_from_length}
+use Rattle.std.proofs.lemmas.Bool.{cases_Bool}
 use Rattle.std.proofs.lemmas.List.Folds.{flat_map-map}
 use Rattle.std.proofs.lemmas.List.Splits.{join_with_byte-slice_split}
 use Rattle.ent_replay.specs.declared.event.Event.{Event}
@@ -35,15 +35,12 @@ goes_on_ok : (line : ℕ) (r : Result Event Cause) (others : Result (List Event)
     × (event ∷ rest ≡ events)
 goes_on_ok line (Err c) others events e = absurd cc
 goes_on_ok line (Ok event) (Err fault) events e = absurd cc
-goes_on_ok line (Ok event) (Ok rest) events e = let is : read_events (event ∷ rest)
-    ≡ read_events events = e in (event, rest, refl, refl, cc)
+goes_on_ok line (Ok event) (Ok rest) events e = search (rules)
 
 events_found : (number : ℕ) (lines : List (List ℕ)) (events : List Event) → events_of number lines
     ≡ Ok events → AreEvents events × (lines ≡ map event_text events)
 events_found number [] events e =
-    let is : read_events [] ≡ read_events events = e in
-    let same : [] ≡ events = cc in
-    subst (λ (es : List Event). AreEvents es × ([] ≡ map event_text es)) same (tt, refl)
+    search (rules)
 events_found number (line ∷ lines) events e =
     let g = goes_on_ok number (event_of (words_of line)) (events_of (number + 1) lines) events e in
     let first = event_found (words_of line) g.0 g.2 in
@@ -134,20 +131,13 @@ IsEnded text lines = (text ≡ ended lines) ⊎ (text ++ 10 ∷ [] ≡ ended lin
 
 more_ended : (line text : List ℕ) (lines : List (List ℕ)) → IsEnded text lines
     → IsEnded (line ++ 10 ∷ text) (line ∷ lines)
-more_ended line text lines (inl e) = inl (ap (λ (t : List ℕ). line ++ 10 ∷ t) e
-    ∙ sym (append_assoc line (10 ∷ []) (ended lines)))
+more_ended line text lines (inl e) = grind (arith, common_steps)
 more_ended line text lines (inr e) =
-    inr (append_assoc line (10 ∷ text) (10 ∷ []) ∙ ap (λ (t : List ℕ). line ++ 10 ∷ t) e
-    ∙ sym (append_assoc line (10 ∷ []) (ended lines)))
+    grind (arith, common_steps)
 
 last_ended : (part : List ℕ) → IsEnded part (without_empty_end (part ∷ []))
 last_ended part =
-    elim (cases_Bool (eqb (length part) 0)) [
-      | inl empty ↦ rw (cond-true (eqb (length part) 0) [] (part ∷ []) empty)
-          (inl (nil_from_length part (eqb-true _ _ empty)))
-      | inr long ↦ rw (cond-false (eqb (length part) 0) [] (part ∷ []) long)
-          (inr (sym (append-nil (part ++ 10 ∷ []))))
-    ]
+    grind (arith, common_steps)
 
 parts_ended : (parts : List (List ℕ)) → 0 < length parts → IsEnded (join_with_byte 10 parts)
     (without_empty_end parts)
@@ -169,8 +159,7 @@ ended_events events = flat_map-map (λ line. line ++ 10 ∷ []) event_text event
 spells_from_lines : (text : List ℕ) (events : List Event) → lines_of text ≡ map event_text events
     → Spells events text
 spells_from_lines text events e =
-    let P : List ℕ → Type 0 = λ whole. (text ≡ whole) ⊎ (text ++ 10 ∷ [] ≡ whole) in
-    subst P (ap ended e ∙ ended_events events) (text_ended text)
+    search (rules, ended_events, text_ended)
 
 -- ---- the lines of what is spelled
 
@@ -206,12 +195,10 @@ split_ended (x ∷ xs) =
 without_empty_end-ended : (parts : List (List ℕ)) → without_empty_end (parts ++ [] ∷ []) ≡ parts
 without_empty_end-ended [] = refl
 without_empty_end-ended (part ∷ []) = refl
-without_empty_end-ended (part ∷ next ∷ more) = ap (λ (ps : List (List ℕ)). part ∷ ps)
-    (without_empty_end-ended (next ∷ more))
+without_empty_end-ended (part ∷ next ∷ more) = search (rules, without_empty_end-ended (next ∷ more))
 
 last_line : (b : ℕ) (bs : List ℕ) → without_empty_end ((b ∷ bs) ∷ []) ≡ (b ∷ bs) ∷ []
-last_line b bs = cond-false (eqb (length (b ∷ bs)) 0) [] ((b ∷ bs) ∷ [])
-    (ne_eqb _ 0 (λ e. absurd (omega (arith, e))))
+last_line b bs = grind (arith, common_steps)
 
 without_empty_end-events : (events : List Event) → without_empty_end (map event_text events)
     ≡ map event_text events
@@ -251,16 +238,7 @@ schedule_again text events fits spelled = ap (events_of 1) (lines_from_spelling 
 first_fault : (text : List ℕ) (fault : ReadFault) → FaultAt 1 (lines_of text) fault
     → ExplainsFault text fault
 first_fault text fault f =
-    subst (ExplainsFault text) (sym f.numbered) (record {
-      before = f.before;
-      refused = f.refused;
-      following = f.following;
-      lines = f.parts;
-      position = refl;
-      events = f.fits;
-      why = f.why;
-      spells_none = event_refused f.refused f.c f.why;
-    })
+    search (rules, event_refused)
 
 pub schedule_refused : (text : List ℕ) (fault : ReadFault) → schedule_of text ≡ Err fault
     → ExplainsFault text fault

@@ -1,7 +1,7 @@
 -- Lines and words: what stands before the first separator, and then the parts of what stands after
 -- it.
-use Rattle.std.proofs.Common.{◌≡◌, ◌≢◌, ℕ, ◌<◌, false, eqb, List, [], ◌∷◌, ◌++◌, length, All, Err}
-use Rattle.std.proofs.Common.{refl, ap, ◌∙◌, arith}
+use Rattle.std.proofs.Common.{rules, ◌≡◌, ◌≢◌, ℕ, ◌<◌, false, eqb, List, [], ◌∷◌, ◌++◌, length, All}
+use Rattle.std.proofs.Common.{Err, refl, ap, ◌∙◌, arith}
 use Rattle.std.specs.List.{slice_split}
 use Rattle.std.proofs.lemmas.Bool.{eq-eqb, ne_eqb, cond-false}
 use Rattle.std.proofs.lemmas.List.Splits.{slice_split_none, slice_split_at, length-slice_split}
@@ -32,11 +32,7 @@ parts_first separator bytes first others e h =
 
 pub parts_nonempty : (separator : ℕ) (bytes : List ℕ) → 0
     < length (slice_split (λ byte. eqb byte separator) bytes)
-parts_nonempty separator bytes = omega (
-  arith,
-  length-slice_split (λ byte. eqb byte separator)
-      bytes,
-)
+parts_nonempty separator bytes = search (rules, length-slice_split)
 
 -- ---- lines
 

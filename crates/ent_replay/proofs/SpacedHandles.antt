@@ -1,7 +1,8 @@
 -- Handles following one another, each with its space.
-use Rattle.std.proofs.Common.{◌≡◌, ℕ, ◌+◌, ◌<◌, ◌≤◌, List, [], ◌∷◌, ◌++◌, length, get_or, drop, max}
-use Rattle.std.proofs.Common.{refl, sym, ap, ◌∙◌, arith, length-append}
-use Rattle.std.proofs.lemmas.List.{append-nil, at_drop_more}
+use Rattle.std.proofs.Common.{rules, ◌≡◌, ℕ, ◌+◌, ◌<◌, ◌≤◌, List, [], ◌∷◌, ◌++◌, length, get_or}
+use Rattle.std.proofs.Common.{drop, max, refl, sym, ap, ◌∙◌, arith, length-append}
+use Rattle.std.proofs.lemmas.Grind.{common_steps}
+use Rattle.std.proofs.lemmas.List.{append-nil}
 use Rattle.ent_handle.specs.Handle.{Handle}
 use Rattle.ent_handle.specs.Text.{handle_text}
 use Rattle.ent_replay.specs.OutcomeText.{handles_text, spaced}
@@ -12,12 +13,7 @@ pub length-spaced_drop : (handles : List Handle) (i : ℕ) (h : Handle) → i < 
     → length (spaced (drop i handles)) ≡ (1 + length (handle_text h))
     + length (spaced (drop (i + 1) handles))
 length-spaced_drop handles i h lt is =
-    let next : spaced (drop i handles) ≡ (32 ∷ handle_text (get_or handles i h))
-    ++ spaced (drop (i + 1) handles) = at_drop_more spaced handles i h lt in
-    ap length next ∙ length-append (32 ∷ handle_text (get_or handles i h))
-    (spaced (drop (i + 1) handles))
-    ∙ ap (λ (k : Handle). length (32 ∷ handle_text k) + length (spaced (drop (i + 1) handles)))
-    (sym is) ∙ omega arith
+    grind (arith, common_steps)
 
 -- what is written and the next handle are no longer than all
 pub spaced_fits : (old now : List ℕ) (handles : List Handle) (i : ℕ) (h : Handle) → i
@@ -37,16 +33,11 @@ spaced_fits old now handles i h lt is e =
 pub handles_text-cons : (first : Handle) (others : List Handle) → handles_text (first ∷ others)
     ≡ handle_text first ++ spaced others
 handles_text-cons first [] = sym (append-nil (handle_text first))
-handles_text-cons first (next ∷ others) = ap (λ (bs : List ℕ). handle_text first ++ 32 ∷ bs)
-    (handles_text-cons next others)
+handles_text-cons first (next ∷ others) = search (rules, handles_text-cons next others)
 
 -- such a line is as long as the texts with a space before each, and 1 without any
 pub length-handles_text : (handles : List Handle) → length (handles_text handles) + 1
     ≡ max (length (spaced handles)) 1
 length-handles_text [] = refl
 length-handles_text (h ∷ others) =
-    let one : length (handles_text (h ∷ others)) ≡ length (handle_text h) + length (spaced others) =
-    ap length (handles_text-cons h others) ∙ length-append (handle_text h) (spaced others) in
-    let all : length (spaced (h ∷ others)) ≡ (1 + length (handle_text h)) + length (spaced others) =
-    length-append (32 ∷ handle_text h) (spaced others) ∙ omega arith in
-    omega arith
+    search (rules, handles_text-cons, length-append)

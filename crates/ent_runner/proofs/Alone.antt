@@ -1,8 +1,8 @@
 -- A frame of one worker: its reservations stand in the order of the systems.
-use Rattle.std.proofs.Common.{◌≡◌, ℕ, suc, ◌+◌, ◌<◌, ◌≤◌, List, [], ◌∷◌, ◌++◌, length, map, get_or}
-use Rattle.std.proofs.Common.{refl, ap, sym, ◌∙◌, arith, subst, Some, Bool, true, false, cond}
-use Rattle.std.proofs.Common.{eq-eqb, append-nil, append_assoc, Option, Vec, Global}
-use Rattle.std.specs.Prelude.{◌==◌, filter, slice_get, IfSome}
+use Rattle.std.proofs.Common.{rules, ◌≡◌, ℕ, suc, ◌+◌, ◌<◌, ◌≤◌, List, [], ◌∷◌, ◌++◌, length, map}
+use Rattle.std.proofs.Common.{get_or, refl, ap, sym, ◌∙◌, arith, subst, Some, Bool, true, false}
+use Rattle.std.proofs.Common.{cond, eq-eqb, append-nil, append_assoc, Option, Vec, Global}
+use Rattle.std.specs.Prelude.{◌==◌, filter, slice_get}
 use Rattle.std.specs.List.{All, AllPairs, flat_map, range_with_len}
 use Rattle.std.specs.List.Sorted.{IsPermutation}
 use Rattle.std.proofs.lemmas.List.Elements.{All-head, All-tail, All-weaker}
@@ -160,16 +160,4 @@ pub ends : {S : Type 0} (may leave : S → View → List Command → Type 0) (sy
     → Ends may systems workers before queues.items after births faults
 ends may leave systems workers before world closed after got queues seen births faults r some same
     count shown ok born_are faults_are =
-    let frame : IsFrame may systems world.shared.count (world_at_start world) queues.items r.0 =
-    subst (λ (o : Option (Vec (List Command) Global)).
-    IfSome o (λ q. IsFrame may systems world.shared.count (world_at_start world) q.items r.0))
-    some r.3 in
-    let is : closed ≡ reserved_by r.0 before = r.2 ∙ ap (reserved_by r.0) same in
-    record {
-      history = r.0;
-      frame = subst (λ w. IsFrame may systems w before queues.items r.0) count
-          (subst (λ b. IsFrame may systems world.shared.count b queues.items r.0) same frame);
-      world = ok ∙ (λ i. (sync (shown i) (is i)).world);
-      born_are = born_are ∙ ap (λ w. born w.allocator) is;
-      faults_are = faults_are ∙ (λ i. (sync (shown i) (is i)).faults);
-    }
+    search (rules)

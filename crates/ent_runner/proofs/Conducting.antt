@@ -1,9 +1,8 @@
 -- What the workers have done together, once all of them are back.
-use Rattle.std.proofs.Common.{◌≡◌, ℕ, zero, suc, ◌+◌, ◌<◌, ◌≤◌, List, [], ◌∷◌, ◌++◌, length, map}
-use Rattle.std.proofs.Common.{get_or, refl, ap, sym, ◌∙◌, arith, subst, Option, Some, None, true}
-use Rattle.std.proofs.Common.{Bool, false, take, drop, reverse}
+use Rattle.std.proofs.Common.{rules, ◌≡◌, ℕ, zero, suc, ◌+◌, ◌<◌, ◌≤◌, List, [], ◌∷◌, ◌++◌, length}
+use Rattle.std.proofs.Common.{map, get_or, refl, ap, sym, ◌∙◌, arith, subst, Option, Some, None}
+use Rattle.std.proofs.Common.{true, Bool, false, take, drop, reverse, Vec, Global}
 use Rattle.std.specs.Prelude.{slice_get, replicate, IsSome, IfSome, IfNone, Any}
-use Rattle.std.proofs.Common.{Vec, Global}
 use Rattle.std.specs.List.{All, AllPairs, flat_map, range_with_len}
 use Rattle.std.specs.List.Sorted.{IsPermutation}
 use Rattle.std.proofs.lemmas.Option.{slice_get_within, get_or_from_slice_get, slice_get-get_or}
@@ -24,8 +23,7 @@ use Rattle.ent_queue.specs.Command.{Command}
 use Rattle.ent_queue.specs.Reserving.{Gains}
 use Rattle.ent_world.specs.World.{World}
 use Rattle.ent_world.specs.OpenWorld.{OpenWorld, View, world_at_start}
-use Rattle.ent_claims.specs.Claims.{Claims, Claimer, HaveEnded, AreFirst}
-use Rattle.ent_claims.specs.Claims.{IsClaimerOf}
+use Rattle.ent_claims.specs.Claims.{Claims, Claimer, HaveEnded, AreFirst, IsClaimerOf}
 use Rattle.ent_runner.specs.declared.worker.SystemQueue.{SystemQueue}
 use Rattle.ent_runner.specs.declared.worker.Worker.{Worker}
 use Rattle.ent_runner.specs.Frame.{IsFrame, IsBrokenOff, SystemMayIssue, SystemMayHaveIssued}
@@ -315,8 +313,7 @@ pub queues_back : (count n : ℕ) (issued : List SystemQueue)
     → new ≡ queues_put issued start → take n (new ++ drop (length new) start)
     ≡ queues_put issued (replicate count None)
 queues_back count n issued start new empty n_is put =
-    let same : length new ≡ length start = ap length put ∙ length_put issued start in
-    written_back n start new n_is same ∙ (put ∙ ap (queues_put issued) empty)
+    search (rules, length_put, written_back)
 
 unmapped : {X Y : Type 0} (P : Y → Type 0) (f : X → Y) (xs : List X) → All P (map f xs)
     → All (λ x. P (f x)) xs
@@ -380,9 +377,7 @@ pub closed_by : (world : OpenWorld) (after : World) (records same : List Record)
     ≡ after_history world.shared.start (history_of records) → after ≡ reserved_by (history_of same)
     (world_at_start world)
 closed_by world after records same is phase entities allocator =
-    let changed : after.allocator ≡ after_history world.shared.start (history_of same) = allocator
-    ∙ ap (λ rs. after_history world.shared.start (history_of rs)) is in
-    (λ i. record { allocator = changed i; phase = phase i; entities = entities i })
+    search (rules)
 
 pub view_is : (world : OpenWorld) (view : View) → view.phase ≡ world.phase → view.entities
     ≡ world.entities → view ≡ view_of (world_at_start world)

@@ -1,6 +1,6 @@
 -- Workers are taken apart, one after the other.
-use Rattle.std.proofs.Common.{◌≡◌, ◌<◌, List, [], ◌∷◌, ◌++◌, length, map, ap, sym, ◌∙◌, subst}
-use Rattle.std.proofs.Common.{Option, append_assoc}
+use Rattle.std.proofs.Common.{rules, ◌≡◌, ◌<◌, List, [], ◌∷◌, ◌++◌, length, map, ap, sym, ◌∙◌}
+use Rattle.std.proofs.Common.{subst, Option, append_assoc}
 use Rattle.std.specs.List.{All, flat_map}
 use Rattle.std.proofs.lemmas.List.{map-append}
 use Rattle.std.proofs.lemmas.List.Elements.{All-head, All-tail}
@@ -55,5 +55,4 @@ inside_first old rest w by_system front inside = All-head (Inside by_system) w r
 pub moved_on : {X : Type 0} (f : Worker → X) (yielded : List Worker) (w : Worker)
     (before after : List X) → before ≡ map f yielded → after ≡ before ++ f w ∷ [] → after
     ≡ map f (yielded ++ w ∷ [])
-moved_on f yielded w before after moved push = push ∙ (ap (λ xs. xs ++ f w ∷ []) moved
-    ∙ sym (map-append f yielded (w ∷ [])))
+moved_on f yielded w before after moved push = search (rules, map-append)

@@ -1,8 +1,8 @@
 -- What the workers did, their histories and the queues in the order of their systems are a frame.
-use Rattle.std.proofs.Common.{◌≡◌, ℕ, suc, ◌+◌, ◌<◌, List, [], ◌∷◌, length, map, get_or, refl, ap}
-use Rattle.std.proofs.Common.{sym, ◌∙◌, arith, subst, Option, Some, None, cond, inl, inr, Result}
-use Rattle.std.proofs.Common.{ne_eqb}
-use Rattle.std.specs.Prelude.{◌==◌, ◌≤◌, slice_get, replicate, IsSome, is_some, unwrap_or}
+use Rattle.std.proofs.Common.{rules, ◌≡◌, ℕ, suc, ◌+◌, ◌<◌, List, [], ◌∷◌, length, map, get_or}
+use Rattle.std.proofs.Common.{refl, ap, sym, ◌∙◌, arith, subst, Option, Some, None, cond, inl, inr}
+use Rattle.std.proofs.Common.{Result, ne_eqb}
+use Rattle.std.specs.Prelude.{◌≤◌, slice_get, replicate, IsSome, is_some, unwrap_or}
 use Rattle.std.specs.List.{All, AllPairs, sum_by, flat_map, range_with_len}
 use Rattle.std.specs.List.Sorted.{IsPermutation}
 use Rattle.std.proofs.lemmas.Bool.{cases_eq}
@@ -49,10 +49,7 @@ asked r = (r.requested, r.reply)
 by_caller : (k : ℕ) (records : List Record) → requests_by k (history_of records)
     ≡ map asked (reservations_by k (reservations_of records))
 by_caller k records =
-    ap (map (λ (call : Call). (call.requested, call.reply)))
-    (filter_map_is (λ (call : Call). call.caller == k) as_call (reservations_of records))
-    ∙ map_map_is (λ (call : Call). (call.requested, call.reply)) as_call
-    (reservations_by k (reservations_of records))
+    search (rules, filter_map_is, map_map_is)
 
 -- an element that is there so often is somewhere
 found : (n : ℕ) (issued : List SystemQueue) → 0 < times n issued → (k : ℕ) × (i : SystemQueue)

@@ -1,9 +1,10 @@
 -- The births of a frame: the system whose queue lists a handle, and its ordinal there, are its
 -- birth in this phase. So births follow from the queues, whatever handles the workers were given.
 -- It speaks of the definitions alone.
-use Rattle.std.proofs.Common.{◌≡◌, ◌≢◌, ℕ, zero, suc, ◌+◌, ◌^◌, ◌<◌, ◌≤◌, List, [], ◌∷◌, ◌++◌}
-use Rattle.std.proofs.Common.{length, refl, ap, sym, subst, ◌∙◌, arith, inl, inr, eq-eqb, ne_eqb}
-use Rattle.std.proofs.Common.{Bool, true, false, not, cond, Some, None, IsPermutation}
+use Rattle.std.proofs.Common.{rules, ◌≡◌, ◌≢◌, ℕ, zero, suc, ◌+◌, ◌^◌, ◌<◌, ◌≤◌, List, [], ◌∷◌}
+use Rattle.std.proofs.Common.{◌++◌, length, refl, ap, sym, subst, ◌∙◌, arith, inl, inr, eq-eqb}
+use Rattle.std.proofs.Common.{ne_eqb, Bool, true, false, not, cond, Some, None, IsPermutation}
+use Rattle.std.proofs.lemmas.Grind.{common_steps}
 use Rattle.std.specs.Prelude.{◌==◌, filter, unwrap_or}
 use Rattle.std.specs.List.{All, AllPairs, Contains, flat_map}
 use Rattle.std.specs.FinSet as set
@@ -104,9 +105,7 @@ few_of_all [] n = omega arith
 few_of_all (q ∷ qs) zero =
     let both = length-append (handles_listed q) (flat_map handles_listed qs) in omega arith
 few_of_all (q ∷ qs) (suc n) =
-    let both = length-append (handles_listed q) (flat_map handles_listed qs) in
-    let rest = few_of_all qs n in
-    omega arith
+    grind (arith, common_steps, few_of_all qs n)
 
 -- ---- the births
 
@@ -124,11 +123,7 @@ all_listed (q ∷ qs) = All-append (IsListed (q ∷ qs)) (handles_listed q) (fla
     (flat_map handles_listed qs) (all_listed qs))
 
 not_there : (hs : List Handle) (h : Handle) → ¬ (Contains hs h) → stands_in hs h ≡ false
-not_there hs h away = by_test (stands_in hs h) refl
-  where
-    by_test : (b : Bool) → stands_in hs h ≡ b → b ≡ false
-    by_test false _ = refl
-    by_test true there = absurd (away (Contains-from_stands_in hs h there))
+not_there hs h away = search (rules, Contains-from_stands_in)
 
 -- the birth by the queues, if no handle is listed twice
 listed_birth_is : (phase system : ℕ) (queues : List (List Command)) (n k : ℕ) (h : Handle)

@@ -1,20 +1,19 @@
 -- The handles that the queues of a frame list are those that its history gave. After this law
 -- neither the workers nor the history count. It speaks of the definitions alone.
-use Rattle.std.proofs.Common.{◌≡◌, ℕ, zero, suc, ◌+◌, ◌<◌, ◌≤◌, List, [], ◌∷◌, ◌++◌, length, map}
-use Rattle.std.proofs.Common.{refl, ap, sym, ◌∙◌, arith, subst, Some, Bool, true, false, cond}
-use Rattle.std.proofs.Common.{eq-eqb, ne_eqb, append-nil, append_assoc, inl, inr, Result}
-use Rattle.std.proofs.Common.{get_or, swap, set, ◌≢◌}
+use Rattle.std.proofs.Common.{rules, ◌≡◌, ℕ, zero, suc, ◌+◌, ◌<◌, ◌≤◌, List, [], ◌∷◌, ◌++◌, length}
+use Rattle.std.proofs.Common.{map, refl, ap, sym, ◌∙◌, arith, subst, Some, Bool, true, false, cond}
+use Rattle.std.proofs.Common.{eq-eqb, ne_eqb, append-nil, append_assoc, inl, inr, Result, get_or}
+use Rattle.std.proofs.Common.{swap, set, ◌≢◌}
+use Rattle.std.proofs.lemmas.Grind.{common_steps}
 use Rattle.std.specs.Prelude.{◌==◌, filter, slice_get}
 use Rattle.std.specs.List.{All, Contains, flat_map, range_with_len, position_from}
 use Rattle.std.specs.Ordering.{eq_by_cmp}
 use Rattle.std.specs.List.Sorted.{IsPermutation}
 use Rattle.std.proofs.lemmas.Bool.{cases_eq}
 use Rattle.std.proofs.lemmas.Option.{get_or_from_slice_get, slice_get_within}
-use Rattle.std.proofs.lemmas.List.Concat.{flat_map-append}
 use Rattle.std.proofs.lemmas.List.Edits.{swap_is}
-use Rattle.std.proofs.lemmas.List.Elements.{All-head, All-tail}
-use Rattle.std.proofs.lemmas.List.Elements.{All-contains}
-use Rattle.std.proofs.lemmas.List.Elements.{Contains-append_left, Contains-append_right}
+use Rattle.std.proofs.lemmas.List.Elements.{All-head, All-tail, All-contains, Contains-append_left}
+use Rattle.std.proofs.lemmas.List.Elements.{Contains-append_right}
 use Rattle.std.proofs.lemmas.List.Sorted.{IsPermutation-refl, IsPermutation-sym}
 use Rattle.std.proofs.lemmas.List.Sorted.{IsPermutation-trans, IsPermutation-keeps}
 use Rattle.std.proofs.lemmas.List.Sorted.{IsPermutation-append_left, IsPermutation-append_right}
@@ -24,8 +23,8 @@ use Rattle.ent_alloc.specs.declared.space.Space.{Space}
 use Rattle.ent_alloc.specs.Sequential.{born}
 use Rattle.ent_alloc.specs.Sound.{IsSound}
 use Rattle.ent_alloc.specs.History.{Call, handles_in, given_in, AreGivenOnce, after_history}
-use Rattle.ent_alloc.proofs.ListLaws.{AllPairs-head, AllPairs-tail}
-use Rattle.ent_alloc.proofs.ListLaws.{AllPairs-across, AllPairs-IsPermutation}
+use Rattle.ent_alloc.proofs.ListLaws.{AllPairs-head, AllPairs-tail, AllPairs-across}
+use Rattle.ent_alloc.proofs.ListLaws.{AllPairs-IsPermutation}
 use Rattle.ent_alloc.proofs.HandleSets.{itself, other_handle}
 use Rattle.ent_alloc.proofs.Flushes.{born-IsPermutation}
 use Rattle.ent_alloc.proofs.Histories.{given_in-distinct, given_in-taken}
@@ -92,8 +91,7 @@ module _ {X Y : Type 0} (f : X → List Y) where
 flat_flat : {X Y Z : Type 0} (g : Y → List Z) (f : X → List Y) (xs : List X) → flat_map g
     (flat_map f xs) ≡ flat_map (λ x. flat_map g (f x)) xs
 flat_flat g f [] = refl
-flat_flat g f (x ∷ xs) = flat_map-append g (f x) (flat_map f xs) ∙ ap (λ l. flat_map g (f x) ++ l)
-    (flat_flat g f xs)
+flat_flat g f (x ∷ xs) = grind (arith, common_steps, flat_flat g f xs)
 
 -- the elements of a list by their numbers
 flat_by_number : {X Y : Type 0} (f : ℕ → List Y) (g : X → List Y) (a : ℕ) (xs : List X)
@@ -212,8 +210,7 @@ listed_are (Refused wanted (why.Quota left)) = refl
 
 replies_are : (commands : List Command) → flat_map replied (flat_map stands_for commands)
     ≡ handles_listed commands
-replies_are commands = flat_flat replied stands_for commands
-    ∙ (λ i. flat_map (λ c. listed_are c i) commands)
+replies_are commands = search (rules, flat_flat, listed_are)
 
 given_replies : (calls : List Call) → given_in calls
     ≡ flat_map replied (map (λ (call : Call). (call.requested, call.reply)) calls)
@@ -253,11 +250,7 @@ pub position_is : (hs : List Handle) (index k : ℕ) (h : Handle) → AreGivenOn
     ≡ Some h → position_from (eq_by_cmp handle_cmp h) index hs ≡ Some (index + k)
 position_is [] index k h once at = absurd (cc)
 position_is (x ∷ hs) index zero h once at =
-    let same : x ≡ h = cc in
-    let found : eq_by_cmp handle_cmp h x ≡ true = ap (eq_by_cmp handle_cmp h) same ∙ itself h in
-    let first : index ≡ index + 0 = omega arith in
-    ap (λ b. cond b (Some index) (position_from (eq_by_cmp handle_cmp h) (index + 1) hs)) found
-    ∙ ap Some first
+    search (rules, itself)
 position_is (x ∷ hs) index (suc k) h once at =
     let apart : x ≢ h = each_of_all (Differ x) hs k h (AllPairs-head Differ x hs once) at in
     let on : eq_by_cmp handle_cmp h x ≡ false = other_handle h x (λ e. apart (sym e)) in

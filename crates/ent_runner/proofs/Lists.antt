@@ -1,8 +1,8 @@
 -- Lists of lists, and the numbers of a range.
-use Rattle.std.proofs.Common.{◌≡◌, ◌≢◌, ℕ, zero, suc, ◌+◌, ◌<◌, ◌≤◌, List, [], ◌∷◌, ◌++◌, length}
-use Rattle.std.proofs.Common.{map, refl, ap, ◌∙◌, arith, subst, Some, Bool, true, false, cond, inl}
-use Rattle.std.proofs.Common.{inr, ◌⊎◌, eq-eqb, ne_eqb, sym, reverse}
-use Rattle.std.proofs.lemmas.List.{map-append, append_assoc, reverse-append}
+use Rattle.std.proofs.Common.{rules, ◌≡◌, ◌≢◌, ℕ, zero, suc, ◌+◌, ◌<◌, ◌≤◌, List, [], ◌∷◌, ◌++◌}
+use Rattle.std.proofs.Common.{length, map, refl, ap, ◌∙◌, arith, subst, Some, Bool, cond, inl, inr}
+use Rattle.std.proofs.Common.{◌⊎◌, eq-eqb, ne_eqb, reverse}
+use Rattle.std.proofs.lemmas.Grind.{common_steps}
 use Rattle.std.specs.Prelude.{◌==◌, filter, slice_get}
 use Rattle.std.specs.List.{All, sum_by, flat_map, range_with_len}
 use Rattle.std.proofs.lemmas.Bool.{cases_eq}
@@ -52,23 +52,12 @@ same_flat f g (x ∷ xs) all = let here = All-head (λ x. f x ≡ g x) x xs all 
 pub map_flat : {X Y Z : Type 0} (g : Y → Z) (f : X → List Y) (xs : List X) → map g (flat_map f xs)
     ≡ flat_map (λ x. map g (f x)) xs
 map_flat g f [] = refl
-map_flat g f (x ∷ xs) = map_both g (f x) (flat_map f xs) ∙ ap (λ zs. map g (f x) ++ zs)
-    (map_flat g f xs)
-  where
-    map_both : {Y Z : Type 0} (g : Y → Z) (ys zs : List Y) → map g (ys ++ zs) ≡ map g ys ++ map g zs
-    map_both g [] zs = refl
-    map_both g (y ∷ ys) zs = ap (λ w. g y ∷ w) (map_both g ys zs)
+map_flat g f (x ∷ xs) = grind (arith, common_steps, map_flat g f xs)
 
 pub filter_map_is : {X Y : Type 0} (p : Y → Bool) (f : X → Y) (xs : List X) → filter p (map f xs)
     ≡ map f (filter (λ x. p (f x)) xs)
 filter_map_is p f [] = refl
-filter_map_is p f (x ∷ xs) = by (p (f x)) (filter_map_is p f xs)
-  where
-    by : (b : Bool) → filter p (map f xs) ≡ map f (filter (λ x. p (f x)) xs)
-        → cond b (f x ∷ filter p (map f xs)) (filter p (map f xs))
-        ≡ map f (cond b (x ∷ filter (λ x. p (f x)) xs) (filter (λ x. p (f x)) xs))
-    by true e = ap (λ ys. f x ∷ ys) e
-    by false e = e
+filter_map_is p f (x ∷ xs) = search (rules, filter_map_is p f xs)
 
 pub map_map_is : {X Y Z : Type 0} (g : Y → Z) (f : X → Y) (xs : List X) → map g (map f xs)
     ≡ map (λ x. g (f x)) xs
@@ -79,12 +68,7 @@ pub sum_map : {X Y : Type 0} (g : Y → ℕ) (f : X → Y) (xs : List X) → sum
     ≡ sum_by (λ x. g (f x)) xs
 sum_map g f [] = refl
 sum_map g f (x ∷ xs) =
-    let rest = sum_map g f xs in
-    let there : sum_by g (map f (x ∷ xs)) ≡ g (f x) + sum_by g (map f xs) = sum_by-cons g (f x)
-    (map f xs) in
-    let here : sum_by (λ x. g (f x)) (x ∷ xs) ≡ g (f x) + sum_by (λ x. g (f x)) xs =
-    sum_by-cons (λ x. g (f x)) x xs in
-    omega arith
+    grind (arith, common_steps, sum_map g f xs)
 
 -- the element of a mapped list is that of one element
 pub mapped_at : {X Y : Type 0} (f : X → Y) (xs : List X) (k : ℕ) (y : Y) → slice_get (map f xs) k
@@ -158,30 +142,20 @@ some_in_range n a (suc many) from below = elim (range_step n a many) [
 all_in_range : (a many : ℕ) → All (λ n. n < a + many) (range_with_len a many)
 all_in_range a zero = All-nil (λ n. n < a + zero)
 all_in_range a (suc many) =
-    let rest : All (λ n. n < (a + 1) + many) (range_with_len (a + 1) many) = all_in_range (a + 1)
-    many in
-    let same : (a + 1) + many ≡ a + suc many = omega arith in
-    All-cons (λ n. n < a + suc many) a (range_with_len (a + 1) many) (omega arith)
-    (subst (λ m. All (λ n. n < m) (range_with_len (a + 1) many)) same rest)
+    search (rules, All-cons, all_in_range (a + 1) many)
 
 pub all_below : (many : ℕ) → All (λ n. n < many) (range_with_len 0 many)
-all_below many = let same : 0 + many ≡ many = omega arith in
-    subst (λ m. All (λ n. n < m) (range_with_len 0 many)) same (all_in_range 0 many)
+all_below many = search (rules, all_in_range)
 
 -- one more was taken from the front of what is left, and mapped
 pub moved_over : {X Y : Type 0} (f : X → Y) (old new : List X) (x : X) (left next all : List Y)
     → new ≡ old ++ x ∷ [] → left ≡ f x ∷ next → map f old ++ left ≡ all → map f new ++ next ≡ all
 moved_over f old new x left next all pushed taken whole =
-    ap (λ xs. map f xs ++ next) pushed ∙ (ap (λ ys. ys ++ next) (map-append f old (x ∷ []))
-    ∙ (append_assoc (map f old) (f x ∷ []) next ∙ (ap (λ ys. map f old ++ ys) (sym taken) ∙ whole)))
+    grind (arith, common_steps)
 
 -- one more was taken from the end of what is left
 pub moved_back : {X Y : Type 0} (g : X → Y) (old new : List X) (x : X) (left next all : List Y)
     → new ≡ old ++ x ∷ [] → left ≡ next ++ g x ∷ [] → left ++ reverse (map g old) ≡ all
     → next ++ reverse (map g new) ≡ all
 moved_back g old new x left next all pushed taken whole =
-    ap (λ xs. next ++ reverse (map g xs)) pushed
-    ∙ (ap (λ ys. next ++ reverse ys) (map-append g old (x ∷ []))
-    ∙ (ap (λ ys. next ++ ys) (reverse-append (map g old) (g x ∷ []))
-    ∙ (sym (append_assoc next (g x ∷ []) (reverse (map g old)))
-    ∙ (ap (λ ys. ys ++ reverse (map g old)) (sym taken) ∙ whole))))
+    grind (arith, common_steps)

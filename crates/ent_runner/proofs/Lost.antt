@@ -1,13 +1,13 @@
 -- What a frame leaves if no queue was applied.
-use Rattle.std.proofs.Common.{◌≡◌, ℕ, ◌≤◌, Option, Vec, Global, List, length, drop, refl, ap, sym}
-use Rattle.std.proofs.Common.{◌∙◌, arith, subst}
+use Rattle.std.proofs.Common.{rules, ◌≡◌, ℕ, Option, Vec, Global, List, drop, refl, ap, ◌∙◌, subst}
 use Rattle.std.specs.Prelude.{IfSome}
 use Rattle.std.proofs.Math.ListN.{drop_of_length-le}
 use Rattle.ent_alloc.specs.Sequential.{Allocator, available}
 use Rattle.ent_alloc.specs.Sound.{IsSound}
 use Rattle.ent_alloc.specs.History.{Call, after_history, requests_of}
 use Rattle.ent_alloc.proofs.PoolLaw.{after_takes, after_takes-sound, available-after_takes}
-use Rattle.ent_alloc.proofs.PoolLaw.{limits-after_takes, live-after_takes, made-after_takes, length-taken}
+use Rattle.ent_alloc.proofs.PoolLaw.{limits-after_takes, live-after_takes, made-after_takes}
+use Rattle.ent_alloc.proofs.PoolLaw.{length-taken}
 use Rattle.ent_alloc.proofs.Histories.{after_history-takes}
 use Rattle.ent_queue.specs.Command.{Command}
 use Rattle.ent_world.specs.World.{World}
@@ -22,28 +22,17 @@ lost_after : (before : World) (s after : Allocator) → IsSound s → s.asked �
     → (requests : List ℕ) → after ≡ after_takes s requests → (w : World) → w
     ≡ record before { allocator = after } → IsLost before w
 lost_after before s after sound flushed is requests taken w changed =
-    let kept : IsSound after = subst IsSound (sym taken) (after_takes-sound s requests sound) in
-    let all : available after ≡ available s = ap available taken ∙ available-after_takes s requests
-    sound in
-    let pool : available after ≡ before.allocator.pool = all ∙ (sym (flushed_pool s sound flushed)
-    ∙ sym (ap (λ (a : Allocator). a.pool) is)) in
-    subst (IsLost before) (sym changed)
-    (record {
-      phase = refl;
-      entities = refl;
-      limits = ap (λ (a : Allocator). a.limits) taken
-          ∙ (limits-after_takes s requests ∙ sym (ap (λ (a : Allocator). a.limits) is));
-      live = ap (λ (a : Allocator). a.live) taken
-          ∙ (live-after_takes s requests ∙ sym (ap (λ (a : Allocator). a.live) is));
-      made = ap (λ (a : Allocator). a.made) taken
-          ∙ (made-after_takes s requests ∙ sym (ap (λ (a : Allocator). a.made) is));
-      available = pool;
-      enough = λ fits.
-          let within : after.asked ≤ length (available after) = rw pool fits in
-          (length-taken after kept within, kept.aside within);
-      short = λ less. kept.pool ∙ drop_of_length-le (available after) (let l = ap length pool in
-          omega arith);
-    })
+    search (
+      rules,
+      after_takes-sound,
+      available-after_takes,
+      flushed_pool,
+      limits-after_takes,
+      live-after_takes,
+      made-after_takes,
+      length-taken,
+      drop_of_length-le,
+    )
 
 pub is_lost : (before w : World) (history : List Call) → IsSound before.allocator
     → before.allocator.asked ≡ 0 → w ≡ reserved_by history before → IsLost before w

@@ -1,13 +1,13 @@
 -- A worker runs one system after the other.
-use Rattle.std.proofs.Common.{◌≡◌, ℕ, ◌<◌, List, [], ◌∷◌, ◌++◌, length, ap, sym, ◌∙◌, subst}
-use Rattle.std.proofs.Common.{append-nil, inl, inr, arith, get_or, Vec, Global, slice_get, Some, ◌-◌}
+use Rattle.std.proofs.Common.{rules, ◌≡◌, ℕ, ◌<◌, List, [], ◌∷◌, ◌++◌, length, ap, sym, ◌∙◌, subst}
+use Rattle.std.proofs.Common.{inl, inr, arith, get_or, Vec, Global, slice_get, Some, ◌-◌}
+use Rattle.std.proofs.lemmas.Grind.{common_steps}
 use Rattle.std.specs.Prelude.{Result, Ok, Err, OnOk, OnErr}
 use Rattle.std.proofs.lemmas.Option.{get_or_from_slice_get, slice_get-get_or}
 use Rattle.std.proofs.Math.Seq.{get_or-append_seam}
 use Rattle.std.specs.List.{All, AllPairs}
 use Rattle.std.proofs.lemmas.List.Quantifiers.{all_pairs_push}
 use Rattle.std.proofs.lemmas.List.{map-append, length-append}
-use Rattle.std.proofs.lemmas.Grind.{flat_map-append}
 use Rattle.std.proofs.lemmas.List.Elements.{All-nil, All-cons, All-append, All-weaker}
 use Rattle.ent_shared.specs.declared.record.Record.{Record}
 use Rattle.ent_queue.specs.Command.{Command}
@@ -22,16 +22,12 @@ use Rattle.ent_runner.specs.Worker.{HasRun, HasRunSome, WasRefused, commands_iss
 -- the queues are those so far and one more
 queues_more : (issued next : List SystemQueue) (i : SystemQueue) → next ≡ issued ++ i ∷ []
     → commands_issued next ≡ commands_issued issued ++ i.queue
-queues_more issued next i pushed = ap commands_issued pushed
-    ∙ (flat_map-append (λ (i : SystemQueue). i.queue) issued (i ∷ [])
-    ∙ ap (λ cs. commands_issued issued ++ cs) (append-nil i.queue))
+queues_more issued next i pushed = grind (arith, common_steps)
 
 systems_more : (issued next : List SystemQueue) (i : SystemQueue) (claims more : List ℕ) → next
     ≡ issued ++ i ∷ [] → systems_of issued ≡ claims → more ≡ claims ++ i.system ∷ []
     → systems_of next ≡ more
-systems_more issued next i claims more pushed same claimed = ap systems_of pushed
-    ∙ (map-append (λ (i : SystemQueue). i.system) issued (i ∷ [])
-    ∙ (ap (λ ns. ns ++ i.system ∷ []) same ∙ sym claimed))
+systems_more issued next i claims more pushed same claimed = search (rules, map-append)
 
 module _ {S : Type 0} (may : S → View → List Command → Type 0) (systems : List S) (view : View)
   where
@@ -96,16 +92,14 @@ issued_there : {S : Type 0} (may : S → View → List Command → Type 0) (syst
     (view : View) (n : ℕ) (d : S) (queue finished : List Command) → finished ≡ queue
     → may (get_or systems n d) view queue → SystemMayIssue may systems view n finished
 issued_there may systems view n d queue finished same ran system at =
-    subst (λ q. may system view q) (sym same)
-    (subst (λ s. may s view queue) (get_or_from_slice_get systems n system d at) ran)
+    search (rules, get_or_from_slice_get)
 
 -- if it ended, and if it stopped
 pub issued_ok : {S A E : Type 0} (may : S → View → List Command → Type 0) (systems : List S)
     (view : View) (n : ℕ) (d : S) (queue finished : List Command) (r : Result A E) → finished
     ≡ queue → OnOk r (may (get_or systems n d) view queue)
     → OnOk r (SystemMayIssue may systems view n finished)
-issued_ok may systems view n d queue finished (Ok a) same ran = issued_there may systems view n d
-    queue finished same ran
+issued_ok may systems view n d queue finished (Ok a) same ran = search (rules, issued_there)
 issued_ok may systems view n d queue finished (Err e) same ran = tt
 
 pub issued_err : {S A E : Type 0} (may : S → View → List Command → Type 0) (systems : List S)
@@ -113,8 +107,7 @@ pub issued_err : {S A E : Type 0} (may : S → View → List Command → Type 0)
     ≡ queue → OnErr r (may (get_or systems n d) view queue)
     → OnErr r (SystemMayIssue may systems view n finished)
 issued_err may systems view n d queue finished (Ok a) same ran = tt
-issued_err may systems view n d queue finished (Err e) same ran = issued_there may systems view n d
-    queue finished same ran
+issued_err may systems view n d queue finished (Err e) same ran = search (rules, issued_there)
 
 pub of_ok : {A E : Type 0} (X : Type 0) (r : Result A E) (a : A) → r ≡ Ok a → OnOk r X → X
 of_ok X r a is on = subst (λ r. OnOk r X) is on
@@ -149,10 +142,7 @@ pub inside_more : {S : Type 0} (systems : List S) (issued next : List SystemQueu
     → All (λ (i : SystemQueue). i.system < length systems) issued → i.system < length systems → next
     ≡ issued ++ i ∷ [] → All (λ (i : SystemQueue). i.system < length systems) next
 inside_more systems issued next i inside here pushed =
-    subst (All (λ (i : SystemQueue). i.system < length systems)) (sym pushed)
-    (All-append (λ (i : SystemQueue). i.system < length systems) issued (i ∷ []) inside
-    (All-cons (λ (i : SystemQueue). i.system < length systems) i [] here
-    (All-nil (λ (i : SystemQueue). i.system < length systems))))
+    grind (arith, common_steps)
 
 -- one number more was claimed
 pub claims_more : (old new : Claimed) (n : ℕ) → new ≡ record old { claims = old.claims ++ n ∷ [] }

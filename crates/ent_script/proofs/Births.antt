@@ -1,19 +1,17 @@
 -- The texts of births, cut at their dots.
-use Rattle.std.proofs.Common.{◌≡◌, ◌≢◌, ℕ, Bool, true, false, eqb, List, [], ◌∷◌}
-use Rattle.std.proofs.Common.{Option, Some, None, IfNone}
-use Rattle.std.proofs.Common.{◌++◌, Result, Ok, Err, All, refl, sym, ap, ◌∙◌, inl, inr, arith}
+use Rattle.std.proofs.Common.{rules, ◌≡◌, ◌≢◌, ℕ, Bool, true, false, eqb, List, [], ◌∷◌, Option}
+use Rattle.std.proofs.Common.{Some, None, IfNone, ◌++◌, Result, Err, All, refl, sym, ap, ◌∙◌, inl}
+use Rattle.std.proofs.Common.{inr, arith}
+use Rattle.std.proofs.lemmas.Grind.{common_steps}
 use Rattle.std.specs.List.{join_with_byte, slice_split}
-use Rattle.std.proofs.lemmas.Bool.{cases_Bool, ne_eqb}
-use Rattle.std.proofs.lemmas.Bool.{cond-false}
+use Rattle.std.proofs.lemmas.Bool.{cases_Bool, ne_eqb, cond-false}
 use Rattle.std.proofs.lemmas.List.{get_or_default}
 use Rattle.std.proofs.lemmas.List.Splits.{slice_split_none, slice_split_at}
 use Rattle.std.proofs.lemmas.List.Splits.{join_with_byte-slice_split}
 use Rattle.std.proofs.lemmas.Str.Parse.{not_in_digits}
-use Rattle.ent_handle.specs.declared.text.TextFault.{TextFault}
-use Rattle.ent_handle.specs.Text.{is_decimal, number_of}
+use Rattle.ent_handle.specs.Text.{is_decimal}
 use Rattle.ent_handle.proofs.Decimals.{digit_texts, plain_from_decimal}
-use Rattle.ent_script.specs.Reading.{◌>>=◌, birth_number, birth_of_numbers, birth_of_parts}
-use Rattle.ent_script.specs.Reading.{birth_of}
+use Rattle.ent_script.specs.Reading.{◌>>=◌, birth_number, birth_of_parts, birth_of}
 use Rattle.ent_script.specs.declared.cause.Cause.{Cause}
 use Rattle.ent_script.specs.declared.cause.Cause.TheVariants as cause
 
@@ -35,25 +33,18 @@ decimal_without_dot ds is k d lt e =
 -- what is no decimal has no number
 number_refused : (ds : List ℕ) → is_decimal ds ≡ false → birth_number ds ≡ Err cause.Birth
 number_refused ds lacks =
-    ap (λ (r : Result ℕ TextFault). elim r [ Ok n ↦ Ok n | Err e ↦ Err cause.Birth ])
-    (cond-false _ _ _ lacks)
+    search (rules, cond-false)
 
 -- whatever comes after a number, it is refused as the number is
 after_number : {A : Type 0} (ds : List ℕ) (f : ℕ → Result A Cause)
     → ((n : ℕ) → f n ≡ Err cause.Birth) → (birth_number ds >>= f) ≡ Err cause.Birth
-after_number {A} ds f all = by (number_of ds)
-  where
-    by : (r : Result ℕ TextFault)
-        → ((elim r [ Ok n ↦ Ok n | Err e ↦ Err cause.Birth ]) >>= f) ≡ Err cause.Birth
-    by (Ok n) = all n
-    by (Err e) = refl
+after_number {A} ds f all = search (rules)
 
 pub ordinal_refused : (before : ℕ) (frame system ordinal : List ℕ)
     → birth_number ordinal ≡ Err cause.Birth
     → birth_of_parts before (frame ∷ system ∷ ordinal ∷ []) ≡ Err cause.Birth
 ordinal_refused before frame system ordinal lacks =
-    after_number frame _ (λ f. after_number system _
-    (λ s. ap (λ (r : Result ℕ Cause). r >>= birth_of_numbers before f s) lacks))
+    grind (arith, common_steps)
 
 -- no dot: no birth
 pub birth_of_whole : (before : ℕ) (text : List ℕ) → IsWithoutDot text

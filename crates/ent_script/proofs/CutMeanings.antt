@@ -1,34 +1,30 @@
 -- One law, with a step for each test of the format, and so one file of more than 400 lines: a value
 -- that is cut means the same.
-use Rattle.std.proofs.Common.{◌≡◌, ℕ, ℤ, false, zero, suc, ◌+◌, List, [], ◌∷◌, map, take, refl, ap}
-use Rattle.std.proofs.Common.{ap₂, ◌∙◌, Option, Some, None, option_map, Result, Ok, Ordering, Less}
-use Rattle.std.proofs.Common.{Equal, Greater, Bool, ◌&&◌, is_some, nat_cmp, option_and_then, ok_or}
-use Rattle.std.proofs.Common.{codes, unwrap_or, bytes_eq, cond}
-use Rattle.std.specs.Cmp.Lexicographic.{slice_cmp}
-use Rattle.std.specs.List.{list_all, list_any, fold}
+use Rattle.std.proofs.Common.{arith, rules, ◌≡◌, ℕ, false, zero, suc, ◌+◌, List, [], ◌∷◌, map, take}
+use Rattle.std.proofs.Common.{refl, ap, ap₂, ◌∙◌, Option, Some, None, option_map, Result, Ok}
+use Rattle.std.proofs.Common.{Ordering, Less, Equal, Greater, Bool, ◌&&◌, is_some, option_and_then}
+use Rattle.std.proofs.Common.{ok_or, codes, unwrap_or}
+use Rattle.std.proofs.lemmas.Grind.{common_steps}
+use Rattle.std.specs.List.{list_all, fold}
 use Rattle.std.specs.Ordering.{match_ordering}
 use Rattle.serde_json.specs.Data.{Data, null, boolean, number, string, array, object, Members}
 use Rattle.serde_json.specs.Data.{no_members, member}
 use Rattle.serde_json.specs.Find.{get, get_member, as_str}
-use Rattle.ent_handle.specs.declared.component.ComponentId.{ComponentId}
 use Rattle.ent_script.specs.Cut.{cut, cut_members}
 use Rattle.ent_script.specs.Json.{members, pairs_of, keys_among, whole, whole_within}
-use Rattle.ent_script.specs.Names.{as_name, number_among, names_in, with_part}
+use Rattle.ent_script.specs.Names.{as_name, with_part}
 use Rattle.ent_script.specs.Reading.{◌>>=◌, has_keys, item_of, items_of, bundle_by, read_bundle}
 use Rattle.ent_script.specs.Reading.{with_of, count_of, binding_of, removed_of, only, target_of}
-use Rattle.ent_bundle.specs.Bundle.{bundle_of}
-use Rattle.ent_script.specs.Reading.{target_at}
-use Rattle.ent_script.specs.Reading.{is_spawn, is_spawn_many, is_insert, is_remove, is_despawn}
-use Rattle.ent_script.specs.Reading.{kind_of, of_kind, operation_of, operation_at, at_operation}
-use Rattle.ent_script.specs.Reading.{bound_name, births_before, format_of, heading_of, or_absent}
-use Rattle.ent_script.specs.Reading.{numbered, script_keys, test, new_name, component_at}
+use Rattle.ent_script.specs.Reading.{target_at, is_spawn, is_spawn_many, is_insert, is_remove}
+use Rattle.ent_script.specs.Reading.{is_despawn, kind_of, of_kind, operation_of, operation_at}
+use Rattle.ent_script.specs.Reading.{bound_name, format_of, heading_of, or_absent, numbered}
+use Rattle.ent_script.specs.Reading.{script_keys, test, component_at}
 use Rattle.ent_script.specs.declared.cause.ScriptCause.{ScriptCause}
 use Rattle.ent_script.specs.declared.cause.ScriptCause.TheVariants as script_cause
 use Rattle.ent_script.specs.declared.format.Format.{Format}
 use Rattle.ent_script.specs.declared.heading.Heading.{Heading}
 use Rattle.ent_script.specs.declared.kind.Kind.{Kind}
 use Rattle.ent_script.specs.declared.kind.Kind.TheVariants as kinds
-use Rattle.ent_script.specs.declared.cause.Cause.{Cause}
 use Rattle.ent_script.specs.declared.cause.Cause.TheVariants as cause
 
 found_cut : (l : ℕ) (o : Ordering) (a : Option Data) (d : Data) (b : Option Data) → b ≡ option_map
@@ -41,8 +37,7 @@ found_cut l Greater a d b e = e
 get_member-cut : (l : ℕ) (k : List ℕ) (ms : Members) → get_member k (cut_members l ms) ≡ option_map
     (cut l) (get_member k ms)
 get_member-cut l k no_members = refl
-get_member-cut l k (member key d ms) = found_cut l (slice_cmp nat_cmp k key) (get_member k ms) d
-    (get_member k (cut_members l ms)) (get_member-cut l k ms)
+get_member-cut l k (member key d ms) = search (rules, found_cut, get_member-cut l k ms)
 
 pub get-cut : (l : ℕ) (k : List ℕ) (d : Data) → get k (cut (suc l) d) ≡ option_map (cut l) (get k d)
 get-cut l k null = refl
@@ -57,8 +52,7 @@ cut_pair l m = (m.0, cut l m.1)
 
 pairs_of-cut : (l : ℕ) (ms : Members) → pairs_of (cut_members l ms) ≡ map (cut_pair l) (pairs_of ms)
 pairs_of-cut l no_members = refl
-pairs_of-cut l (member k d ms) = ap
-    (λ (ps : List (List ℕ × Data)). (k, cut l d) ∷ ps) (pairs_of-cut l ms)
+pairs_of-cut l (member k d ms) = search (rules, pairs_of-cut l ms)
 
 members-cut : (l : ℕ) (d : Data) → members (cut (suc l) d) ≡ option_map (map (cut_pair l))
     (members d)
@@ -99,8 +93,7 @@ whole-cut (suc l) (object ms) = refl
 among_cut : (l : ℕ) (allowed : List (List ℕ)) (ms : List (List ℕ × Data)) → keys_among allowed
     (map (cut_pair l) ms) ≡ keys_among allowed ms
 among_cut l allowed [] = refl
-among_cut l allowed (m ∷ ms) = ap
-    (λ (b : Bool). list_any (λ key. bytes_eq m.0 key) allowed && b) (among_cut l allowed ms)
+among_cut l allowed (m ∷ ms) = search (rules, among_cut l allowed ms)
 
 among_option : (l : ℕ) (allowed : List (List ℕ)) (o : Option (List (List ℕ × Data))) → option_map
     (keys_among allowed) (option_map (map (cut_pair l)) o) ≡ option_map (keys_among allowed) o
@@ -115,9 +108,7 @@ all_cut : (l : ℕ) (required : List (List ℕ)) (d : Data) → list_all
     (λ key. is_some (get key (cut (suc l) d))) required ≡ list_all (λ key. is_some (get key d))
     required
 all_cut l [] d = refl
-all_cut l (k ∷ ks) d = ap₂
-    (λ (a b : Bool). a && b) (ap (λ (o : Option Data). is_some o) (get-cut l k d) ∙ some_cut l
-    (get k d)) (all_cut l ks d)
+all_cut l (k ∷ ks) d = search (rules, get-cut, some_cut, all_cut l ks d)
 
 has_keys-cut : (l : ℕ) (required allowed : List (List ℕ)) (d : Data) → has_keys required allowed
     (cut (suc l) d) ≡ has_keys required allowed d
@@ -151,18 +142,13 @@ items_of-cut : (l : ℕ) (components : List (List ℕ)) (ms : List (List ℕ × 
     components (map (cut_pair l) ms) ≡ items_of components ms
 items_of-cut l components [] = refl
 items_of-cut l components (m ∷ ms) =
-    ap₂
-    (λ (i : Result (ComponentId × ℤ) Cause) (is : Result (List (ComponentId × ℤ)) Cause). i >>=
-    λ x. is >>= λ xs. Ok (x ∷ xs))
-    (item_of-cut l components m) (items_of-cut l components ms)
+    grind (arith, common_steps, items_of-cut l components ms)
 
 bundle_option : (l : ℕ) (components : List (List ℕ)) (o : Option (List (List ℕ × Data)))
     → (ok_or (option_map (map (cut_pair l)) o) cause.Bundle >>= bundle_by components) ≡
     (ok_or o cause.Bundle >>= bundle_by components)
 bundle_option l components None = refl
-bundle_option l components (Some ms) = ap
-    (λ (is : Result (List (ComponentId × ℤ)) Cause). is >>= λ items. Ok (bundle_of items))
-    (items_of-cut l components ms)
+bundle_option l components (Some ms) = search (rules, items_of-cut)
 
 bundle-cut : (l : ℕ) (components : List (List ℕ)) (o : Option Data) → read_bundle components
     (option_map (cut (suc l)) o) ≡ read_bundle components o
@@ -220,10 +206,7 @@ target_option : (l : ℕ) (components bound : List (List ℕ)) (before : Option 
     λ m. ok_or (as_str m.1) cause.Target >>= target_at components bound before m.0)
 target_option l components bound before None = refl
 target_option l components bound before (Some ms) =
-    ap
-    (λ (o : Option (List ℕ × Data)). ok_or o cause.Target >>= λ m. ok_or (as_str m.1)
-    cause.Target >>= target_at components bound before m.0) (only_cut l ms)
-    ∙ target_only l components bound before (only ms)
+    grind (arith, common_steps)
 
 target-cut : (l : ℕ) (components bound : List (List ℕ)) (before : Option ℕ) (o : Option Data)
     → target_of components bound before (option_map (cut (suc l)) o)
@@ -300,19 +283,14 @@ name_option l None = refl
 name_option l (Some d) = as_name-cut l d
 
 pub bound_name-cut : (d : Data) → bound_name (cut 2 d) ≡ bound_name d
-bound_name-cut d = ap
-    (λ (o : Option Data). option_and_then as_name o) (get-cut 1 (codes "as") d) ∙ name_option 1
-    (get (codes "as") d)
+bound_name-cut d = search (rules, get-cut, name_option)
 
 names_from : (names : List (List ℕ)) (ds : List Data) → fold
     (λ names d. with_part names (bound_name d)) names (map (cut 2) ds) ≡ fold
     (λ names d. with_part names (bound_name d)) names ds
 names_from names [] = refl
 names_from names (d ∷ ds) =
-    ap
-    (λ (n : Option (List ℕ)). fold (λ names d. with_part names (bound_name d))
-    (with_part names n) (map (cut 2) ds)) (bound_name-cut d)
-    ∙ names_from (with_part names (bound_name d)) ds
+    grind (arith, common_steps, bound_name-cut)
 
 take_cut : (n : ℕ) (ds : List Data) → take n (map (cut 2) ds) ≡ map (cut 2) (take n ds)
 take_cut zero ds = refl
@@ -324,21 +302,14 @@ operation_at-cut : (format : Format) (components : List (List ℕ)) (frame syste
     → operation_at format components frame system (map (cut 2) all) n (cut 2 d)
     ≡ operation_at format components frame system all n d
 operation_at-cut format components frame system all n d =
-    ap
-    (λ (names : List (List ℕ)). at_operation frame system n
-    (operation_of components names (births_before format frame) (cut 2 d)))
-    (ap (λ (ds : List Data). names_in bound_name ds) (take_cut n all) ∙ names_from [] (take n all))
-    ∙ ap (at_operation frame system n) (operation_of-cut components
-    (names_in bound_name (take n all)) (births_before format frame) d)
+    search (rules, take_cut, names_from, operation_of-cut)
 
 numbered-cut : {A E : Type 0} (f g : ℕ → Data → Result A E) (l n : ℕ) (ds : List Data) →
     ((m : ℕ) (d : Data) → f m (cut l d) ≡ g m d)
     → numbered f n (map (cut l) ds) ≡ numbered g n ds
 numbered-cut f g l n [] same = refl
 numbered-cut {A} {E} f g l n (d ∷ ds) same =
-    ap₂
-    (λ (x : Result A E) (xs : Result (List A) E). x >>= λ y. xs >>= λ ys. Ok (y ∷ ys))
-    (same n d) (numbered-cut f g l (n + 1) ds same)
+    search (rules, numbered-cut f g l (n + 1) ds same)
 
 -- the operations of a system
 pub operations-cut : (format : Format) (components : List (List ℕ)) (frame system : ℕ)
@@ -346,9 +317,7 @@ pub operations-cut : (format : Format) (components : List (List ℕ)) (frame sys
     → numbered (operation_at format components frame system (map (cut 2) ds)) 0 (map (cut 2) ds)
     ≡ numbered (operation_at format components frame system ds) 0 ds
 operations-cut format components frame system ds =
-    numbered-cut (operation_at format components frame system (map (cut 2) ds))
-    (operation_at format components frame system ds) 2 0 ds
-    (operation_at-cut format components frame system ds)
+    search (rules, numbered-cut, operation_at-cut)
 
 -- ---- the heading, and the names of the components
 
@@ -359,9 +328,7 @@ part_cut l absent low high (Some d) = rw (whole-cut l d) refl
 
 number_cut : (absent low high : ℕ) (k : List ℕ) (d : Data) → or_absent absent
     (whole_within low high) (get k (cut 1 d)) ≡ or_absent absent (whole_within low high) (get k d)
-number_cut absent low high k d = ap
-    (λ (o : Option Data). or_absent absent (whole_within low high) o) (get-cut 0 k d) ∙ part_cut 0
-    absent low high (get k d)
+number_cut absent low high k d = search (rules, get-cut, part_cut)
 
 abbrev said : Data → Result Heading ScriptCause
 said d =
@@ -379,11 +346,7 @@ said d =
 
 said-cut : (d : Data) → said (cut 1 d) ≡ said d
 said-cut d =
-    rw (
-      number_cut 1 1 2 (codes "format") d,
-      number_cut 4294967295 1 4294967295 (codes "slots") d,
-      number_cut 2147483647 1 2147483647 (codes "generations") d,
-    ) refl
+    search (rules, number_cut)
 
 first_tests : (o : Option (List (List ℕ × Data))) (rest : Result Heading ScriptCause)
     → (ok_or (option_map (map (cut_pair 0)) o) script_cause.Top >>=
@@ -392,8 +355,7 @@ first_tests : (o : Option (List (List ℕ × Data))) (rest : Result Heading Scri
     (ok_or o script_cause.Top >>=
     λ ms. test (keys_among script_keys ms) script_cause.Key >>= λ _. rest)
 first_tests None rest = refl
-first_tests (Some ms) rest = ap
-    (λ (b : Bool). test b script_cause.Key >>= λ _. rest) (among_cut 0 script_keys ms)
+first_tests (Some ms) rest = search (rules, among_cut)
 
 pub heading_of-cut : (d : Data) → heading_of (cut 1 d) ≡ heading_of d
 unfolding heading_of
@@ -412,10 +374,7 @@ component_names_from : (names : List (List ℕ)) (ds : List Data) → fold
     (λ names d. with_part names (as_name d)) names ds
 component_names_from names [] = refl
 component_names_from names (d ∷ ds) =
-    ap
-    (λ (n : Option (List ℕ)). fold (λ names d. with_part names (as_name d)) (with_part names n)
-    (map (cut 0) ds)) (as_name-cut 0 d)
-    ∙ component_names_from (with_part names (as_name d)) ds
+    grind (arith, common_steps)
 
 take_none : (n : ℕ) (ds : List Data) → take n (map (cut 0) ds) ≡ map (cut 0) (take n ds)
 take_none zero ds = refl
@@ -425,17 +384,8 @@ take_none (suc n) (d ∷ ds) = ap (λ (xs : List Data). cut 0 d ∷ xs) (take_no
 component_at-cut : (all : List Data) (n : ℕ) (d : Data) → component_at (map (cut 0) all) n (cut 0 d)
     ≡ component_at all n d
 component_at-cut all n d =
-    ap (λ (names : List (List ℕ)). ok_or (new_name names (cut 0 d)) script_cause.Components)
-    (ap
-    (λ (ds : List Data). names_in as_name ds) (take_none n all) ∙ component_names_from []
-    (take n all))
-    ∙ ap
-    (λ (o : Option (List ℕ)). ok_or (option_and_then
-    (λ name. cond (is_some (number_among name (names_in as_name (take n all)))) None
-    (Some name)) o) script_cause.Components)
-    (as_name-cut 0 d)
+    search (rules, take_none, component_names_from, as_name-cut)
 
 pub components-cut : (ds : List Data) → numbered (component_at (map (cut 0) ds)) 0 (map (cut 0) ds)
     ≡ numbered (component_at ds) 0 ds
-components-cut ds = numbered-cut (component_at (map (cut 0) ds)) (component_at ds) 0 0 ds
-    (component_at-cut ds)
+components-cut ds = search (rules, numbered-cut, component_at-cut)

@@ -1,9 +1,8 @@
 -- Values that are cut, beside the members of an object as they are put in.
+use Rattle.std.proofs.lemmas.Grind.{common_steps}
 use Rattle.std.proofs.Common.{◌≡◌, ℕ, List, [], ◌∷◌, Option, Some, None, String, Vec, BTreeMap}
 use Rattle.std.proofs.Common.{Global, Ordering, Less, Equal, Greater, string_bytes, string_cmp}
-use Rattle.std.proofs.Common.{nat_cmp, refl, sym, ap, ◌∙◌, rules, zero, suc, ◌<◌, ◌-◌, length}
-use Rattle.std.proofs.Common.{arith}
-use Rattle.std.specs.Cmp.Lexicographic.{slice_cmp}
+use Rattle.std.proofs.Common.{refl, sym, ap, ◌∙◌, rules, zero, suc, ◌<◌, ◌-◌, length, arith}
 use Rattle.std.specs.Ordering.{match_ordering}
 use Rattle.std.specs.BTreeMap.{insert_entry}
 use Rattle.json.specs.Token.{Token}
@@ -47,8 +46,7 @@ pub cut_members-put : (levels : ℕ) (k : List ℕ) (d : Data) (ms : Members) �
     (put k d ms) ≡ put k (cut levels d) (cut_members levels ms)
 cut_members-put levels k d no_members = refl
 cut_members-put levels k d (member l e ms) =
-    cut_members-match_ordering levels (slice_cmp nat_cmp k l) _ _ _ ∙
-    rw (cut_members-put levels k d ms)
+    grind (arith, common_steps, cut_members-put levels k d ms)
 
 -- an array that was read, and an object
 abbrev data_of : Data → Option (Data × List Token) → Data
@@ -62,24 +60,12 @@ rest_of r (Some p) = p.1
 pub array_read : (o : Option (Items × List Token)) (d : Data) (r : List Token) → parse_map array o ≡
     Some (d, r) → (ds : Items) × (d ≡ array ds) × (o ≡ Some (ds, r))
 array_read None d r e = absurd (cc)
-array_read (Some p) d r e = (
-  p.0,
-  ap
-      (λ (x : Option (Data × List Token)). data_of d x) (sym e),
-  ap
-      (λ (x : Option (Data × List Token)). Some (p.0, rest_of r x)) e,
-)
+array_read (Some p) d r e = (search (rules))
 
 pub object_read : (o : Option (Members × List Token)) (d : Data) (r : List Token) → parse_map object
     o ≡ Some (d, r) → (ms : Members) × (d ≡ object ms) × (o ≡ Some (ms, r))
 object_read None d r e = absurd (cc)
-object_read (Some p) d r e = (
-  p.0,
-  ap
-      (λ (x : Option (Data × List Token)). data_of d x) (sym e),
-  ap
-      (λ (x : Option (Data × List Token)). Some (p.0, rest_of r x)) e,
-)
+object_read (Some p) d r e = (search (rules))
 
 pub opened_array : (depth : ℕ) (ts r : List Token) (d : Data) → converted of_json
     (value depth (Token.begin_array ∷ ts)) ≡ Some (d, r)

@@ -1,7 +1,7 @@
 -- Of a text that is read as a value: what each step of a reader finds.
-use Rattle.std.proofs.Common.{◌≡◌, ℕ, zero, suc, ◌-◌, ◌<◌, List, [], ◌∷◌, length, false}
-use Rattle.std.proofs.Common.{Option, Some, None, option_map, option_and_then, unwrap_or}
-use Rattle.std.proofs.Common.{refl, sym, ap, ◌∙◌, arith}
+use Rattle.std.proofs.Common.{rules, ◌≡◌, ℕ, zero, suc, ◌-◌, ◌<◌, List, [], ◌∷◌, length, false}
+use Rattle.std.proofs.Common.{Option, Some, None, option_map, option_and_then, refl, sym, ap, ◌∙◌}
+use Rattle.std.proofs.Common.{arith}
 use Rattle.json.specs.Token.{Token}
 use Rattle.json.specs.Json as json
 use Rattle.json.specs.Json.{Parse, parse_map, after_end_array, read_key, items_step, members_step}
@@ -30,12 +30,7 @@ second_of r (Some p) = p.1
 pub mapped : {A B : Type 0} (f : A → B) (o : Option (A × List Token)) (b : B) (r : List Token) →
     parse_map f o ≡ Some (b, r) → (a : A) × (b ≡ f a) × (o ≡ Some (a, r))
 mapped f None b r e = impossible (b, r) e
-mapped {A} {B} f (Some p) b r e = (
-  p.0,
-  ap (first_of b) (sym e),
-  ap
-      (λ (x : Option (B × List Token)). Some (p.0, second_of r x)) e,
-)
+mapped {A} {B} f (Some p) b r e = (search (rules))
 
 module _ (p : Parse json.Json) where
   next_by : (o : Option (Data × List Token)) (n : ℕ) (ts rest : List Token) (ds : Items) → converted
@@ -144,8 +139,7 @@ no_array_by a o Token.bad ts r d other e = impossible (d, r) e
 pub no_array : (depth : ℕ) (t : Token) (ts r : List Token) (d : Data) → (t ≡ Token.begin_array → ⊥)
     → converted of_json (value depth (t ∷ ts)) ≡ Some (d, r) → as_array d ≡ None
 no_array depth t ts r d other e =
-    no_array_by (nested_items depth) (nested_members depth) t ts r d other
-    (sym (ap (converted of_json) (value_is depth (t ∷ ts))) ∙ e)
+    search (rules, no_array_by, value_is)
 
 -- after no token there is no value
 pub no_token : (depth : ℕ) (r : List Token) (d : Data) {P : Type 0} → converted of_json
@@ -155,8 +149,7 @@ no_token depth r d e = impossible (d, r) (sym (ap (converted of_json) (value_is 
 -- what was passed over
 pub passed : {A : Type 0} (o : Option (A × List Token)) (left r : List Token) (a : A) → option_map
     (λ p. p.1) o ≡ Some left → o ≡ Some (a, r) → left ≡ r
-passed o left r a e is = ap
-    (λ (x : Option (List Token)). unwrap_or x r) (sym e ∙ ap (option_map (λ p. p.1)) is)
+passed o left r a e is = search (rules)
 
 pub not_passed : {A : Type 0} {P : Type 0} (o : Option (A × List Token)) (r : List Token) (a : A) →
     option_map (λ p. p.1) o ≡ None → o ≡ Some (a, r) → P
@@ -188,8 +181,7 @@ no_object_by a o (Token.bad ∷ ts) r d k other e = impossible (d, r) e
 pub no_object : (depth : ℕ) (ts r : List Token) (d : Data) (k : List ℕ) → begins_object ts ≡ false
     → converted of_json (value depth ts) ≡ Some (d, r) → get k d ≡ None
 no_object depth ts r d k other e =
-    no_object_by (nested_items depth) (nested_members depth) ts r d k other
-    (sym (ap (converted of_json) (value_is depth ts)) ∙ e)
+    search (rules, no_object_by, value_is)
 
 -- ---- the whole text
 

@@ -1,7 +1,7 @@
 -- What the first pass over a text finds: whether it is JSON, and its heading.
-use Rattle.std.proofs.Common.{◌≡◌, ◌∙◌, ℕ, List, [], ◌∷◌, Option, Some, None, option_map, is_some}
-use Rattle.std.proofs.Common.{option_and_then, ok_or, Result, Ok, Err, Bool, true, false, cond, refl}
-use Rattle.std.proofs.Common.{sym, ap, subst, inl, inr, MatchOption}
+use Rattle.std.proofs.Common.{rules, ◌≡◌, ◌∙◌, ℕ, List, [], ◌∷◌, Option, Some, None, option_map}
+use Rattle.std.proofs.Common.{is_some, option_and_then, ok_or, Result, Ok, Err, Bool, true, false}
+use Rattle.std.proofs.Common.{cond, refl, sym, ap, subst, inl, inr, MatchOption}
 use Rattle.std.specs.Prelude.{◌⊎◌}
 use Rattle.std.specs.Str.{IsUtf8}
 use Rattle.std.proofs.lemmas.Str.{is_utf8-from_IsUtf8}
@@ -81,8 +81,7 @@ pub longer : {T : Type 0} (r : Option T) (f : T → Token) (text : List ℕ) (d 
     → converted of_json (value 127 (tokens text)) ≡ Some (d, left) → read text ≡ None
 longer None f text d left after some next e = absurd (cc some)
 longer (Some t) f text d left after some next e =
-    longer_by (value 127 (tokens text)) d (f t) after
-    (e ∙ ap (λ (ts : List Token). Some (d, ts)) next)
+    search (rules, longer_by)
 
 abbrev first : Data → Option (Data × List Token) → Data
 first d None = d

@@ -1,13 +1,14 @@
 -- Names and their numbers.
-use Rattle.std.proofs.Common.{◌≡◌, ℕ, ◌+◌, ◌<◌, Bool, true, false, List, [], ◌∷◌, ◌++◌, length, map}
-use Rattle.std.proofs.Common.{Option, Some, None, option_map, is_some, IfSome, cond, refl, sym, ap}
-use Rattle.std.proofs.Common.{◌∙◌, arith, bytes_eq, true≢false, suc, add-one, Bor, BTreeMap, subst}
+use Rattle.std.proofs.Common.{rules, ◌≡◌, ℕ, ◌+◌, ◌<◌, Bool, true, false, List, [], ◌∷◌, ◌++◌}
+use Rattle.std.proofs.Common.{length, map, Option, Some, None, option_map, is_some, IfSome, cond}
+use Rattle.std.proofs.Common.{refl, sym, ap, ◌∙◌, arith, bytes_eq, true≢false, suc, add-one, Bor}
+use Rattle.std.proofs.Common.{BTreeMap, subst, option_and_then}
+use Rattle.std.proofs.lemmas.Grind.{common_steps}
 use Rattle.std.specs.BTreeMap.{get_by, Updates}
 use Rattle.std.specs.Cmp.Lexicographic.{slice_cmp}
 use Rattle.std.specs.Ordering.{nat_cmp}
 use Rattle.std.proofs.lemmas.Map.Text.{btree_map_updates_str}
 use Rattle.std.proofs.lemmas.Slice.Eq.{bytes_eq-Decides}
-use Rattle.std.proofs.Common.{unwrap_or, option_and_then}
 use Rattle.serde_json.specs.Data.{Data}
 use Rattle.ent_script.specs.Names.{as_name, number_among, with_name}
 use Rattle.ent_script.specs.Reading.{new_name}
@@ -27,8 +28,7 @@ within_either false found n h = within_later found n h
 pub number_within : (name : List ℕ) (names : List (List ℕ)) → IfSome (number_among name names)
     (λ p. p < length names)
 number_within name [] = tt
-number_within name (first ∷ others) = within_either (bytes_eq first name)
-    (number_among name others) (length others) (number_within name others)
+number_within name (first ∷ others) = grind (arith, common_steps, number_within name others)
 
 -- the first of two
 abbrev pub first_of : Option ℕ → Option ℕ → Option ℕ
@@ -75,8 +75,7 @@ at_end_by false text name names e none = no_other (number_among text names)
 pub at_end : (text name : List ℕ) (names : List (List ℕ)) → number_among name names ≡ None
     → cond (bytes_eq name text) (Some (length names)) (number_among text names)
     ≡ number_among text (names ++ name ∷ [])
-at_end text name names none = at_end_by (bytes_eq name text) text name names refl none
-    ∙ sym (number_among-append text name names)
+at_end text name names none = search (rules, at_end_by, number_among-append)
 
 map_now : (names : List (Bor (List ℕ))) (name : Bor (List ℕ))
     → map (λ n. n.now) (names ++ name ∷ []) ≡ map (λ n. n.now) names ++ name.now ∷ []
@@ -112,11 +111,7 @@ new_by : (found : Option ℕ) (name t : List ℕ) (names : List (List ℕ)) → 
     ≡ found
     → cond (is_some found) None (Some name) ≡ Some t → (Some name ≡ Some t)
     × (number_among t names ≡ None)
-new_by None name t names e h = (
-  h,
-  subst (λ (s : List ℕ). number_among s names ≡ None)
-      (ap (λ (o : Option (List ℕ)). unwrap_or o []) h) e,
-)
+new_by None name t names e h = (search (rules))
 new_by (Some n) name t names e h = absurd (cc h)
 
 found_by : (o : Option (List ℕ)) (t : List ℕ) (names : List (List ℕ))

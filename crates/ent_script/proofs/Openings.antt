@@ -1,5 +1,5 @@
 -- What stands behind the bracket that a reader took, and behind a value that it passed over.
-use Rattle.std.proofs.Common.{◌≡◌, ◌-◌, ℕ, [], ◌∷◌, List, length, Some, None, Bool, true}
+use Rattle.std.proofs.Common.{rules, ◌≡◌, ◌-◌, ℕ, [], ◌∷◌, List, length, Some, None, Bool, true}
 use Rattle.std.proofs.Common.{false, sym, subst, ap, ◌∙◌}
 use Rattle.std.specs.Prelude.{Ok}
 use Rattle.json.specs.Lex.{tokens}
@@ -47,8 +47,4 @@ pub passed_nested : (depth : ℕ) (t u : Token) (all ts r : List Token) → all 
     → (d : Data) × (converted of_json (value depth all) ≡ Some (d, r))
     × (converted of_json (value depth (u ∷ ts)) ≡ Some (d, r))
 passed_nested depth t u all ts r first is over =
-    let d = left_some (converted of_json (value depth (t ∷ ts))) r over in (
-      d.0,
-      ap (λ x. converted of_json (value depth x)) first ∙ d.1,
-      ap (λ k. converted of_json (value depth (k ∷ ts))) (sym is) ∙ d.1,
-    )
+    search (rules, left_some)

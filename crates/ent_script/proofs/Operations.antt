@@ -1,7 +1,8 @@
 -- Reading the operations of a system one after another, with the names that they bind.
-use Rattle.std.proofs.Common.{◌≡◌, ℕ, zero, suc, ◌+◌, ◌-◌, List, [], ◌∷◌, ◌++◌, length, take, drop}
-use Rattle.std.proofs.Common.{Some, None, Option, Result, Ok, Bool, true, false, cond, ok_or}
+use Rattle.std.proofs.Common.{rules, ◌≡◌, ℕ, zero, suc, ◌+◌, ◌-◌, List, [], ◌∷◌, ◌++◌, length, take}
+use Rattle.std.proofs.Common.{drop, Some, None, Option, Result, Ok, Bool, true, false, cond, ok_or}
 use Rattle.std.proofs.Common.{refl, sym, ap, ◌∙◌, arith, add-one, inl, inr}
+use Rattle.std.proofs.lemmas.Grind.{common_steps}
 use Rattle.std.proofs.lemmas.List.Sums.{fold-append}
 use Rattle.std.specs.Prelude.{◌⊎◌, nat_le}
 use Rattle.json.specs.Token.{Token}
@@ -16,11 +17,10 @@ use Rattle.ent_script.specs.Json.{list_of}
 use Rattle.ent_script.specs.Names.{with_part, names_in}
 use Rattle.ent_script.specs.Reading.{◌>>=◌, numbered, at_operation, operation_of, bound_name}
 use Rattle.ent_script.specs.Streaming.{Streams}
-use Rattle.ent_script.specs.declared.operation.Operation.{Operation}
 use Rattle.ent_script.specs.declared.read_fault.ReadFault.{ReadFault}
 use Rattle.ent_script.specs.declared.read_fault.ReadFault.TheVariants.{Json, Memory}
 use Rattle.ent_script.proofs.CutMeanings.{operation_of-cut, bound_name-cut}
-use Rattle.ent_script.proofs.Finding.{next_item, first_of, second_of}
+use Rattle.ent_script.proofs.Finding.{next_item}
 use Rattle.ent_script.proofs.Listing.{listed}
 use Rattle.ent_script.proofs.Numbering.{onto, onto_none, onto_one}
 
@@ -33,17 +33,14 @@ pub cut_read : (p : Parse json.Json) (ts left rest : List Token) (d was : Data) 
     → converted of_json (p ts) ≡ Some (was, left) → view v ≡ cut 2 was
     → converted of_json (p ts) ≡ Some (d, rest) → (view v ≡ cut 2 d) × (left ≡ rest)
 cut_read p ts left rest d was v found seen e =
-    let both = sym found ∙ e in
-    (seen ∙ ap (cut 2) (ap (first_of was) both), ap (second_of left) both)
+    grind (arith, common_steps)
 
 pub operation_read : (components bound : List (List ℕ)) (before : Option ℕ)
     (frame system number : ℕ) (v : Value) (d : Data) → view v ≡ cut 2 d
     → at_operation frame system number (operation_of components bound before (view v))
     ≡ at_operation frame system number (operation_of components bound before d)
 operation_read components bound before frame system number v d seen =
-    ap (λ x. at_operation frame system number (operation_of components bound before x)) seen
-    ∙ ap (at_operation {A = Operation} frame system number)
-    (operation_of-cut components bound before d)
+    search (rules, operation_of-cut)
 
 pub bound_read : (v : Value) (d : Data) → view v ≡ cut 2 d → bound_name (view v) ≡ bound_name d
 bound_read v d seen = ap bound_name seen ∙ bound_name-cut d
@@ -68,9 +65,7 @@ names_here : (ds : List Data) (i : ℕ) (d : Data) (later : List Data) → drop 
     → names_in bound_name (take (i + 1) ds)
     ≡ with_part (names_in bound_name (take i ds)) (bound_name d)
 names_here ds i d later e =
-    ap (λ (n : ℕ). names_in bound_name (take n ds)) (add-one i)
-    ∙ ap (names_in bound_name) (here ds i d later e).1
-    ∙ fold-append (λ names x. with_part names (bound_name x)) [] (take i ds) (d ∷ [])
+    search (rules, add-one, here, fold-append)
 
 -- of an array that is read as ds, so many operations were taken, which bind these names
 abbrev pub Reached : {A : Type 0} → Parse json.Json → (ℕ → Data → Result A ReadFault) → List A → ℕ

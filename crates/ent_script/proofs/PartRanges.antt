@@ -1,11 +1,12 @@
 -- The parts of a script that is read are in its ranges: numbers, components, bundles, names,
 -- targets and operations.
-use Rattle.std.proofs.Common.{◌≡◌, ℕ, ℤ, pos, negsuc, ◌+◌, ◌<◌, ◌≤◌, zero, suc, Bool, true, false}
-use Rattle.std.proofs.Common.{◌&&◌, cond, List, [], ◌∷◌, ◌++◌, length, length-append, take, Option}
-use Rattle.std.proofs.Common.{Some, None, option_map, option_and_then, ok_or, Result, Ok, Err}
-use Rattle.std.proofs.Common.{IfSome, is_some, unwrap_or, bytes_eq, codes, refl, arith, leb-true}
-use Rattle.std.proofs.lemmas.Bool.{and_parts, ltb-true}
-use Rattle.std.specs.Prelude.{IfOk, nat_le, nat_lt, ◌==◌}
+use Rattle.std.proofs.Common.{rules, ◌≡◌, ℕ, ℤ, pos, negsuc, ◌+◌, ◌<◌, ◌≤◌, zero, suc, Bool, true}
+use Rattle.std.proofs.Common.{false, ◌&&◌, cond, List, [], ◌∷◌, ◌++◌, length, length-append, take}
+use Rattle.std.proofs.Common.{Option, Some, None, option_map, option_and_then, ok_or, Result, Ok}
+use Rattle.std.proofs.Common.{Err, IfSome, is_some, unwrap_or, bytes_eq, codes, refl, arith}
+use Rattle.std.proofs.Common.{leb-true}
+use Rattle.std.proofs.lemmas.Grind.{common_steps}
+use Rattle.std.specs.Prelude.{IfOk, nat_le, ◌==◌}
 use Rattle.std.specs.declared.cmp.Ordering.{Ordering}
 use Rattle.std.specs.declared.cmp.Ordering.TheVariants.{Less, Equal, Greater}
 use Rattle.std.specs.List.{AllByRecursion, fold, slice_split}
@@ -13,30 +14,24 @@ use Rattle.std.specs.FinMap.{put}
 use Rattle.std.specs.FinMap.Entries.{by_order}
 use Rattle.serde_json.specs.Data.{Data}
 use Rattle.serde_json.specs.Find.{get, as_str}
-use Rattle.ent_handle.specs.declared.birth.Birth.{Birth}
-use Rattle.ent_handle.specs.Handle.{Handle}
-use Rattle.ent_handle.specs.Text.{handle_of}
-use Rattle.ent_handle.specs.declared.text.TextFault.{TextFault}
 use Rattle.ent_handle.specs.declared.component.ComponentId.{ComponentId}
 use Rattle.ent_handle.specs.Component.{component_cmp}
 use Rattle.ent_bundle.specs.Bundle.{with_put}
-use Rattle.ent_script.specs.declared.cause.Cause.{Cause}
 use Rattle.ent_script.specs.declared.cause.Cause.TheVariants as cause
 use Rattle.ent_script.specs.declared.format.Format.{Format}
 use Rattle.ent_script.specs.declared.format.Format.TheVariants as format
 use Rattle.ent_script.specs.declared.kind.Kind.{Kind}
 use Rattle.ent_script.specs.declared.kind.Kind.TheVariants as kinds
-use Rattle.ent_script.specs.declared.target.Target.{Target}
 use Rattle.ent_script.specs.declared.target.Target.TheVariants as target
-use Rattle.ent_script.specs.Json.{elements, at_most, members, whole, in_range, whole_within}
+use Rattle.ent_script.specs.Json.{at_most, members, whole, in_range, whole_within}
 use Rattle.ent_script.specs.Names.{as_name, number_among, with_part, names_in}
 use Rattle.ent_script.specs.Ranges.{IsBundleOf, IsBindingAt, IsBirthBefore, IsTargetAt}
 use Rattle.ent_script.specs.Ranges.{IsOperationAt}
 use Rattle.ent_script.specs.Reading.{◌>>=◌, numbered, component_of, item_of, items_of, read_bundle}
 use Rattle.ent_script.specs.Reading.{with_of, count_of, binding_of, removed_of, only, target_handle}
 use Rattle.ent_script.specs.Reading.{target_at, target_of, kind_of, of_kind, operation_of}
-use Rattle.ent_script.specs.Reading.{bound_name, birth_number, birth_of_numbers, birth_of_parts}
-use Rattle.ent_script.specs.Reading.{birth_of, births_before, target_birth}
+use Rattle.ent_script.specs.Reading.{bound_name, birth_of_numbers, birth_of_parts, birth_of}
+use Rattle.ent_script.specs.Reading.{births_before, target_birth}
 use Rattle.ent_script.proofs.NamesLaws.{number_within}
 
 pub then_ok : {A B E : Type 0} (Q : A → Type 0) (P : B → Type 0) (r : Result A E)
@@ -75,11 +70,7 @@ pub numbered_each : {A E : Type 0} (P : A → Type 0) (f : ℕ → Data → Resu
     × AllByRecursion P xs)
 numbered_each P f n [] each = (omega arith, tt)
 numbered_each P f n (d ∷ ds) each =
-    then_ok P (λ xs. (length xs ≤ suc (length ds)) × AllByRecursion P xs) (f n d) _ (each n d)
-    (λ x holds. then_ok (λ xs. (length xs ≤ length ds) × AllByRecursion P xs)
-    (λ xs. (length xs ≤ suc (length ds)) × AllByRecursion P xs)
-    (numbered f (n + 1) ds) _ (numbered_each P f (n + 1) ds each)
-    (λ xs rest. (omega (arith, rest.0), (holds, rest.1))))
+    search (rules, then_ok, numbered_each P f (n + 1) ds each)
 
 pub loosened : {A E : Type 0} (P : A → Type 0) (r : Result (List A) E) (n most : ℕ) → n ≤ most
     → IfOk r (λ xs. (length xs ≤ n) × AllByRecursion P xs)
@@ -128,15 +119,13 @@ few_by true most ds h = h refl
 few_by false most ds h = tt
 
 pub few : (most : ℕ) (d : Data) → IfSome (at_most most d) (λ ds. length ds ≤ most)
-few most d = chained (AtMost most) _ (elements d) (λ ds. few_by (nat_le (length ds) most) most ds
-    (λ e. leb-true (length ds) most e))
+few most d = grind (arith, common_steps)
 
 -- ---- components and bundles
 
 component_in : (components : List (List ℕ)) (text : List ℕ) → IfSome (component_of components text)
     (λ c. c.0 < length components)
-component_in components text = mapped (ComponentIn (length components))
-    (λ (n : ℕ). record { 0 = n }) (number_among text components) (number_within text components)
+component_in components text = search (rules, mapped, number_within)
 
 item_in : (components : List (List ℕ)) (m : List ℕ × Data) → IfOk (item_of components m)
     (λ item. item.0.0 < length components)
@@ -152,10 +141,7 @@ items_in : (components : List (List ℕ)) (ms : List (List ℕ × Data)) → IfO
     (IsBundleOf (length components))
 items_in components [] = tt
 items_in components (m ∷ ms) =
-    then_ok (ItemIn (length components)) (IsBundleOf (length components)) (item_of components m) _
-    (item_in components m)
-    (λ item h. then_ok (IsBundleOf (length components)) (IsBundleOf (length components))
-    (items_of components ms) _ (items_in components ms) (λ items k. (h, k)))
+    grind (arith, common_steps, item_in components m, items_in components ms)
 
 ordered : {X : Type 0} (P : X → Type 0) (o : Ordering) (xs ys zs : List X) → AllByRecursion P xs
     → AllByRecursion P ys → AllByRecursion P zs
@@ -169,9 +155,7 @@ insert_in : (n : ℕ) (bundle : List (ComponentId × ℤ)) (id : ComponentId) (v
     → IsBundleOf n (put component_cmp id value bundle)
 insert_in n [] id value h all = (h, tt)
 insert_in n (e ∷ es) id value h all =
-    ordered (ItemIn n) (component_cmp id e.0) ((id, value) ∷ e ∷ es) ((e.0, value) ∷ es)
-    (e ∷ put component_cmp id value es)
-    (h, all) (all.0, all.1) (all.0, insert_in n es id value h all.1)
+    search (rules, ordered, insert_in n es id value h all.1)
 
 with_put_in : (n : ℕ) (bundle items : List (ComponentId × ℤ)) → IsBundleOf n bundle → IsBundleOf n items
     → IsBundleOf n (with_put bundle items)
@@ -264,24 +248,12 @@ few_names i ds = omega (arith, names_from bound_name i [] ds)
 
 handle_in : (components frame most : ℕ) (text : List ℕ)
     → IfOk (target_handle text) (IsTargetAt components frame most)
-handle_in components frame most text = handle_by (handle_of text)
-  where
-    handle_by : (r : Result Handle TextFault) → IfOk {T = Target} {E = Cause}
-        (elim r [ Ok h ↦ Ok (target.Handle h) | Err e ↦ Err cause.Handle ])
-        (IsTargetAt components frame most)
-    handle_by (Ok h) = tt
-    handle_by (Err e) = tt
+handle_in components frame most text = search (rules)
 
 -- the numbers of a birth were tested
 numbers_in : (before frame system ordinal : ℕ) → IfOk (birth_of_numbers before frame system ordinal)
     (IsBirthBefore before)
-numbers_in before frame system ordinal = tested (nat_lt frame before && nat_lt system 256) refl
-  where
-    tested : (b : Bool) → (nat_lt frame before && nat_lt system 256) ≡ b → IfOk {T = Birth}
-        {E = Cause} (cond b (Ok (record { frame = frame; system = system; ordinal = ordinal }))
-        (Err cause.Birth)) (IsBirthBefore before)
-    tested true e = let both = and_parts _ _ e in (ltb-true _ _ both.0, ltb-true _ _ both.1)
-    tested false e = tt
+numbers_in before frame system ordinal = grind (arith, common_steps)
 
 parts_in : (before : ℕ) (parts : List (List ℕ)) → IfOk (birth_of_parts before parts)
     (IsBirthBefore before)
@@ -289,12 +261,7 @@ parts_in before [] = tt
 parts_in before (frame ∷ []) = tt
 parts_in before (frame ∷ system ∷ []) = tt
 parts_in before (frame ∷ system ∷ ordinal ∷ []) =
-    then_ok (λ _. Unit {0}) (IsBirthBefore before) (birth_number frame) _
-    (always (birth_number frame))
-    (λ f _. then_ok (λ _. Unit {0}) (IsBirthBefore before) (birth_number system) _
-    (always (birth_number system))
-    (λ s _. then_ok (λ _. Unit {0}) (IsBirthBefore before) (birth_number ordinal) _
-    (always (birth_number ordinal)) (λ k _. numbers_in before f s k)))
+    search (rules, then_ok, always, numbers_in)
 parts_in before (frame ∷ system ∷ ordinal ∷ more ∷ others) = tt
 
 birth_in : (components most : ℕ) (format : Format) (frame : ℕ) (text : List ℕ)

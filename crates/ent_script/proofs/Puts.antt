@@ -1,6 +1,7 @@
 -- What an object has after a member is put into it.
-use Rattle.std.proofs.Common.{◌≡◌, ℕ, List, Option, Some, Ordering, Less, Equal, Greater, nat_cmp}
-use Rattle.std.proofs.Common.{is_eq, Bool, true, false, bytes_eq, true≢false, refl, sym, ap, ◌∙◌}
+use Rattle.std.proofs.Common.{rules, ◌≡◌, ℕ, List, Option, Some, Ordering, Less, Equal, Greater}
+use Rattle.std.proofs.Common.{nat_cmp, is_eq, Bool, true, false, bytes_eq, true≢false, refl, sym}
+use Rattle.std.proofs.Common.{ap, ◌∙◌}
 use Rattle.std.proofs.lemmas.Cmp.{nat_list_cmp_total, tied_itself}
 use Rattle.std.proofs.lemmas.Map.Text.{is_eq-slice_cmp}
 use Rattle.std.proofs.lemmas.Slice.Eq.{bytes_eq-Decides}
@@ -36,8 +37,7 @@ differ xs ys false e other = refl
 
 skips : (q k : List ℕ) (d : Data) (ms : Members) → (q ≡ k → ⊥) → get_member q (member k d ms) ≡
     get_member q ms
-skips q k d ms other = either (slice_cmp nat_cmp q k) _ _
-    (is_eq-slice_cmp q k ∙ differ q k _ refl other)
+skips q k d ms other = search (rules, either, is_eq-slice_cmp, differ)
 
 get_member-put_other_at : (o : Ordering) (q k l : List ℕ) (d e : Data) (ms : Members) → slice_cmp
     nat_cmp k l ≡ o → (q ≡ k → ⊥) → get_member q (put k d ms) ≡ get_member q ms
@@ -48,8 +48,7 @@ get_member-put_other_at Equal q k l d e ms is other later =
     let same : k ≡ l = (bytes_eq-Decides k l).0 (sym (is_eq-slice_cmp k l) ∙ ap is_eq is) in
     let apart = λ (h : q ≡ l). other (h ∙ sym same) in
     skips q l d ms apart ∙ sym (skips q l e ms apart)
-get_member-put_other_at Greater q k l d e ms is other later = ap
-    (λ r. match_ordering (slice_cmp nat_cmp q l) r (Some e) r) later
+get_member-put_other_at Greater q k l d e ms is other later = search (rules)
 
 -- the other names keep their values
 pub get_member-put_other : (q k : List ℕ) (d : Data) (ms : Members) → (q ≡ k → ⊥) → get_member q
@@ -61,11 +60,9 @@ get_member-put_other q k d (member l e ms) other = get_member-put_other_at _ q k
 pub found_here : (name k : List ℕ) (d : Data) (ms : Members) → bytes_eq k name ≡ true → get_member
     name (put k d ms) ≡ Some d
 found_here name k d ms e =
-    let same : k ≡ name = (bytes_eq-Decides k name).0 e in
-    ap (λ (n : List ℕ). get_member n (put k d ms)) (sym same) ∙ get_member-put k d ms
+    search (rules, bytes_eq-Decides, get_member-put)
 
 pub found_before : (name k : List ℕ) (d : Data) (ms : Members) → bytes_eq k name ≡ false →
     get_member name (put k d ms) ≡ get_member name ms
 found_before name k d ms e =
-    get_member-put_other name k d ms
-    (λ same. true≢false (sym ((bytes_eq-Decides k name).1 (sym same)) ∙ e))
+    search (rules, get_member-put_other, bytes_eq-Decides)

@@ -1,7 +1,7 @@
 -- A script that is read is in its ranges: its systems, its frames and the whole.
-use Rattle.std.proofs.Common.{ℕ, ◌+◌, ◌≤◌, suc, List, [], ◌∷◌, length, take, Option, Some, None}
-use Rattle.std.proofs.Common.{option_and_then, ok_or, Result, Ok, Err, IfSome, codes, subst, arith}
-use Rattle.std.proofs.Common.{lit≤}
+use Rattle.std.proofs.Common.{rules, ℕ, ◌+◌, ◌≤◌, List, [], ◌∷◌, length, take, Option, Some, None}
+use Rattle.std.proofs.Common.{option_and_then, ok_or, Result, Ok, Err, IfSome, codes, arith, lit≤}
+use Rattle.std.proofs.lemmas.Grind.{common_steps}
 use Rattle.std.specs.Prelude.{IfOk}
 use Rattle.serde_json.specs.Data.{Data}
 use Rattle.serde_json.specs.Find.{get}
@@ -39,10 +39,7 @@ numbered_from : {A E : Type 0} (P : ℕ → A → Type 0) (f : ℕ → Data → 
     → IfOk (numbered f n ds) (AreFrom P n (length ds))
 numbered_from P f n [] each = (omega arith, tt)
 numbered_from P f n (d ∷ ds) each =
-    then_ok (P n) (AreFrom P n (suc (length ds))) (f n d) _ (each n d)
-    (λ x holds. then_ok (AreFrom P (n + 1) (length ds)) (AreFrom P n (suc (length ds)))
-    (numbered f (n + 1) ds) _ (numbered_from P f (n + 1) ds each)
-    (λ xs rest. (omega (arith, rest.0), (holds, rest.1))))
+    search (rules, then_ok, numbered_from P f (n + 1) ds each)
 
 few_from : {A E : Type 0} (P : ℕ → A → Type 0) (r : Result (List A) E) (n most : ℕ) → n ≤ most
     → IfOk r (AreFrom P 0 n) → IfOk r (AreFrom P 0 most)
@@ -153,6 +150,5 @@ script_in d =
 -- so is what was returned, if it is what a value means
 pub returned_in : (r : Result Script ReadFault) (d : Data) → ReadsAs r (script_of d)
     → IfOk r IsScript
-returned_in (Ok s) d e = subst (λ (read : Result Script ReadFault). IfOk read IsScript) e
-    (script_in d)
+returned_in (Ok s) d e = grind (arith, common_steps, script_in d)
 returned_in (Err e) d h = tt

@@ -1,8 +1,8 @@
 -- The grammar's loops, a turn at a time, of what is left alone.
-use Rattle.std.proofs.Common.{◌≡◌, ℕ, ◌-◌, ◌<◌, List, Some, None, ap, ◌∙◌}
+use Rattle.std.proofs.Common.{rules, ◌≡◌, ℕ, ◌-◌, ◌<◌, List, Some, None, ap, ◌∙◌}
 use Rattle.json.specs.Token.{Token}
 use Rattle.json.specs.Json as json
-use Rattle.json.specs.Json.{Parse, parse_map, after_end_array, read_key, items, members}
+use Rattle.json.specs.Json.{Parse, after_end_array, read_key, items, members}
 use Rattle.json.proofs.Grammar.{left_some, left_none, left-parse_map}
 use Rattle.serde_json.specs.Data.{Data, Members, item, put}
 use Rattle.serde_json.specs.Read.{of_json, of_items, of_members, converted}
@@ -22,8 +22,7 @@ pub member_passed : (p : Parse json.Json) (n : ℕ) (k : List ℕ) (ts s r : Lis
     → (d : Data) × (left (converted (λ ms. of_members ms old) (members p n ts))
     ≡ left (converted (λ ms. of_members ms (put k d old)) (members p (n - 1) r)))
 member_passed p n k ts s r old some key e =
-    let d = left_some (converted of_json (p s)) r e in
-    (d.0, ap left (member_read p old n k ts s r d.0 some key d.1))
+    search (rules, left_some, member_read)
 
 pub item_stuck : (p : Parse json.Json) (n : ℕ) (ts : List Token) → after_end_array ts ≡ None
     → left (converted of_json (p ts)) ≡ None → left (converted of_items (items p n ts)) ≡ None

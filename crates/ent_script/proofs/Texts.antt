@@ -1,9 +1,7 @@
 -- Texts: which of them are JSON, and names as texts of their own.
-use Rattle.std.proofs.Common.{◌≡◌, ℕ, ◌+◌, ◌<◌, zero, suc, List, [], ◌∷◌, ◌++◌, length, map, take}
-use Rattle.std.proofs.Common.{get_or}
-use Rattle.std.proofs.Common.{Bool, true, false, cond, Some, None, Bor, String, Global}
-use Rattle.std.proofs.Common.{string_bytes}
-use Rattle.std.proofs.Common.{refl, sym, ap, ◌∙◌, arith, add-one}
+use Rattle.std.proofs.Common.{rules, ◌≡◌, ℕ, ◌+◌, ◌<◌, zero, suc, List, [], ◌∷◌, ◌++◌, length, map}
+use Rattle.std.proofs.Common.{take, get_or, Bool, true, false, cond, Some, None, Bor, String}
+use Rattle.std.proofs.Common.{Global, string_bytes, refl, ap, arith, add-one}
 use Rattle.std.specs.Str.{IsUtf8, is_utf8}
 use Rattle.std.proofs.lemmas.List.{map-append}
 use Rattle.std.proofs.lemmas.Str.{IsUtf8-from_is_utf8, is_utf8-from_IsUtf8}
@@ -13,8 +11,7 @@ use Rattle.ent_script.specs.Reading.{json_of}
 
 pub json_read : (text : List ℕ) (d : Data) → IsUtf8 text → read text ≡ Some d → json_of text
     ≡ Some d
-json_read text d utf8 is = ap (λ (b : Bool). cond b (read text) None)
-    (is_utf8-from_IsUtf8 text utf8) ∙ is
+json_read text d utf8 is = search (rules, is_utf8-from_IsUtf8)
 
 none_by : (text : List ℕ) (b : Bool) → is_utf8 text ≡ b → (IsUtf8 text → read text ≡ None)
     → cond b (read text) None ≡ None
@@ -30,8 +27,7 @@ taken : (names : List (Bor (List ℕ))) (i : ℕ) (text : List ℕ) → i < leng
     ≡ take (suc i) (map (λ name. name.now) names)
 taken [] i text h is = absurd (omega arith)
 taken (first ∷ names) zero text h is = ap (λ (t : List ℕ). t ∷ []) is
-taken (first ∷ names) (suc i) text h is = ap (λ (ts : List (List ℕ)). first.now ∷ ts)
-    (taken names i text (omega arith) is)
+taken (first ∷ names) (suc i) text h is = search (rules, taken names i text (omega arith) is)
 
 pub one_more : (names : List (Bor (List ℕ))) (i : ℕ) (texts : List (String Global))
     (text : String Global) → i < length names
@@ -39,7 +35,4 @@ pub one_more : (names : List (Bor (List ℕ))) (i : ℕ) (texts : List (String G
     → map string_bytes texts ≡ take i (map (λ name. name.now) names)
     → map string_bytes (texts ++ text ∷ []) ≡ take (i + 1) (map (λ name. name.now) names)
 one_more names i texts text h is before =
-    map-append string_bytes texts (text ∷ [])
-    ∙ ap (λ (ts : List (List ℕ)). ts ++ string_bytes text ∷ []) before
-    ∙ taken names i (string_bytes text) h is
-    ∙ ap (λ (n : ℕ). take n (map (λ (name : Bor (List ℕ)). name.now) names)) (sym (add-one i))
+    search (rules, map-append, taken, add-one)

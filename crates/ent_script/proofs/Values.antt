@@ -1,13 +1,12 @@
 -- The values in memory, and the lists that they are seen as.
-use Rattle.std.proofs.Common.{◌≡◌, ℕ, List, [], ◌∷◌, map, Option, Some, None, option_map}
+use Rattle.std.proofs.Common.{rules, ◌≡◌, ℕ, List, [], ◌∷◌, map, Option, Some, None, option_map}
 use Rattle.std.proofs.Common.{String, Vec, BTreeMap, Global, string_bytes, Bor, refl, sym, ap, ◌∙◌}
+use Rattle.std.proofs.Common.{bytes_eq, length, arith, slice_get}
 use Rattle.serde_json.specs.Data.{Data, Items, Members}
 use Rattle.serde_json.specs.View.{view, items_view, members_view}
 use Rattle.serde_json.specs.declared.value.Value.{Value}
-use Rattle.std.proofs.Common.{bytes_eq, length}
 use Rattle.std.proofs.lemmas.List.{length-map}
 use Rattle.std.specs.List.{list_all, list_any}
-use Rattle.std.proofs.Common.{arith, slice_get}
 use Rattle.std.specs.Map.{keys_of}
 use Rattle.ent_script.specs.Reading.{only}
 use Rattle.ent_script.specs.Json.{list_of, pairs_of, keys_among}
@@ -38,8 +37,7 @@ pub elements_seen : (r : Option (Bor (Vec Value Global))) (o : Option Items)
     → option_map (λ v. map view v.now.items) r ≡ option_map list_of o
 elements_seen None o e = ap (option_map list_of) e
 elements_seen (Some v) o e =
-    ap (λ (ds : List Data). Some ds) (sym (list_of-items_view v.now.items))
-    ∙ ap (option_map list_of) e
+    search (rules, list_of-items_view)
 
 pub length_of_views : (vs : List Value) → length (map view vs) ≡ length vs
 length_of_views vs = length-map vs view

@@ -1,6 +1,6 @@
 -- A script, of the parts that are read one after another.
-use Rattle.std.proofs.Common.{◌≡◌, ℕ, List, map, Option, Some, None, option_map, option_and_then}
-use Rattle.std.proofs.Common.{ok_or, codes, Result, refl, ap, ◌∙◌, unwrap_or}
+use Rattle.std.proofs.Common.{rules, ◌≡◌, ℕ, List, map, Option, Some, None, option_map}
+use Rattle.std.proofs.Common.{option_and_then, ok_or, codes, Result, refl, ap, ◌∙◌}
 use Rattle.std.specs.Prelude.{Ok, Err}
 use Rattle.serde_json.specs.Data.{Data}
 use Rattle.serde_json.specs.Find.{get}
@@ -34,11 +34,7 @@ names_by : (o : Option (List Data)) (vs : List Value) → Some (map view vs) ≡
     (ok_or o script_cause.Components >>= λ ds. numbered (component_at ds) 0 ds)
 names_by None vs e = absurd (cc e)
 names_by (Some ds) vs e =
-    let same : map view vs ≡ map (cut 0) ds = ap
-    (λ (x : Option (List Data)). unwrap_or x (map view vs)) e in
-    ap
-    (λ (xs : List Data). in_script (numbered (component_at xs) 0 xs)) same ∙ ap
-    (in_script {A = Names}) (components-cut ds)
+    search (rules, components-cut)
 
 pub no_names : (part : Option Data) → None ≡ option_map (map (cut 0))
     (option_and_then (at_most 256) part) → in_script (component_names part) ≡ Err

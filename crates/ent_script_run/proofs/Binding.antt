@@ -1,7 +1,6 @@
 -- The lists of names as a function of the number.
 use Rattle.std.proofs.Common.{◌≡◌, refl, sym, ap, ◌∙◌, ℕ, zero, suc, ◌<◌, List, [], ◌∷◌, ◌++◌}
-use Rattle.std.proofs.Common.{length}
-use Rattle.std.proofs.Common.{set, cond, arith}
+use Rattle.std.proofs.Common.{length, set, cond, arith}
 use Rattle.std.proofs.Math.Dec.{eqb-suc-zero, eqb-zero-suc, eqb-suc-suc}
 use Rattle.ent_handle.specs.Handle.{Handle}
 use Rattle.ent_script_run.specs.Issuing.{Bindings, bound}

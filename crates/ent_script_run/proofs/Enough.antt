@@ -1,9 +1,10 @@
 -- A script that requests no more handles in all than it has slots is never refused a request. Each
 -- frame begins with at least as many handles to give as are still requested: a call takes what it
 -- requests, and a sync point takes nothing away.
-use Rattle.std.proofs.Common.{◌≡◌, refl, sym, ap, ◌∙◌, subst, arith, ℕ, zero, suc, ◌+◌, ◌-◌, ◌<◌}
-use Rattle.std.proofs.Common.{◌≤◌, true, le-leb, List, [], ◌∷◌, length, length-drop, Option, None}
-use Rattle.std.proofs.Common.{Some, Result, Err}
+use Rattle.std.proofs.Common.{rules, ◌≡◌, refl, sym, ap, ◌∙◌, subst, arith, ℕ, zero, suc, ◌+◌, ◌-◌}
+use Rattle.std.proofs.Common.{◌<◌, ◌≤◌, true, le-leb, List, [], ◌∷◌, length, length-drop, Option}
+use Rattle.std.proofs.Common.{None, Some, Result}
+use Rattle.std.proofs.lemmas.Grind.{common_steps}
 use Rattle.std.specs.Prelude.{nat_le, ◌==◌, filter, slice_get, IsOk}
 use Rattle.std.specs.List.{All, sum_by, flat_map, range_with_len}
 use Rattle.std.proofs.lemmas.List.{length-append}
@@ -77,9 +78,7 @@ IsReplied request = IsOk request.1
 command-granted : (left : ℕ) (c : Command) → FitsCredit left c → wanted_by c ≤ left
     → All IsReplied (stands_for c) → IsGranted c
 command-granted left (Refused wanted (refusal.Space same rest)) fits within replied =
-    let request : Request = (wanted, Err (record { wanted = same; left = rest })) in
-    let never : IsReplied request = All-head IsReplied request [] replied in
-    absurd (cc)
+    search (rules, All-head)
 command-granted left (Refused wanted (refusal.Quota rest)) fits within replied =
     let more = fits.1 in absurd (omega arith)
 command-granted left _ fits within replied = tt
@@ -110,12 +109,7 @@ in_front-longer (Some h) handles = omega arith
 
 -- Who goes takes nothing away: its slot puts a handle back, or is retired and puts back none.
 left-kept : (n : ℕ) → IsKept (HasLeft n)
-left-kept n = record {
-  components = λ change h w there before. before;
-  despawn = λ h w there before.
-      let longer = in_front-longer (next w.allocator.limits h) w.allocator.pool in
-      omega arith;
-}
+left-kept n = grind (arith, common_steps)
 
 sync-left : (n : ℕ) (queues : List (List Command)) (w : World) → HasLeft n w
     → HasLeft n (sync queues w).world

@@ -1,9 +1,8 @@
 -- A frame of scripted systems does to births alone what it does to the world, on every number of
 -- workers, if no request was refused and the systems name no handles.
-use Rattle.std.proofs.Common.{◌≡◌, refl, sym, ap, ◌∙◌, subst, ℕ, suc, ◌+◌, ◌^◌, ◌<◌, ◌≤◌}
-use Rattle.std.proofs.Common.{true, List, [], ◌∷◌, map, length, All, slice_get, flat_map}
-use Rattle.std.proofs.Common.{Option, Some, None, is_some, option_map, unwrap_or, cond, arith}
-use Rattle.std.proofs.Common.{IsSomeAnd}
+use Rattle.std.proofs.Common.{rules, ◌≡◌, refl, sym, ap, ◌∙◌, subst, ℕ, suc, ◌+◌, ◌^◌, ◌<◌, ◌≤◌}
+use Rattle.std.proofs.Common.{true, List, [], ◌∷◌, map, length, All, slice_get, flat_map, Option}
+use Rattle.std.proofs.Common.{Some, None, is_some, option_map, unwrap_or, cond, arith, IsSomeAnd}
 use Rattle.std.specs.FinMap as finite
 use Rattle.std.specs.FinMap.{find}
 use Rattle.std.proofs.Math.Nat.{min-eq_left}
@@ -27,8 +26,7 @@ use Rattle.ent_bundle.specs.Bundle.{Bundle}
 use Rattle.ent_queue.specs.Command.{Command}
 use Rattle.ent_world.specs.BirthsAlone.{BirthMap}
 use Rattle.ent_world.specs.Effects.{applied}
-use Rattle.ent_world.specs.Named.{AreNamed, AreNames, AreNamedBy, AreBelow}
-use Rattle.ent_world.specs.Named.{AreListed, IsThere}
+use Rattle.ent_world.specs.Named.{AreNamed, AreNames, AreNamedBy, AreBelow, AreListed, IsThere}
 use Rattle.ent_world.specs.Sync.{sync, after_births, handles_listed}
 use Rattle.ent_world.specs.World.{World, IsWorld}
 use Rattle.ent_world.proofs.GivenOnce.{IsFlushed, flushed-kept}
@@ -37,15 +35,14 @@ use Rattle.ent_world.proofs.NamedFrames.{frame-named, queues_births, sync-below}
 use Rattle.ent_world.proofs.NamedLists.{listed-named}
 use Rattle.ent_world.proofs.Worlds.{after_births-world, after_history-world}
 use Rattle.ent_runner.specs.Frame.{IsFrame, queue_at, reserved_by, view_of}
-use Rattle.ent_runner.proofs.ListedBirths.{listed-few, listed-enters, listed-new}
-use Rattle.ent_runner.proofs.ListedBirths.{unlisted-stays}
+use Rattle.ent_runner.proofs.ListedBirths.{listed-few, listed-enters, listed-new, unlisted-stays}
 use Rattle.ent_runner.proofs.ListedOnce.{Lists, listed-IsPermutation, listed-born}
 use Rattle.ent_runner.proofs.Lists.{map_map_is}
 use Rattle.ent_script.specs.declared.operation.Operation.{Operation}
 use Rattle.ent_script.specs.declared.target.Target.TheVariants as target
 use Rattle.ent_script_run.specs.Issuing.{IsOfBirth, MayIssue}
-use Rattle.ent_script_run.specs.IssuedAlone.{births_meant, queues_alone, NamesNoHandle}
-use Rattle.ent_script_run.specs.IssuedAlone.{IsGranted, AreGranted}
+use Rattle.ent_script_run.specs.IssuedAlone.{births_meant, queues_alone, NamesNoHandle, IsGranted}
+use Rattle.ent_script_run.specs.IssuedAlone.{AreGranted}
 use Rattle.ent_script_run.specs.FrameAlone.{IsFrameAlone, queues_by_births}
 use Rattle.ent_script_run.proofs.QueuesAlone.{AreInOrder, queue-alone}
 
@@ -61,10 +58,7 @@ each_few most (q ∷ queues) few =
 
 -- the number of the phase stays
 phase-kept : (phase : ℕ) → IsKept (λ w. w.phase ≡ phase)
-phase-kept phase = record {
-  components = λ change h w there before. before;
-  despawn = λ h w there before. before;
-}
+phase-kept phase = search (rules)
 
 -- an entity that has a birth is there
 entity_at : (m : EntityMap) (h : Handle) (birth : Birth) → birth_of m h ≡ Some birth

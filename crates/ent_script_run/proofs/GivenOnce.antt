@@ -3,7 +3,7 @@ use Rattle.std.proofs.Common.{◌≢◌, sym, subst, ℕ, List, [], ◌∷◌, �
 use Rattle.std.proofs.Common.{AllPairs}
 use Rattle.ent_handle.specs.Handle.{Handle}
 use Rattle.ent_alloc.specs.Spent.{AreSpent}
-use Rattle.ent_alloc.specs.History.{given_in}
+use Rattle.ent_alloc.specs.History.{given_in, AreGivenOnce}
 use Rattle.ent_alloc.specs.Limits.{AreLimits}
 use Rattle.ent_alloc.specs.Sound.{IsSound}
 use Rattle.ent_world.specs.World.{World, first_world, AreLiving}
@@ -13,7 +13,6 @@ use Rattle.ent_script.specs.Script.{Script}
 use Rattle.ent_script.specs.declared.operation.Operation.{Operation}
 use Rattle.ent_script_run.specs.Report.{Execution, AreExecutions, synced, IsReportOf}
 use Rattle.ent_script_run.specs.Given.{handles_in_run}
-use Rattle.ent_alloc.specs.History.{AreGivenOnce}
 use Rattle.ent_script_run.specs.declared.show.Show.{Show}
 
 more_given : (workers : ℕ) (w : World) (frames : List (List (List Operation)))

@@ -1,8 +1,7 @@
 -- A report by births that tells of no refusal: no request of the run was refused. A request that
 -- was refused is a fault of its frame, faults are only appended, and each has its line in the text.
-use Rattle.std.proofs.Common.{◌≡◌, refl, sym, ap, ◌∙◌, subst, inl, inr, ℕ, ◌+◌, Bool, true}
-use Rattle.std.proofs.Common.{false, cond, List, [], ◌∷◌, ◌++◌, length, All, append_assoc}
-use Rattle.std.proofs.Common.{append-nil}
+use Rattle.std.proofs.Common.{◌≡◌, refl, sym, ap, ◌∙◌, subst, inl, inr, ℕ, ◌+◌, Bool, true, false}
+use Rattle.std.proofs.Common.{cond, List, [], ◌∷◌, ◌++◌, length, All, append_assoc, append-nil}
 use Rattle.std.specs.Prelude.{codes}
 use Rattle.std.specs.Fmt.{decimal}
 use Rattle.std.specs.List.{flat_map}
@@ -15,8 +14,8 @@ use Rattle.ent_world.specs.declared.fault.Fault.{Fault}
 use Rattle.ent_world.specs.declared.fault.FaultKind.{FaultKind}
 use Rattle.ent_world.specs.declared.fault.FaultKind.TheVariants as kind
 use Rattle.ent_world.specs.World.{World, first_world, lives_in}
-use Rattle.ent_world.specs.Effects.{Applied, applied, on_entity, on_each, with_fault}
-use Rattle.ent_world.specs.Effects.{after_command, after_commands, after_queues}
+use Rattle.ent_world.specs.Effects.{Applied, applied, on_entity, on_each, with_fault, after_command}
+use Rattle.ent_world.specs.Effects.{after_commands, after_queues}
 use Rattle.ent_world.specs.Sync.{after_births, sync}
 use Rattle.ent_runner.specs.Frame.{reserved_by}
 use Rattle.ent_script.specs.Script.{Script}

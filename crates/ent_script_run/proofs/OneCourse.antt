@@ -1,14 +1,11 @@
 -- A frame of scripted systems on one worker has one course: its queues and its history follow from
 -- the systems and the world.
-use Rattle.std.proofs.Common.{◌≡◌, refl, sym, ap, subst, ◌∙◌, arith, append-nil, eq-eqb, ℕ, ◌<◌}
-use Rattle.std.proofs.Common.{◌≤◌}
-use Rattle.std.proofs.Common.{ℤ, List, [], ◌∷◌, ◌++◌, length, map, get_or, Some, Ok, Err, Result}
-use Rattle.std.proofs.Common.{true}
+use Rattle.std.proofs.Common.{rules, ◌≡◌, refl, sym, ap, subst, ◌∙◌, arith, append-nil, eq-eqb, ℕ}
+use Rattle.std.proofs.Common.{◌<◌, ◌≤◌, ℤ, List, [], ◌∷◌, ◌++◌, length, map, get_or, Some, Ok, Err}
+use Rattle.std.proofs.Common.{Result, true}
+use Rattle.std.proofs.lemmas.Grind.{common_steps}
 use Rattle.std.specs.Prelude.{◌==◌, if◌then◌else◌, nat_lt, slice_get}
 use Rattle.std.specs.List.{All, AllPairs, flat_map, range_with_len}
-use Rattle.std.specs.Ordering.{ordering_reverse}
-use Rattle.std.specs.declared.cmp.Ordering.{Ordering}
-use Rattle.std.specs.declared.cmp.Ordering.TheVariants.{Less, Equal, Greater}
 use Rattle.std.specs.List.Sorted.{IsPermutation}
 use Rattle.std.proofs.lemmas.Bool.{cond-true, cond-false, lt-ltb, le-ltb}
 use Rattle.std.proofs.lemmas.List.{ext_get_or}
@@ -17,8 +14,7 @@ use Rattle.std.proofs.lemmas.List.FromFn.{length-range_with_len, get_or-range_wi
 use Rattle.std.proofs.lemmas.List.Sorted.{All-permutation, IsPermutation-sym}
 use Rattle.ent_handle.specs.declared.component.ComponentId.{ComponentId}
 use Rattle.ent_handle.specs.declared.birth.Birth.{Birth}
-use Rattle.ent_handle.specs.Handle.{Handle, handle_cmp, handle_cmp_total}
-use Rattle.ent_handle.specs.Handle.{handle_cmp-IsAntisymmetric}
+use Rattle.ent_handle.specs.Handle.{Handle}
 use Rattle.ent_alloc.specs.declared.space.Space.{Space as OutOfSpace}
 use Rattle.ent_alloc.specs.Limits.{credit}
 use Rattle.ent_alloc.specs.Sequential.{Allocator, reply_to}
@@ -30,19 +26,17 @@ use Rattle.ent_storage.proofs.OneList.{one_list_with}
 use Rattle.ent_queue.specs.Command.{Command, Spawn, SpawnMany, Refused}
 use Rattle.ent_world.specs.World.{World}
 use Rattle.ent_world.specs.OpenWorld.{View}
-use Rattle.ent_runner.specs.Frame.{IsFrame, view_of, queue_at, commands_of, requests_by}
-use Rattle.ent_runner.specs.Frame.{first_call}
+use Rattle.ent_runner.specs.Frame.{IsFrame, view_of, queue_at, commands_of, requests_by, first_call}
 use Rattle.ent_runner.proofs.Lists.{at_within, all_below}
 use Rattle.ent_script.specs.declared.operation.Operation.{Operation}
 use Rattle.ent_script.specs.declared.operation.Operation.TheVariants as operation
 use Rattle.ent_script.specs.declared.target.Target.{Target}
 use Rattle.ent_script.specs.declared.target.Target.TheVariants as target
 use Rattle.ent_script_run.specs.Issuing.{Bindings, unbound, names_after, IsOfBirth, IsTargeted}
-use Rattle.ent_script_run.specs.Issuing.{OnEach}
-use Rattle.ent_script_run.specs.Issuing.{IsSpawn, IsSpawnMany, Issues, IssuesAll, MayIssue}
+use Rattle.ent_script_run.specs.Issuing.{OnEach, IsSpawn, IsSpawnMany, Issues, IssuesAll, MayIssue}
 use Rattle.ent_script_run.proofs.RisingLists.{one_rising}
-use Rattle.ent_script_run.proofs.Served.{calls_of, IsServed, state_after, left_after}
-use Rattle.ent_script_run.proofs.Served.{served_first, served_rest}
+use Rattle.ent_script_run.proofs.Served.{calls_of, IsServed, state_after, left_after, served_first}
+use Rattle.ent_script_run.proofs.Served.{served_rest}
 
 -- ---- one operation
 
@@ -113,12 +107,7 @@ same_of_birth view birth [] (k ∷ []) a b = absurd (a k b.0)
 same_of_birth view birth [] (k ∷ l ∷ ks) a b = absurd b
 same_of_birth view birth (h ∷ []) [] a b = absurd (b h a.0)
 same_of_birth view birth (h ∷ []) (k ∷ []) a b =
-    ap (λ x. x ∷ []) (same_if (handle_cmp h k) refl)
-  where
-    same_if : (r : Ordering) → handle_cmp h k ≡ r → h ≡ k
-    same_if Less e = absurd (b.1 h a.0 (handle_cmp_total.antisymm k h ∙ ap ordering_reverse e))
-    same_if Equal e = handle_cmp-IsAntisymmetric h k e
-    same_if Greater e = absurd (a.1 k b.0 e)
+    grind (arith, common_steps)
 same_of_birth view birth (h ∷ []) (k ∷ l ∷ ks) a b = absurd b
 same_of_birth view birth (h ∷ g ∷ hs) ks a b = absurd a
 
@@ -133,8 +122,7 @@ same_targets view names (target.Birth birth) hs ks a b = same_of_birth view birt
 same_on_each : (view : View) (names : Bindings) (on : Target) (command : Handle → Command)
     (cs ds : List Command) → OnEach view names on command cs → OnEach view names on command ds → cs
     ≡ ds
-same_on_each view names on command cs ds a b = a.2
-    ∙ ap (map command) (same_targets view names on a.0 b.0 a.1 b.1) ∙ sym b.2
+same_on_each view names on command cs ds a b = search (rules, same_targets)
 
 same_operation : (view : View) (names : Bindings) (op : Operation) (s : Allocator) (left : ℕ)
     (cs ds : List Command) → Issues view names op cs → Issues view names op ds → IsServed s left cs
@@ -237,8 +225,7 @@ same_queues : (view : View) (systems : List (List Operation)) (q r : List (List 
     (ns : List ℕ) (s : Allocator) (left : ℕ) → All (λ n. n < length systems) ns
     → MayIssueEach view systems q → MayIssueEach view systems r → IsServed s left (commands_of q ns)
     → IsServed s left (commands_of r ns) → All (λ n. queue_at q n ≡ queue_at r n) ns
-same_queues view systems q r [] s left below may may' served served' = All-nil (λ n. queue_at q n
-    ≡ queue_at r n)
+same_queues view systems q r [] s left below may may' served served' = search (rules, All-nil)
 same_queues view systems q r (n ∷ ns) s left below may may' served served' =
     let system = at_within systems n (All-head (λ n. n < length systems) n ns below) in
     let here : IsServed s left (queue_at q n) = served_first s left (queue_at q n)

@@ -1,18 +1,15 @@
 -- Texts following one another.
-use Rattle.std.proofs.Common.{◌≡◌, ℕ, ◌+◌, ◌<◌, ◌≤◌, List, ◌∷◌, ◌++◌, length, get_or, drop, sym, ap, ◌∙◌}
-use Rattle.std.proofs.Common.{arith, length-append}
+use Rattle.std.proofs.lemmas.Grind.{common_steps}
+use Rattle.std.proofs.Common.{◌≡◌, ℕ, ◌+◌, ◌<◌, ◌≤◌, List, ◌∷◌, ◌++◌, length, get_or, drop, sym, ap}
+use Rattle.std.proofs.Common.{◌∙◌, arith, length-append}
 use Rattle.std.specs.List.{flat_map}
-use Rattle.std.proofs.lemmas.List.{at_drop_more}
 
 -- the texts from a part on begin with its own
 pub length-parts : {X : Type 0} (g : X → List ℕ) (xs : List X) (i : ℕ) (x : X) → i < length xs → x
     ≡ get_or xs i x
     → length (flat_map g (drop i xs)) ≡ length (g x) + length (flat_map g (drop (i + 1) xs))
 length-parts g xs i x lt is =
-    let next : flat_map g (drop i xs) ≡ g (get_or xs i x) ++ flat_map g (drop (i + 1) xs) =
-    at_drop_more (flat_map g) xs i x lt in
-    ap length next ∙ length-append (g (get_or xs i x)) (flat_map g (drop (i + 1) xs))
-    ∙ ap (λ y. length (g y) + length (flat_map g (drop (i + 1) xs))) (sym is)
+    grind (arith, common_steps)
 
 -- what is written and the next part are no longer than all
 pub part_fits : {X : Type 0} (g : X → List ℕ) (old now : List ℕ) (xs : List X) (i : ℕ) (x : X) → i

@@ -1,8 +1,8 @@
 -- What a system issues by births is its queue with births in the place of handles, if no request of
 -- it was refused and it names no handle.
-use Rattle.std.proofs.Common.{◌≡◌, refl, sym, ap, ◌∙◌, subst, ℕ, ◌+◌, Bool, true, false, cond}
-use Rattle.std.proofs.Common.{arith}
-use Rattle.std.proofs.Common.{ℤ, List, [], ◌∷◌, ◌++◌, map, length, All, Option, Some, None}
+use Rattle.std.proofs.Common.{rules, ◌≡◌, refl, sym, ap, ◌∙◌, subst, ℕ, ◌+◌, Bool, true, false}
+use Rattle.std.proofs.Common.{cond, arith, ℤ, List, [], ◌∷◌, ◌++◌, map, length, All, Option, Some}
+use Rattle.std.proofs.Common.{None}
 use Rattle.std.specs.Prelude.{◌==◌}
 use Rattle.std.specs.List.{AllZip, range_with_len}
 use Rattle.std.proofs.lemmas.List.Elements.{All-nil, All-cons, All-head, All-tail}
@@ -24,9 +24,8 @@ use Rattle.ent_script.specs.declared.target.Target.{Target}
 use Rattle.ent_script.specs.declared.target.Target.TheVariants as target
 use Rattle.ent_script_run.specs.Issuing.{Bindings, names_after, IsTargeted, IsSpawn, IsSpawnMany}
 use Rattle.ent_script_run.specs.Issuing.{IsOfBirth, IssuesAll}
-use Rattle.ent_script_run.specs.IssuedAlone.{BirthBindings, births_from, with_binding}
-use Rattle.ent_script_run.specs.IssuedAlone.{births_meant, issued_alone, IsNoHandle}
-use Rattle.ent_script_run.specs.IssuedAlone.{NeedsNoHandle, IsGranted}
+use Rattle.ent_script_run.specs.IssuedAlone.{BirthBindings, births_from, with_binding, births_meant}
+use Rattle.ent_script_run.specs.IssuedAlone.{issued_alone, IsNoHandle, NeedsNoHandle, IsGranted}
 
 -- ---- what is issued, if nothing is refused
 
@@ -52,8 +51,7 @@ none_listed : (command : Handle → Command) → ((h : Handle) → listed_by (co
     → handles_listed (map command hs ++ rest) ≡ handles_listed rest
 none_listed command none [] rest = refl
 none_listed command none (h ∷ hs) rest =
-    ap (λ l. l ++ handles_listed (map command hs ++ rest)) (none h)
-    ∙ none_listed command none hs rest
+    search (rules, none_listed command none hs rest)
 
 module _ (name : Handle → Birth) (m : EntityMap) where
   -- ---- commands and the same ones by births

@@ -1,5 +1,6 @@
 -- What the calls of a frame request is no more than what the operations of its systems request. So
 -- it counts neither the workers nor the order of the calls.
+use Rattle.std.proofs.lemmas.Grind.{common_steps}
 use Rattle.std.proofs.Common.{◌≡◌, ℕ, zero, suc, ◌+◌, ◌<◌, ◌≤◌, List, [], ◌∷◌, length, map, refl}
 use Rattle.std.proofs.Common.{sym, ap, ◌∙◌, subst, arith, Some, Bool, true, false, cond, inl, inr}
 use Rattle.std.proofs.Common.{eq-eqb, ℤ, Result}
@@ -33,34 +34,22 @@ sum_flat : {X Y : Type 0} (g : Y → ℕ) (f : X → List Y) (xs : List X)
     → sum_by g (flat_map f xs) ≡ sum_by (λ x. sum_by g (f x)) xs
 sum_flat g f [] = refl
 sum_flat g f (x ∷ xs) =
-    let rest = sum_flat g f xs in
-    let both = sum_by-append g (f x) (flat_map f xs) in
-    let here = sum_by-cons (λ x. sum_by g (f x)) x xs in
-    omega arith
+    grind (arith, common_steps, sum_flat g f xs)
 
 sum_of_two : {X : Type 0} (f g : X → ℕ) (xs : List X)
     → sum_by (λ x. f x + g x) xs ≡ sum_by f xs + sum_by g xs
 sum_of_two f g [] = omega arith
 sum_of_two f g (x ∷ xs) =
-    let rest = sum_of_two f g xs in
-    let sums = sum_by-cons (λ x. f x + g x) x xs in
-    let first = sum_by-cons f x xs in
-    let second = sum_by-cons g x xs in
-    omega arith
+    grind (arith, common_steps, sum_of_two f g xs)
 
 -- one element adds no more than all together
 one_of_sum : {X : Type 0} (f : X → ℕ) (xs : List X) (k : ℕ) (x : X) → slice_get xs k ≡ Some x
     → f x ≤ sum_by f xs
 one_of_sum f [] k x at = absurd (cc)
 one_of_sum f (y ∷ xs) zero x at =
-    let same : y ≡ x = cc in
-    let value = ap f same in
-    let sums = sum_by-cons f y xs in
-    omega arith
+    grind (arith, common_steps)
 one_of_sum f (y ∷ xs) (suc k) x at =
-    let rest = one_of_sum f xs k x at in
-    let sums = sum_by-cons f y xs in
-    omega arith
+    grind (arith, common_steps, one_of_sum f xs k x)
 
 -- the elements of a list by their numbers
 sum_by_number : {X : Type 0} (f : ℕ → ℕ) (g : X → ℕ) (a : ℕ) (xs : List X)

@@ -1,6 +1,6 @@
 -- A run whose first frames are done goes on by one frame, and ends in a report.
-use Rattle.std.proofs.Common.{◌≡◌, refl, ap, sym, subst, ◌∙◌, ℕ, ◌+◌, ◌<◌, List, [], ◌∷◌, ◌++◌}
-use Rattle.std.proofs.Common.{length, get_or, take, arith, append_assoc, append-nil}
+use Rattle.std.proofs.Common.{rules, ◌≡◌, refl, ap, sym, subst, ◌∙◌, ℕ, ◌+◌, ◌<◌, List, [], ◌∷◌}
+use Rattle.std.proofs.Common.{◌++◌, length, get_or, take, arith, append_assoc, append-nil}
 use Rattle.std.proofs.lemmas.List.{length-take-le, take_more}
 use Rattle.ent_handle.specs.Handle.{Handle}
 use Rattle.ent_queue.specs.Command.{Command}
@@ -43,8 +43,7 @@ text_on : (workers : ℕ) (show : Show) (number : ℕ) (w : World)
     ++ frame_text show (number + length frames) (born_in (last_world w executions) e)
     (synced (last_world w executions) e).faults
 text_on workers show number w [] [] e went =
-    append-nil (frame_text show number (born_in w e) (synced w e).faults)
-    ∙ ap (λ (n : ℕ). frame_text show n (born_in w e) (synced w e).faults) (omega arith)
+    search (rules, append-nil)
 text_on workers show number w [] (x ∷ executions) e went = absurd went
 text_on workers show number w (s ∷ frames) [] e went = absurd went
 text_on workers show number w (s ∷ frames) (x ∷ executions) e went =
@@ -116,13 +115,4 @@ pub has_ended : (workers : ℕ) (show : Show) (script : Script) (now : World) (t
     → HaveGone script.frames workers show (first_world script.limits) now text
     → IsWorldText script.components show now.entities added
     → IsReport script workers show (text ++ added)
-has_ended workers show script now text added run world = (
-  run.executions,
-  record {
-    frames = run.went;
-    world_text = added;
-    world = subst (λ (w : World). IsWorldText script.components show w.entities added) run.world_is
-        world;
-    is = ap (λ (t : List ℕ). t ++ added) run.text_is;
-  },
-)
+has_ended workers show script now text added run world = (search (rules))

@@ -1,6 +1,6 @@
 -- A report by births is the text of births alone, if no request of the run was refused and the
 -- script names no handle: each frame is told by births alone, and so is the next one.
-use Rattle.std.proofs.Common.{◌≡◌, refl, ap, sym, ◌∙◌, ℕ, ◌+◌, ◌^◌, ◌<◌, List, [], ◌∷◌, length}
+use Rattle.std.proofs.Common.{rules, ◌≡◌, ap, sym, ◌∙◌, ℕ, ◌+◌, ◌^◌, ◌<◌, List, [], ◌∷◌, length}
 use Rattle.std.proofs.Common.{All, Some, arith}
 use Rattle.std.specs.FinMap as finite
 use Rattle.std.specs.Option.{option_map}
@@ -11,7 +11,7 @@ use Rattle.ent_handle.specs.Handle.{Handle, handle_cmp}
 use Rattle.ent_storage.specs.EntityMap.{Entity}
 use Rattle.ent_world.specs.BirthsAlone.{BirthMap, frame_alone}
 use Rattle.ent_world.specs.Named.{AreNamed, AreBelow}
-use Rattle.ent_world.specs.World.{World, IsWorld, first_world}
+use Rattle.ent_world.specs.World.{World, IsWorld}
 use Rattle.ent_world.proofs.GivenOnce.{first_world-sound, first_world-living}
 use Rattle.ent_script.specs.Ranges.{IsScript}
 use Rattle.ent_script.specs.Script.{Script}
@@ -66,40 +66,31 @@ no_birth h birth is =
     ∙ is)
 
 nobody_named : AreNamed finite.empty []
-nobody_named = record {
-  rising = tt;
-  there = λ h e is. absurd (nobody h e is);
-  apart = λ g h birth is also. absurd (no_birth g birth is);
-  only = λ birth items is. absurd (none-some items is);
-}
+nobody_named = search (rules, nobody, no_birth, none-some)
 
 pub same_if_granted : (script : Script) (workers : ℕ) (executions : List Execution)
     (text : List ℕ) → IsScript script → IsReportOf script workers Births executions text
     → IsWithoutHandles script → All (λ e. AreGranted e.queues) executions
     → text ≡ text_alone script
 same_if_granted script workers executions text ranges report free granted =
-    let first = first_world script.limits in
-    let is_world : IsWorld first = record {
-      sound = first_world-sound script.limits ranges.limits;
-      living = first_world-living script.limits;
-    } in
-    let count = ranges.count in
-    report.is
-    ∙ text_alike script.components first [] script.frames executions report.world_text nobody_named
-    (told_alone workers first [] script.frames executions report.frames is_world refl nobody_named
-    (λ h e is. absurd (nobody h e is)) (omega (arith, count)) free granted)
-    report.world
+    search (
+      rules,
+      first_world-sound,
+      first_world-living,
+      text_alike,
+      nobody_named,
+      told_alone,
+      nobody,
+    )
 
 pub same_text : (script : Script) (workers : ℕ) (text : List ℕ) → IsScript script
     → IsReport script workers Births text → IsWithoutHandles script → TellsNoRefusal text
     → text ≡ text_alone script
 same_text script workers text ranges (executions, report) free none =
-    same_if_granted script workers executions text ranges report free
-    (granted_if_untold script workers executions text report none)
+    search (rules, same_if_granted, granted_if_untold)
 
 pub enough_text : (script : Script) (workers : ℕ) (text : List ℕ) → IsScript script
     → IsReport script workers Births text → IsWithoutHandles script → HasEnoughSlots script
     → text ≡ text_alone script
 enough_text script workers text ranges (executions, report) free enough =
-    same_if_granted script workers executions text ranges report free
-    (granted_if_enough script workers executions ranges.limits report.frames enough)
+    search (rules, same_if_granted, granted_if_enough)

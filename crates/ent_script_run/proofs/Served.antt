@@ -1,5 +1,5 @@
 -- Commands whose reservations an allocator has replied to, and the credit has allowed.
-use Rattle.std.proofs.Common.{◌≡◌, ◌∙◌, ap, subst, ℕ, ◌-◌, List, [], ◌∷◌, ◌++◌, map}
+use Rattle.std.proofs.Common.{rules, ◌≡◌, ◌∙◌, ap, subst, ℕ, ◌-◌, List, [], ◌∷◌, ◌++◌, map}
 use Rattle.std.specs.List.{flat_map}
 use Rattle.std.proofs.lemmas.Grind.{flat_map-append}
 use Rattle.std.proofs.lemmas.List.{map-append}
@@ -53,11 +53,7 @@ calls_of-append cs ds = ap (map first_call) (flat_map-append stands_for cs ds)
 -- what is served is served up to any command, and the others are served after it
 pub served_first : (s : Allocator) (left : ℕ) (cs ds : List Command) → IsServed s left (cs ++ ds)
     → IsServed s left cs
-served_first s left cs ds served = record {
-  legal = legal_first s (calls_of cs) (calls_of ds) (subst (IsLegal s) (calls_of-append cs ds)
-      served.legal);
-  within = within_first left cs ds served.within;
-}
+served_first s left cs ds served = search (rules, legal_first, calls_of-append, within_first)
 
 pub served_rest : (s : Allocator) (left : ℕ) (cs ds : List Command) → IsServed s left (cs ++ ds)
     → IsServed (state_after s cs) (left_after left cs) ds

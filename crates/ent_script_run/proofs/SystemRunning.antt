@@ -1,7 +1,7 @@
 -- A system whose first operations have run.
-use Rattle.std.proofs.Common.{◌≡◌, refl, ap, sym, subst, ◌∙◌, ℕ, ◌+◌, ◌<◌, List, [], ◌∷◌, ◌++◌}
-use Rattle.std.proofs.Common.{length, get_or, drop, inl, inr}
-use Rattle.std.proofs.Common.{append_assoc, append-nil}
+use Rattle.std.proofs.Common.{arith, rules, ◌≡◌, refl, ap, sym, subst, ◌∙◌, ℕ, ◌+◌, ◌<◌, List, []}
+use Rattle.std.proofs.Common.{◌∷◌, ◌++◌, length, get_or, drop, inr, append_assoc, append-nil}
+use Rattle.std.proofs.lemmas.Grind.{common_steps}
 use Rattle.std.proofs.lemmas.List.{drop_more}
 use Rattle.ent_handle.specs.Handle.{Handle}
 use Rattle.ent_queue.specs.Command.{Command}
@@ -26,13 +26,7 @@ pub record HasRun (view : View) (ops : List Operation) (i : ℕ) (names : Bindin
 pub has_begun : (view : View) (ops : List Operation) (start : List Command)
     (lists : List (List Handle)) → lists ≡ [] → HasRun view ops 0 (names_of lists) start start
 has_begun view ops start lists none =
-    let names : names_of lists ≡ unbound = ap names_of none in
-    record {
-      added = [];
-      queue = sym (append-nil start);
-      rest = λ cs may. subst (λ (n : Bindings). IssuesAll view n ops cs) names may;
-      stop = λ cs may. subst (λ (n : Bindings). StopsAmong view n ops cs) names may;
-    }
+    search (rules, append-nil)
 
 pub has_gone_on : (view : View) (ops : List Operation) (i : ℕ) (op : Operation)
     (start : List Command) (before after : Issued) (lists lists_after : List (List Handle)) → i
@@ -69,18 +63,10 @@ pub has_stopped : (view : View) (ops : List Operation) (i : ℕ) (op : Operation
     → op ≡ get_or ops i op → HasRun view ops i (names_of lists) start (queue_of before)
     → start ≡ [] → HasStopped view op before after lists → MayStop ops view (queue_of after)
 has_stopped view ops i op start before after lists within is run empty stopped =
-    let from : drop i ops ≡ op ∷ drop (i + 1) ops = drop_more ops i op within
-    ∙ ap (λ (o : Operation). o ∷ drop (i + 1) ops) (sym is) in
-    subst (λ (q : List Command). StopsAmong view unbound ops q)
-    (sym (stopped.queue ∙ ap (λ (q : List Command). q ++ stopped.issued)
-    (run.queue ∙ ap (λ (q : List Command). q ++ run.added) empty)))
-    (run.stop stopped.issued (subst (λ (os : List Operation). StopsAmong view (names_of lists) os
-    stopped.issued) (sym from) (inl stopped.may)))
+    search (rules, drop_more)
 
 pub has_ended : (view : View) (ops : List Operation) (i : ℕ) (names : Bindings)
     (start now : List Command) → drop i ops ≡ [] → HasRun view ops i names start now → start ≡ []
     → MayIssue ops view now
 has_ended view ops i names start now none run empty =
-    subst (λ (q : List Command). IssuesAll view unbound ops q)
-    (append-nil run.added ∙ sym (run.queue ∙ ap (λ (q : List Command). q ++ run.added) empty))
-    (run.rest [] (subst (λ (os : List Operation). IssuesAll view names os []) (sym none) refl))
+    grind (arith, common_steps, append-nil run.added, run.added, run.queue, run.rest)

@@ -1,6 +1,6 @@
 -- Commands for the handles of a target.
-use Rattle.std.proofs.Common.{◌≡◌, refl, sym, subst, inr, List, [], ◌∷◌, ◌++◌, map, Result, Ok, Err}
-use Rattle.std.proofs.Common.{OnOk, Option, Some, IfSome}
+use Rattle.std.proofs.Common.{rules, ◌≡◌, refl, List, [], ◌∷◌, ◌++◌, map, Result, Ok, Err, OnOk}
+use Rattle.std.proofs.Common.{Option, Some, IfSome}
 use Rattle.std.specs.Prelude.{OnErr}
 use Rattle.ent_handle.specs.declared.birth.Birth.{Birth}
 use Rattle.ent_handle.specs.Handle.{Handle}
@@ -20,8 +20,7 @@ pub found_targeted : (view : View) (names : Bindings) (on : Target) (birth : Bir
     (o : Option Handle) (h : Handle) → on ≡ target.Birth birth → o ≡ Some h
     → IfSome o (λ k. IsOfBirth view birth (k ∷ [])) → IsTargeted view names on (h ∷ [])
 found_targeted view names on birth o h is some found =
-    subst (λ t. IsTargeted view names t (h ∷ [])) (sym is)
-    (subst (λ x. IfSome x (λ k. IsOfBirth view birth (k ∷ []))) some found)
+    search (rules)
 
 pub issued_on : (view : View) (names : Bindings) (on : Target) (command : Handle → Command)
     (before after : Issued) (hs : List Handle) (result : Result (Unit {0}) Memory)
@@ -36,17 +35,7 @@ pub stopped_on : (view : View) (names : Bindings) (on : Target) (command : Handl
     → IsTargeted view names on hs → OnErr result (HasStoppedAmong hs command before after)
     → OnErr result (HasStoppedOn view names on command before after)
 stopped_on view names on command before after hs (Ok u) targeted stopped = tt
-stopped_on view names on command before after hs (Err e) targeted stopped = record {
-  issued = map command stopped.done;
-  queue = stopped.queue;
-  may = inr (record {
-    done = stopped.done;
-    missing = stopped.missing;
-    others = stopped.others;
-    target = subst (λ (all : List Handle). IsTargeted view names on all) (sym stopped.all) targeted;
-    commands = refl;
-  });
-}
+stopped_on view names on command before after hs (Err e) targeted stopped = search (rules)
 
 -- what holds anyway holds of an error
 pub on_error : (result : Result (Unit {0}) Memory) (P : Type 0) → P → OnErr result P

@@ -1,14 +1,13 @@
 -- Where births alone tell each frame of a run, its text by births is that of births alone.
-use Rattle.std.proofs.Common.{◌≡◌, refl, sym, ap, ◌∙◌, subst, ℕ, ◌+◌, Bool, true, false, T}
-use Rattle.std.proofs.Common.{◌&&◌, List, [], ◌∷◌, ◌++◌, length, map, get_or, All}
+use Rattle.std.proofs.Common.{arith, rules, ◌≡◌, refl, sym, ap, ◌∙◌, subst, ℕ, ◌+◌, Bool, true}
+use Rattle.std.proofs.Common.{false, T, ◌&&◌, List, [], ◌∷◌, ◌++◌, length, map, get_or, All}
 use Rattle.std.proofs.Common.{Contains, Option, Some, None, is_some, option_map, unwrap_or}
 use Rattle.std.proofs.Common.{IsSomeAnd, IsTrue, append_assoc, append-nil}
-use Rattle.std.specs.Prelude.{codes}
+use Rattle.std.proofs.lemmas.Grind.{common_steps}
 use Rattle.std.specs.Cmp.{IsTotalOrder, then_total, on_total}
 use Rattle.std.specs.Cmp.Lexicographic.{options_total}
 use Rattle.std.specs.declared.cmp.Ordering.{Ordering}
 use Rattle.std.specs.declared.cmp.Ordering.TheVariants.{Less, Equal, Greater}
-use Rattle.std.specs.Fmt.{decimal}
 use Rattle.std.specs.FinMap as finite
 use Rattle.std.specs.FinMap.{is_sorted}
 use Rattle.std.specs.FinMap.Entries.{below_all}
@@ -17,8 +16,7 @@ use Rattle.std.specs.Option.{option_map_or}
 use Rattle.std.specs.Ordering.{eq_by_cmp, is_eq, is_lt}
 use Rattle.std.proofs.lemmas.Cmp.{tied_itself, eq_by_cmp_equiv}
 use Rattle.std.proofs.lemmas.List.{length-map}
-use Rattle.std.proofs.lemmas.List.Elements.{All-head, All-tail, All-weaker}
-use Rattle.std.proofs.lemmas.List.Elements.{All-contains_itself}
+use Rattle.std.proofs.lemmas.List.Elements.{All-head, All-tail, All-weaker, All-contains_itself}
 use Rattle.std.proofs.lemmas.Map.Keys.{IsDistinct-from_apart}
 use Rattle.std.proofs.lemmas.Map.Made.{length-from_same_keys}
 use Rattle.std.proofs.lemmas.Slice.Zip.{AllZip-long}
@@ -41,7 +39,7 @@ use Rattle.ent_world.proofs.NamedLists.{listed-named}
 use Rattle.ent_script.specs.declared.operation.Operation.{Operation}
 use Rattle.ent_script_run.specs.FrameAlone.{IsFrameAlone, queues_by_births}
 use Rattle.ent_script_run.specs.declared.show.Show.TheVariants.{Births}
-use Rattle.ent_script_run.specs.FrameText.{kind_text, fault_line, frame_line, frame_text}
+use Rattle.ent_script_run.specs.FrameText.{fault_line, frame_text}
 use Rattle.ent_script_run.specs.WorldText.{IsWorldText, line_in, entity_line, alive_line}
 use Rattle.ent_script_run.specs.WorldText.{birth_text, item_text}
 use Rattle.ent_script_run.specs.Report.{Execution, synced, born_in, last_world, frames_text}
@@ -53,10 +51,7 @@ use Rattle.ent_script_run.specs.ScriptAlone.{text_from}
 fault_alike : (fault : Fault) (by_birth : BirthFault) → IsSameFault fault by_birth
     → fault_line Births fault ≡ birth_fault_line by_birth
 fault_alike fault by_birth same =
-    ap (λ why. codes "fault " ++ decimal fault.system ++ codes " " ++ decimal fault.command
-    ++ kind_text Births why ++ 10 ∷ []) same.kind
-    ∙ (λ i. codes "fault " ++ decimal (sym same.system i) ++ codes " "
-    ++ decimal (sym same.command i) ++ codes " not alive" ++ 10 ∷ [])
+    search (rules)
 
 faults_alike : (faults : List Fault) (by_births : List BirthFault)
     → AllZip IsSameFault faults by_births
@@ -65,9 +60,7 @@ faults_alike [] [] are = refl
 faults_alike [] (b ∷ by_births) are = absurd are
 faults_alike (fault ∷ faults) [] are = absurd are
 faults_alike (fault ∷ faults) (b ∷ by_births) are =
-    let here = fault_alike fault b are.0 in
-    let rest = faults_alike faults by_births are.1 in
-    λ i. here i ++ rest i
+    grind (arith, common_steps, faults_alike faults by_births are.1)
 
 frame_alike : (w : World) (e : Execution) (systems : List (List Operation)) (view : BirthMap)
     → (number : ℕ) → IsFrameAlone w e.queues e.history systems view
@@ -75,11 +68,7 @@ frame_alike : (w : World) (e : Execution) (systems : List (List Operation)) (vie
     ≡ frame_text_alone number (queues_by_births w view systems)
     (frame_alone (queues_by_births w view systems) view)
 frame_alike w e systems view number one =
-    let faults = (synced w e).faults in
-    let by_births = (frame_alone (queues_by_births w view systems) view).faults in
-    let same = faults_alike faults by_births one.after.faults in
-    let count = sym (AllZip-long IsSameFault faults by_births one.after.faults) in
-    λ i. frame_line number (one.born_are i) (count i) ++ same i
+    search (rules, faults_alike, AllZip-long)
 
 -- ---- the text of a world
 

@@ -1,9 +1,10 @@
 -- If any order of a run is answered so, the sorted one is.
-use Rattle.std.proofs.Common.{◌≡◌, ℕ, zero, suc, ◌+◌, ◌^◌, ◌<◌, ◌≤◌, cond}
-use Rattle.std.proofs.Common.{List, [], ◌∷◌, ◌++◌, length, filter, Err, All}
-use Rattle.std.proofs.Common.{refl, sym, ap, subst, ◌∙◌, arith, inl, inr, ◌⊎◌}
+use Rattle.std.proofs.Common.{rules, ◌≡◌, ℕ, zero, suc, ◌+◌, ◌^◌, ◌<◌, ◌≤◌, List, [], ◌∷◌, ◌++◌}
+use Rattle.std.proofs.Common.{length, filter, Err, All, refl, sym, ap, subst, ◌∙◌, arith, inl, inr}
+use Rattle.std.proofs.Common.{◌⊎◌}
+use Rattle.std.proofs.lemmas.Grind.{common_steps}
 use Rattle.std.specs.List.{AllByRecursion}
-use Rattle.std.proofs.lemmas.Bool.{cases_lt, cases_eq}
+use Rattle.std.proofs.lemmas.Bool.{cases_lt}
 use Rattle.std.proofs.lemmas.List.Elements.{All-filter, All-from_recursion}
 use Rattle.ent_handle.specs.Handle.{Handle}
 use Rattle.ent_alloc.specs.Sequential.{Allocator, available, after_take}
@@ -19,11 +20,11 @@ use Rattle.ent_trace.specs.Trace.{FitsReserved}
 use Rattle.ent_trace.specs.Checker.{KeyOf, AreKeyed, raised}
 use Rattle.ent_trace.proofs.Lists.{split, all_at, all_without, all_left, all_weaker}
 use Rattle.ent_trace.proofs.Parting.{parted}
-use Rattle.ent_trace.proofs.Sorted.{tie, tie_from, IsRising, TieAlike, whole, least}
-use Rattle.ent_trace.proofs.Sorted.{begins, nothing_left, alike_rest}
+use Rattle.ent_trace.proofs.Sorted.{tie, tie_from, IsRising, TieAlike, whole, least, begins}
+use Rattle.ent_trace.proofs.Sorted.{nothing_left, alike_rest}
 use Rattle.ent_trace.proofs.Legal.{asks, Answers, after_run, FindsNone, FitsLeft, Answers-empty}
 use Rattle.ent_trace.proofs.Legal.{empty-Answers, after-empty, total}
-use Rattle.ent_trace.proofs.KeysOf.{IsOfOther, raised_own, raised_other, keyed_head, keyed_without, HasKey, has_keys}
+use Rattle.ent_trace.proofs.KeysOf.{IsOfOther, keyed_head, keyed_without, HasKey, has_keys}
 use Rattle.ent_trace.proofs.KeysOf.{later_keys, served_key, refused_key}
 
 -- an order of placed reservations that keeps each caller's
@@ -72,10 +73,7 @@ all_alike P sorted run alike all =
 nothing_sorted : (sorted : List Placed) → TieAlike sorted [] → sorted ≡ []
 nothing_sorted [] alike = refl
 nothing_sorted (d ∷ sorted) alike =
-    let some : d ∷ filter (tie d) sorted ≡ [] =
-    sym (ap (λ b. cond b (d ∷ filter (tie d) sorted) (filter (tie d) sorted)) (tie_from d d refl))
-    ∙ alike d in
-    absurd (let no : d ∷ filter (tie d) sorted ≡ [] = some in cc)
+    grind (arith, common_steps, tie d, tie_from d d)
 
 no_middle : (before after : List Placed) (c : Placed) → before ++ c ∷ after ≡ [] → ⊥
 no_middle [] after c e = cc
@@ -137,18 +135,17 @@ refused_run : (s : Allocator) (h : Placed) (run : List Placed) → length s.pool
       asked = s.asked + (asks h + total run);
     })
 refused_run s h run short fits all =
-    let n = asks h in
-    let after = after_take-refused s n short in
-    let empty : (after_take s n).pool ≡ [] = ap (λ (t : Allocator). t.pool) after in
-    let some = all_weaker FindsNone (λ p. 0 < asks p) (λ p none. none.some) run all in
-    let t : Allocator = record s { aside = s.aside ++ s.pool; pool = []; asked = s.asked + n } in
-    let sum : s.asked + n + total run ≡ s.asked + (n + total run) = omega arith in (
-      (
-        subst (FitsReserved h.reservation.reply) (sym (reply-refused s n short)) fits,
-        Answers-empty run (after_take s n) empty all,
-      ),
-      ap (λ a. after_run a run) after ∙ after-empty run t refl some
-          ∙ (λ i. record s { aside = s.aside ++ s.pool; pool = []; asked = sum i }),
+    search (
+      rules,
+      asks,
+      after_take-refused,
+      all_weaker,
+      FindsNone,
+      total,
+      reply-refused,
+      Answers-empty,
+      after_run,
+      after-empty,
     )
 
 -- ---- the front of the order stands in the run where the front of the sorted run does
@@ -159,18 +156,7 @@ IsLow f s = (q : ℕ) → (f q ≤ s.asked) × (f q < 2 ^ 32)
 low_next : (f : ℕ → ℕ) (s : Allocator) (c : Placed) → IsLow f s → c.key < s.asked + asks c
     → c.key < 2 ^ 32 → IsLow (raised f c) (after_take s (asks c))
 low_next f s c low below small q =
-    let more = asked-after_take s (asks c) in
-    elim (cases_eq q c.reservation.caller) [
-      | inl own ↦
-          let is = raised_own f c q own in
-          (omega arith, omega arith)
-      | inr other ↦
-          let is = raised_other f c q other in
-          let at = low q in
-          let first = at.0 in
-          let second = at.1 in
-          (omega arith, omega arith)
-    ]
+    grind (arith, common_steps)
 
 module _ (given : List Handle) where
   pub sorted_is : (order sorted run : List Placed) (s : Allocator) (f : ℕ → ℕ) → IsSound s

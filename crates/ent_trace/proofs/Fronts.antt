@@ -1,12 +1,12 @@
 -- The front of the pool at a position, handle by handle.
-use Rattle.std.proofs.Common.{◌≡◌, refl, sym, ap, ◌∙◌, ℕ, zero, suc, ◌+◌, ◌-◌, ◌<◌, ◌≤◌, ℤ, pos}
-use Rattle.std.proofs.Common.{negsuc, ◌+ℤ◌, ◌-ℤ◌, ◌≤ℤ◌, List, [], ◌∷◌, ◌++◌, length, take, drop}
-use Rattle.std.proofs.Common.{slice_get, Some, None, append-nil, arith}
+use Rattle.std.proofs.Common.{rules, ◌≡◌, refl, sym, ap, ◌∙◌, ℕ, zero, suc, ◌+◌, ◌-◌, ◌<◌, ◌≤◌, ℤ}
+use Rattle.std.proofs.Common.{pos, negsuc, ◌+ℤ◌, ◌-ℤ◌, ◌≤ℤ◌, List, [], ◌∷◌, ◌++◌, length, take}
+use Rattle.std.proofs.Common.{drop, slice_get, Some, None, append-nil, arith}
 use Rattle.std.proofs.lemmas.Int.{ints}
 use Rattle.std.proofs.lemmas.List.{drop-drop, append_assoc, length-append}
 use Rattle.std.proofs.lemmas.Option.{slice_get_within}
 use Rattle.ent_handle.specs.Handle.{Handle}
-use Rattle.ent_alloc.specs.Sequential.{Allocator, available, top, cursor, asked_at, pool_at, after_take}
+use Rattle.ent_alloc.specs.Sequential.{Allocator, top, cursor, asked_at, pool_at, after_take}
 use Rattle.ent_alloc.specs.Sound.{IsSound}
 use Rattle.ent_alloc.proofs.Listing.{drop_at}
 use Rattle.ent_alloc.proofs.PoolLaw.{pool_at-cursor, pool_at-later, top-after_take}
@@ -15,15 +15,13 @@ use Rattle.ent_alloc.proofs.PoolLaw.{pool_at-cursor, pool_at-later, top-after_ta
 asked_below : (high : ℕ) (p : ℤ) → p ≤ℤ pos high → asked_at high (p -ℤ pos 1) ≡ asked_at high p + 1
 asked_below high (pos zero) below = omega (arith, ints)
 asked_below high (pos (suc p)) below =
-    let less : pos (suc p) -ℤ pos 1 ≡ pos p = omega (arith, ints) in
-    ap (asked_at high) less ∙ omega (arith, ints, below)
+    search (rules, ints)
 asked_below high (negsuc p) below = omega (arith, ints)
 
 pool_below : (s : Allocator) (p : ℤ) → p ≤ℤ pos (top s) → pool_at s (p -ℤ pos 1)
     ≡ drop 1 (pool_at s p)
 pool_below s p below =
-    ap (λ n. drop n (available s)) (asked_below (top s) p below)
-    ∙ sym (drop-drop 1 (asked_at (top s) p) (available s))
+    search (rules, asked_below, drop-drop)
 
 -- nothing of an empty list
 none_of : (k : ℕ) → take {A = Handle} k [] ≡ []

@@ -1,12 +1,12 @@
 -- The keys of a run: along a caller they don't fall.
-use Rattle.std.proofs.Common.{◌≡◌, ℕ, ◌+◌, ◌^◌, ◌≤◌, List, [], ◌∷◌, ◌++◌, sym, ap}
-use Rattle.std.proofs.Common.{◌∙◌, arith, inl, inr}
+use Rattle.std.proofs.Common.{rules, ◌≡◌, ℕ, ◌+◌, ◌^◌, ◌≤◌, List, [], ◌∷◌, ◌++◌, sym, ap, ◌∙◌}
+use Rattle.std.proofs.Common.{arith, inl, inr, cond, refl, subst}
+use Rattle.std.proofs.lemmas.Grind.{common_steps}
 use Rattle.std.specs.List.{AllByRecursion}
 use Rattle.std.specs.Option.{unwrap_or}
 use Rattle.std.specs.Ordering.{nat_cmp}
 use Rattle.std.specs.FinMap as finite
-use Rattle.std.proofs.lemmas.Bool.{cases_eq}
-use Rattle.std.proofs.lemmas.List.Sums.{sum_by-cons}
+use Rattle.std.proofs.lemmas.Bool.{cases_eq, eq-eqb, ne_eqb}
 use Rattle.ent_replay.proofs.Maps.{get-inserted, get-insert_other}
 use Rattle.ent_trace.specs.declared.line.Reservation.{Reservation}
 use Rattle.ent_trace.specs.declared.placed.Placed.{Placed}
@@ -14,8 +14,6 @@ use Rattle.ent_trace.specs.Checker.{reservations_of, requested_in, ComesAfter, A
 use Rattle.ent_trace.specs.Checker.{IsChecking, IsKeyed, AreKeyed, keys_after, raised}
 use Rattle.ent_handle.specs.Handle.{Handle}
 use Rattle.ent_alloc.specs.Sequential.{Allocator, available}
-use Rattle.std.proofs.lemmas.Bool.{eq-eqb, ne_eqb}
-use Rattle.std.proofs.Common.{cond, refl, subst}
 use Rattle.ent_trace.proofs.Lists.{all_push}
 
 abbrev requested : Reservation → ℕ
@@ -25,15 +23,9 @@ requested r = r.requested
 pub requested-push : (run : List Placed) (p : Placed) → requested_in (reservations_of (run ++ p ∷ []))
     ≡ requested_in (reservations_of run) + p.reservation.requested
 requested-push [] p =
-    let one = sum_by-cons requested p.reservation [] in
-    omega arith
+    grind (arith, common_steps)
 requested-push (q ∷ run) p =
-    let rest = requested-push run p in
-    omega (
-      arith,
-      sum_by-cons requested q.reservation (reservations_of (run ++ p ∷ [])),
-      sum_by-cons requested q.reservation (reservations_of run),
-    )
+    grind (arith, common_steps, requested-push run p)
 
 keyed_push : (given : List Handle) (run : List Placed) (f : ℕ → ℕ) (p : Placed)
     → AreKeyed given f run → IsKeyed given (keys_after f run p.reservation.caller) p
@@ -132,14 +124,7 @@ module _ (latest : finite.FinMap nat_cmp ℕ) (p : Placed)
 pub IsChecking-none : (s : Allocator) (wanted : ℕ) (latest : finite.FinMap nat_cmp ℕ)
     → wanted ≡ s.asked → wanted ≤ 2 ^ 50 → ((q : ℕ) → unwrap_or (finite.get latest q) 0 ≡ 0)
     → IsChecking s wanted [] latest
-IsChecking-none s wanted latest is few none = record {
-  wanted_is = omega arith;
-  wanted_in = few;
-  steady = tt;
-  latest_is = tt;
-  keyed = tt;
-  last = none;
-}
+IsChecking-none s wanted latest is few none = search (rules)
 
 -- an empty map keeps nothing
 pub empty_keeps : (latest : finite.FinMap nat_cmp ℕ) → latest ≡ finite.empty → (q : ℕ)
@@ -157,7 +142,4 @@ pub IsChecking-called : (s t : Allocator) (wanted next : ℕ) (run : List Placed
     (latest : finite.FinMap nat_cmp ℕ) → reservations_of run ≡ [] → IsChecking s wanted run latest
     → next ≡ t.asked → next ≤ 2 ^ 50 → IsChecking t next run latest
 IsChecking-called s t wanted next run latest none before is few =
-    let empty = no_run run none in
-    subst (λ ps. IsChecking t next ps latest) (sym empty)
-    (IsChecking-none t next latest is few
-    (λ q. before.last q ∙ ap (λ ps. keys_after (λ _. 0) ps q) empty))
+    search (rules, no_run, IsChecking-none)

@@ -1,15 +1,18 @@
 -- What the key of a reservation tells of where it comes.
-use Rattle.std.proofs.Common.{◌≡◌, ◌≢◌, ℕ, zero, suc, ◌+◌, ◌-◌, ◌^◌, ◌<◌, ◌≤◌, false, cond}
-use Rattle.std.proofs.Common.{List, [], ◌∷◌, ◌++◌, length, take, drop, get_or, slice_get, Some, Ok, Err}
-use Rattle.std.proofs.Common.{refl, sym, ap, subst, ◌∙◌, arith, true≢false, inl, inr, ◌⊎◌, Contains}
-use Rattle.std.proofs.Common.{AllPairs, eq-eqb, ne_eqb}
+use Rattle.std.proofs.Common.{rules, ◌≡◌, ◌≢◌, ℕ, zero, suc, ◌+◌, ◌-◌, ◌^◌, ◌<◌, ◌≤◌, false, cond}
+use Rattle.std.proofs.Common.{List, [], ◌∷◌, ◌++◌, length, take, drop, get_or, slice_get, Some, Ok}
+use Rattle.std.proofs.Common.{Err, refl, sym, ap, subst, ◌∙◌, arith, true≢false, inl, inr, ◌⊎◌}
+use Rattle.std.proofs.Common.{Contains, AllPairs, eq-eqb, ne_eqb}
+use Rattle.std.proofs.lemmas.Grind.{common_steps}
 use Rattle.std.specs.List.{AllByRecursion}
-use Rattle.std.proofs.lemmas.Bool.{cases_lt, cases_eq, cases_order}
+use Rattle.std.proofs.lemmas.Bool.{cases_lt}
 use Rattle.std.proofs.lemmas.List.{get_or-take, get_or-drop, length-take, length-drop}
-use Rattle.std.proofs.lemmas.List.Sorted.{Contains-permutation, IsPermutation-sym, length_permutation}
+use Rattle.std.proofs.lemmas.List.Sorted.{Contains-permutation, IsPermutation-sym}
+use Rattle.std.proofs.lemmas.List.Sorted.{length_permutation}
 use Rattle.std.proofs.lemmas.Option.{get_or_from_slice_get, slice_get_within}
 use Rattle.ent_handle.specs.Handle.{Handle}
-use Rattle.ent_alloc.specs.Sequential.{Allocator, available, after_take, reply_to, listed, stands_in}
+use Rattle.ent_alloc.specs.Sequential.{Allocator, available, after_take, reply_to, listed}
+use Rattle.ent_alloc.specs.Sequential.{stands_in}
 use Rattle.ent_alloc.specs.Sound.{IsSound, AreApart}
 use Rattle.ent_alloc.proofs.Replies.{reply-served, reply-refused, listed-IsPermutation}
 use Rattle.ent_alloc.proofs.HandleSets.{stands_in-from_Contains}
@@ -26,13 +29,7 @@ use Rattle.ent_trace.proofs.Legal.{asks, Answers}
 -- no handle stands at two places
 same_place : (given : List Handle) (h : Handle) (i j : ℕ) → AllPairs AreApart given
     → i < length given → j < length given → get_or given i h ≡ h → get_or given j h ≡ h → i ≡ j
-same_place given h i j apart i_in j_in i_is j_is = elim (cases_order i j) [
-  | inl same ↦ same
-  | inr (inl less) ↦ absurd (apart i j h less j_in (ap (λ (x : Handle). x.index)
-      (i_is ∙ sym j_is)))
-  | inr (inr more) ↦ absurd (apart j i h more i_in (ap (λ (x : Handle). x.index)
-      (j_is ∙ sym i_is)))
-]
+same_place given h i j apart i_in j_in i_is j_is = grind (arith, common_steps)
 
 module _ (given : List Handle) (s : Allocator) (sound : IsSound s) (is : available s ≡ given)
     (n own : ℕ) where
@@ -116,21 +113,7 @@ raised_own f p q same = ap (λ b. cond b p.key (f q)) (eq-eqb q p.reservation.ca
 
 raised_both : (f : ℕ → ℕ) (b c : Placed) → b.reservation.caller ≢ c.reservation.caller
     → raised (raised f b) c ≡ raised (raised f c) b
-raised_both f b c other = λ i q. each q i
-  where
-    each : (q : ℕ) → raised (raised f b) c q ≡ raised (raised f c) b q
-    each q = elim (cases_eq q c.reservation.caller) [
-      | inl own ↦ raised_own (raised f b) c q own
-          ∙ sym (raised_other (raised f c) b q (λ same. other (sym same ∙ own))
-          ∙ raised_own f c q own)
-      | inr not_c ↦ raised_other (raised f b) c q not_c
-          ∙ elim (cases_eq q b.reservation.caller) as (λ _. raised f b q
-          ≡ raised (raised f c) b q) [
-            | inl own ↦ raised_own f b q own ∙ sym (raised_own (raised f c) b q own)
-            | inr not_b ↦ raised_other f b q not_b
-                ∙ sym (raised_other (raised f c) b q not_b ∙ raised_other f c q not_c)
-          ]
-    ]
+raised_both f b c other = grind (arith, common_steps)
 
 -- those before are of other callers
 abbrev pub IsOfOther : Placed → Placed → Type 0
@@ -164,15 +147,7 @@ pub record HasKey (given : List Handle) (p : Placed) : Type 0 where
 pub has_keys : (given : List Handle) (f : ℕ → ℕ) (run : List Placed) → AreKeyed given f run
     → AllByRecursion (HasKey given) run
 has_keys given f [] keyed = tt
-has_keys given f (p ∷ run) keyed = (
-  record {
-    own = keyed.0.own;
-    key_of = keyed.0.key_of;
-    least = keyed.0.least;
-    small = keyed.0.small;
-  },
-  has_keys given (raised f p) run keyed.1,
-)
+has_keys given f (p ∷ run) keyed = (search (rules, has_keys given (raised f p) run keyed.1))
 
 -- what comes later in a legal order has no lesser key than what was asked for
 pub later_keys : (given : List Handle) (run : List Placed) (s : Allocator) (k : ℕ) → IsSound s

@@ -1,15 +1,13 @@
 -- Reservations one after the other: those for nothing can be left out, and of those that follow a
 -- refusal none is served.
-use Rattle.std.proofs.Common.{◌≡◌, ℕ, zero, suc, ◌+◌, ◌<◌, Bool, true, false, cond}
-use Rattle.std.proofs.Common.{nat_lt, List, [], ◌∷◌, ◌++◌, length, drop, filter}
-use Rattle.std.proofs.Common.{Ok, Err, refl, sym, ap, subst, ◌∙◌}
+use Rattle.std.proofs.lemmas.Grind.{common_steps}
+use Rattle.std.proofs.Common.{◌≡◌, ℕ, zero, suc, ◌+◌, ◌<◌, Bool, true, false, cond, nat_lt, List}
+use Rattle.std.proofs.Common.{[], ◌∷◌, ◌++◌, length, filter, Ok, Err, refl, sym, ap, subst, ◌∙◌}
 use Rattle.std.proofs.Common.{arith, inl, inr, ◌⊎◌, append-nil}
 use Rattle.std.specs.List.{AllByRecursion}
 use Rattle.std.proofs.lemmas.Bool.{lt-ltb}
-use Rattle.ent_handle.specs.Handle.{Handle}
 use Rattle.ent_alloc.specs.Sequential.{Allocator, after_take, reply_to}
-use Rattle.ent_alloc.proofs.Replies.{reply-refused}
-use Rattle.ent_alloc.proofs.PoolLaw.{reply-none, after_take-none, pool-after_take}
+use Rattle.ent_alloc.proofs.PoolLaw.{reply-none, after_take-none}
 use Rattle.ent_alloc.proofs.Taken.{after_take-refused}
 use Rattle.ent_trace.specs.declared.placed.Placed.{Placed}
 use Rattle.ent_trace.specs.Trace.{AreAnswered, FitsReserved, after_lines}
@@ -108,15 +106,10 @@ pub record FindsNone (p : Placed) : Type 0 where
 empty-refuses : (s : Allocator) (n : ℕ) → s.pool ≡ [] → 0 < n
     → reply_to s n ≡ Err (record { wanted = n; left = 0 })
 empty-refuses s n none some =
-    let long : length s.pool ≡ 0 = ap length none in
-    reply-refused s n (omega arith) ∙ (λ i. Err (record { wanted = n; left = long i }))
+    grind (arith, common_steps)
 
 stays-empty : (s : Allocator) (n : ℕ) → s.pool ≡ [] → (after_take s n).pool ≡ []
-stays-empty s n none = pool-after_take s n ∙ ap (drop n) none ∙ drop-nil n
-  where
-    drop-nil : (n : ℕ) → drop {A = Handle} n [] ≡ []
-    drop-nil zero = refl
-    drop-nil (suc n) = refl
+stays-empty s n none = grind (arith, common_steps)
 
 pub Answers-empty : (run : List Placed) (s : Allocator) → s.pool ≡ []
     → AllByRecursion FindsNone run → Answers s run

@@ -1,13 +1,15 @@
 -- Orders that lines may have come in: of a front and a rest, and what they are answered.
-use Rattle.std.proofs.Common.{append-nil, ◌≡◌, ℕ, List, [], ◌∷◌, ◌++◌, refl, sym, ap, subst, ◌∙◌}
+use Rattle.std.proofs.Common.{arith, rules, append-nil, ◌≡◌, ℕ, List, [], ◌∷◌, ◌++◌, refl, sym, ap}
+use Rattle.std.proofs.Common.{subst, ◌∙◌}
+use Rattle.std.proofs.lemmas.Grind.{common_steps}
 use Rattle.std.proofs.lemmas.List.{append_assoc}
 use Rattle.ent_alloc.specs.Sequential.{Allocator}
 use Rattle.ent_trace.specs.declared.line.Line.{Line}
 use Rattle.ent_trace.specs.declared.line.Line.TheVariants as line
 use Rattle.ent_trace.specs.declared.line.Reservation.{Reservation}
-use Rattle.ent_trace.specs.Trace.{Fits, AreAnswered, after_line, after_lines, IsAlone, IsOrderOf, Agrees}
-use Rattle.ent_trace.specs.Checker.{Checked, reserve_lines, AgreesWith, IsSettled, Follows}
-use Rattle.ent_trace.specs.Checker.{Reaches, Differs, Fails, Shows, HasNoOrder, NoneFollows}
+use Rattle.ent_trace.specs.Trace.{Fits, AreAnswered, after_line, after_lines, IsAlone, IsOrderOf}
+use Rattle.ent_trace.specs.Checker.{Checked, reserve_lines, AgreesWith, IsSettled, Follows, Reaches}
+use Rattle.ent_trace.specs.Checker.{Differs, Fails, Shows, HasNoOrder, NoneFollows}
 use Rattle.ent_trace.proofs.Parting.{parts, all_reserve}
 use Rattle.ent_trace.specs.declared.difference.Difference.{Difference}
 
@@ -46,10 +48,7 @@ run_more (q ∷ run) r rest = ap (λ (lines : List Line). line.Reserve q ∷ lin
 -- a reservation is added
 pub added-Follows : (c : Checked) (r : Reservation)
     → Follows c (line.Reserve r) (record c { run = c.run ++ r ∷ [] })
-added-Follows c r = record {
-  sound = λ rest agrees. subst (Agrees c.allocator) (run_more c.run r rest) agrees;
-  complete = λ rest agrees. subst (Agrees c.allocator) (sym (run_more c.run r rest)) agrees;
-}
+added-Follows c r = search (rules, run_more)
 
 answered_front : (s : Allocator) (first second : List Line) → AreAnswered s (first ++ second)
     → AreAnswered s first
@@ -74,19 +73,7 @@ pub record Told (c : Checked) (l : Line) (rest : List Line) : Type 0 where
 pub told : (c : Checked) (l : Line) (rest : List Line) → IsAlone l → AgreesWith c (l ∷ rest)
     → Told c l rest
 told c l rest alone agrees =
-    let p = parts (reserve_lines c.run) rest l agrees.order (all_reserve c.run) alone
-    agrees.is_order in
-    let all = subst (AreAnswered c.allocator) p.is agrees.answered in
-    let back = answered_back c.allocator p.first (l ∷ p.second) all in
-    record {
-      first = p.first;
-      second = p.second;
-      is_order = p.first_is;
-      answered = answered_front c.allocator p.first (l ∷ p.second) all;
-      fits = back.0;
-      rest_is_order = p.second_is;
-      rest_answered = back.1;
-    }
+    search (rules, parts, all_reserve, answered_back, answered_front)
 
 -- the run was settled, and the line fits then
 pub called-Follows : (c : Checked) (l : Line) (after : Allocator) → IsAlone l → IsSettled c after
@@ -111,25 +98,13 @@ called-Follows c l after alone settled fits = record {
 
 -- the run was settled, and nothing follows
 pub settled-Agrees : (c : Checked) (after : Allocator) → IsSettled c after → AgreesWith c []
-settled-Agrees c after settled = record {
-  order = settled.order ++ [];
-  is_order = IsOrderOf-append (reserve_lines c.run) [] settled.order [] settled.is_order refl;
-  answered = AreAnswered-append c.allocator settled.order [] settled.answered tt;
-}
+settled-Agrees c after settled = grind (arith, common_steps)
 
 -- ---- where a trace doesn't agree
 
 Fails-append : (s : Allocator) (n : ℕ) (order more : List Line) (d : Difference)
     → Fails s n order d → Fails s n (order ++ more) d
-Fails-append s n order more d fails = record {
-  placed = fails.placed;
-  next = fails.next;
-  left = fails.left ++ more;
-  is = ap (λ (ls : List Line). ls ++ more) fails.is
-      ∙ append_assoc fails.placed (fails.next ∷ fails.left) more;
-  answered = fails.answered;
-  differs = fails.differs;
-}
+Fails-append s n order more d fails = grind (arith, common_steps)
 
 -- one more line doesn't change it
 pub Shows-more : (c : Checked) (n : ℕ) (l : Line) (d : Difference) → Shows c n [] d
@@ -146,54 +121,44 @@ Shows-more c n l d shows = record {
 -- the run was settled, and the line differs then
 pub called-Shows : (c : Checked) (l : Line) (after : Allocator) (n : ℕ) (d : Difference)
     → IsSettled c after → Differs after n l d → Shows c n (l ∷ []) d
-called-Shows c l after n d settled differs = record {
-  order = settled.order ++ l ∷ [];
-  is_order = IsOrderOf-append (reserve_lines c.run) (l ∷ []) settled.order (l ∷ [])
-      settled.is_order (IsOrderOf-cons l [] [] refl);
-  fails = record {
-    placed = settled.order;
-    next = l;
-    left = [];
-    is = refl;
-    answered = settled.answered;
-    differs = subst (λ s. Differs s n l d) settled.after_is differs;
-  };
-}
+called-Shows c l after n d settled differs = grind (
+  arith,
+  common_steps,
+  IsOrderOf-append (reserve_lines c.run) (l ∷ []) settled.order (l ∷ []) settled.is_order
+      (IsOrderOf-cons l [] [] refl),
+  IsOrderOf-cons l,
+  settled.order,
+  c.run,
+  settled.is_order,
+  settled.answered,
+  settled.after_is,
+)
 
 -- and no other order of the run would help
 pub called-None : (c : Checked) (l : Line) (after : Allocator) → IsAlone l → IsSettled c after
     → ¬ (Fits after l) → NoneFollows c l
 called-None c l after alone settled unlike rest agrees =
-    let t = told c l rest alone agrees in
-    unlike (subst (λ s. Fits s l) (settled.only t.first t.is_order t.answered) t.fits)
+    grind (arith, common_steps, told c l rest alone agrees, settled.only)
 
 -- no order of the run is answered so
 pub settled-None : (c : Checked) (l : Line) → IsAlone l → HasNoOrder c → NoneFollows c l
 settled-None c l alone none rest agrees =
-    let t = told c l rest alone agrees in
-    none t.first t.is_order t.answered
+    grind (arith, common_steps, told c l rest alone agrees)
 
 pub finished-None : (c : Checked) → HasNoOrder c → AgreesWith c [] → ⊥
 finished-None c none agrees =
-    none agrees.order (subst (λ (ls : List Line). IsOrderOf ls agrees.order)
-    (append-nil (reserve_lines c.run)) agrees.is_order) agrees.answered
+    search (rules, append-nil)
 
 -- the run isn't answered so in this order
 pub fails_none : (s : Allocator) (n : ℕ) (order : List Line) (d : Difference) → Fails s n order d
     → AreAnswered s order → ⊥
 fails_none s n order d fails all =
-    let back = answered_back s fails.placed (fails.next ∷ fails.left)
-    (subst (AreAnswered s) fails.is all) in
-    fails.differs.unlike back.0
+    search (rules, answered_back)
 
 -- the run isn't answered so in this order
 pub ordered-Shows : (c : Checked) (order : List Line) (n : ℕ) (d : Difference)
     → IsOrderOf (reserve_lines c.run) order → Fails c.allocator n order d → Shows c n [] d
-ordered-Shows c order n d is fails = record {
-  order = order ++ [];
-  is_order = IsOrderOf-append (reserve_lines c.run) [] order [] is refl;
-  fails = Fails-append c.allocator n order [] d fails;
-}
+ordered-Shows c order n d is fails = grind (arith, common_steps)
 
 -- a call that nothing overlaps is made in the state after the run
 pub alone_Reaches : (c : Checked) (l : Line) (new : Checked) (at : Allocator) → IsAlone l

@@ -1,6 +1,7 @@
 -- The reservations of a run one after the other: what is left to be placed.
-use Rattle.std.proofs.Common.{◌≡◌, ℕ, suc, ◌+◌, ◌^◌, ◌<◌, ◌≤◌, List, [], ◌∷◌, length, drop, get_or}
-use Rattle.std.proofs.Common.{refl, sym, ap, subst, ◌∙◌, arith, IsPermutation}
+use Rattle.std.proofs.Common.{rules, ◌≡◌, ℕ, suc, ◌+◌, ◌^◌, ◌<◌, ◌≤◌, List, [], ◌∷◌, length, drop}
+use Rattle.std.proofs.Common.{get_or, refl, sym, ap, subst, ◌∙◌, arith, IsPermutation}
+use Rattle.std.proofs.lemmas.Grind.{common_steps}
 use Rattle.std.proofs.Math.Seq.{drop-cons}
 use Rattle.std.proofs.lemmas.List.{drop_all}
 use Rattle.std.proofs.lemmas.List.Sums.{sum_by-cons}
@@ -13,8 +14,7 @@ use Rattle.ent_trace.specs.declared.line.Line.{Line}
 use Rattle.ent_trace.specs.declared.line.Line.TheVariants as line
 use Rattle.ent_trace.specs.declared.placed.Placed.{Placed}
 use Rattle.ent_trace.specs.Trace.{AreAnswered, FitsReserved, after_lines}
-use Rattle.ent_trace.specs.Checker.{reservations_of, requested_in, Differs}
-use Rattle.ent_trace.specs.Checker.{Fails}
+use Rattle.ent_trace.specs.Checker.{reservations_of, requested_in, Differs, Fails}
 use Rattle.ent_trace.proofs.Sorted.{lines}
 
 abbrev requested : Reservation → ℕ
@@ -25,19 +25,12 @@ pub asked-lines : (s : Allocator) (run : List Placed) → (after_lines s (lines 
     + requested_in (reservations_of run)
 asked-lines s [] = omega arith
 asked-lines s (p ∷ run) =
-    let rest = asked-lines (after_take s p.reservation.requested) run in
-    omega (
-      arith,
-      asked-after_take s p.reservation.requested,
-      sum_by-cons requested p.reservation
-          (reservations_of run),
-    )
+    grind (arith, common_steps, asked-lines (after_take s p.reservation.requested) run)
 
 -- in any order
 pub requested-sorted : (run sorted : List Placed) → IsPermutation run sorted
     → requested_in (reservations_of sorted) ≡ requested_in (reservations_of run)
-requested-sorted run sorted moved = sum_by-IsPermutation requested (reservations_of run)
-    (reservations_of sorted) (IsPermutation-map (λ (p : Placed). p.reservation) run sorted moved)
+requested-sorted run sorted moved = search (rules, sum_by-IsPermutation, IsPermutation-map)
 
 -- Those before an index are placed.
 pub record Rest (old s : Allocator) (run : List Placed) (i : ℕ) : Type 0 where
@@ -49,12 +42,7 @@ pub record Rest (old s : Allocator) (run : List Placed) (i : ℕ) : Type 0 where
 
 pub Rest-first : (s : Allocator) (run : List Placed)
     → s.asked + requested_in (reservations_of run) ≤ 2 ^ 50 → Rest s s run 0
-Rest-first s run few = record {
-  answered = λ told. told;
-  fails = λ n d fails. fails;
-  after = refl;
-  asked = few;
-}
+Rest-first s run few = search (rules)
 
 module _ (old s : Allocator) (run : List Placed) (i : ℕ) where
   -- the next one requests no more than all that are left

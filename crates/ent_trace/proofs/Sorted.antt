@@ -1,14 +1,15 @@
 -- A sorted run is in an order that its reservations may have come in: a stable sort by keys that don't
 -- fall along a caller keeps each caller's order.
-use Rattle.std.proofs.Common.{◌≡◌, ℕ, suc, ◌≤◌, Bool, true, false, not, ◌&&◌, cond, nat_lt}
-use Rattle.std.proofs.Common.{List, [], ◌∷◌, ◌++◌, filter, All, refl, sym, ap, subst}
-use Rattle.std.proofs.Common.{◌∙◌, arith, true≢false, inl, inr}
+use Rattle.std.proofs.lemmas.Grind.{common_steps}
+use Rattle.std.proofs.Common.{◌≡◌, ℕ, suc, ◌≤◌, Bool, true, false, not, ◌&&◌, cond, nat_lt, List}
+use Rattle.std.proofs.Common.{[], ◌∷◌, ◌++◌, filter, All, refl, sym, ap, subst, ◌∙◌, arith}
+use Rattle.std.proofs.Common.{true≢false}
 use Rattle.std.specs.Prelude.{◌==◌}
 use Rattle.std.specs.List.{AllByRecursion}
 use Rattle.std.specs.List.Sorted.{ties, IsNonDecreasingBy}
 use Rattle.std.specs.Ordering.{nat_cmp, is_lt}
 use Rattle.std.specs.declared.cmp.Ordering.TheVariants.{Less, Equal, Greater}
-use Rattle.std.proofs.lemmas.Bool.{cases_order, lt-ltb, le-ltb}
+use Rattle.std.proofs.lemmas.Bool.{le-ltb}
 use Rattle.std.proofs.lemmas.List.Elements.{All-head, All-tail, All-cons, All-filter, filter-append}
 use Rattle.std.proofs.lemmas.List.Elements.{All-from_recursion, recursion_from_All}
 use Rattle.ent_trace.specs.declared.line.Line.{Line}
@@ -45,13 +46,7 @@ tests_same : (a b : ℕ) → a ≡ b → (not (nat_lt a b) && not (nat_lt b a)) 
 tests_same a b e = λ i. not (le-ltb a b (omega arith) i) && not (le-ltb b a (omega arith) i)
 
 tests_apart : (a b : ℕ) → (not (nat_lt a b) && not (nat_lt b a)) ≡ true → a ≡ b
-tests_apart a b e = elim (cases_order a b) [
-  | inl same ↦ same
-  | inr (inl less) ↦ absurd (true≢false (sym e ∙ (λ i. not (lt-ltb a b less i)
-      && not (nat_lt b a))))
-  | inr (inr more) ↦ absurd (true≢false (sym e ∙ (λ i. not (le-ltb a b (omega arith) i)
-      && not (lt-ltb b a more i))))
-]
+tests_apart a b e = grind (arith, common_steps)
 
 pub tie_from : (p q : Placed) → p.key ≡ q.key → tie p q ≡ true
 tie_from p q e = tie_is p q ∙ tests_same p.key q.key e

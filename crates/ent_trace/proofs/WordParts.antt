@@ -1,10 +1,11 @@
 -- Words: what stands before a comment, blanks that part words, and the front of a text's words.
-use Rattle.std.proofs.Common.{◌≡◌, ◌≢◌, ℕ, ◌+◌, ◌<◌, Bool, true, false, not, cond, eqb, List, [], ◌∷◌, ◌++◌}
-use Rattle.std.proofs.Common.{length, take, All, refl, sym, ap, ◌∙◌, arith, suc}
+use Rattle.std.proofs.Common.{rules, ◌≡◌, ◌≢◌, ℕ, ◌+◌, ◌<◌, Bool, true, false, not, cond, eqb, List}
+use Rattle.std.proofs.Common.{[], ◌∷◌, ◌++◌, length, take, All, refl, sym, ap, ◌∙◌, arith, suc}
+use Rattle.std.proofs.lemmas.Grind.{common_steps}
 use Rattle.std.specs.List.{before_first, position_or_len, filter, slice_split}
 use Rattle.std.proofs.lemmas.Bool.{ne_eqb}
 use Rattle.std.proofs.lemmas.List.{append-nil, nil_from_length}
-use Rattle.std.proofs.lemmas.List.Splits.{slice_split_none, slice_split_at, slice_split-cons_yes}
+use Rattle.std.proofs.lemmas.List.Splits.{slice_split_none, slice_split_at}
 use Rattle.ent_trace.specs.Text.{Word, is_blank, words_in, before_comment}
 
 -- the first element passes, and what is so of the rest
@@ -19,9 +20,7 @@ rest_of P x xs all k d lt = all (suc k) d (omega (arith, lt))
 cut : (p : ℕ → Bool) (x : ℕ) (xs : List ℕ) → p x ≡ false
     → before_first p (x ∷ xs) ≡ x ∷ before_first p xs
 cut p x xs fails =
-    let next : 1 + position_or_len p xs ≡ suc (position_or_len p xs) = omega arith in
-    ap (λ b. take (cond (not b) (1 + position_or_len p xs) 0) (x ∷ xs)) fails
-    ∙ ap (λ n. take n (x ∷ xs)) next
+    search (rules)
 
 pub before_first_at : (p : ℕ → Bool) (xs : List ℕ) (y : ℕ) (ys : List ℕ)
     → All (λ x. p x ≡ false) xs → p y ≡ true → before_first p (xs ++ y ∷ ys) ≡ xs
@@ -46,8 +45,7 @@ fails_at y xs none k d lt = ne_eqb _ y (none k d lt)
 pub comment_cut : (line text comment : List ℕ) → line ≡ text ++ 35 ∷ comment
     → All (λ x. x ≢ 35) text → before_comment line ≡ text
 comment_cut line text comment e none =
-    ap before_comment e
-    ∙ before_first_at (λ x. eqb x 35) text 35 comment (fails_at 35 text none) refl
+    search (rules, before_first_at, fails_at)
 
 pub no_comment : (line : List ℕ) → All (λ x. x ≢ 35) line → before_comment line ≡ line
 no_comment line none = before_first_none (λ x. eqb x 35) line (fails_at 35 line none)
@@ -61,8 +59,7 @@ abbrev pub AreNoBlank : List ℕ → Type 0
 AreNoBlank xs = All (λ x. is_blank x ≡ false) xs
 
 pub words_in-blank : (x : ℕ) (xs : List ℕ) → is_blank x ≡ true → words_in (x ∷ xs) ≡ words_in xs
-words_in-blank x xs passes = ap (filter (λ word. not (eqb (length word) 0)))
-    (slice_split-cons_yes is_blank x xs passes)
+words_in-blank x xs passes = grind (arith, common_steps)
 
 pub words_in-blanks : (xs ys : List ℕ) → AreBlank xs → words_in (xs ++ ys) ≡ words_in ys
 words_in-blanks [] ys all = refl

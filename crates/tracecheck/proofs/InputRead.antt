@@ -1,5 +1,5 @@
 -- What was taken of a device that tells its bytes, and what may be said of them.
-use Rattle.std.proofs.Common.{◌≡◌, ◌∙◌, List, ℕ, ◌++◌, Option, Some, None, sym, ap, subst, IfSome}
+use Rattle.std.proofs.Common.{rules, List, ℕ, ◌++◌, Option, Some, None, sym, subst, IfSome}
 use Rattle.std.proofs.lemmas.List.{append-nil}
 use Rattle.std.specs.Io.KnownBytes.{Consumes, IsAtEnd}
 use Rattle.devices.proofs.TakenInSteps.{Consumes-append}
@@ -19,8 +19,7 @@ pub ended_at_end : (limits : Limits) (old new : Option (List ℕ)) (text pending
 ended_at_end limits None new text pending c end taken last read ends = tt
 ended_at_end limits (Some all) None text pending c end taken last read ends = elim taken [ ]
 ended_at_end limits (Some all) (Some rest) text pending c end taken last read ends =
-    let is : all ≡ text = taken ∙ ap (λ (bs : List ℕ). text ++ bs) last ∙ append-nil text in
-    subst (λ (bs : List ℕ). MayEnd limits (lines_of bs) end) (sym is) (ends text read)
+    search (rules, append-nil)
 
 -- what was read is enough
 pub ended_early : (limits : Limits) (old middle new : Option (List ℕ)) (text piece pending : List ℕ)

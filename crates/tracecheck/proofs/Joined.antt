@@ -1,7 +1,8 @@
 -- The calls of lines that follow others, and what follows after them.
+use Rattle.std.proofs.lemmas.Grind.{common_steps}
 use Rattle.std.proofs.Common.{◌≡◌, ℕ, ◌+◌, List, [], ◌∷◌, ◌++◌, length, Option, Some, None, Result}
-use Rattle.std.proofs.Common.{Ok, Err, refl, sym, ap, subst, ◌∙◌, append_assoc, arith}
-use Rattle.ent_trace.specs.Checker.{Checked, AgreesWith, Follows}
+use Rattle.std.proofs.Common.{Ok, Err, refl, sym, ap, ◌∙◌, arith}
+use Rattle.ent_trace.specs.Checker.{Checked, Follows}
 use Rattle.ent_trace.specs.Text.{line_of, words_of}
 use Rattle.ent_trace.specs.declared.line.Line.{Line}
 use Rattle.ent_trace.specs.declared.read_fault.Cause.{Cause}
@@ -61,9 +62,4 @@ AllFollow-none c = record { sound = λ rest h. h; complete = λ rest h. h }
 
 pub AllFollow-call : (old middle new : Checked) (calls : List Line) (l : Line)
     → AllFollow old calls middle → Follows middle l new → AllFollow old (calls ++ l ∷ []) new
-AllFollow-call old middle new calls l follow next = record {
-  sound = λ rest h. subst (AgreesWith old) (sym (append_assoc calls (l ∷ []) rest))
-      (follow.sound (l ∷ rest) (next.sound rest h));
-  complete = λ rest h. next.complete rest (follow.complete (l ∷ rest)
-      (subst (AgreesWith old) (append_assoc calls (l ∷ []) rest) h));
-}
+AllFollow-call old middle new calls l follow next = grind (arith, common_steps)

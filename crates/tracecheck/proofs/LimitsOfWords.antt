@@ -1,14 +1,14 @@
 -- From the program's words to its limits: clap's matches, and the faults.
-use Rattle.std.proofs.Common.{◌≡◌, ◌∙◌, ◌^◌, ◌<◌, ◌≤◌, ℕ, List, [], ◌∷◌, true, refl, sym, ap}
+use Rattle.std.proofs.Common.{arith, ◌≡◌, ◌∙◌, ◌^◌, ◌<◌, ◌≤◌, ℕ, List, [], ◌∷◌, true, refl, sym, ap}
 use Rattle.std.proofs.Common.{subst, inl, inr, Option, Some}
+use Rattle.std.proofs.lemmas.Grind.{common_steps}
 use Rattle.std.specs.Prelude.{◌≢◌, IfErr, IsErrAnd, Result, Ok, Err, option_map}
 use Rattle.std.specs.Str.Parse.{ExplainsUnsignedError, HasUnsignedDigitsIfOk, ParsesUnsigned}
 use Rattle.std.specs.Str.Parse.{digits_value, without_leading_plus}
 use Rattle.std.specs.declared.num.ParseIntError.{ParseIntError}
 use Rattle.clap.specs.Matches.{ReadsOne, one_text}
-use Rattle.clap.specs.Words.{App, HasKind, HasMatchesOf, IsAmong, Kinds, Row, Text, fault_of}
-use Rattle.clap.specs.Words.{is_simple, is_simple_and_free, kind_of, matches_of, rows_of}
-use Rattle.clap.specs.Words.{without_minus}
+use Rattle.clap.specs.Words.{App, HasKind, HasMatchesOf, IsAmong, Kinds, Text, fault_of, is_simple}
+use Rattle.clap.specs.Words.{is_simple_and_free, kind_of, rows_of, without_minus}
 use Rattle.clap.specs.declared.error.Error.{Error}
 use Rattle.clap.specs.declared.error.ErrorKind.{ErrorKind}
 use Rattle.clap.specs.declared.error.ErrorKind.TheVariants.{OutOfMemory}
@@ -66,8 +66,7 @@ is_free app is = ap is_simple_and_free is ∙ program-free
 pub AsksFor-matches : (app : App) (words : List Text) (m : ArgMatches) (limits : Limits)
     → app ≡ program → HasMatchesOf app words m → AreGiven (given m) limits → AsksFor words limits
 AsksFor-matches app words m limits is matches in_matches =
-    subst (λ (rows : List Row). AreGiven rows limits) ((matches (ap is_simple is
-    ∙ program-simple)).0 ∙ ap (λ (a : App). matches_of a words) is) in_matches
+    grind (arith, common_steps)
 
 -- ---- the faults
 

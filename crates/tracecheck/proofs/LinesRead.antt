@@ -1,6 +1,7 @@
 -- Lines that end with a line feed, and the last, which may have no end.
-use Rattle.std.proofs.Common.{◌≡◌, ◌≢◌, ℕ, ◌<◌, eqb, false, List, [], ◌∷◌, ◌++◌, length, All}
+use Rattle.std.proofs.Common.{rules, ◌≡◌, ◌≢◌, ℕ, ◌<◌, eqb, false, List, [], ◌∷◌, ◌++◌, length, All}
 use Rattle.std.proofs.Common.{refl, sym, ap, ◌∙◌, append_assoc, arith}
+use Rattle.std.proofs.lemmas.Grind.{common_steps}
 use Rattle.std.proofs.lemmas.Bool.{cond-false, ne_eqb}
 use Rattle.std.proofs.lemmas.List.{append-nil, nil_from_length}
 use Rattle.std.proofs.lemmas.List.Elements.{All-append}
@@ -91,19 +92,13 @@ HasRead-bytes limits text old pending bytes all h = record {
 -- nothing was read yet
 pub HasRead-none : (limits : Limits) (c : Checking) → HasTaken limits [] c
     → HasRead limits [] c []
-HasRead-none limits c taken = record {
-  texts = [];
-  taken = taken;
-  unended = λ k d lt. absurd (omega (arith, lt));
-  lines = λ more. refl;
-}
+HasRead-none limits c taken = search (rules)
 
 -- all lines of the text, if nothing comes any more
 pub lines_now : (limits : Limits) (text : List ℕ) (old : Checking) (pending : List ℕ)
     → (h : HasRead limits text old pending) → lines_of text ≡ h.texts ++ lines_of pending
 lines_now limits text old pending h =
-    ap lines_of (sym (append-nil text)) ∙ h.lines []
-    ∙ ap (λ (bs : List ℕ). h.texts ++ lines_of bs) (append-nil pending)
+    grind (arith, common_steps, append-nil text, append-nil pending, h.lines, h.texts)
 
 -- ---- a piece
 
@@ -111,22 +106,16 @@ lines_now limits text old pending h =
 pub piece_front : (piece front rest line others : List ℕ) → piece ≡ front ++ rest
     → rest ≡ line ++ 10 ∷ others → piece ≡ (front ++ line ++ 10 ∷ []) ++ others
 piece_front piece front rest line others whole parts =
-    whole ∙ ap (λ (bs : List ℕ). front ++ bs) parts ∙ sym (append_assoc front line (10 ∷ others))
-    ∙ sym (append_assoc (front ++ line) (10 ∷ []) others)
+    grind (arith, common_steps)
 
 pub text_front : (text front line : List ℕ)
     → text ++ (front ++ line ++ 10 ∷ []) ≡ text ++ front ++ line ++ 10 ∷ []
 text_front text front line =
-    sym (append_assoc text (front ++ line) (10 ∷ []))
-    ∙ ap (λ (bs : List ℕ). bs ++ 10 ∷ []) (sym (append_assoc text front line))
+    grind (arith, common_steps)
 
 -- what comes after a line of a piece
 pub piece_rest : (text piece front rest line others more : List ℕ) → piece ≡ front ++ rest
     → rest ≡ line ++ 10 ∷ others
     → text ++ piece ++ more ≡ text ++ front ++ line ++ 10 ∷ (others ++ more)
 piece_rest text piece front rest line others more whole parts =
-    ap (λ (bs : List ℕ). text ++ bs ++ more) (piece_front piece front rest line others whole parts)
-    ∙ ap (λ (bs : List ℕ). bs ++ more) (sym (append_assoc text (front ++ line ++ 10 ∷ []) others)
-    ∙ ap (λ (bs : List ℕ). bs ++ others) (text_front text front line))
-    ∙ append_assoc (text ++ front ++ line ++ 10 ∷ []) others more
-    ∙ append_assoc (text ++ front ++ line) (10 ∷ []) (others ++ more)
+    grind (arith, common_steps)

@@ -1,7 +1,7 @@
 -- One more line is taken, or shows what is to be said of the trace.
-use Rattle.std.proofs.Common.{◌≡◌, ℕ, ◌+◌, List, [], ◌∷◌, ◌++◌, length, Option, Some, None, Result}
-use Rattle.std.proofs.Common.{Ok, Err, refl, sym, ap, subst, ◌∙◌, arith}
-use Rattle.std.proofs.Common.{length-append}
+use Rattle.std.proofs.Common.{rules, ◌≡◌, ℕ, ◌+◌, List, [], ◌∷◌, ◌++◌, length, Option, Some, None}
+use Rattle.std.proofs.Common.{Result, Ok, Err, refl, sym, ap, subst, ◌∙◌, arith, length-append}
+use Rattle.std.proofs.lemmas.Grind.{common_steps}
 use Rattle.std.proofs.lemmas.List.{append-nil}
 use Rattle.std.proofs.lemmas.List.Sums.{sum_by_push}
 use Rattle.ent_alloc.specs.Limits.{Limits}
@@ -10,7 +10,8 @@ use Rattle.ent_trace.specs.Checker.{AgreesWith, Follows, IsTooMany, NoneFollows,
 use Rattle.ent_trace.specs.Checker.{OnTooMany, Shows}
 use Rattle.ent_trace.specs.declared.difference.Stop.{Stop}
 use Rattle.ent_trace.specs.declared.difference.Stop.TheVariants as stop
-use Rattle.tracecheck.specs.Verdict.{MayEnd, end_of}
+use Rattle.tracecheck.specs.Verdict.{MayEnd, end_of, IsVerdict, StandsAt, agrees, asks_too_many}
+use Rattle.tracecheck.specs.Verdict.{differs, differs_in_all, is_none}
 use Rattle.ent_trace.specs.Trace.{Agrees}
 use Rattle.ent_trace.specs.Text.{line_of, words_of}
 use Rattle.ent_trace.specs.declared.difference.Difference.{Difference}
@@ -18,8 +19,6 @@ use Rattle.ent_trace.specs.declared.line.Line.{Line}
 use Rattle.ent_trace.specs.declared.read_fault.Cause.{Cause}
 use Rattle.tracecheck.specs.Calls.{Refused, calls_from, goes_on, given_in}
 use Rattle.tracecheck.specs.Checking.{AllFollow, HasTaken, opened}
-use Rattle.tracecheck.specs.Verdict.{IsVerdict, StandsAt, agrees}
-use Rattle.tracecheck.specs.Verdict.{asks_too_many, differs, differs_in_all, is_none}
 use Rattle.tracecheck.specs.declared.checking.Checking.{Checking}
 use Rattle.tracecheck.specs.declared.verdict.Verdict.TheVariants as verdict
 use Rattle.tracecheck.specs.declared.verdict.Refusal.TheVariants as refusal
@@ -31,10 +30,7 @@ next_call : (texts : List (List ℕ)) (text : List ℕ) (calls : List Line) (r :
     → goes_on (1 + length texts) r (Ok []) ≡ more
     → calls_from 1 (texts ++ text ∷ []) ≡ with_front calls more
 next_call texts text calls r more read named gives =
-    calls_from-append 1 texts (text ∷ []) calls read
-    ∙ ap (λ (q : Result (Option Line) Cause).
-    with_front calls (goes_on (1 + length texts) q (Ok []))) named
-    ∙ ap (with_front calls) gives
+    grind (arith, common_steps, calls_from-append 1 texts (text ∷ []) calls read, with_front calls)
 
 -- a line without words
 pub HasTaken-none : (limits : Limits) (texts : List (List ℕ)) (text : List ℕ) (old new : Checking)
@@ -73,15 +69,7 @@ HasTaken-call limits texts text l old new number next lines given follows named 
 stands : (limits : Limits) (texts after : List (List ℕ)) (text : List ℕ) (l : Line) (old : Checking)
     (number : ℕ) → number ≡ old.lines + 1 → line_of number (words_of text) ≡ Ok (Some l)
     → (h : HasTaken limits texts old) → StandsAt (texts ++ text ∷ after) number h.calls l
-stands limits texts after text l old number next named h = record {
-  before = texts;
-  text = text;
-  after = after;
-  is = refl;
-  number_is = omega (arith, h.lines);
-  read = h.read;
-  named = named;
-}
+stands limits texts after text l old number next named h = search (rules)
 
 pub differs_here : (limits : Limits) (texts after : List (List ℕ)) (text : List ℕ) (l : Line)
     (old : Checking) (number : ℕ) (d : Difference) → number ≡ old.lines + 1

@@ -1,12 +1,10 @@
-use Rattle.std.proofs.Common.{arith}
+use Rattle.std.proofs.Common.{rules, arith}
 use Rattle.ent_map.proofs.Kept.{counts_one, counted-slot, retained-more, retained-done}
 use Rattle.ent_map.proofs.retaining.retain_slots.Goals as goal
 
 pub retain_slot-keep-requires-clause-counted : goal.retain_slot-keep-requires-clause-counted
 retain_slot-keep-requires-clause-counted g c =
-    let inv = c.loop-index.invariant in
-    counts_one c.loop-index.slots.items c.loop-index.len c.loop-index.index c.index_mut.result.now
-    inv.counted (omega (arith, inv.below.long)) c.index_mut.ensures.value
+    search (rules, counts_one)
 
 pub loop-index-preserved : goal.loop-index-preserved
 loop-index-preserved g c =

@@ -1,4 +1,5 @@
-use Rattle.std.proofs.Common.{sym, ◌∙◌, ◌<◌, arith, drop, slice_index}
+use Rattle.std.proofs.Common.{rules, sym, ◌∙◌, ◌<◌, arith, drop, slice_index}
+use Rattle.std.proofs.lemmas.Grind.{common_steps}
 use Rattle.ent_queue.specs.Unpacking.{after_first}
 use Rattle.ent_queue.proofs.Fronts.{HandleAndBundle, HandlesAndBundle, HandleAndComponent}
 use Rattle.ent_queue.proofs.Fronts.{OneHandle, Reason, begins_kinds}
@@ -7,16 +8,13 @@ use Rattle.ent_queue.proofs.entries.read_entry.Goals as goal
 
 -- what may be read after the byte for each kind
 spawn : (c : In-0) → HandleAndBundle (drop 1 c.args.bytes.now) (after_first c.args.bytes.now)
-spawn c = (begins_kinds c.args.bytes.now c.requires).spawn (sym c.read_u8-kind.ensures.value
-    ∙ c.in-0.is)
+spawn c = (grind (arith, common_steps, begins_kinds))
 
 spawn_many : (c : In-1) → HandlesAndBundle (drop 1 c.args.bytes.now) (after_first c.args.bytes.now)
-spawn_many c = (begins_kinds c.args.bytes.now c.requires).spawn_many
-    (sym c.read_u8-kind.ensures.value ∙ c.in-1.is)
+spawn_many c = (grind (arith, common_steps, begins_kinds))
 
 insert : (c : In-2) → HandleAndBundle (drop 1 c.args.bytes.now) (after_first c.args.bytes.now)
-insert c = (begins_kinds c.args.bytes.now c.requires).insert (sym c.read_u8-kind.ensures.value
-    ∙ c.in-2.is)
+insert c = (grind (arith, common_steps, begins_kinds))
 
 remove : (c : In-3) → HandleAndComponent (drop 1 c.args.bytes.now) (after_first c.args.bytes.now)
 remove c = (begins_kinds c.args.bytes.now c.requires).remove (sym c.read_u8-kind.ensures.value
@@ -34,8 +32,7 @@ refused c =
 
 pub read_handle-handle-requires : goal.read_handle-handle-requires
 read_handle-handle-requires c =
-    let f = spawn (goal.at.read_handle-handle-requires c).In-0 in
-    rw c.read_u8-kind.ensures.rest (record { long = f.long; is = f.is })
+    search (rules, spawn)
 
 pub read-bundle-requires : goal.read-bundle-requires
 read-bundle-requires c =
@@ -51,8 +48,7 @@ returns-in-0-clause-rest c =
 
 pub read_u32-count-requires : goal.read_u32-count-requires
 read_u32-count-requires c =
-    let f = spawn_many (goal.at.read_u32-count-requires c).In-1 in
-    rw c.read_u8-kind.ensures.rest f.header
+    search (rules, spawn_many)
 
 pub read-handles-requires : goal.read-handles-requires
 read-handles-requires c =
@@ -84,8 +80,7 @@ returns-in-1-clause-rest c =
 
 pub read_handle-handle-requires-in-2 : goal.read_handle-handle-requires-in-2
 read_handle-handle-requires-in-2 c =
-    let f = insert (goal.at.read_handle-handle-requires-in-2 c).In-2 in
-    rw c.read_u8-kind.ensures.rest (record { long = f.long; is = f.is })
+    search (rules, insert)
 
 pub read-bundle-requires-in-2 : goal.read-bundle-requires-in-2
 read-bundle-requires-in-2 c =
@@ -101,8 +96,7 @@ returns-in-2-clause-rest c =
 
 pub read_handle-handle-requires-in-3 : goal.read_handle-handle-requires-in-3
 read_handle-handle-requires-in-3 c =
-    let f = remove (goal.at.read_handle-handle-requires-in-3 c).In-3 in
-    rw c.read_u8-kind.ensures.rest (record { long = f.long; is = f.is })
+    search (rules, remove)
 
 pub read_u8-id-requires : goal.read_u8-id-requires
 read_u8-id-requires c =
@@ -117,8 +111,7 @@ returns-in-3-clause-rest c =
 
 pub read_handle-handle-requires-in-4 : goal.read_handle-handle-requires-in-4
 read_handle-handle-requires-in-4 c =
-    let f = despawn (goal.at.read_handle-handle-requires-in-4 c).In-4 in
-    rw c.read_u8-kind.ensures.rest (record { long = f.long; is = f.is })
+    search (rules, despawn)
 
 pub returns-in-4-clause-rest : goal.returns-in-4-clause-rest
 returns-in-4-clause-rest c =
@@ -127,8 +120,7 @@ returns-in-4-clause-rest c =
 
 pub read_u32-wanted-requires : goal.read_u32-wanted-requires
 read_u32-wanted-requires c =
-    let f = refused (goal.at.read_u32-wanted-requires c).In_default in
-    rw c.read_u8-kind.ensures.rest f.header
+    search (rules, refused)
 
 pub read_reason-why-requires : goal.read_reason-why-requires
 read_reason-why-requires c =

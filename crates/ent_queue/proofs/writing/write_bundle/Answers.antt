@@ -1,8 +1,7 @@
-use Rattle.std.proofs.Common.{arith}
+use Rattle.std.proofs.Common.{rules}
 use Rattle.std.proofs.Math.Facts.{Fits-of_lt}
 use Rattle.ent_bundle.proofs.Few.{few_items}
 use Rattle.ent_queue.proofs.writing.write_bundle.Goals as goal
 
 pub overflow_cast-items : goal.overflow_cast-items
-overflow_cast-items c = let few = few_items c.args.items.now c.requires.is in
-    Fits-of_lt (omega arith)
+overflow_cast-items c = search (rules, few_items, Fits-of_lt)

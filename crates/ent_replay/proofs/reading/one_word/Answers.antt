@@ -4,5 +4,4 @@ use Rattle.ent_replay.proofs.reading.one_word.Goals as goal
 
 pub returns-in_default-Some : goal.returns-in_default-Some
 returns-in_default-Some c =
-    let e = one_after c.first_word.result.0.now c.in_default-Some.field-0-1.now in
-    search (rules, e)
+    search (rules, one_after)

@@ -1,4 +1,4 @@
-use Rattle.std.proofs.Common.{◌+◌, sym, ap, ◌∙◌, vec_len, Err, ℕ}
+use Rattle.std.proofs.Common.{rules, ◌+◌, sym, ap, ◌∙◌, vec_len, Err, ℕ}
 use Rattle.std.proofs.lemmas.Bool.{eqb-true}
 use Rattle.ent_replay.specs.declared.read_fault.ReadFault.TheVariants.{Line}
 use Rattle.ent_replay.specs.ScheduleText.{schedule_of}
@@ -14,20 +14,10 @@ returns-clause-found c =
     schedule_found text c.loop-rest.events.items e
 
 pub returns-clause-only : goal.returns-clause-only
-returns-clause-only c = λ events fits spelled.
-    let text = c.args.text.now in
-    let e = ends c.loop-rest.events.items (vec_len c.loop-rest.events) c.loop-rest.rest.now
-    (schedule_of text) (eqb-true _ _ (sym c.loop-rest-test.ensures)) c.loop-rest.invariant in
-    sym (schedule_again text events fits spelled) ∙ e
+returns-clause-only c = search (rules, ends, eqb-true, schedule_again)
 
 pub returns-in-Err-clause-only : goal.returns-in-Err-clause-only
-returns-in-Err-clause-only c = λ events fits spelled.
-    let text = c.args.text.now in
-    let e = stops c.loop-rest.events.items (vec_len c.loop-rest.events) c.loop-rest.rest.now
-    c.first_line.result.0.now c.first_line.result.1.now c.in-Err.cause (schedule_of text)
-    c.first_line.ensures.lines (sym c.in-Err.ensures) c.loop-rest.invariant in
-    sym (schedule_again text events fits spelled) ∙ e
-    ∙ ap (λ (n : ℕ). Err (Line (n + 1) c.in-Err.cause)) (sym c.len.ensures)
+returns-in-Err-clause-only c = search (rules, stops, schedule_again)
 
 pub returns-in-Err-clause-refused : goal.returns-in-Err-clause-refused
 returns-in-Err-clause-refused c =

@@ -1,4 +1,4 @@
-use Rattle.std.proofs.Common.{length, [], ◌∷◌, ap, ◌∙◌, arith, length-append, ◌+◌, ◌≤◌}
+use Rattle.std.proofs.Common.{rules, length, [], ◌∷◌, ap, ◌∙◌, arith, length-append, ◌+◌, ◌≤◌}
 use Rattle.std.proofs.lemmas.Result.{err_from_is_err_and}
 use Rattle.ent_replay.proofs.SpacedHandles.{spaced_fits}
 use Rattle.ent_handle.specs.Text.{handle_text}
@@ -10,9 +10,7 @@ use Rattle.ent_replay.proofs.writing.append_spaced.Goals as goal
 fits : (c : After-append) → length c.loop-handle.out.items
     + (1 + length (handle_text c.handle-item.result))
     ≤ length c.args.out.now.items + length (spaced c.args.handles.now)
-fits c = spaced_fits c.args.out.now.items c.loop-handle.out.items c.args.handles.now
-    c.loop-handle.handle-index c.handle-item.result c.loop-handle-test.true c.handle-item.is
-    c.loop-handle.invariant.told
+fits c = search (rules, spaced_fits)
 
 pub returns-in_err-append-clause-full : goal.returns-in_err-append-clause-full
 returns-in_err-append-clause-full c =

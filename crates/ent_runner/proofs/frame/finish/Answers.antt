@@ -1,9 +1,9 @@
-use Rattle.std.proofs.Common.{◌≡◌, ◌∙◌, ap, sym, subst, arith, List, All, true}
+use Rattle.std.proofs.Common.{rules, ◌≡◌, ◌∙◌, ap, sym, subst, arith, All, true}
+use Rattle.std.proofs.lemmas.Grind.{common_steps}
 use Rattle.ent_runner.specs.Collecting.{queues_put}
 use Rattle.std.specs.Prelude.{IsSome, flat_map, Any}
 use Rattle.ent_shared.specs.Phase.{IsOf, records_of}
 use Rattle.ent_shared.specs.Order.{history_of, reservations_of, Respects}
-use Rattle.ent_shared.specs.declared.record.Record.{Record}
 use Rattle.ent_alloc.specs.History.{IsLegal}
 use Rattle.ent_claims.specs.Claims.{IsClaimerOf}
 use Rattle.ent_runner.specs.declared.worker.Worker.{Worker}
@@ -34,23 +34,18 @@ records_is c = ap records_of c.disband.ensures.reservers ∙ records_are c.args.
 closed : (c : After-close-world) → c.close-world.result
     ≡ reserved_by (history_of (all_records c.args.workers.items)) (world_at_start c.args.opened)
 closed c =
-    let w = c.close-world.ensures in
-    closed_by c.args.opened c.close-world.result _ _ (records_is c) w.phase w.entities w.after
+    search (rules, closed_by, records_is)
 
 legal : (c : After-close-world)
     → IsLegal c.args.opened.shared.start (history_of (all_records c.args.workers.items))
-legal c = subst (λ (rs : List Record). IsLegal c.args.opened.shared.start (history_of rs))
-    (records_is c) c.close-world.ensures.legal
+legal c = search (rules, records_is)
 
 respects : (c : After-close-world) → All (Respects (reservations_of
     (all_records c.args.workers.items))) (all_records c.args.workers.items)
-respects c = subst (λ (rs : List Record). All (Respects (reservations_of rs)) rs) (records_is c)
-    c.close-world.ensures.respects
+respects c = search (rules, records_is)
 
 first : (c : After-close-world) → HaveRunFirst c.args.claims.numbers c.args.workers.items
-first c = first_closed c.args.opened.shared c.args.claims c.args.workers.items c.requires.each
-    c.disband.new.claimers.items c.disband.ensures.claimers
-    (omega (arith, c.requires.some, c.requires.count)) c.close.ensures.first
+first c = search (rules, first_closed)
 
 pub collect-requires-clause-full : goal.collect-requires-clause-full
 collect-requires-clause-full c =
@@ -75,12 +70,7 @@ returns-clause-once c = once_closed c.args.opened.shared c.args.claims c.args.wo
 
 pub returns-clause-queues : goal.returns-clause-queues
 returns-clause-queues c =
-    let start = c.args.returned.by_system in
-    c.collect.ensures ∙ queues_back c.args.claims.numbers start.len
-    (flat_map (λ (w : Worker). w.issued.items) c.args.workers.items) start.items
-    c.disband.new.by_system c.requires.room.by_system_empty start.ok.0 (c.disband.ensures.by_system
-    ∙ ap (queues_put (flat_map (λ (w : Worker). w.issued.items) c.args.workers.items))
-    c.deref_mut.ensures.value)
+    grind (arith, common_steps)
 
 pub returns-then-stopped-clause-world : goal.returns-then-stopped-clause-world
 returns-then-stopped-clause-world c =
@@ -91,8 +81,7 @@ returns-then-stopped-clause-legal c =
     legal (goal.at.returns-then-stopped-clause-legal c).After-close-world
 
 pub returns-then-stopped-clause-respects : goal.returns-then-stopped-clause-respects
-returns-then-stopped-clause-respects c = respects (goal.at.returns-then-stopped-clause-respects
-    c).After-close-world
+returns-then-stopped-clause-respects c = search (rules, respects)
 
 pub returns-then-stopped-clause-first : goal.returns-then-stopped-clause-first
 returns-then-stopped-clause-first c =

@@ -1,4 +1,4 @@
-use Rattle.std.proofs.Common.{◌≡◌}
+use Rattle.std.proofs.Common.{rules, ◌≡◌}
 use Rattle.ent_world.specs.OpenWorld.{world_at_start}
 use Rattle.ent_runner.proofs.Alone.{ends_in_order, ends, same_world}
 use Rattle.ent_runner.proofs.Lost.{lost_again, broken_again}
@@ -10,9 +10,7 @@ use Rattle.ent_runner.proofs.frame.run_frame.Goals as goal
 same : (g : given.Over) (c : goal.In-Ok-open g) → world_at_start c.in-Ok-open.made.0
     ≡ c.args.world.now
 same g c =
-    let o = c.in-Ok-open.ensures in
-    same_world c.in-Ok-open.made.0 c.args.world.now c.replace-closed.result
-    c.replace-closed.ensures.value o.shared.0 o.phase o.entities
+    search (rules, same_world)
 
 pub returns-in-Ok-apply-clause-alone : goal.returns-in-Ok-apply-clause-alone
 returns-in-Ok-apply-clause-alone g c one =
@@ -36,7 +34,4 @@ returns-in_default-queues-clause-still g c lost =
 
 pub returns-in_default-queues-clause-lost : goal.returns-in_default-queues-clause-lost
 returns-in_default-queues-clause-lost g c lost =
-    broken_again g.S.System.may_issue g.S.System.may_leave c.args.systems.now c.args.world.now
-    c.run_open-closed.result.0 c.in-Ok-open.made.0 c.run_open-closed.result.1
-    (same g (goal.at.returns-in_default-queues-clause-lost g c).In-Ok-open)
-    c.run_open-closed.ensures.closed c.args.workers c.in-Ok-open.ensures.shared.1
+    search (rules, broken_again, same)

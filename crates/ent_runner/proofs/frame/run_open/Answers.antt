@@ -1,5 +1,4 @@
-use Rattle.std.proofs.Common.{◌∙◌, ap, sym}
-use Rattle.ent_shared.specs.Phase.{records_of}
+use Rattle.std.proofs.Common.{rules}
 use Rattle.ent_shared.specs.Order.{history_of}
 use Rattle.ent_runner.specs.Worker.{all_records}
 use Rattle.ent_runner.proofs.Conducting.{all_ready, all_claimed, framed, is_broken_off, records_are}
@@ -15,13 +14,10 @@ work-requires-clause-ready g c κs within =
     room.unused_of room.unused_are r.fresh
 
 pub work-requires-clause-unused : goal.work-requires-clause-unused
-work-requires-clause-unused g c κs within = sym (records_are c.recruit.new.workers.items)
-    ∙ (ap records_of c.recruit.ensures.reservers ∙ c.requires.unused)
+work-requires-clause-unused g c κs within = search (rules, records_are)
 
 pub finish-requires-clause-each : goal.finish-requires-clause-each
-finish-requires-clause-each g c = all_claimed g.S.System.may_issue g.S.System.may_leave
-    c.args.systems.now c.args.opened c.args.room.claims c.work.new.workers.items c.work.ensures
-    c.requires.room.numbers
+finish-requires-clause-each g c = search (rules, all_claimed)
 
 pub returns-clause-closed : goal.returns-clause-closed
 returns-clause-closed g c =
@@ -38,6 +34,4 @@ returns-clause-closed g c =
 
 pub returns-clause-lost : goal.returns-clause-lost
 returns-clause-lost g c =
-    none_weaker c.finish.result.1 (some_systems g.S.System.may_issue g.S.System.may_leave
-    c.args.systems.now c.args.opened c.args.room.claims c.work.new.workers.items c.work.ensures)
-    c.finish.ensures.lost
+    search (rules, none_weaker, some_systems)

@@ -1,5 +1,5 @@
-use Rattle.std.proofs.Common.{◌≡◌, ◌-◌, [], ◌∷◌, length, Some, None, string_bytes, refl, sym, ap}
-use Rattle.std.proofs.Common.{ap₂, ◌∙◌, arith, rules, suc}
+use Rattle.std.proofs.Common.{◌≡◌, ◌-◌, ◌∷◌, length, Some, string_bytes, refl, sym, ap, ap₂, ◌∙◌}
+use Rattle.std.proofs.Common.{arith, rules, suc}
 use Rattle.json.specs.Token.{Token}
 use Rattle.json.specs.Json.{parse_map, read_key, members, value}
 use Rattle.json.specs.Reads.{token_of}
@@ -8,8 +8,8 @@ use Rattle.serde_json.specs.Data.{null, boolean, number, string, array, object, 
 use Rattle.serde_json.specs.Read.{of_json, converted}
 use Rattle.serde_json.specs.View.{view, number_view, members_view, items_view}
 use Rattle.serde_json.specs.declared.value.Value.{String, Number, Bool, Null, the_lemmas}
-use Rattle.ent_script.proofs.Turns.{converted-object, member_read, member_refused}
-use Rattle.ent_script.proofs.Turns.{key_refused, members_over}
+use Rattle.ent_script.proofs.Turns.{converted-object, member_read, member_refused, key_refused}
+use Rattle.ent_script.proofs.Turns.{members_over}
 use Rattle.ent_script.proofs.Cuts.{view-Array, view-Object, members_view-insert_entry}
 use Rattle.ent_script.proofs.Cuts.{cut_members-put, opened_array, opened_object}
 use Rattle.ent_script.proofs.Openings.{passed_nested}
@@ -18,8 +18,7 @@ use Rattle.ent_script.proofs.cutting.+read.Goals as goal
 
 pub read_cut-returns-in_err-token-clause-json : goal.read_cut-returns-in_err-token-clause-json
 read_cut-returns-in_err-token-clause-json t c refused =
-    let empty : c.args.reader.now ≡ [] = grind arith in
-    ap (converted of_json) (ap (value c.args.depth) empty ∙ value_is c.args.depth [])
+    search (rules, value_is)
 
 pub read_cut-returns-then-depth-eq0-clause-json : goal.read_cut-returns-then-depth-eq0-clause-json
 unfolding value
@@ -32,12 +31,7 @@ read_cut-returns-then-depth-eq0-clause-json t c never =
 pub read_cut-returns-in_err-cut_members-in-BeginObject-clause-json :
     goal.read_cut-returns-in_err-cut_members-in-BeginObject-clause-json
 read_cut-returns-in_err-cut_members-in-BeginObject-clause-json t c refused =
-    let first : c.args.reader.now ≡ token_of c.in_ok-token.token ∷ c.next.new.self = grind arith in
-    let opened = ap (converted of_json) (ap (value c.args.depth)
-    (first ∙ ap (λ k. token_of k ∷ c.next.new.self) c.in-BeginObject.is) ∙ value-begin_object
-    c.args.depth c.next.new.self (omega arith)) ∙ converted-object
-    (members (value (c.args.depth - 1)) (length c.next.new.self) c.next.new.self) in
-    opened ∙ ap (parse_map object) (c.cut_members.ensures.json (grind arith))
+    search (rules, value-begin_object, converted-object)
 
 pub read_cut-returns-in_ok-from_str-in-String-clause-ok :
     goal.read_cut-returns-in_ok-from_str-in-String-clause-ok
@@ -87,18 +81,11 @@ read_cut-returns-in-Some-clause-ok t c =
 
 pub read_cut-returns-in-None-clause-json : goal.read_cut-returns-in-None-clause-json
 read_cut-returns-in-None-clause-json t c refused =
-    let first : c.args.reader.now ≡ token_of c.in_ok-token.token ∷ c.next.new.self = grind arith in
-    let is : c.args.reader.now ≡ Token.number c.in-Number.text.now ∷ c.next.new.self = grind
-    (arith, first) in
-    ap (converted of_json) (ap (value c.args.depth) is ∙ value_is c.args.depth _) ∙
-    rw (← c.in-None.ensures)
+    search (rules, value_is)
 
 pub read_cut-returns-in-EndObject-clause-json : goal.read_cut-returns-in-EndObject-clause-json
 read_cut-returns-in-EndObject-clause-json t c refused =
-    let first : c.args.reader.now ≡ token_of c.in_ok-token.token ∷ c.next.new.self = grind arith in
-    let none : value c.args.depth c.args.reader.now ≡ None =
-    rw (value_is c.args.depth c.args.reader.now, first) (grind arith) in
-    ap (converted of_json) none
+    search (rules, value_is)
 
 pub read_cut-returns-in_ok-cut_members-in-BeginObject-clause-ok :
     goal.read_cut-returns-in_ok-cut_members-in-BeginObject-clause-ok
@@ -132,24 +119,12 @@ cut_members-members-init t c = (
 
 pub cut_members-returns-in_err-name-clause-json : goal.cut_members-returns-in_err-name-clause-json
 cut_members-returns-in_err-name-clause-json t c refused =
-    let p = value c.args.depth in
-    let l = c.members in
-    let n = l.invariant.0 in
-    let old = l.invariant.2.0 in
-    l.invariant.2.1 ∙ key_refused p old n l.reader c.in_err-name.ensures.value
+    search (rules, key_refused)
 
 pub cut_members-returns-in_err-member-clause-json :
     goal.cut_members-returns-in_err-member-clause-json
 cut_members-returns-in_err-member-clause-json t c refused =
-    let p = value c.args.depth in
-    let l = c.members in
-    let n = l.invariant.0 in
-    let old = l.invariant.2.0 in
-    let k = c.in-Some.name.now in
-    let s = c.next_key.new.self in
-    let named : read_key l.reader ≡ Some (Some k, s) = grind arith in
-    l.invariant.2.1 ∙ member_refused p old n k l.reader s named
-    (c.read_cut.ensures.json (grind arith))
+    search (rules, member_refused)
 
 pub cut_members-members-preserved : goal.cut_members-members-preserved
 cut_members-members-preserved t c =
@@ -188,15 +163,7 @@ cut_members-members-preserved t c =
 
 pub cut_members-returns-clause-ok : goal.cut_members-returns-clause-ok
 cut_members-returns-clause-ok t c =
-    let p = value c.args.depth in
-    let l = c.members in
-    let n = l.invariant.0 in
-    let old = l.invariant.2.0 in (
-      old,
-      l.invariant.2.1 ∙ members_over p old n l.reader c.next_key.new.self l.invariant.1
-          (grind arith),
-      l.invariant.2.2,
-    )
+    search (rules, members_over)
 
 pub read_cut-returns-then-levels-eq0-clause-ok : goal.read_cut-returns-then-levels-eq0-clause-ok
 read_cut-returns-then-levels-eq0-clause-ok t c =

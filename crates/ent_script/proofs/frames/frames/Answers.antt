@@ -1,5 +1,5 @@
-use Rattle.std.proofs.Common.{length, Option, Some, None, option_map, option_and_then, ok_or}
-use Rattle.std.proofs.Common.{sym, subst, ap, cond, arith}
+use Rattle.std.proofs.Common.{length, Option, Some, None, option_map, option_and_then, ok_or, sym}
+use Rattle.std.proofs.Common.{subst, ap, cond, arith}
 use Rattle.std.specs.Prelude.{nat_le}
 use Rattle.serde_json.specs.Data.{Data, Items}
 use Rattle.ent_script.specs.Json.{list_of}

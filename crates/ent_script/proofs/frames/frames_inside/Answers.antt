@@ -1,3 +1,4 @@
+use Rattle.std.proofs.lemmas.Grind.{common_steps}
 use Rattle.std.proofs.Common.{◌≡◌, ◌+◌, ◌-◌, ◌<◌, [], ◌∷◌, ◌++◌, length, Some, None, sym, subst, ap}
 use Rattle.std.proofs.Common.{◌∙◌, arith}
 use Rattle.json.specs.Json.{after_end_array, items, value}
@@ -6,21 +7,12 @@ use Rattle.ent_script.specs.Reading.{frame_of}
 use Rattle.ent_script.specs.Streaming.{FaultOfArray}
 use Rattle.ent_script.specs.declared.cause.ScriptCause.TheVariants as script_cause
 use Rattle.ent_script.specs.declared.read_fault.ReadFault.TheVariants as fault
-use Rattle.ent_script.proofs.Listing.{At, at_start, at_next, at_end, at_most_many, at_fault}
+use Rattle.ent_script.proofs.Listing.{At, at_next, at_end, at_most_many, at_fault}
 use Rattle.ent_script.proofs.Listing.{fault_streams_list}
 use Rattle.ent_script.proofs.frames.frames_inside.Goals as goal
 
 pub frames-init : goal.frames-init
-frames-init c = record {
-  at =
-      λ n ds rest e. subst (λ done. At (value c.args.depth)
-      (frame_of c.args.format c.args.components.now) done 0 c.args.reader.now ds rest)
-      (sym c.new-frames.ensures.items)
-      (at_start (value c.args.depth) (frame_of c.args.format c.args.components.now) n
-      c.args.reader.now ds rest e);
-  few = omega arith;
-  shorter = omega arith;
-}
+frames-init c = grind (arith, common_steps)
 
 pub returns-then-number-eq1000-clause-value : goal.returns-then-number-eq1000-clause-value
 returns-then-number-eq1000-clause-value c n ds rest e =

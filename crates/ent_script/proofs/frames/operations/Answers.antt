@@ -1,3 +1,4 @@
+use Rattle.std.proofs.lemmas.Grind.{common_steps}
 use Rattle.std.proofs.Common.{◌≡◌, ℕ, ◌+◌, ◌-◌, ◌<◌, List, [], ◌∷◌, ◌++◌, length, Some, None, sym}
 use Rattle.std.proofs.Common.{subst, ap, ◌∙◌, arith, Ok, Err}
 use Rattle.json.specs.Json.{after_end_array, items, value}
@@ -9,22 +10,11 @@ use Rattle.ent_script.specs.Streaming.{FaultOfArray, Streams}
 use Rattle.ent_script.specs.declared.operation.Operation.{Operation}
 use Rattle.ent_script.specs.declared.read_fault.ReadFault.TheVariants as fault
 use Rattle.ent_script.proofs.Listing.{at_end, at_most_many, at_fault, fault_streams, done_with}
-use Rattle.ent_script.proofs.Operations.{Reached, reached_start, reached_next, listed_among}
+use Rattle.ent_script.proofs.Operations.{Reached, reached_next, listed_among}
 use Rattle.ent_script.proofs.frames.operations.Goals as goal
 
 pub operations-init : goal.operations-init
-operations-init c = record {
-  at =
-      λ n ds rest e. subst (λ done. Reached (value c.args.depth)
-      (operation_at c.args.format c.args.components.now c.args.frame c.args.system (list_of ds))
-      done 0 c.args.reader.now ds rest c.new-bound.result)
-      (sym c.new-operations.ensures.items)
-      (reached_start (value c.args.depth)
-      (operation_at c.args.format c.args.components.now c.args.frame c.args.system (list_of ds)) n
-      c.args.reader.now ds rest c.new-bound.result c.new-bound.ensures e);
-  few = omega arith;
-  shorter = omega arith;
-}
+operations-init c = grind (arith, common_steps)
 
 pub returns-then-number-eq10000-clause-value : goal.returns-then-number-eq10000-clause-value
 unfolding system_of

@@ -1,3 +1,4 @@
+use Rattle.std.proofs.lemmas.Grind.{common_steps}
 use Rattle.std.proofs.Common.{◌≡◌, ◌+◌, ◌-◌, ◌<◌, List, [], ◌∷◌, ◌++◌, length, Some, None, sym}
 use Rattle.std.proofs.Common.{subst, ap, ◌∙◌, arith}
 use Rattle.json.specs.Json.{after_end_array, items, value}
@@ -6,21 +7,12 @@ use Rattle.ent_script.specs.Reading.{frame_of, system_of}
 use Rattle.ent_script.specs.Streaming.{FaultOfArray}
 use Rattle.ent_script.specs.declared.operation.Operation.{Operation}
 use Rattle.ent_script.specs.declared.read_fault.ReadFault.TheVariants as fault
-use Rattle.ent_script.proofs.Listing.{At, at_start, at_next, at_end, at_most_many, at_fault}
-use Rattle.ent_script.proofs.Listing.{fault_streams, done_with}
+use Rattle.ent_script.proofs.Listing.{At, at_next, at_end, at_most_many, at_fault, fault_streams}
+use Rattle.ent_script.proofs.Listing.{done_with}
 use Rattle.ent_script.proofs.frames.systems.Goals as goal
 
 pub systems-init : goal.systems-init
-systems-init c = record {
-  at =
-      λ n ds rest e. subst (λ done. At (value c.args.depth)
-      (system_of c.args.format c.args.components.now c.args.frame) done 0 c.args.reader.now ds rest)
-      (sym c.new-systems.ensures.items)
-      (at_start (value c.args.depth) (system_of c.args.format c.args.components.now c.args.frame) n
-      c.args.reader.now ds rest e);
-  few = omega arith;
-  shorter = omega arith;
-}
+systems-init c = grind (arith, common_steps)
 
 pub returns-then-number-eq256-clause-value : goal.returns-then-number-eq256-clause-value
 unfolding frame_of

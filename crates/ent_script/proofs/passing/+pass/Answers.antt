@@ -1,13 +1,13 @@
-use Rattle.std.proofs.Common.{◌≡◌, ◌-◌, ◌<◌, [], ◌∷◌, length, Some, None, refl, ap, ap₂, ◌∙◌, arith}
-use Rattle.json.specs.Json.{after_end_array, read_key, items, members, value}
+use Rattle.std.proofs.Common.{rules, ◌≡◌, ◌-◌, ◌<◌, ◌∷◌, length, Some, None, refl, ap, ap₂, ◌∙◌}
+use Rattle.std.proofs.Common.{arith}
+use Rattle.json.specs.Json.{after_end_array, read_key, value}
 use Rattle.json.specs.Reads.{token_of}
-use Rattle.json.proofs.Grammar.{left-parse_map, value_is, value-begin_array}
-use Rattle.json.proofs.Grammar.{value-begin_object, read_key-shorter}
-use Rattle.serde_json.specs.Data.{array, object, no_members}
-use Rattle.serde_json.specs.Read.{of_json, of_items, of_members, converted}
-use Rattle.ent_script.proofs.Turns.{converted-array, converted-object, items_over}
-use Rattle.ent_script.proofs.Turns.{key_refused, members_over}
-use Rattle.ent_script.specs.Passing.{left, after_value}
+use Rattle.json.proofs.Grammar.{left-parse_map, value_is, value-begin_array, value-begin_object}
+use Rattle.json.proofs.Grammar.{read_key-shorter}
+use Rattle.serde_json.specs.Data.{no_members}
+use Rattle.ent_script.proofs.Turns.{converted-array, converted-object, items_over, key_refused}
+use Rattle.ent_script.proofs.Turns.{members_over}
+use Rattle.ent_script.specs.Passing.{after_value}
 use Rattle.ent_script.proofs.Stepping.{item_passed, item_stuck, member_passed, member_stuck}
 use Rattle.ent_script.proofs.passing.+pass.Goals as goal
 
@@ -30,20 +30,11 @@ pass_items-loop-reader-preserved t c =
 pub pass_items-returns-in_err-pass_value-clause-value :
     goal.pass_items-returns-in_err-pass_value-clause-value
 pass_items-returns-in_err-pass_value-clause-value t c =
-    let l = c.loop-reader in
-    let going : (after_end_array l.reader ≡ None) × (c.take_end_array.new.self ≡ l.reader) = grind
-    arith in
-    let none = l.invariant.2 ∙ item_stuck (value c.args.depth) l.invariant.0 l.reader going.0
-    (rw (← going.1) c.in_err-pass_value.ensures.value) in
-    grind (arith, none)
+    search (rules, item_stuck)
 
 pub pass_items-returns-clause-value : goal.pass_items-returns-clause-value
 pass_items-returns-clause-value t c =
-    let p = value c.args.depth in
-    let l = c.loop-reader in
-    let n = l.invariant.0 in
-    l.invariant.2 ∙ ap left (items_over p n l.reader c.take_end_array.new.self l.invariant.1
-    (grind arith))
+    search (rules, items_over)
 
 pub pass_members-loop-reader-init : goal.pass_members-loop-reader-init
 pass_members-loop-reader-init t c = (
@@ -56,12 +47,7 @@ pass_members-loop-reader-init t c = (
 pub pass_members-returns-in_err-next_key-clause-value :
     goal.pass_members-returns-in_err-next_key-clause-value
 pass_members-returns-in_err-next_key-clause-value t c =
-    let p = value c.args.depth in
-    let l = c.loop-reader in
-    let n = l.invariant.0 in
-    let none = l.invariant.2.1 ∙ ap left (key_refused p l.invariant.2.0 n l.reader
-    c.in_err-next_key.ensures.value) in
-    grind (arith, none)
+    search (rules, key_refused)
 
 pub pass_members-loop-reader-preserved : goal.pass_members-loop-reader-preserved
 pass_members-loop-reader-preserved t c =
@@ -84,21 +70,11 @@ pass_members-loop-reader-preserved t c =
 pub pass_members-returns-in_err-pass_value-clause-value :
     goal.pass_members-returns-in_err-pass_value-clause-value
 pass_members-returns-in_err-pass_value-clause-value t c =
-    let l = c.loop-reader in
-    let key : read_key l.reader ≡ Some (Some c.in-Some.field-0.now, c.next_key.new.self) = grind
-    arith in
-    let none = l.invariant.2.1 ∙ member_stuck (value c.args.depth) l.invariant.0
-    c.in-Some.field-0.now l.reader c.next_key.new.self l.invariant.2.0 key
-    c.in_err-pass_value.ensures.value in
-    grind (arith, none)
+    search (rules, member_stuck)
 
 pub pass_members-returns-clause-value : goal.pass_members-returns-clause-value
 pass_members-returns-clause-value t c =
-    let p = value c.args.depth in
-    let l = c.loop-reader in
-    let n = l.invariant.0 in
-    l.invariant.2.1 ∙ ap left (members_over p l.invariant.2.0 n l.reader c.next_key.new.self
-    l.invariant.1 (grind arith))
+    search (rules, members_over)
 
 pub pass_rest-returns-then-depth-eq0-clause-value :
     goal.pass_rest-returns-then-depth-eq0-clause-value
@@ -120,15 +96,11 @@ pass_rest-returns-in-String-clause-value t c =
 
 pub pass_rest-returns-in-Some-clause-value : goal.pass_rest-returns-in-Some-clause-value
 pass_rest-returns-in-Some-clause-value t c =
-    ap (λ k. after_value c.args.depth (token_of k ∷ c.args.reader.now)) c.in-Number.is
-    ∙ ap (λ r. left (converted of_json r)) (value_is c.args.depth _)
-    ∙ rw (← c.in-Some.ensures) refl
+    search (rules, value_is)
 
 pub pass_rest-returns-in-None-clause-value : goal.pass_rest-returns-in-None-clause-value
 pass_rest-returns-in-None-clause-value t c =
-    ap (λ k. after_value c.args.depth (token_of k ∷ c.args.reader.now)) c.in-Number.is
-    ∙ ap (λ r. left (converted of_json r)) (value_is c.args.depth _)
-    ∙ rw (← c.in-None.ensures) refl
+    search (rules, value_is)
 
 pub pass_rest-returns-in-EndObject-clause-value :
     goal.pass_rest-returns-in-EndObject-clause-value
@@ -138,29 +110,14 @@ pass_rest-returns-in-EndObject-clause-value t c =
 pub pass_rest-returns-else-depth-eq0-clause-value :
     goal.pass_rest-returns-else-depth-eq0-clause-value
 pass_rest-returns-else-depth-eq0-clause-value t c =
-    let r = c.args.reader.now in
-    let opened = ap (λ k. after_value c.args.depth (token_of k ∷ r)) c.in-BeginArray.is
-    ∙ ap (λ o. left (converted of_json o)) (value-begin_array c.args.depth r (omega arith))
-    ∙ ap left (converted-array (items (value (c.args.depth - 1)) (length r) r))
-    ∙ left-parse_map array (converted of_items (items (value (c.args.depth - 1)) (length r) r)) in
-    rw opened c.pass_items.ensures.value
+    search (rules, value-begin_array, converted-array, left-parse_map)
 
 pub pass_rest-returns-else-depth-eq0-2-clause-value :
     goal.pass_rest-returns-else-depth-eq0-2-clause-value
 pass_rest-returns-else-depth-eq0-2-clause-value t c =
-    let r = c.args.reader.now in
-    let opened = ap (λ k. after_value c.args.depth (token_of k ∷ r)) c.in-BeginObject.is
-    ∙ ap (λ o. left (converted of_json o)) (value-begin_object c.args.depth r (omega arith))
-    ∙ ap left (converted-object (members (value (c.args.depth - 1)) (length r) r))
-    ∙ left-parse_map object (converted (λ ms. of_members ms no_members)
-    (members (value (c.args.depth - 1)) (length r) r)) in
-    rw opened c.pass_members.ensures.value
+    search (rules, value-begin_object, converted-object, left-parse_map)
 
 pub pass_value-returns-in_err-token-clause-value :
     goal.pass_value-returns-in_err-token-clause-value
 pass_value-returns-in_err-token-clause-value t c =
-    let empty : c.args.reader.now ≡ [] = grind arith in
-    let none : after_value c.args.depth c.args.reader.now ≡ None =
-    ap (after_value c.args.depth) empty
-    ∙ ap (λ o. left (converted of_json o)) (value_is c.args.depth []) in
-    grind (arith, none)
+    search (rules, value_is)

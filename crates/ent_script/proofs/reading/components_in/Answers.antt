@@ -1,8 +1,6 @@
-use Rattle.std.proofs.Common.{[], length, Option, option_and_then, option_map, map}
-use Rattle.std.proofs.Common.{codes, sym, subst, ap, arith}
+use Rattle.std.proofs.Common.{rules, [], length, option_and_then, codes, sym, subst, arith}
 use Rattle.serde_json.specs.Data.{Data}
 use Rattle.serde_json.specs.Find.{get}
-use Rattle.ent_script.specs.Cut.{cut}
 use Rattle.ent_script.specs.Json.{at_most}
 use Rattle.ent_script.specs.Streaming.{FindsElements}
 use Rattle.ent_script.proofs.Openings.{text_object, text_no_object}
@@ -10,9 +8,7 @@ use Rattle.ent_script.proofs.reading.components_in.Goals as goal
 
 pub returns-then-not-opens-clause-found : goal.returns-then-not-opens-clause-found
 returns-then-not-opens-clause-found c d e =
-    let none = text_no_object c.args.text.now d e c.in_ok-reader.reader c.in_ok-reader.ensures.ok
-    (codes "components") (grind arith) in
-    sym (ap (λ (o : Option Data). option_map (map (cut 0)) (option_and_then (at_most 256) o)) none)
+    search (rules, text_no_object)
 
 pub returns-clause-found : goal.returns-clause-found
 returns-clause-found c d e =

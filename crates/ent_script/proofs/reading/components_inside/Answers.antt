@@ -1,17 +1,10 @@
-use Rattle.std.proofs.Common.{◌≡◌, ◌-◌, List, map, Option, Some, None, option_map, option_and_then}
-use Rattle.std.proofs.Common.{codes, Result, sym, subst, ap, ◌∙◌, refl, true, false, bytes_eq}
-use Rattle.std.proofs.Common.{arith, rules}
-use Rattle.std.specs.Prelude.{Err}
-use Rattle.std.specs.Global.{Vec}
+use Rattle.std.proofs.Common.{◌≡◌, ◌-◌, List, map, Option, Some, option_map, option_and_then, codes}
+use Rattle.std.proofs.Common.{sym, ap, ◌∙◌, refl, true, false, bytes_eq, arith, rules}
 use Rattle.json.specs.Json.{read_key, members, value}
 use Rattle.serde_json.specs.Data.{Data, no_members, put}
-use Rattle.serde_json.specs.Find.{get_member}
 use Rattle.serde_json.specs.Read.{of_members, converted}
-use Rattle.serde_json.specs.declared.value.Value.{Value}
 use Rattle.ent_script.specs.Cut.{cut}
 use Rattle.ent_script.specs.Json.{at_most}
-use Rattle.ent_script.specs.Streaming.{FindsElements}
-use Rattle.ent_script.specs.declared.read_fault.ReadFault.{ReadFault}
 use Rattle.ent_script.proofs.Finding.{next_member, last_member, no_key}
 use Rattle.ent_script.proofs.PassedOver.{member_over, member_not_over}
 use Rattle.ent_script.proofs.Puts.{found_here, found_before}
@@ -32,18 +25,7 @@ returns-in_err-key-clause-found c n ms rest e =
 
 pub returns-in_err-found-clause-found : goal.returns-in_err-found-clause-found
 returns-in_err-found-clause-found c n ms rest e =
-    let p = value c.args.depth in
-    let l = c.members in
-    let k = c.in-Some.key.now in
-    let s = c.next_key.new.self in
-    let named : read_key l.reader ≡ Some (Some k, s) = grind arith in
-    let at = l.invariant.found n ms rest e in
-    let next = next_member p at.0 k l.reader s rest at.1 ms named at.2 in
-    let is : c.from_residual-in_err-found.result ≡ Err c.in_err-found.field-0.0 = search rules in
-    subst
-    (λ (r : Result (Option (Vec Value)) ReadFault). FindsElements r
-    (option_and_then (at_most 256) (get_member (codes "components") ms))) (sym is)
-    (c.in_err-found.ensures.value next.0 next.1 next.2)
+    search (rules, next_member)
 
 pub members-preserved-then-eq : goal.members-preserved-then-eq
 members-preserved-then-eq c = record {
@@ -96,9 +78,4 @@ returns-in_err-pass_value-clause-found c n ms rest e =
 
 pub returns-clause-found : goal.returns-clause-found
 returns-clause-found c n ms rest e =
-    let p = value c.args.depth in
-    let l = c.members in
-    let over : read_key l.reader ≡ Some (None, c.next_key.new.self) = grind arith in
-    let at = l.invariant.found n ms rest e in
-    let last = last_member p at.0 l.reader c.next_key.new.self rest at.1 ms over at.2 in
-    at.3 ∙ sym (ap (λ x. Seen (get_member (codes "components") x)) last.0)
+    search (rules, last_member)

@@ -1,5 +1,4 @@
-use Rattle.std.proofs.Common.{[], length, Option, codes, sym, subst, ap}
-use Rattle.std.proofs.Common.{arith}
+use Rattle.std.proofs.Common.{rules, [], length, codes, sym, subst, arith}
 use Rattle.serde_json.specs.Data.{Data}
 use Rattle.serde_json.specs.Find.{get}
 use Rattle.ent_script.specs.Streaming.{frames_of}
@@ -9,9 +8,7 @@ use Rattle.ent_script.proofs.reading.frames_in.Goals as goal
 
 pub returns-then-not-opens : goal.returns-then-not-opens
 returns-then-not-opens c d e =
-    let none = text_no_object c.args.text.now d e c.in_ok-reader.reader c.in_ok-reader.ensures.ok
-    (codes "frames") (grind arith) in
-    (ap (λ (o : Option Data). frames_of c.args.format c.args.components.now o) none)
+    search (rules, text_no_object)
 
 pub returns : goal.returns
 returns c d e =

@@ -1,5 +1,6 @@
-use Rattle.std.proofs.Common.{◌≡◌, ◌∙◌, ℕ, List, Some, Result, sym, subst, ap, rules, is_some, arith}
-use Rattle.std.proofs.Common.{true, false}
+use Rattle.std.proofs.lemmas.Grind.{common_steps}
+use Rattle.std.proofs.Common.{◌≡◌, ◌∙◌, ℕ, List, Some, Result, sym, subst, ap, rules, is_some}
+use Rattle.std.proofs.Common.{arith, false}
 use Rattle.std.specs.Prelude.{Err}
 use Rattle.json.specs.Reads.{token_of}
 use Rattle.json.specs.Json.{value}
@@ -13,27 +14,16 @@ use Rattle.ent_script.specs.declared.heading.Heading.{Heading}
 use Rattle.ent_script.specs.declared.read_fault.ReadFault.{ReadFault}
 use Rattle.ent_script.specs.declared.read_fault.ReadFault.TheVariants.{Script}
 use Rattle.ent_script.proofs.CutMeanings.{heading_of-cut}
-use Rattle.ent_script.proofs.Headings.{headed, refused, longer, whole, reads_fault}
+use Rattle.ent_script.proofs.Headings.{headed, whole}
 use Rattle.ent_script.proofs.reading.heading_in.Goals as goal
 
 pub returns-in_err-value : goal.returns-in_err-value
 returns-in_err-value c =
-    let fault = c.in_err-value.field-0.0 in
-    let is : c.from_residual-in_err-value.result ≡ Err fault = search rules in
-    subst (λ (r : Result Heading ReadFault). ReadsAs r (headed (read c.args.text.now))) (sym is)
-    (reads_fault fault c.args.text.now c.in_err-value.ensures.kind
-    (λ same. refused c.args.text.now
-    (ap (λ ts. converted of_json (value 127 ts)) (sym c.in_ok-reader.ensures.ok)
-    ∙ c.in_err-value.ensures.json (ap (λ (f : ReadFault). Err f) same))))
+    grind (arith, common_steps)
 
 pub returns-then-is_some : goal.returns-then-is_some
 returns-then-is_some c =
-    let was = c.in_ok-value.ensures.ok in
-    let some : is_some c.next.result ≡ true = grind arith in
-    ap headed
-    (longer c.next.result (λ t. token_of t) c.args.text.now was.0 c.read_cut.new.reader
-    c.next.new.self some c.next.ensures.value
-    (ap (λ ts. converted of_json (value 127 ts)) (sym c.in_ok-reader.ensures.ok) ∙ was.1))
+    grind (arith, common_steps)
 
 meant : (text : List ℕ) (was : Data) (v : Value) → read text ≡ Some was → view v ≡ cut 1 was
     → headed (read text) ≡ in_script (heading_of (view v))

@@ -33,18 +33,14 @@ meant : (d : Data) (vs lent : List Value) → lent ≡ vs → Some (map view vs)
     → in_script (numbered (component_at (map view lent)) 0 (map view lent)) ≡ in_script
     (component_names (Part d))
 meant d vs lent same seen =
-    ap
-    (λ (xs : List Value). in_script (numbered (component_at (map view xs)) 0 (map view xs)))
-    same ∙ names_meant (Part d) vs seen
+    search (rules, names_meant)
 
 -- the names are those that the text means
 same_names : (c : After-deref) (d : Data) → read c.args.text.now ≡ Some d
     → in_script (numbered (component_at (map view c.deref.result.now)) 0
     (map view c.deref.result.now)) ≡ in_script (component_names (Part d))
 same_names c d e =
-    meant d c.in_ok-values.values.items c.deref.result.now c.deref.ensures.value
-    (sym (ap (option_map (λ (vs : Vec Value). map view vs.items)) c.in_ok-values.ensures.ok_part)
-    ∙ c.in_ok-components_in.ensures.found d e)
+    search (rules, meant)
 
 pub returns-in_err-values : goal.returns-in_err-values
 returns-in_err-values c d e said =

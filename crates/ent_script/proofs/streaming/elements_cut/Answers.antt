@@ -1,19 +1,19 @@
-use Rattle.std.proofs.Common.{◌≡◌, ℕ, ◌+◌, ◌-◌, ◌<◌, List, [], ◌∷◌, ◌++◌, length, map, Option, Some}
-use Rattle.std.proofs.Common.{None, option_map, sym, subst, ap, ◌∙◌, arith, rules, length-append}
-use Rattle.std.proofs.Common.{append_assoc, true, false, le-leb, inl, inr, Bool, cond}
+use Rattle.std.proofs.lemmas.Grind.{common_steps}
+use Rattle.std.proofs.Common.{◌≡◌, ℕ, ◌+◌, ◌-◌, ◌<◌, List, [], ◌∷◌, ◌++◌, length, map, Some, None}
+use Rattle.std.proofs.Common.{option_map, sym, ap, ◌∙◌, arith, rules, length-append, append_assoc}
+use Rattle.std.proofs.Common.{true, false, le-leb, inl, inr, Bool, cond}
 use Rattle.std.proofs.lemmas.Bool.{lt-leb}
-use Rattle.std.proofs.lemmas.List.{length-map, map-append, append-nil}
-use Rattle.std.specs.Prelude.{◌⊎◌, Result, Ok, Err, nat_le}
-use Rattle.std.specs.Global.{Vec}
+use Rattle.std.proofs.lemmas.List.{map-append, append-nil}
+use Rattle.std.specs.Prelude.{◌⊎◌, Ok, nat_le}
 use Rattle.json.specs.Token.{Token}
 use Rattle.json.specs.Json.{after_end_array, items, value}
-use Rattle.serde_json.specs.Data.{Data, Items, array}
+use Rattle.serde_json.specs.Data.{Data, Items}
 use Rattle.serde_json.specs.Read.{of_json, of_items, converted}
 use Rattle.serde_json.specs.View.{view}
 use Rattle.serde_json.specs.declared.value.Value.{Value}
 use Rattle.ent_script.specs.Cut.{cut}
 use Rattle.ent_script.specs.Json.{list_of}
-use Rattle.ent_script.specs.Streaming.{PassesAtMost, ReadsElements}
+use Rattle.ent_script.specs.Streaming.{PassesAtMost}
 use Rattle.ent_script.specs.declared.read_fault.ReadFault.{ReadFault}
 use Rattle.ent_script.specs.declared.read_fault.ReadFault.TheVariants.{Json, Memory}
 use Rattle.ent_script.proofs.Finding.{next_item, last_item, first_of, second_of, impossible}
@@ -23,14 +23,7 @@ lengths : (levels : ℕ) (all later : List Data) (front : List Value)
     → map (cut levels) all ≡ map view front ++ map (cut levels) later
     → length all ≡ length front + length later
 lengths levels all later front e =
-    omega (
-      arith,
-      ap length e,
-      length-append (map view front) (map (cut levels) later),
-      length-map all (cut levels),
-      length-map later (cut levels),
-      length-map front view,
-    )
+    grind (arith, common_steps)
 
 passed_over : (b : Bool) (left : List Token) (ds : Items) (rest : List Token) → PassesAtMost 0
     (Ok b) left ds rest → left ≡ rest
@@ -65,21 +58,7 @@ returns-then-len-most-clause-value c n ds rest e =
 
 pub returns-in_err-read_cut-clause-value : goal.returns-in_err-read_cut-clause-value
 returns-in_err-read_cut-clause-value c n ds rest e =
-    let p = value c.args.depth in
-    let l = c.elements in
-    let going : (after_end_array l.reader ≡ None) × (c.take_end_array.new.self ≡ l.reader) = grind
-    arith in
-    let at = l.invariant.found n ds rest e in
-    let next = next_item p at.0 l.reader rest at.1 going.0 at.2 in
-    let fault = c.in_err-read_cut.field-0.0 in
-    let is : c.from_residual-in_err-read_cut.result ≡ Err fault = search rules in
-    let read = memory_only fault c.in_err-read_cut.ensures.kind
-    (λ same. impossible {P = ⊥} (next.0, next.1)
-    (sym (rw (← going.1) (c.in_err-read_cut.ensures.json
-    (ap (λ (f : ReadFault). Err f) same))) ∙ next.4)) in
-    subst
-    (λ (r : Result (Option (Vec Value)) ReadFault). ReadsElements c.args.levels c.args.most r
-    c.read_cut.new.reader (array ds) rest) (sym is) read
+    search (rules, next_item, memory_only, impossible)
 
 pub elements-preserved : goal.elements-preserved
 elements-preserved c =
@@ -123,22 +102,4 @@ elements-preserved c =
 
 pub returns-clause-value : goal.returns-clause-value
 returns-clause-value c n ds rest e =
-    let p = value c.args.depth in
-    let l = c.elements in
-    let over : after_end_array l.reader ≡ Some c.take_end_array.new.self = grind arith in
-    let at = l.invariant.found n ds rest e in
-    let last = last_item p at.0 l.reader c.take_end_array.new.self rest at.1 over at.2 in
-    let none : length (list_of at.1) ≡ 0 = ap (λ x. length (list_of x)) last.0 in
-    let all = lengths c.args.levels (list_of ds) (list_of at.1) l.found.items at.3 in
-    let test : nat_le (length (list_of ds)) c.args.most ≡ true = le-leb (length (list_of ds))
-    c.args.most (omega (arith, none, all, l.invariant.few)) in
-    let whole : map (cut c.args.levels) (list_of ds) ≡ map view l.found.items =
-    at.3 ∙ ap
-    (λ x. map view l.found.items ++ map (cut c.args.levels) (list_of x)) last.0 ∙ append-nil
-    (map view l.found.items) in (
-      ap (λ (xs : List Data). Some xs) (sym whole)
-          ∙ ap
-          (λ (b : Bool). option_map (map (cut c.args.levels)) (cond b (Some (list_of ds)) None))
-          (sym test),
-      last.1,
-    )
+    grind (arith, common_steps, last_item, lengths, le-leb, append-nil)

@@ -1,5 +1,5 @@
-use Rattle.std.proofs.Common.{length, map, Option, Some, None, option_map, option_and_then}
-use Rattle.std.proofs.Common.{sym, subst, ap, cond, arith}
+use Rattle.std.proofs.Common.{length, map, Option, Some, None, option_map, option_and_then, sym}
+use Rattle.std.proofs.Common.{subst, ap, cond, arith}
 use Rattle.std.specs.Prelude.{nat_le}
 use Rattle.serde_json.specs.Data.{Data, Items}
 use Rattle.ent_script.specs.Cut.{cut}

@@ -1,4 +1,4 @@
-use Rattle.std.proofs.Common.{ℕ, subst}
+use Rattle.std.proofs.Common.{rules, ℕ, subst}
 use Rattle.ent_script_run.specs.declared.show.Show.{Show}
 use Rattle.std.proofs.lemmas.Result.{IfOk-weaker}
 use Rattle.ent_script_run.specs.Report.{IsReport}
@@ -16,9 +16,7 @@ returns-clause-only g c alone =
 
 pub returns-clause-given_once : goal.returns-clause-given_once
 returns-clause-given_once g c =
-    IfOk-weaker c.report-report.result _ _ (λ text is executions report.
-    given_once c.args.script.now c.args.workers c.args.show executions text.items
-    c.requires.ranges.limits report) c.report-report.ensures
+    search (rules, IfOk-weaker, given_once)
 
 pub returns-clause-same : goal.returns-clause-same
 returns-clause-same g c births free =

@@ -1,7 +1,8 @@
-use Rattle.std.proofs.Common.{◌≡◌, ◌∙◌, ℕ, List, true, sym, ap, map, subst}
-use Rattle.clap.specs.Words.{App, HasKind, fault_of, takes}
+use Rattle.std.proofs.Common.{arith, ◌≡◌, ◌∙◌, ℕ, List, true, sym, ap, map}
+use Rattle.std.proofs.lemmas.Grind.{common_steps}
+use Rattle.clap.specs.Words.{App, fault_of, takes}
 use Rattle.tracecheck.specs.CommandLine.{program}
-use Rattle.tracecheck.proofs.LimitsOfWords.{AsksFor-matches, found_fault, is_free, only_memory}
+use Rattle.tracecheck.proofs.LimitsOfWords.{is_free, only_memory}
 use Rattle.tracecheck.proofs.OptionsGiven.{generations-given, slots-given}
 use Rattle.tracecheck.proofs.command_line.command_line.Goals as goal
 
@@ -14,11 +15,7 @@ returns-in_err-matches-clause-refused g c =
 
 pub returns-in_err-matches-clause-fault : goal.returns-in_err-matches-clause-fault
 returns-in_err-matches-clause-fault g c =
-    let words : List (List ℕ) = map g.S.AsStr.text c.args.words.now in
-    let kind = c.in_err-matches.ensures.kinds (is_free _ c.in_ok-program.ensures) in
-    found_fault _ c.in_err-matches.field-0.0 words c.from_residual-in_err-matches.ensures.1
-    (subst (λ kinds. HasKind kinds c.in_err-matches.field-0.0)
-    (ap (λ (a : App). fault_of a words) c.in_ok-program.ensures) kind)
+    grind (arith, common_steps)
 
 pub limits_of-requires-clause-slots : goal.limits_of-requires-clause-slots
 limits_of-requires-clause-slots g c =
@@ -30,13 +27,7 @@ limits_of-requires-clause-generations g c =
 
 pub returns-clause-asked : goal.returns-clause-asked
 returns-clause-asked g c =
-    let words : List (List ℕ) = map g.S.AsStr.text c.args.words.now in
-    AsksFor-matches _ words _ c.limits_of.result c.in_ok-program.ensures
-    c.in_ok-matches.ensures.matches (
-      c.limits_of.ensures.slots,
-      c.limits_of.ensures.generations,
-      c.limits_of.ensures.within,
-    )
+    grind (arith, common_steps)
 
 pub returns-clause-taken : goal.returns-clause-taken
 returns-clause-taken g c =

@@ -1,4 +1,4 @@
-use Rattle.std.proofs.Common.{◌≡◌, ◌++◌, ◌∷◌, [], List, ℕ, subst, sym, ap, ◌∙◌}
+use Rattle.std.proofs.Common.{rules, ◌≡◌, ◌++◌, ◌∷◌, [], List, ℕ, subst, sym}
 use Rattle.std.proofs.lemmas.Result.{err_from_is_err_and}
 use Rattle.tracecheck.specs.Checking.{HasTaken}
 use Rattle.tracecheck.specs.Verdict.{MayEnd}
@@ -10,8 +10,7 @@ use Rattle.tracecheck.proofs.lines.end_line.Goals as goal
 -- the bytes that were taken as a line
 taken_is : (c : After-without_return) → c.without_return.result.now
     ≡ without_return (c.args.pending.now.items ++ c.args.bytes.now)
-taken_is c = c.without_return.ensures
-    ∙ ap without_return (c.deref.ensures.value ∙ c.in_ok-extend_from_slice.ensures.items)
+taken_is c = search (rules)
 
 pub returns-in_err-checking-clause-ends : goal.returns-in_err-checking-clause-ends
 returns-in_err-checking-clause-ends c =

@@ -1,4 +1,4 @@
-use Rattle.std.proofs.Common.{◌++◌, ◌∷◌, [], List, ℕ, subst, sym, append_assoc}
+use Rattle.std.proofs.Common.{rules, ◌++◌, ◌∷◌, [], List, ℕ, subst, sym, append_assoc}
 use Rattle.std.proofs.lemmas.Result.{err_from_is_err_and}
 use Rattle.ent_trace.specs.Text.{lines_of}
 use Rattle.tracecheck.specs.Checking.{HasRead}
@@ -30,11 +30,4 @@ loop-line-preserved c =
     )
 
 pub returns-clause-taken : goal.returns-clause-taken
-returns-clause-taken c = λ limits text read.
-    let before = c.loop-line.invariant in
-    rw (c.in_ok-extend_from_slice.ensures.items, before.1)
-    (subst (λ (bs : List ℕ). HasRead limits bs c.loop-line.checking
-    (c.loop-line.pending.items ++ c.loop-line.rest.now))
-    (append_assoc text before.0 c.loop-line.rest.now)
-    (HasRead-bytes limits (text ++ before.0) c.loop-line.checking c.loop-line.pending.items
-    c.loop-line.rest.now c.in_default.ensures.none (before.2 limits text read)))
+returns-clause-taken c = search (rules, append_assoc, HasRead-bytes)

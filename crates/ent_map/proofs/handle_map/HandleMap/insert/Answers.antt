@@ -1,4 +1,5 @@
-use Rattle.std.proofs.Common.{◌≡◌, get_or, refl, sym, ap, ◌∙◌, arith}
+use Rattle.std.proofs.Common.{rules, ◌≡◌, get_or, refl, sym, ap, ◌∙◌, arith}
+use Rattle.std.proofs.lemmas.Grind.{common_steps}
 use Rattle.ent_map.specs.HandleMap.{HandleMap}
 use Rattle.ent_map.specs.Slots.{value_under, generation_of, slot_at}
 use Rattle.ent_map.proofs.Found.{later, no_later, few_values, put-map, put-before, put-counted}
@@ -23,28 +24,11 @@ returns-then-generation-standing-clause-later g c =
 
 pub returns-in_default-clause-later : goal.returns-in_default-clause-later
 returns-in_default-clause-later g c =
-    let h = c.args.handle in
-    let slots = c.self.inside.slots.items in
-    let values = ap (λ (m : HandleMap g.row.T.Denot). m.values) c.self.view_is in
-    let stands : c.generation_in-standing.result ≡ generation_of (slot_at slots h.index) =
-    c.generation_in-standing.ensures
-    ∙ (λ i. generation_of (slot_at (c.deref.ensures.value i) (c.index_of-index.ensures.value i))) in (
-      λ e. absurd (cc),
-      λ is. absurd (no_later slots _ h values (omega (
-        arith,
-        stands,
-        c.generation.ensures,
-        c.if-generation-standing.false,
-      )) is),
-    )
+    grind (arith, common_steps, no_later)
 
 pub overflow_add-self : goal.overflow_add-self
 overflow_add-self g c =
-    omega (
-      arith,
-      few_values c.self.inside.slots.items c.self.inside.len c.self.invariant,
-      c.lacking.ensures,
-    )
+    search (rules, few_values)
 
 pub invariant_of-self-2 : goal.invariant_of-self-2
 invariant_of-self-2 g c =
@@ -59,14 +43,7 @@ invariant_of-self-2 g c =
 
 pub returns-clause-ok : goal.returns-clause-ok
 returns-clause-ok g c =
-    let all = c.make_slot.new.slots.items in
-    let at = c.index_of-index.result in
-    let was = c.replace-before.ensures.value ∙ c.index_mut.ensures.value
-    ∙ ap (get_or all at) (sym c.replace-before.ensures.value) in
-    put-map c.self.inside.slots.items all c.args.handle at c.replace-before.result
-    c.replace-before.new.dest c.args.value c.index_of-index.ensures.value c.in-Ok.ensures.ok was
-    (c.replace-before.ensures.after ∙ c.of.ensures) _
-    (ap (λ (m : HandleMap g.row.T.Denot). m.values) c.self.view_is)
+    search (rules, put-map)
 
 pub returns-clause-before : goal.returns-clause-before
 returns-clause-before g c =

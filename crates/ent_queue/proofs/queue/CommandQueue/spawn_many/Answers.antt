@@ -1,5 +1,4 @@
-use Rattle.std.proofs.Common.{◌≡◌, ◌++◌, ◌∷◌, [], Ok, Err, ap, sym, subst, ◌∙◌, length}
-use Rattle.std.proofs.Common.{◌<◌, ◌^◌}
+use Rattle.std.proofs.Common.{◌≡◌, ◌++◌, ◌∷◌, [], Ok, Err, ap, sym, subst, ◌∙◌, length, ◌<◌, ◌^◌}
 use Rattle.ent_queue.specs.Command.{SpawnMany, Refused}
 use Rattle.ent_queue.specs.Packing.{command_bytes, bundle_bytes}
 use Rattle.ent_queue.specs.Reserving.{refused_by, IsReturned}

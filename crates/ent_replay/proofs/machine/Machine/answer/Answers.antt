@@ -1,4 +1,5 @@
-use Rattle.std.proofs.Common.{◌≡◌, refl, sym, ap, subst, ◌∙◌, Ok, Err, arith}
+use Rattle.std.proofs.Common.{rules, ◌≡◌, refl, sym, ap, subst, ◌∙◌, Ok, Err, arith}
+use Rattle.std.proofs.lemmas.Grind.{common_steps}
 use Rattle.std.specs.FinMap as finite
 use Rattle.std.proofs.lemmas.Int.{ints}
 use Rattle.ent_alloc.specs.Sequential.{reply_from, pool_at}
@@ -17,21 +18,11 @@ use Rattle.ent_replay.proofs.machine.Machine.answer.Goals.{in-Ok+in-Ok-listed, i
 
 pub returns-in_default : goal.returns-in_default
 returns-in_default c =
-    let e = c.self.inside in
-    let s = e.entities.allocator in
-    faulty (λ v. on_answer v c.args.caller) (machine_state s e.spent e.calls)
-    c.args.self.now c.self.view_is fault.NotOpen
-    (answer-not_open s e.spent e.calls c.args.caller (omega arith) (sym c.get.ensures
-    ∙ c.in_default.is))
+    search (rules, faulty, answer-not_open)
 
 pub returns-in_default-span : goal.returns-in_default-span
 returns-in_default-span c =
-    let e = c.self.inside in
-    let s = e.entities.allocator in
-    faulty (λ v. on_answer v c.args.caller) (machine_state s e.spent e.calls)
-    c.args.self.now c.self.view_is fault.NotStepped
-    (answer-not_stepped s e.spent e.calls c.args.caller (omega arith) c.in-Some.call
-    (sym c.get.ensures ∙ c.in-Some.is) c.in_default-span.is)
+    search (rules, faulty, answer-not_stepped)
 
 pub reply-requires : goal.reply-requires
 reply-requires c =
@@ -64,9 +55,7 @@ reports : (c : After-reply) → on_answer (machine_state c.self.inside.entities.
       machine_state c.self.inside.entities.allocator c.self.inside.spent
           (finite.remove c.self.inside.calls c.args.caller),
     )
-reports c = answer-answered c.self.inside.entities.allocator c.self.inside.spent c.self.inside.calls
-    c.args.caller (omega arith) c.in-Some.call (sym c.get.ensures ∙ c.in-Some.is)
-    c.in-Some-span.span c.in-Some-span.is
+reports c = search (rules, answer-answered)
 
 pub returns-in-Err-listed : goal.returns-in-Err-listed
 returns-in-Err-listed c =
@@ -82,13 +71,11 @@ returns-in-Err-listed c =
 
 -- nothing but the call is taken out
 unchanged : (c : After-remove) → c.match-reply.self-inside ≡ c.self.inside
-unchanged c = elim c.match-reply.branch
-    [ in-Ok+in-Ok-listed w ↦ w.self-inside-is | in-Err w ↦ w.self-inside-is ]
+unchanged c = grind (arith, common_steps)
 
 calls_are : (c : After-remove) → c.match-reply.self-inside ≡ c.self.inside
     → c.remove.new.self ≡ finite.remove c.self.inside.calls c.args.caller
-calls_are c same = c.remove.ensures
-    ∙ ap (λ (x : Inside). finite.remove x.calls c.args.caller) same
+calls_are c same = search (rules)
 
 pub invariant_of-self : goal.invariant_of-self
 invariant_of-self c =

@@ -1,4 +1,4 @@
-use Rattle.std.proofs.Common.{◌≡◌, ◌+◌, ◌-◌, refl, sym, ap, subst, ◌∙◌, Ok, Err, None, arith}
+use Rattle.std.proofs.Common.{rules, ◌≡◌, ◌+◌, ◌-◌, refl, sym, ap, subst, ◌∙◌, Ok, Err, None, arith}
 use Rattle.std.specs.FinMap as finite
 use Rattle.ent_replay.specs.Schedule.{on_begin, event_takes_memory, left_of}
 use Rattle.std.specs.Option.{unwrap_or}
@@ -7,8 +7,7 @@ use Rattle.ent_replay.specs.Machine.{machine_state, AreConsistent}
 use Rattle.ent_replay.specs.declared.outcome.Outcome.TheVariants as outcome
 use Rattle.ent_replay.specs.declared.fault.ReplayFault.TheVariants as fault
 use Rattle.ent_replay.proofs.Maps.{insert-remove}
-use Rattle.ent_replay.proofs.MachineAnswers.{done, faulty, refused, some_of, none_of, on_ok}
-use Rattle.ent_replay.proofs.MachineAnswers.{on_err}
+use Rattle.ent_replay.proofs.MachineAnswers.{done, faulty, refused, some_of, none_of, on_ok, on_err}
 use Rattle.ent_replay.proofs.CallEvents.{begin-open, begin-quota, begin-begun, begin-consistent}
 use Rattle.ent_replay.proofs.machine.Machine.begin.Goals.{Else-is_some, After-unwrap_or-spent}
 use Rattle.ent_replay.proofs.machine.Machine.begin.Goals.{After-remove, Else-is_err-2}
@@ -16,13 +15,7 @@ use Rattle.ent_replay.proofs.machine.Machine.begin.Goals as goal
 
 pub returns-then-is_some : goal.returns-then-is_some
 returns-then-is_some c =
-    let e = c.self.inside in
-    let s = e.entities.allocator in
-    let open_call = some_of c.get.result c.if-is_some.ensures in
-    faulty (λ v. on_begin v c.args.caller c.args.n) (machine_state s e.spent e.calls)
-    c.args.self.now c.self.view_is fault.AlreadyOpen
-    (begin-open s e.spent e.calls c.args.caller (omega arith) c.args.n open_call.0
-    (sym c.get.ensures ∙ open_call.1))
+    search (rules, some_of, faulty, begin-open)
 
 -- the caller has no open call
 none : (c : Else-is_some) → finite.get c.self.inside.calls c.args.caller ≡ None
@@ -80,19 +73,11 @@ kept c = on_err c.insert-2.result c.if-is_err-2.ensures.value c.insert-2.ensures
 undone : (c : After-remove) → finite.get c.self.inside.calls c.args.caller ≡ None
     → c.remove.new.self ≡ c.self.inside.calls
 undone c none =
-    c.remove.ensures ∙ ap (λ m. finite.remove m c.args.caller) (on_ok c.insert.result
-    c.if-is_err.ensures.value c.insert.ensures.ok)
-    ∙ insert-remove c.self.inside.calls c.args.caller
-    (record { requested = c.args.n; span = None }) none
+    search (rules, on_ok, insert-remove, none)
 
 pub invariant_of-self-then-is_err-2 : goal.invariant_of-self-then-is_err-2
 invariant_of-self-then-is_err-2 c =
-    let e = c.self.inside in
-    let s = e.entities.allocator in
-    let at = goal.at.invariant_of-self-then-is_err-2 c in
-    subst (λ m. AreConsistent s m c.remove.new.self) (sym (kept at.After-remove))
-    (subst (λ m. AreConsistent s e.spent m)
-    (sym (undone at.After-remove (none at.Else-is_some))) c.self.invariant)
+    search (rules, kept, undone, none)
 
 pub returns-then-is_err-2 : goal.returns-then-is_err-2
 unfolding credit
@@ -114,8 +99,7 @@ more : (c : Else-is_err-2) → c.unwrap_or-spent.result
     ≡ unwrap_or (finite.get c.self.inside.spent c.args.caller) 0
     → c.insert-2.new.self ≡ finite.insert c.self.inside.spent c.args.caller
     (unwrap_or (finite.get c.self.inside.spent c.args.caller) 0 + c.args.n)
-more c spent = on_ok c.insert-2.result c.if-is_err-2.ensures.value c.insert-2.ensures.ok
-    ∙ ap (finite.insert c.self.inside.spent c.args.caller) (omega arith)
+more c spent = search (rules, on_ok)
 
 pub invariant_of-self-else-is_err-2 : goal.invariant_of-self-else-is_err-2
 unfolding credit

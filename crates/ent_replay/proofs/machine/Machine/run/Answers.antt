@@ -1,10 +1,11 @@
+use Rattle.std.proofs.lemmas.Grind.{common_steps}
 use Rattle.std.proofs.Common.{ℕ, ◌≤◌, List, Result, ◌≡◌, ◌≢◌, ◌+◌, ◌++◌, ◌∷◌, [], sym, ap, subst}
 use Rattle.std.proofs.Common.{◌∙◌, Err, length, take, arith}
 use Rattle.std.proofs.lemmas.List.{take_more, take_all}
 use Rattle.ent_replay.specs.declared.outcome.Outcome.{Outcome}
 use Rattle.ent_replay.specs.declared.fault.ReplayFault.{ReplayFault}
 use Rattle.ent_replay.specs.Machine.{machine_state}
-use Rattle.ent_replay.specs.Histories.{new_phase, StandInHistory, given_by_all}
+use Rattle.ent_replay.specs.Histories.{given_by_all}
 use Rattle.ent_alloc.specs.History.{AreGivenOnce}
 use Rattle.ent_replay.proofs.Linear.{linear}
 use Rattle.ent_replay.proofs.Giving.{given_once}
@@ -24,10 +25,7 @@ all_outcomes s outcomes events done seen is = is ∙ ap (outcomes_of s) (take_al
 
 pub returns-clause-history : goal.returns-clause-history
 returns-clause-history c =
-    let all = all_outcomes c.args.self.now c.loop-done.outcomes.items c.args.events.now
-    c.loop-done.done (omega arith) c.loop-done.invariant.1 in
-    λ rest. subst (StandInHistory (new_phase c.args.self.now) c.args.self.now c.args.events.now)
-    (sym all) (linear c.args.self.now c.args.events.now rest)
+    grind (arith, common_steps, all_outcomes, linear)
 
 pub returns-clause-given_once : goal.returns-clause-given_once
 returns-clause-given_once c =

@@ -1,6 +1,4 @@
-use Rattle.std.proofs.Common.{◌∷◌, [], refl, sym, subst, List}
-use Rattle.ent_handle.specs.Handle.{Handle}
-use Rattle.ent_storage.specs.BirthOrder.{ListsWith}
+use Rattle.std.proofs.Common.{rules, ◌∷◌, [], refl, sym, subst}
 use Rattle.ent_script.specs.declared.target.Target.{Target}
 use Rattle.ent_script_run.specs.Issuing.{IsTargeted}
 use Rattle.ent_script_run.specs.Parts.{names_of}
@@ -20,22 +18,15 @@ returns-in-Handle-clause-issued c =
 listed : (c : After-deref) → IsTargeted c.args.view.now (names_of c.args.names.now) c.args.target
     c.deref.result.now
 listed c =
-    subst (λ (on : Target). IsTargeted c.args.view.now (names_of c.args.names.now) on
-    c.deref.result.now) (sym c.in-Each.is)
-    (subst (λ (hs : List Handle). ListsWith c.in-Each.id c.args.view.now.entities hs)
-    (sym c.deref.ensures.value) c.in_ok-with-in-Each.ensures.ok)
+    search (rules)
 
 pub returns-in_ok-with-in-Each-clause-issued : goal.returns-in_ok-with-in-Each-clause-issued
 returns-in_ok-with-in-Each-clause-issued c =
-    issued_on _ _ _ _ _ _ _ _
-    (listed (goal.at.returns-in_ok-with-in-Each-clause-issued c).After-deref)
-    c.on_each-in-Each.ensures.ok
+    search (rules, issued_on, listed)
 
 pub returns-in_ok-with-in-Each-clause-stopped : goal.returns-in_ok-with-in-Each-clause-stopped
 returns-in_ok-with-in-Each-clause-stopped c =
-    stopped_on _ _ _ _ _ _ _ _
-    (listed (goal.at.returns-in_ok-with-in-Each-clause-stopped c).After-deref)
-    c.on_each-in-Each.ensures.stopped
+    search (rules, stopped_on, listed)
 
 pub returns-in-Some-clause-issued : goal.returns-in-Some-clause-issued
 returns-in-Some-clause-issued c =

@@ -1,33 +1,13 @@
-use Rattle.std.proofs.Common.{◌≡◌, refl, ap, subst, ◌∙◌, arith, rules, to_z, of_z, w64}
+use Rattle.std.proofs.Common.{ap, ◌∙◌, rules}
 use Rattle.std.proofs.lemmas.Int.{ints}
-use Rattle.ent_trace.specs.Checker.{Checked, Differs}
-use Rattle.ent_trace.specs.declared.difference.Difference.{Difference}
+use Rattle.ent_trace.specs.Checker.{Checked}
 use Rattle.ent_trace.proofs.Fronts.{front_here}
 use Rattle.ent_trace.proofs.Keys.{IsChecking-called}
 use Rattle.ent_trace.proofs.checker.Checker.call.Goals as goal
 
 pub returns-in-Some-clause-differs : goal.returns-in-Some-clause-differs
 returns-in-Some-clause-differs c =
-    let s = c.self.inside.entities.allocator in
-    let at = to_z w64 (of_z w64 c.cursor-cursor.result) in
-    let same : at ≡ c.cursor-cursor.result = omega (arith, ints) in
-    let is = same ∙ c.cursor-cursor.ensures.value in
-    let found = rw c.in-Some.is at c.in_ok-expected.ensures.differs in
-    let d : Difference = record {
-      number = c.args.number;
-      told = c.args.line;
-      expected = c.in-Some.expected;
-      front = c.in_ok-front.front;
-      cursor = at;
-    } in
-    subst (λ (k : Checked). Differs k.allocator c.args.number c.args.line d) c.self.view_is record {
-      unlike = found.0;
-      expected = found.1;
-      number_is = search rules;
-      told_is = refl;
-      front_is = c.in_ok-front.ensures ∙ front_here s at c.cursor-cursor.ensures.sound is;
-      cursor_is = is;
-    }
+    search (rules, ints, front_here)
 
 pub invariant_of-result : goal.invariant_of-result
 invariant_of-result c =

@@ -1,15 +1,12 @@
-use Rattle.std.proofs.Common.{◌≡◌, ℕ, ◌+◌, List, [], sym, ap, subst, ◌∙◌, arith, rules}
+use Rattle.std.proofs.Common.{◌≡◌, ℕ, List, [], sym, subst, ◌∙◌, rules}
 use Rattle.std.proofs.lemmas.List.Sorted.{IsNonDecreasingBy-from_sort_by_key, answers_always}
 use Rattle.std.proofs.lemmas.Result.{err_from_is_err_and}
-use Rattle.ent_alloc.specs.Sequential.{Allocator}
-use Rattle.ent_trace.specs.declared.placed.Placed.{Placed}
 use Rattle.ent_trace.specs.Trace.{AreAnswered, after_lines, IsOrderOf}
-use Rattle.ent_trace.specs.Checker.{Checked, IsChecking, IsSettled, Fails, Shows, reservations_of}
-use Rattle.ent_trace.specs.Checker.{requested_in}
+use Rattle.ent_trace.specs.Checker.{Checked, IsSettled, Fails, Shows, reservations_of, requested_in}
+use Rattle.ent_trace.specs.Checker.{HasNoOrder}
 use Rattle.ent_trace.proofs.Sorted.{lines, key, rising, TieAlike, IsRising, sorted-IsOrderOf}
 use Rattle.ent_trace.proofs.Runs.{asked-lines, requested-sorted}
 use Rattle.ent_trace.proofs.Keys.{IsChecking-none, empty_keeps}
-use Rattle.ent_trace.specs.Checker.{HasNoOrder}
 use Rattle.ent_trace.specs.declared.line.Line.{Line}
 use Rattle.ent_trace.proofs.Lifted.{sorted_run}
 use Rattle.ent_trace.proofs.Orders.{ordered-Shows, fails_none}
@@ -21,9 +18,7 @@ use Rattle.ent_trace.proofs.checker.Checker.settle.Goals as goal
 requests : (c : After-deref) → requested_in (reservations_of c.deref.result.now)
     ≡ requested_in (reservations_of c.self.inside.run.items)
 requests c =
-    ap (λ (ps : List Placed). requested_in (reservations_of ps)) c.deref.ensures.value
-    ∙ requested-sorted c.self.inside.run.items c.sort_by_cached_key.new.self.items
-    c.in_ok-sort_by_cached_key.ensures.permutation
+    search (rules, requested-sorted)
 
 -- it is an order of the run
 ordered : (c : After-deref) → IsOrderOf (lines c.self.inside.run.items) (lines c.deref.result.now)
@@ -59,10 +54,7 @@ best c other is all =
 
 pub place_all-requires : goal.place_all-requires
 place_all-requires c =
-    let same = requests (goal.at.place_all-requires c).After-deref in
-    let is = c.self.invariant.wanted_is in
-    let within = c.self.invariant.wanted_in in
-    omega arith
+    search (rules, requests)
 
 pub returns-in_err-place_all-clause-differs : goal.returns-in_err-place_all-clause-differs
 returns-in_err-place_all-clause-differs c =
@@ -97,19 +89,7 @@ returns-in_err-place_all-clause-none c =
 
 pub invariant_of-result : goal.invariant_of-result
 invariant_of-result c =
-    let at = (goal.at.invariant_of-result c).After-deref in
-    let e = c.self.inside in
-    let s = e.entities.allocator in
-    let same = requests at in
-    let asked : c.place_all.new.entities.allocator.asked ≡ s.asked
-    + requested_in (reservations_of c.deref.result.now) =
-    ap (λ (a : Allocator). a.asked) c.in_ok-place_all.ensures.after
-    ∙ asked-lines s c.deref.result.now in
-    let is = c.self.invariant.wanted_is in
-    subst (λ ps. IsChecking c.place_all.new.entities.allocator e.wanted ps c.clear-2.new.self)
-    (sym c.clear.ensures.items)
-    (IsChecking-none c.place_all.new.entities.allocator e.wanted c.clear-2.new.self
-    (omega arith) c.self.invariant.wanted_in (empty_keeps c.clear-2.new.self c.clear-2.ensures))
+    search (rules, requests, asked-lines, IsChecking-none, empty_keeps)
 
 pub returns-clause-settled : goal.returns-clause-settled
 returns-clause-settled c =

@@ -1,12 +1,10 @@
-use Rattle.std.proofs.Common.{sym, refl, subst, arith}
+use Rattle.std.proofs.Common.{rules, sym, subst}
 use Rattle.tracecheck.specs.Verdict.{MayEnd}
 use Rattle.tracecheck.proofs.Taking.{HasTaken-call, ends_at}
 use Rattle.tracecheck.proofs.checking.Checking.take_call.Goals as goal
 
 pub returns-in-Ok-clause-taken : goal.returns-in-Ok-clause-taken
-returns-in-Ok-clause-taken c = λ limits texts text named taken.
-    HasTaken-call limits texts text c.args.line c.args.self _ c.args.number c.requires refl (grind arith)
-    c.in-Ok.ensures.follows named taken
+returns-in-Ok-clause-taken c = search (rules, HasTaken-call)
 
 pub returns-in-Err-clause-ends : goal.returns-in-Err-clause-ends
 returns-in-Err-clause-ends c = λ limits texts after text named taken.
