@@ -69,8 +69,7 @@ All-fresh P index slots each k d lt =
 
 -- their indexes rise
 pub AllPairs-fresh : (index slots : ℕ) → AllPairs (λ g h. g.index < h.index) (fresh index slots)
-AllPairs-fresh index slots i j d lt within =
-    search (rules, length-fresh, get_or-fresh)
+AllPairs-fresh index slots i j d lt within = search (rules, length-fresh, get_or-fresh)
 
 -- no two of them are of one slot
 pub fresh_apart : (index slots : ℕ) → AllPairs AreApart (fresh index slots)

@@ -104,8 +104,7 @@ union_list_has s more x has = search (rules, contains-union_list, stands_in-from
 pub one_occupant_inserted : (live : set.FinSet handle_cmp) (x : Handle)
     → ((y : Handle) → IsTrue (set.contains live y) → AreApart y x)
     → ((g h : Handle) → IsTrue (set.contains live g) → IsTrue (set.contains live h) → g.index
-    ≡ h.index → g ≡ h)
-    → (g h : Handle) → IsTrue (set.contains (set.insert live x) g)
+    ≡ h.index → g ≡ h) → (g h : Handle) → IsTrue (set.contains (set.insert live x) g)
     → IsTrue (set.contains (set.insert live x) h) → g.index ≡ h.index → g ≡ h
 one_occupant_inserted live x apart one g h in_g in_h same = search (rules, in_inserted)
 
@@ -126,8 +125,7 @@ one_occupant_joined live more apart among one g h in_g in_h same =
         | inl h_before ↦ absurd (All-contains (AreApart h) more g (apart h h_before) g_new
             (sym same))
         | inr h_new ↦ same_from_AllPairs AreApart more g h among g_new h_new
-            (λ not_same. not_same same)
-            (λ not_same. not_same (sym same))
+            (λ not_same. not_same same) (λ not_same. not_same (sym same))
       ]
     ]
 

@@ -9,32 +9,6 @@ use Rattle.ent_alloc.specs.Slots.{occupants, is_alive}
 
 -- ---- one record after the other
 
-pub occupants-alive : (index : ℕ) (r : SlotRecord) (records : List SlotRecord)
-    → is_alive r.occupancy ≡ true → occupants index (r ∷ records)
-    ≡ record { index = index; generation = r.generation } ∷ occupants (index + 1) records
-occupants-alive index r records is = search (rules)
-
-pub occupants-gone : (index : ℕ) (r : SlotRecord) (records : List SlotRecord)
-    → is_alive r.occupancy ≡ false → occupants index (r ∷ records) ≡ occupants (index + 1) records
-occupants-gone index r records is = search (rules)
-
--- the record at a position has a living occupant
-pub occupants-found : (index : ℕ) (records : List SlotRecord) (position : ℕ) (d : SlotRecord)
-    → position < length records → is_alive (get_or records position d).occupancy ≡ true
-    → occupants (index + position) (drop position records)
-    ≡ record { index = index + position; generation = (get_or records position d).generation }
-    ∷ occupants (index + position + 1) (drop (position + 1) records)
-occupants-found index records position d within is =
-    grind (arith, common_steps)
-
--- it has none
-pub occupants-passed : (index : ℕ) (records : List SlotRecord) (position : ℕ) (d : SlotRecord)
-    → position < length records → is_alive (get_or records position d).occupancy ≡ false
-    → occupants (index + position) (drop position records)
-    ≡ occupants (index + (position + 1)) (drop (position + 1) records)
-occupants-passed index records position d within is =
-    grind (arith, common_steps)
-
 -- ---- by rising slot
 
 -- the first handle is of an earlier slot than all others

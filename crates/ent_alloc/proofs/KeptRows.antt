@@ -54,8 +54,7 @@ row_head : (index : ℕ) (r : SlotRecord) (records : List SlotRecord) (q : Handl
     → cond (eqb q.index index && eqb q.generation r.generation) (cond (is_some (row_of r.occupancy))
     (row_of r.occupancy) (row_from (index + 1) records q)) (row_from (index + 1) records q)
     ≡ row_from index (r ∷ records) q
-row_head index r records q =
-    search (rules, tests_of, row_split, eqb_sym)
+row_head index r records q = search (rules, tests_of, row_split, eqb_sym)
 
 find-rows_from : (index : ℕ) (records : List SlotRecord) (q : Handle)
     → find handle_cmp q (rows_from index records) ≡ row_from index records q
@@ -91,8 +90,7 @@ pub rows_from-set : (from : ℕ) (records : List SlotRecord) (index : ℕ) (r : 
     → row_of r.occupancy ≡ None → row_of (record_at records index).occupancy ≡ None
     → rows_from from (set records index r) ≡ rows_from from records
 rows_from-set from [] index r new old = refl
-rows_from-set from (x ∷ records) zero r new old =
-    (search (rules))
+rows_from-set from (x ∷ records) zero r new old = (search (rules))
 rows_from-set from (x ∷ records) (suc index) r new old =
     search (rules, rows_from-set (from + 1) records index r new old)
 
@@ -105,5 +103,4 @@ rows_from-new from (suc count) = rows_from-new (from + 1) count
 pub rows_from-made : (from count : ℕ) (records : List SlotRecord)
     → rows_from from (records ++ replicate count new_record) ≡ rows_from from records
 rows_from-made from count [] = rows_from-new from count
-rows_from-made from count (r ∷ records) =
-    search (rules, rows_from-made (from + 1) count records)
+rows_from-made from count (r ∷ records) = search (rules, rows_from-made (from + 1) count records)

@@ -124,8 +124,7 @@ module _ (limits : Limits) (records : List SlotRecord) (pending : List ℕ) (liv
         limits = limits;
         live = live_is i;
         rows = rows_is i;
-        pending =
-            pending_is i;
+        pending = pending_is i;
         made = made_is i;
       }
 
@@ -185,8 +184,7 @@ module _ (limits : Limits) (records : List SlotRecord) (pending rest : List ℕ)
       ∙ roster_of-reuse limits records pending live (length rest) linked within
       ∙ (λ i. record r {
         live = sets.union r.live (sets.from_list (handles i));
-        pending =
-            take (at i) r.pending;
+        pending = take (at i) r.pending;
       })
 
   pub last_handle : slice_get (map (handle_at records) pending)

@@ -37,8 +37,7 @@ pub record IsAfter (n index : ℕ) : Type 0 where
   pub off : n - index ≡ suc (n - (index + 1))
 
 pub tests_of : (n index : ℕ) → IsAt n index ⊎ (IsBefore n index ⊎ IsAfter n index)
-tests_of n index =
-    grind (arith, common_steps)
+tests_of n index = grind (arith, common_steps)
 
 -- a filter that each element passes keeps the list
 pub filter_all : {X : Type 0} (p : X → Bool) (xs : List X) → All (λ x. p x ≡ true) xs → filter p xs

@@ -27,8 +27,7 @@ pub reserved_handles-pending : (r : Roster) (position end index index_end : ℕ)
     ≤ length r.pending → position < end → slice_get r.pending position ≡ Some h
     → reserved_handles r position end index index_end ≡ h ∷ reserved_handles r (position + 1) end
     index index_end
-reserved_handles-pending r position end index index_end h within below at =
-    search (rules, drop_at)
+reserved_handles-pending r position end index index_end h within below at = search (rules, drop_at)
 
 -- else the first fresh one
 pub reserved_handles-fresh : (r : Roster) (position end index index_end : ℕ) → end ≤ position
@@ -41,8 +40,7 @@ reserved_handles-fresh r position end index index_end past below =
 -- else none
 pub reserved_handles-none : (r : Roster) (position end index index_end : ℕ) → end ≤ position
     → index_end ≤ index → reserved_handles r position end index index_end ≡ []
-reserved_handles-none r position end index index_end past passed =
-    search (rules, fresh-none)
+reserved_handles-none r position end index index_end past passed = search (rules, fresh-none)
 
 -- ---- listing one after the other
 
@@ -61,5 +59,4 @@ fresh-push index (suc count) =
 pub replicate-push : {X : Type 0} (count : ℕ) (x : X) → replicate count x ++ x ∷ []
     ≡ replicate (count + 1) x
 replicate-push zero x = refl
-replicate-push (suc count) x =
-    search (rules, replicate-push count x)
+replicate-push (suc count) x = search (rules, replicate-push count x)

@@ -23,8 +23,7 @@ lives_in limits records pending h view lives =
 -- its slot was made, and its record is alive with this generation
 pub occupant_made : (records : List SlotRecord) (h : Handle) → is_occupant records h ≡ true
     → h.index < length records
-occupant_made records h is =
-    grind (arith, common_steps)
+occupant_made records h is = grind (arith, common_steps)
 
 pub occupant_alive : (records : List SlotRecord) (h : Handle) → is_occupant records h ≡ true
     → is_alive (record_at records h.index).occupancy ≡ true
@@ -37,20 +36,16 @@ occupant_generation records h is = grind (arith, common_steps)
 -- who else is an occupant of this slot has its generation
 pub is_occupant-same_slot : (records : List SlotRecord) (h q : Handle) → is_occupant records h
     ≡ true → eqb q.index h.index ≡ true → is_occupant records q ≡ eqb h.generation q.generation
-is_occupant-same_slot records h q lives e =
-    grind (arith, common_steps)
+is_occupant-same_slot records h q lives e = grind (arith, common_steps)
 
 -- a handle of this slot under another generation has no row
 pub row_at-same_slot : (records : List SlotRecord) (h q : Handle) → is_occupant records h ≡ true
     → eqb q.index h.index ≡ true → eqb q.generation h.generation ≡ false → row_at records q ≡ None
-row_at-same_slot records h q lives e ne =
-    grind (arith, common_steps)
+row_at-same_slot records h q lives e ne = grind (arith, common_steps)
 
 -- its record, which was lent at its index, gets another occupancy
 pub lent_set : (records : List SlotRecord) (h : Handle) (at : ℕ) (lent : SlotRecord)
     (o : Occupancy) → is_occupant records h ≡ true → at ≡ h.index → lent ≡ get_or records at lent
-    → set records at (record { generation = lent.generation; occupancy = o })
-    ≡ set records h.index
+    → set records at (record { generation = lent.generation; occupancy = o }) ≡ set records h.index
     (record { generation = (record_at records h.index).generation; occupancy = o })
-lent_set records h at lent o lives here is =
-    grind (arith, common_steps)
+lent_set records h at lent o lives here is = grind (arith, common_steps)

@@ -86,22 +86,19 @@ module _ (records : List SlotRecord) (h : Handle) where
   pub is_occupant-occupancy : is_occupant records h ≡ lives (occupancy_of records h)
   is_occupant-occupancy =
       lives_if (ltb h.index (length records)) (eqb found_record.generation h.generation)
-      found_record.occupancy
-      (λ is. ap (λ (r : SlotRecord). is_alive r.occupancy) (absent is))
+      found_record.occupancy (λ is. ap (λ (r : SlotRecord). is_alive r.occupancy) (absent is))
 
   -- what is found was made
   pub made-occupancy : OnSome (occupancy_of records h) (h.index < length records)
   made-occupancy = elim (cases_lt h.index (length records)) [
     | inl made ↦ anyhow (occupancy_of records h) (h.index < length records) made
-    | inr past ↦
-        rw (le-ltb h.index (length records) past) tt
+    | inr past ↦ rw (le-ltb h.index (length records) past) tt
   ]
 
   pub row_at-occupancy : row_at records h ≡ row_kept (occupancy_of records h)
   row_at-occupancy =
       row_if (ltb h.index (length records)) (eqb found_record.generation h.generation)
-      found_record.occupancy
-      (λ is. ap (λ (r : SlotRecord). row_of r.occupancy) (absent is))
+      found_record.occupancy (λ is. ap (λ (r : SlotRecord). row_of r.occupancy) (absent is))
 
   pub waits_at-occupancy : (from : ℕ) → waits_at records h from
       ≡ waits_from (occupancy_of records h) from
@@ -174,8 +171,7 @@ module _ (limits : Limits) (records : List SlotRecord) (pending : List ℕ) (liv
         at_position from (position.0 - from) h below
             ∙ (λ i. record {
               index = index i;
-              generation =
-                  ((ap (λ n. (record_at records n).generation) index) ∙ generation) i;
+              generation = ((ap (λ n. (record_at records n).generation) index) ∙ generation) i;
             }),
       )
 
@@ -225,8 +221,7 @@ module _ (limits : Limits) (records : List SlotRecord) (pending : List ℕ) (liv
   abbrev labelled : SlotRecord
   labelled = record {
     generation = (record_at records h.index).generation;
-    occupancy =
-        AliveWithRow row;
+    occupancy = AliveWithRow row;
   }
 
   abbrev relabelled : List SlotRecord
@@ -312,8 +307,7 @@ module _ (limits : Limits) (records : List SlotRecord) (pending : List ℕ) (liv
   new_rows : maps.from_entries {R = handle_cmp} (rows_from 0 relabelled)
       ≡ maps.insert (maps.from_entries (rows_from 0 records)) h row
   new_rows =
-      maps.same_map handle_cmp_total handle_cmp-IsAntisymmetric _ _ (λ q.
-      get_rows relabelled q
+      maps.same_map handle_cmp_total handle_cmp-IsAntisymmetric _ _ (λ q. get_rows relabelled q
       ∙ row_at-set records h.index labelled q slot_made
       ∙ (λ i. cond (eqb q.index h.index)
       (cond ((ap (λ n. eqb n q.generation) (occupant_generation records h lives)
@@ -330,14 +324,12 @@ module _ (limits : Limits) (records : List SlotRecord) (pending : List ℕ) (liv
       let pending_is = map_alike (handle_at relabelled) (handle_at records) pending
       (λ k below i. record {
         index = get_or pending k 0;
-        generation =
-            generations (get_or pending k 0) i;
+        generation = generations (get_or pending k 0) i;
       }) in
       λ i. record {
         limits = limits;
         live = same_live i;
         rows = new_rows i;
-        pending =
-            pending_is i;
+        pending = pending_is i;
         made = length-set records h.index labelled i;
       }

@@ -49,8 +49,7 @@ pub available_is : (r : Roster) (asked given : ℕ) → given ≤ asked
 available_is r asked given within = append_parts given asked (idle r) within
 
 pub length-idle : (r : Roster) → length (idle r) ≡ length r.pending + (r.limits.slots - r.made)
-length-idle r =
-    search (rules, length-append, length-reverse, length-fresh)
+length-idle r = search (rules, length-append, length-reverse, length-fresh)
 
 module _ (r : Roster) (asked given : ℕ) (within : given ≤ asked)
     (sound : IsSound (allocator_of r asked given)) where
@@ -76,8 +75,7 @@ top_view r asked given s reserved view =
 -- nothing is reserved
 pub flushed : (r : Roster) (asked given : ℕ) → asked ≡ 0 → given ≤ asked
     → allocator_of r asked given ≡ allocator_of r 0 0
-flushed r asked given none within =
-    search (rules)
+flushed r asked given none within = search (rules)
 
 -- where nothing is reserved, both counts are 0
 pub AreReserved-flushed : (r : Roster) → IsSound (allocator_of r 0 0)
@@ -89,12 +87,10 @@ pub opening_is : (limits : Limits)
       limits = limits;
       live = sets.empty;
       rows = maps.empty;
-      pending =
-          [];
+      pending = [];
       made = 0;
     }) 0 0 ≡ opening limits
-opening_is limits =
-    search (rules)
+opening_is limits = search (rules)
 
 -- the allocator of the same entities is the same
 pub allocator_is : {d e : Entities} → d ≡ e → d.allocator ≡ e.allocator
@@ -109,8 +105,7 @@ length_left r asked = length-drop asked (idle r) ∙ ap (λ n. n - asked) (lengt
 pub length_available : (r : Roster) (asked given : ℕ) (s : Allocator) → AreReserved r asked given
     → allocator_of r asked given ≡ s → length (available s) ≡ length r.pending
     + (r.limits.slots - r.made)
-length_available r asked given s reserved view =
-    search (rules, available_is, length-idle)
+length_available r asked given s reserved view = search (rules, available_is, length-idle)
 
 -- the handles that wait are old
 pub pending_below : (r : Roster) (asked given : ℕ) → given ≤ asked
@@ -133,8 +128,7 @@ pool_at_is r asked given high within sound =
 -- an allocator that nothing is reserved of
 pub rest_is : (r : Roster) (asked given : ℕ) (s : Allocator) → AreReserved r asked given
     → allocator_of r asked given ≡ s → s.asked ≡ 0 → allocator_of r 0 0 ≡ s
-rest_is r asked given s reserved view none =
-    search (rules, flushed)
+rest_is r asked given s reserved view none = search (rules, flushed)
 
 -- no request
 abbrev pub none : Requests
@@ -167,8 +161,7 @@ closed r r' requests s same rest is sound rows = record {
 
 -- a test that no request was made
 pub none_asked : (b : Bool) (n : ℕ) → (IsTrue b ↔ (0 < n)) → b ≡ false → n ≡ 0
-none_asked b n tells is =
-    grind (arith, common_steps)
+none_asked b n tells is = grind (arith, common_steps)
 
 -- an allocator that nothing is reserved of
 pub record IsAtRest (r : Roster) (requests : Requests) (s : Allocator) : Type 0 where
@@ -181,5 +174,4 @@ pub record IsAtRest (r : Roster) (requests : Requests) (s : Allocator) : Type 0 
 pub at_rest : (r : Roster) (requests : Requests) (s : Allocator) (b : Bool) → AreReserved r
     requests.asked requests.served → allocator_of r requests.asked requests.served ≡ s
     → (IsTrue b ↔ (0 < s.asked)) → b ≡ false → IsAtRest r requests s
-at_rest r requests s b reserved view tells is =
-    search (rules, none_asked, none_is, rest_is)
+at_rest r requests s b reserved view tells is = search (rules, none_asked, none_is, rest_is)

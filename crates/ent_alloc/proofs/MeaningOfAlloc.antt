@@ -143,8 +143,7 @@ module _ (r : Roster) (requests : Requests) (s : Allocator) (rest : IsAtRest r r
       let some : 0 < length r.pending = omega arith in
       given h (reused_roster r h) _ (sym pool_is ∙ alloc_old_front r h some last)
       (alloc_old_is r h (subst IsSound (sym rest.view) rest.sound) some last
-      ∙ ap (λ t. after_alloc t h) rest.view)
-      refl (rows-joined r.live (h ∷ []) r.rows rest.rows)
+      ∙ ap (λ t. after_alloc t h) rest.view) refl (rows-joined r.live (h ∷ []) r.rows rest.rows)
 
   -- no slot waits, and one is made
   pub made_given : (h : Handle) → length r.pending ≡ 0 → r.made < r.limits.slots
@@ -180,17 +179,3 @@ ended_is : (r : Roster) (h : Handle) (pending : List Handle)
       pending = pending;
     }) 0 0 ≡ after_free (allocator_of r 0 0) h
 ended_is r h pending front = search (rules)
-
-pub free_is : (r : Roster) (h : Handle) → h.generation ≢ r.limits.generations
-    → allocator_of (freed_roster r h) 0 0 ≡ after_free (allocator_of r 0 0) h
-free_is r h before =
-    ended_is r h (r.pending ++ following h ∷ [])
-    (ap (λ hs. hs ++ fresh r.made (r.limits.slots - r.made))
-    (reverse-append r.pending (following h ∷ []))
-    ∙ ap (λ o. in_front o (idle r)) (sym (next-later r.limits h before)))
-
--- the last occupant of a slot leaves the pool as it is
-pub retire_is : (r : Roster) (h : Handle) → h.generation ≡ r.limits.generations
-    → allocator_of (retired_roster r h) 0 0 ≡ after_free (allocator_of r 0 0) h
-retire_is r h last =
-    ended_is r h r.pending (ap (λ o. in_front o (idle r)) (sym (next-last r.limits h last)))

@@ -48,8 +48,7 @@ listed_is r asked n below enough =
     - r.made - (asked - length-reverse r.pending i))) in
     let few : take n (drop asked (idle r)) ≡ take n old ++ fresh at (n - front) =
     ap (take n) left ∙ take-append n old (fresh at room) ∙ ap (λ hs. take n old ++ hs)
-    (ap (λ k. take (n - k) (fresh at room)) long ∙ take-fresh (n - front) at room (omega arith))
-    in
+    (ap (λ k. take (n - k) (fresh at room)) long ∙ take-fresh (n - front) at room (omega arith)) in
     let olds : All (λ h. h.index < r.made) (take n old) = All-take (λ h. h.index < r.made) n old
     (All-drop (λ h. h.index < r.made) asked (reverse r.pending) below) in
     let old_part : filter (is_old r.made) (take n (drop asked (idle r))) ≡ take n old =
@@ -80,17 +79,14 @@ pub reply_served : (r : Roster) (asked n : ℕ) → All (λ h. h.index < r.made)
     → Ok (reserved_handles r (length r.pending - (asked + n)) (length r.pending - asked) (r.made
     + (asked - length r.pending)) (r.made + (asked + n - length r.pending)))
     ≡ reply_from r.made (drop asked (idle r)) n
-reply_served r asked n below enough =
-    search (rules, le-leb, length_left, listed_is, cond-true)
+reply_served r asked n below enough = search (rules, le-leb, length_left, listed_is, cond-true)
 
 pub reply_refused : (r : Roster) (asked n : ℕ) → 0 < n → length r.pending
     + (r.limits.slots - r.made) < asked + n
     → Err (record { wanted = n; left = length r.pending + (r.limits.slots - r.made) - asked })
     ≡ reply_from r.made (drop asked (idle r)) n
-reply_refused r asked n some past =
-    search (rules, length_left, lt-leb, cond-false)
+reply_refused r asked n some past = search (rules, length_left, lt-leb, cond-false)
 
 pub reply_none : (r : Roster) (asked n : ℕ) → n ≡ 0 → Ok []
     ≡ reply_from r.made (drop asked (idle r)) n
-reply_none r asked n none =
-    grind (arith, common_steps)
+reply_none r asked n none = grind (arith, common_steps)

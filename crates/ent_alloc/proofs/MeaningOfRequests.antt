@@ -32,10 +32,7 @@ lower_refused r asked given n within past =
       take_all (asked + n) (idle r) (omega (arith, length-idle r)),
       length-idle r,
       drop_rest given asked (idle r) within,
-      drop_all (asked + n) (idle r) (omega (
-        arith,
-        length-idle r,
-      )),
+      drop_all (asked + n) (idle r) (omega (arith, length-idle r)),
       length_left r asked,
       append-nil (take given (idle r)),
     )
@@ -87,8 +84,7 @@ module _ (r : Roster) (asked given n : ℕ) (s : Allocator) (reserved : AreReser
 -- what the two positions leave of an allocator that nothing is reserved of
 pub settled_is : (r : Roster) (asked given : ℕ) → allocator_of r asked given
     ≡ settled (allocator_of r 0 0) given asked
-settled_is r asked given =
-    search (rules)
+settled_is r asked given = search (rules)
 
 module _ (r : Roster) (was_asked was_given : ℕ) (s : Allocator) (reserved : AreReserved r was_asked
     was_given) (view : allocator_of r was_asked was_given ≡ s) (idle : s.asked ≡ 0) where

@@ -41,8 +41,7 @@ is_eq-nat_cmp a b = grind (arith, nat_tests)
 -- two handles tie where both numbers are equal
 pub ties : (a b : Handle) → eq_by_cmp handle_cmp a b
     ≡ (eqb a.index b.index && eqb a.generation b.generation)
-ties a b =
-    grind (arith, common_steps)
+ties a b = grind (arith, common_steps)
 
 -- what stands in the list of the occupants from an index on
 abbrev at_from : ℕ → List SlotRecord → Handle → Bool
@@ -71,8 +70,7 @@ after false a h g e = e
 at_head : (index : ℕ) (r : SlotRecord) (records : List SlotRecord) (q : Handle)
     → ((is_alive r.occupancy && (eqb q.index index && eqb q.generation r.generation)) || at_from
     (index + 1) records q) ≡ at_from index (r ∷ records) q
-at_head index r records q =
-    search (rules, tests_of, here, eqb_sym, before, after)
+at_head index r records q = search (rules, tests_of, here, eqb_sym, before, after)
 
 list_any-occupants : (index : ℕ) (records : List SlotRecord) (q : Handle)
     → list_any (eq_by_cmp handle_cmp q) (occupants index records) ≡ at_from index records q
@@ -187,11 +185,6 @@ from_list-append xs ys =
     ∙ (λ i. sym (sets.contains-from_list handle_cmp_total xs q) i || sym
     (sets.contains-from_list handle_cmp_total ys q) i)
     ∙ sym (sets.contains-union handle_cmp_total (sets.from_list xs) (sets.from_list ys) q))
-
-cond-append : (b : Bool) (h : Handle) (xs ys : List Handle) → cond b (h ∷ (xs ++ ys)) (xs ++ ys)
-    ≡ cond b (h ∷ xs) xs ++ ys
-cond-append true h xs ys = refl
-cond-append false h xs ys = refl
 
 pub occupants-append : (from : ℕ) (records more : List SlotRecord)
     → occupants from (records ++ more) ≡ occupants from records ++ occupants (from + length records)

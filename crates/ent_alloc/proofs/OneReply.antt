@@ -20,8 +20,7 @@ pub record IsBelowTop (r : Roster) (high : ℤ) : Type 0 where
 pub below_top : (r : Roster) (asked given : ℕ) (s : Allocator) (high : ℤ)
     → AreReserved r asked given
     → allocator_of r asked given ≡ s → high ≤ℤ pos (top s) → IsBelowTop r high
-below_top r asked given s high reserved view passed =
-    search (rules, top_view, ints, asked_at-is)
+below_top r asked given s high reserved view passed = search (rules, top_view, ints, asked_at-is)
 
 -- what a request for n handles owns that is served, in the numbers of the vectors
 pub record IsServed (r : Roster) (high : ℤ) (n position end index index_end : ℕ) : Type 0 where
@@ -43,8 +42,7 @@ served r high n position end index index_end a b d e f = search (rules)
 pub served_in_range : (r : Roster) (high : ℤ) (n position end index index_end : ℕ)
     → end < 2 ^ 63 → index_end < 2 ^ 32 → IsServed r high n position end index index_end
     → IsInRange r position end index index_end n
-served_in_range r high n position end index index_end few last served =
-    search (rules)
+served_in_range r high n position end index index_end few last served = search (rules)
 
 module _ (r : Roster) (asked given : ℕ) (high : ℤ) (s : Allocator)
     (reserved : AreReserved r asked given) (view : allocator_of r asked given ≡ s) where
@@ -110,8 +108,7 @@ module _ (r : Roster) (asked given : ℕ) (high : ℤ) (s : Allocator)
       listed_one h (omega arith)
       (reserved_handles-pending r _ (length r.pending - beneath r high) (r.made
       + (beneath r high - length r.pending)) (r.made + (beneath r high + 1 - length r.pending))
-      h (omega arith) (omega arith)
-      (ap (slice_get r.pending) (sym here) ∙ waits)
+      h (omega arith) (omega arith) (ap (slice_get r.pending) (sym here) ∙ waits)
       ∙ ap (λ rest. h ∷ rest) (reserved_handles-none r _ (length r.pending - beneath r high) (r.made
       + (beneath r high - length r.pending)) (r.made + (beneath r high + 1 - length r.pending))
       (omega arith) (omega arith)))

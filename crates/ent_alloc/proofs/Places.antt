@@ -25,12 +25,7 @@ available_view r asked given s reserved view =
 -- it waits in the pending list, or it is a fresh one
 pub stands_idle : (r : Roster) (h : Handle) → stands_in (idle r) h ≡ (stands_in r.pending h
     || stands_in (fresh r.made (r.limits.slots - r.made)) h)
-stands_idle r h =
-    search (rules, list_any-append, list_any-reverse)
-
-only_first : (a b : Bool) → (a || b) ≡ true → b ≡ false → a ≡ true
-only_first true b e none = refl
-only_first false b e none = absurd (true≢false (sym e ∙ none))
+stands_idle r h = search (rules, list_any-append, list_any-reverse)
 
 -- who waits from a position on, and not from the next one on, waits there
 pub waits_here : (hs : List Handle) (h : Handle) (n : ℕ) → stands_in (drop n hs) h ≡ true

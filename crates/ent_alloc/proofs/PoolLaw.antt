@@ -163,8 +163,7 @@ reply-none s = let test : nat_le 0 (length s.pool) ≡ true = le-leb _ _ (omega 
 -- where there was enough, all that was asked for is taken
 pub length-taken : (s : Allocator) → IsSound s → s.asked ≤ length (available s) → length s.taken
     ≡ s.asked
-length-taken s h enough =
-    search (rules, length-pool, length-append)
+length-taken s h enough = search (rules, length-pool, length-append)
 
 -- all lists, by two numbers: how many are taken, and how many were asked for
 pub taken_is : (s : Allocator) → s.taken ≡ take (length s.taken) (available s)

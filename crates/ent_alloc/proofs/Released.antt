@@ -110,8 +110,7 @@ module _ (limits : Limits) (records : List SlotRecord) (pending : List ℕ) (liv
     rows_is : maps.from_entries {R = handle_cmp} (rows_from 0 changed)
         ≡ maps.remove (maps.from_entries (rows_from 0 records)) h
     rows_is =
-        maps.same_map handle_cmp_total handle_cmp-IsAntisymmetric _ _ (λ q.
-        get_rows changed q
+        maps.same_map handle_cmp_total handle_cmp-IsAntisymmetric _ _ (λ q. get_rows changed q
         ∙ row_at-set records h.index left q made_slot
         ∙ (λ i. cond (eqb q.index h.index) (never (eqb left.generation q.generation)
         (row_of left.occupancy) bare i) (row_at records q))
@@ -164,8 +163,7 @@ module _ (limits : Limits) (records : List SlotRecord) (pending : List ℕ) (liv
                   omega (arith, get_or_append_left pending (h.index ∷ []) 0 position old))
               | inr new ↦ (let b = made_slot in omega (
                 arith,
-                get_or_push pending h.index 0 position
-                    (omega arith),
+                get_or_push pending h.index 0 position (omega arith),
               ))
             ];
         forward = λ position below.
@@ -192,8 +190,7 @@ module _ (limits : Limits) (records : List SlotRecord) (pending : List ℕ) (liv
               | inr ne ↦
                   (let b = linked.listed index position (omega arith)
                   (sym
-                  (ap (λ (r : SlotRecord). r.occupancy) (other vacant refl refl index ne)) ∙ is)
-                  in
+                  (ap (λ (r : SlotRecord). r.occupancy) (other vacant refl refl index ne)) ∙ is) in
                   omega arith)
             ];
         back = λ index position within is.
@@ -268,8 +265,7 @@ module _ (limits : Limits) (records : List SlotRecord) (pending : List ℕ) (liv
         greatest = generation_in unused refl refl (λ g. g ≤ limits.generations)
             (linked.greatest h.index made_slot) linked.greatest;
         made = λ position below. let b = linked.made position below in omega arith;
-        forward = λ position below.
-            ap (λ (r : SlotRecord). r.occupancy)
+        forward = λ position below. ap (λ (r : SlotRecord). r.occupancy)
             (other unused refl refl (get_or pending position 0) (apart position below))
             ∙ linked.forward position below;
         listed = λ index position within is. linked.listed index position (omega arith)

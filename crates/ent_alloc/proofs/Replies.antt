@@ -53,11 +53,6 @@ pub served_from : (s : Allocator) (n : ℕ) (given : List Handle) → reply_to s
     → (n ≤ length s.pool) × (given ≡ listed s.made (take n s.pool))
 served_from s n given is = grind (arith, common_steps)
 
--- and a refusal
-pub refused_from : (s : Allocator) (n : ℕ) (space : Space) → reply_to s n ≡ Err space
-    → (length s.pool < n) × (space ≡ record { wanted = n; left = length s.pool })
-refused_from s n space is = grind (arith, common_steps)
-
 -- a handle is not apart from itself
 pub not_apart : (h : Handle) → ¬ (AreApart h h)
 not_apart h apart = apart refl
@@ -142,26 +137,3 @@ module _ (s : Allocator) (n : ℕ) (given : List Handle) (is : reply_to s n ≡ 
 pub taken-after_refused : (s : Allocator) (n : ℕ) (space : Space) → reply_to s n ≡ Err space
     → (after_take s n).taken ≡ s.taken
 taken-after_refused s n space is = grind (arith, common_steps)
-
--- what is taken stays so
-pub taken-keeps : (s : Allocator) (n : ℕ) (x : Handle) → Contains s.taken x
-    → Contains (after_take s n).taken x
-taken-keeps s n x in_taken = grind (arith, common_steps)
-
--- through all requests
-pub taken-keeps_all : (s : Allocator) (requests : List ℕ) (x : Handle) → Contains s.taken x
-    → Contains (after_takes s requests).taken x
-taken-keeps_all s [] x in_taken = in_taken
-taken-keeps_all s (n ∷ requests) x in_taken = taken-keeps_all (after_take s n) requests x
-    (taken-keeps s n x in_taken)
-
--- two replies list no two handles of one slot, whatever was requested between them
-pub replies_apart : (s : Allocator) (n : ℕ) (given : List Handle) (between : List ℕ) (m : ℕ)
-    (later : List Handle) → IsSound s → reply_to s n ≡ Ok given
-    → reply_to (after_takes (after_take s n) between) m ≡ Ok later
-    → All (λ g. All (AreApart g) later) given
-replies_apart s n given between m later h first second k d lt =
-    let t = after_takes (after_take s n) between in
-    let sound = after_takes-sound (after_take s n) between (after_take-sound s n h) in
-    reply-apart_from_taken t m later second sound (get_or given k d)
-    (taken-keeps_all (after_take s n) between _ (reply-taken s n given first k d lt))

@@ -114,8 +114,7 @@ has_slot-found (x ∷ handles) index is =
 has_slot-has : (handles : List Handle) (h : Handle) → Contains handles h → has_slot handles h.index
     ≡ true
 has_slot-has [] h (k, below, is) = absurd (omega arith)
-has_slot-has (x ∷ handles) h (zero, below, is) =
-    grind (arith, common_steps)
+has_slot-has (x ∷ handles) h (zero, below, is) = grind (arith, common_steps)
 has_slot-has (x ∷ handles) h (suc k, below, is) =
     search (rules, has_slot-has handles h (k, omega arith, is))
 

@@ -65,8 +65,7 @@ length-reused records (index ∷ indices) =
 generation-reuse : (records : List SlotRecord) (index at : ℕ) → index < length records
     → (record_at (set records index (reuse (record_at records index))) at).generation
     ≡ (record_at records at).generation
-generation-reuse records index at within =
-    grind (arith, common_steps)
+generation-reuse records index at within = grind (arith, common_steps)
 
 pub generation-reused : (records : List SlotRecord) (from : ℕ) (indices : List ℕ) (at : ℕ)
     → Wait records from indices → (record_at (reused records indices) at).generation
@@ -92,8 +91,7 @@ waiting-reused records from (index ∷ indices) at position wait is below =
     waiting-reused (set records index (reuse (record_at records index))) (from + 1) indices at
     position (Wait-rest records from index indices wait)
     (ap (λ (r : SlotRecord). r.occupancy) (get_or-set_other records index at
-    (reuse (record_at records index)) no_slot apart) ∙ is)
-    (omega arith)
+    (reuse (record_at records index)) no_slot apart) ∙ is) (omega arith)
 
 -- one that waits now waited before, and is none of these
 pub record StillWaits (records : List SlotRecord) (indices : List ℕ) (at position : ℕ) : Type 0
@@ -172,8 +170,7 @@ or_swap false b c = refl
 slept_no_occupant : (records : List SlotRecord) (index : ℕ) (q : Handle) (position : ℕ)
     → (record_at records index).occupancy ≡ Pending position → eqb q.index index ≡ true
     → is_occupant records q ≡ false
-slept_no_occupant records index q position here e =
-    grind (arith, common_steps)
+slept_no_occupant records index q position here e = grind (arith, common_steps)
 
 -- the occupants are those before and the handles that waited
 pub is_occupant-reused : (records : List SlotRecord) (from : ℕ) (indices : List ℕ) (q : Handle)

@@ -24,8 +24,7 @@ no_rows live h gone = maps.get-empty handle_cmp h
 pub rows-joined : (live : sets.FinSet handle_cmp) (more : List Handle)
     (rows : maps.FinMap handle_cmp ℕ) → AreOf live rows
     → AreOf (sets.union live (sets.from_list more)) rows
-rows-joined live more rows kept h gone =
-    kept h (λ alive. gone (union_list_keeps live more h alive))
+rows-joined live more rows kept h gone = kept h (λ alive. gone (union_list_keeps live more h alive))
 
 -- one goes, with its row
 pub rows-removed : (live : sets.FinSet handle_cmp) (x : Handle) (rows : maps.FinMap handle_cmp ℕ)

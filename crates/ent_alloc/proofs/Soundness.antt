@@ -65,15 +65,13 @@ after_take-sound s n h = elim (cases_lt (length s.pool) n) [
       rw (after_take-refused s n short) (
       IsSound-moved s s.taken (s.aside ++ s.pool) [] (s.asked + n) h
       (ap (s.taken ++◌) (append-nil (s.aside ++ s.pool)))
-      (sym (drop_all (s.asked + n) (available s) (omega arith)))
-      (λ enough. absurd (omega arith))
+      (sym (drop_all (s.asked + n) (available s) (omega arith))) (λ enough. absurd (omega arith))
       )
   | inr enough ↦
       rw (after_take-served s n enough) (
       IsSound-moved s (s.taken ++ take n s.pool) s.aside (drop n s.pool) (s.asked + n) h
       (take_moves s.taken s.aside s.pool n (aside_or_pool s h))
-      (ap (drop n) h.pool ∙ drop-drop n s.asked (available s))
-      (λ enough. h.aside (omega arith))
+      (ap (drop n) h.pool ∙ drop-drop n s.asked (available s)) (λ enough. h.aside (omega arith))
       )
 ]
 
@@ -169,8 +167,7 @@ alloc_of_old s x old was = record {
 alloc_of_fresh : (s : Allocator) (more : ℕ) → IsLaidOut s [] → s.limits.slots - s.made ≡ suc more
     → IsLaidOut (record s {
       live = set.insert s.live (first_of_slot s.made);
-      pool =
-          drop 1 s.pool;
+      pool = drop 1 s.pool;
       made = s.made + 1;
     }) []
 alloc_of_fresh s more was some =
@@ -262,8 +259,7 @@ flush-laid_out s h =
           (AllPairs-across AreApart s.taken (s.aside ++ s.pool) h.apart i d lt)));
       one_occupant = one_occupant_joined s.live s.taken
           (λ x alive. All-left (AreApart x) s.taken (s.aside ++ s.pool) (h.live x alive).apart)
-          (AllPairs-left AreApart s.taken (s.aside ++ s.pool) h.apart)
-          h.one_occupant;
+          (AllPairs-left AreApart s.taken (s.aside ++ s.pool) h.apart) h.one_occupant;
     }
 
 -- what was taken comes to life

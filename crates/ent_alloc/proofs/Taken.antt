@@ -53,8 +53,7 @@ available-after_take s n h = elim (cases_lt (length s.pool) n) [
 -- how many there are to give, or were since the last flush
 pub length-available : (s : Allocator) → IsSound s → length (available s) ≡ top s
     + (s.limits.slots - s.made)
-length-available s h =
-    search (rules, length-append, old_ones, length-fresh)
+length-available s h = search (rules, length-append, old_ones, length-fresh)
 
 -- what is taken: old handles, and fresh ones once there are no more old ones
 module _ (s : Allocator) (h : IsSound s) where

@@ -43,8 +43,7 @@ is_eq-nat_cmp a b = grind (arith, nat_tests)
 -- two handles tie where both numbers are equal
 ties : (a b : Handle) → eq_by_cmp handle_cmp a b
     ≡ (eqb a.index b.index && eqb a.generation b.generation)
-ties a b =
-    grind (arith, common_steps)
+ties a b = grind (arith, common_steps)
 
 -- of count_at slot
 ties_here : (a b : Handle) → a.index ≡ b.index → eq_by_cmp handle_cmp a b
@@ -174,8 +173,7 @@ module _ {X : Type 0} where
       → value_under (Occupied h.generation value) q.generation
       ≡ cond (eq_by_cmp handle_cmp q h) (Some value) None
   here_alone h q value e =
-      ap (λ b. cond b (Some value) None)
-      (eqb_sym h.generation q.generation ∙ sym (ties_here q h e))
+      ap (λ b. cond b (Some value) None) (eqb_sym h.generation q.generation ∙ sym (ties_here q h e))
 
   get-without : (m : HandleValues X) (h q : Handle) → map.get (without_slot m h.index) q
       ≡ cond (not (eqb q.index h.index)) (map.get m q) None
@@ -214,8 +212,7 @@ module _ {X : Type 0} where
   HasValue slots h value = slot_at slots h.index ≡ Occupied h.generation value
 
   other_generation : (slots : List (Slot X)) (h q : Handle) (value : X) → HasValue slots h value
-      → q.index ≡ h.index → value_in slots q
-      ≡ cond (eq_by_cmp handle_cmp q h) (Some value) None
+      → q.index ≡ h.index → value_in slots q ≡ cond (eq_by_cmp handle_cmp q h) (Some value) None
   other_generation slots h q value has e =
       ap (λ n. value_under (slot_at slots n) q.generation) e
       ∙ ap (λ s. value_under s q.generation) has

@@ -151,8 +151,7 @@ module _ {X : Type 0} where
       omega (arith, length-entries_le (index + 1) slots)
 
   pub few_values : (slots : List (Slot X)) (count : ℕ) → AreCounted 0 slots count → count < 2 ^ 32
-  few_values slots count are =
-      omega (arith, are.few, are.counted, length-entries_le 0 slots)
+  few_values slots count are = omega (arith, are.few, are.counted, length-entries_le 0 slots)
 
   length-padded : (slots : List (Slot X)) (count : ℕ)
       → length (padded slots count) ≡ length slots + (count - length slots)

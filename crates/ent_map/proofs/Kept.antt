@@ -16,8 +16,7 @@ use Rattle.ent_map.specs.declared.slot.Slot.TheVariants.{Vacant, Occupied}
 module _ {X : Type 0} where
   -- ---- entries of two parts
 
-  pub entries-append : (index : ℕ) (front back : List (Slot X))
-      → entries_from index (front ++ back)
+  pub entries-append : (index : ℕ) (front back : List (Slot X)) → entries_from index (front ++ back)
       ≡ entries_from index front ++ entries_from (index + length front) back
   entries-append index [] back =
       let same : index ≡ index + 0 = omega arith in ap (λ n. entries_from n back) same
@@ -63,10 +62,7 @@ module _ {X : Type 0} where
       let counted = are.counted in
       let was : count_at slot ≡ count_at (slot_at slots index) =
       ap count_at (read slots index slot within e) in
-      record {
-        few = omega (arith, are.few, length-set slots index new);
-        counted = omega arith;
-      }
+      record { few = omega (arith, are.few, length-set slots index new); counted = omega arith }
 
   -- ---- one slot
 

@@ -50,8 +50,7 @@ gains_one r high n c enough one within = record {
 requests_both : (cs ds : List Command) → flat_map stands_for (cs ++ ds) ≡ flat_map stands_for cs
     ++ flat_map stands_for ds
 requests_both [] ds = refl
-requests_both (c ∷ cs) ds =
-    grind (arith, common_steps, requests_both cs ds)
+requests_both (c ∷ cs) ds = grind (arith, common_steps, requests_both cs ds)
 
 map_both : {X Y : Type 0} (f : X → Y) (xs ys : List X) → map f (xs ++ ys) ≡ map f xs ++ map f ys
 map_both f [] ys = refl
@@ -149,15 +148,10 @@ pub replies_alone : (shared : Shared) (before after : Reserver) (result : Result
     → IsReturned shared before after 1 (listed_alone result)
 replies_alone shared before after result quota gains = search (rules)
 
-space_wanted : (made : ℕ) (pool : List Handle) (n wanted left : ℕ) → reply_from made pool n
-    ≡ Err (record { wanted = wanted; left = left }) → wanted ≡ n
-space_wanted made pool n wanted left e = search (rules)
-
 -- a refusal by the pool says how many handles were requested
 pub is_refusal : (shared : Shared) (before after : Reserver) (n : ℕ) (why : Refusal)
     → IsReturned shared before after n (Err why) → HasRange why → IsRefusal n why
-is_refusal shared before after n (Space wanted left) replied range =
-    grind (arith, common_steps)
+is_refusal shared before after n (Space wanted left) replied range = grind (arith, common_steps)
 is_refusal shared before after n (Quota left) replied range = range
 
 pub refused_by_fault : (n : ℕ) (why : Refusal) → refused_by n (as_fault why) ≡ Refused n why ∷ []

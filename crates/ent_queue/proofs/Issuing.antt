@@ -55,8 +55,7 @@ module _ (shared : Shared) (before after : Reserver) (old new : List Command) wh
   added_refusal : (n : ℕ) (f : QueueFault) → new ≡ old ++ refused_by n f
       → (f ≡ fault.Memory → after ≡ before)
       → ((why : Refusal) → Err f ≡ queued {X = List Handle} (Err why) → IsReturned shared before
-      after
-      n (Err why)) → Added old new before.own after.own
+      after n (Err why)) → Added old new before.own after.own
   added_refusal n (fault.Space wanted left) queue memory replied =
       record {
         added = Refused n (Space wanted left) ∷ [];
@@ -69,8 +68,7 @@ module _ (shared : Shared) (before after : Reserver) (old new : List Command) wh
       record {
         added = Refused n (Quota left) ∷ [];
         queue = queue;
-        gains = refused_gains shared
-            before after n (Quota left) (replied (Quota left) refl);
+        gains = refused_gains shared before after n (Quota left) (replied (Quota left) refl);
       }
   added_refusal n fault.Memory queue memory replied =
       record {

@@ -55,8 +55,7 @@ pub bits_below : (h : Handle) → IsHandle h → bits h < 2 ^ 64
 bits_below h is = omega (arith, is.index, is.greatest)
 
 pub handle_of_bits-bits : (h : Handle) → IsHandle h → handle_of_bits (bits h) ≡ h
-handle_of_bits-bits h is =
-    grind (arith, common_steps)
+handle_of_bits-bits h is = grind (arith, common_steps)
 
 pub unpacked_handle-bytes : (h : Handle) (rest : List ℕ) → IsHandle h
     → unpacked_handle (handle_bytes h ++ rest) ≡ h

@@ -21,8 +21,7 @@ use Rattle.ent_queue.proofs.Numbers.{unpacked_handle-alone}
 
 pub length-handles : (hs : List Handle) → length (flat_map handle_bytes hs) ≡ 8 * length hs
 length-handles [] = refl
-length-handles (h ∷ hs) =
-    search (rules, length-append, length-bytes_8, length-handles hs)
+length-handles (h ∷ hs) = search (rules, length-append, length-bytes_8, length-handles hs)
 
 pub unpacked_handles-bytes : (hs : List Handle) (rest : List ℕ) → All IsHandle hs
     → unpacked_handles (length hs) (flat_map handle_bytes hs ++ rest) ≡ hs
@@ -33,14 +32,12 @@ unpacked_handles-bytes (h ∷ hs) rest all =
       take-bytes_8,
       drop-bytes_8,
       unpacked_handle-alone h (All-head IsHandle h hs all),
-      unpacked_handles-bytes hs rest
-          (All-tail IsHandle h hs all),
+      unpacked_handles-bytes hs rest (All-tail IsHandle h hs all),
     ) refl
 
 pub drop-handles : (hs : List Handle) (rest : List ℕ)
     → drop (8 * length hs) (flat_map handle_bytes hs ++ rest) ≡ rest
-drop-handles hs rest =
-    grind (arith, common_steps, length-handles, drop-append_seam)
+drop-handles hs rest = grind (arith, common_steps, length-handles, drop-append_seam)
 
 take-item : (item : ComponentId × ℤ) (rest : List ℕ) → take 9 (item_bytes item ++ rest)
     ≡ item_bytes item
@@ -54,13 +51,11 @@ unsigned_below z fits = Fits-lt-pow (Fits-of_z fits)
 
 unpacked_item-alone : (item : ComponentId × ℤ) → IsItem item → unpacked_item (item_bytes item)
     ≡ item
-unpacked_item-alone item is =
-    search (rules, number_8-alone, unsigned_below, to_z-of_z)
+unpacked_item-alone item is = search (rules, number_8-alone, unsigned_below, to_z-of_z)
 
 pub length-items : (items : Bundle) → length (flat_map item_bytes items) ≡ 9 * length items
 length-items [] = refl
-length-items (item ∷ items) =
-    search (rules, length-append, length-bytes_8, length-items items)
+length-items (item ∷ items) = search (rules, length-append, length-bytes_8, length-items items)
 
 pub items_in-bytes : (items : Bundle) (rest : List ℕ) → All IsItem items
     → map unpacked_item (first_chunks 9 (length items) (flat_map item_bytes items ++ rest)) ≡ items
@@ -79,12 +74,10 @@ items_in-bytes (item ∷ items) rest all =
 
 pub drop-items : (items : Bundle) (rest : List ℕ)
     → drop (9 * length items) (flat_map item_bytes items ++ rest) ≡ rest
-drop-items items rest =
-    grind (arith, common_steps, length-items, drop-append_seam)
+drop-items items rest = grind (arith, common_steps, length-items, drop-append_seam)
 
 pub length-bundle : (items : Bundle) → length (bundle_bytes items) ≡ 2 + 9 * length items
-length-bundle items =
-    search (rules, length-append, length-bytes_2, length-items)
+length-bundle items = search (rules, length-append, length-bytes_2, length-items)
 
 -- What a bundle's bytes say of the bytes that begin with them.
 pub record BundleBegins (items : Bundle) (bytes rest : List ℕ) : Type 0 where

@@ -16,8 +16,7 @@ use Rattle.ent_queue.proofs.Queues.{unpacked_commands-bytes, are_packed, length_
 queue_bytes-push : (cs : List Command) (c : Command) → queue_bytes (cs ++ c ∷ []) ≡ queue_bytes cs
     ++ command_bytes c
 queue_bytes-push [] c = append-nil (command_bytes c)
-queue_bytes-push (d ∷ cs) c =
-    grind (arith, common_steps, queue_bytes-push cs c)
+queue_bytes-push (d ∷ cs) c = grind (arith, common_steps, queue_bytes-push cs c)
 
 -- The bytes of some commands, and then those of one more, are those of one more command.
 pub record Pushed (count : ℕ) (bytes new : List ℕ) (c : Command) : Type 0 where
@@ -41,14 +40,6 @@ pushed count bytes new c packed is written =
           ∙ unpacked_commands-bytes (cs ++ c ∷ []) all;
     }
 
-some_bytes : (c : Command) → 1 ≤ length (command_bytes c)
-some_bytes (Spawn h items) = omega arith
-some_bytes (SpawnMany hs items) = omega arith
-some_bytes (Insert h items) = omega arith
-some_bytes (Remove h id) = omega arith
-some_bytes (Despawn h) = omega arith
-some_bytes (Refused wanted why) = omega arith
-
 counted : (cs : List Command) → length cs ≤ length (queue_bytes cs)
 counted [] = omega arith
 counted (c ∷ cs) = grind (arith, common_steps, counted cs)
@@ -60,15 +51,13 @@ count_le_bytes count bytes packed =
       arith,
       counted (unpacked_commands count bytes),
       length_of_commands count bytes,
-      ap length
-          packed.bytes_are,
+      ap length packed.bytes_are,
     )
 
 -- so that one more can be counted
 pub count_fits : {Z : Type 0} (count : ℕ) (bytes : Vec ℕ Z) → ArePacked count bytes.items
     → Fits w64 (count + 1)
-count_fits count bytes packed =
-    search (rules, count_le_bytes, Fits-of_lt)
+count_fits count bytes packed = search (rules, count_le_bytes, Fits-of_lt)
 
 pub nothing_packed : ArePacked 0 []
 nothing_packed = are_packed [] (All-nil IsCommand)
@@ -77,5 +66,4 @@ nothing_packed = are_packed [] (All-nil IsCommand)
 pub many_written : (old : List ℕ) (hs : List Handle) (items : Bundle) (n : ℕ) → length hs ≡ n
     → (old ++ 1 ∷ (bytes_4 n ++ flat_map handle_bytes hs)) ++ bundle_bytes items ≡ old
     ++ command_bytes (SpawnMany hs items)
-many_written old hs items n e =
-    grind (arith, common_steps)
+many_written old hs items n e = grind (arith, common_steps)

@@ -71,8 +71,7 @@ with_handles hs items parts rest few all bundle e =
           ++ more) ∙ omega (
             arith,
             length-bytes_4 (length hs),
-            length-append
-                (flat_map handle_bytes hs) more,
+            length-append (flat_map handle_bytes hs) more,
             length-handles hs,
             ap length after,
           );
@@ -185,8 +184,7 @@ unpacked_command-bytes (Refused wanted why) rest is =
 
 pub after_first-bytes : (c : Command) (rest : List ℕ) → IsCommand c
     → after_first (command_bytes c ++ rest) ≡ rest
-after_first-bytes c rest is =
-    search (rules, unpacked_command-bytes, drop-append_seam)
+after_first-bytes c rest is = search (rules, unpacked_command-bytes, drop-append_seam)
 
 pub unpacked_commands-bytes : (commands : List Command) → All IsCommand commands
     → unpacked_commands (length commands) (queue_bytes commands) ≡ commands

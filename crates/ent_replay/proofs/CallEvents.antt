@@ -65,8 +65,7 @@ module _ (s : Allocator) (spent : FinMap nat_cmp ℕ) (calls : FinMap nat_cmp St
         → on_begin (machine_state s spent calls) caller n
         ≡ (
           Err (fault.Quota (left_of (machine_state s spent calls) caller)),
-          machine_state s
-              spent calls,
+          machine_state s spent calls,
         )
     begin-quota n is short =
         when (nat_lt caller callers) _ _ is_caller
@@ -96,14 +95,8 @@ module _ (s : Allocator) (spent : FinMap nat_cmp ℕ) (calls : FinMap nat_cmp St
         (grind (arith, nat_tests))
         ∙ ap (λ m. (
           Ok outcome.Open,
-          record {
-            allocator = s;
-            spent = finite.insert spent caller
-                (more n);
-            calls = m;
-          },
-        ))
-        (sym (map_values-insert (open_call_of s) calls caller (begun n)))
+          record { allocator = s; spent = finite.insert spent caller (more n); calls = m },
+        )) (sym (map_values-insert (open_call_of s) calls caller (begun n)))
 
     pub begin-consistent : AreConsistent s spent calls → (n : ℕ) → finite.get calls caller ≡ None
         → n < 2 ^ 32 → n ≤ left_of (machine_state s spent calls) caller
@@ -128,8 +121,7 @@ module _ (s : Allocator) (spent : FinMap nat_cmp ℕ) (calls : FinMap nat_cmp St
       asked =
           let before = h.asked in
           let waits = sum_below-changed (λ q. awaited (finite.get calls q))
-          (λ q. awaited (finite.get (finite.insert calls caller (begun n)) q)) caller callers
-          below
+          (λ q. awaited (finite.get (finite.insert calls caller (begun n)) q)) caller callers below
           (λ q other. ap awaited (sym (get-insert_other calls caller (begun n) q other))) in
           let spends = sum_below-changed (λ q. unwrap_or (finite.get spent q) 0)
           (λ q. unwrap_or (finite.get (finite.insert spent caller (more n)) q) 0) caller callers
@@ -162,8 +154,7 @@ module _ (s : Allocator) (spent : FinMap nat_cmp ℕ) (calls : FinMap nat_cmp St
       ];
       once = all_held-next (machine_state s spent calls) (event.Begin caller n) (Ok outcome.Open)
           (machine_state s (finite.insert spent caller (more n))
-          (finite.insert calls caller (begun n)))
-          (begin-begun n is enough) h.sound h.once;
+          (finite.insert calls caller (begun n))) (begin-begun n is enough) h.sound h.once;
     }
 
     pub step-not_open : finite.get calls caller ≡ None → on_step (machine_state s spent calls)
@@ -184,23 +175,19 @@ module _ (s : Allocator) (spent : FinMap nat_cmp ℕ) (calls : FinMap nat_cmp St
           when (nat_lt caller callers) _ _ is_caller
           ∙ ap (step_open (machine_state s spent calls) caller) (opened (Some call) is)
           ∙ ap (λ o. step_with (machine_state s spent calls) caller call.requested
-          (option_map (λ span. reply_from s.made (pool_at s span.high) call.requested) o))
-          passed
+          (option_map (λ span. reply_from s.made (pool_at s span.high) call.requested) o)) passed
 
       -- the call after its step
       abbrev stepped : StoredCall
       stepped = record {
         requested = call.requested;
-        span =
-            Some (record { high = cursor s; low = cursor s -ℤ pos call.requested });
+        span = Some (record { high = cursor s; low = cursor s -ℤ pos call.requested });
       }
 
-      pub step-taken : IsSound s → call.span ≡ None
-          → on_step (machine_state s spent calls) caller
+      pub step-taken : IsSound s → call.span ≡ None → on_step (machine_state s spent calls) caller
           ≡ (
             Ok (outcome.Cursor (cursor s -ℤ pos call.requested)),
-            machine_state
-                (after_take s call.requested) spent (finite.insert calls caller stepped),
+            machine_state (after_take s call.requested) spent (finite.insert calls caller stepped),
           )
       step-taken sound waits =
           let t = after_take s call.requested in
@@ -243,8 +230,7 @@ module _ (s : Allocator) (spent : FinMap nat_cmp ℕ) (calls : FinMap nat_cmp St
         asked =
             let before = h.asked in
             let all = sum_below-changed (λ q. awaited (finite.get calls q))
-            (λ q. awaited (finite.get (finite.insert calls caller stepped) q)) caller callers
-            below
+            (λ q. awaited (finite.get (finite.insert calls caller stepped) q)) caller callers below
             (λ q other. ap awaited (sym (get-insert_other calls caller stepped q other))) in
             let waited : awaited (finite.get calls caller) ≡ call.requested = ap awaited is
             ∙ ap (unasked call.requested) waits in
@@ -278,8 +264,7 @@ module _ (s : Allocator) (spent : FinMap nat_cmp ℕ) (calls : FinMap nat_cmp St
               record {
                 least = omega (arith, ints);
                 high = omega (arith, ints);
-                low =
-                    omega (arith, ints);
+                low = omega (arith, ints);
               }
           | no other ↦
               let old = h.spans q other_call span
@@ -287,8 +272,7 @@ module _ (s : Allocator) (spent : FinMap nat_cmp ℕ) (calls : FinMap nat_cmp St
               let tops = top-after_take s call.requested h.sound in
               record {
                 least = old.least;
-                high = subst (λ n. span.high ≤ℤ pos n) (sym tops)
-                    old.high;
+                high = subst (λ n. span.high ≤ℤ pos n) (sym tops) old.high;
                 low = old.low;
               }
         ];
@@ -316,13 +300,11 @@ module _ (s : Allocator) (spent : FinMap nat_cmp ℕ) (calls : FinMap nat_cmp St
           when (nat_lt caller callers) _ _ is_caller
           ∙ ap (answer_open (machine_state s spent calls) caller) (opened (Some call) is)
           ∙ ap (λ o. answer_with (machine_state s spent calls) caller
-          (option_map (λ span. reply_from s.made (pool_at s span.high) call.requested) o))
-          passed
+          (option_map (λ span. reply_from s.made (pool_at s span.high) call.requested) o)) passed
           ∙ ap (λ m. (
             Ok (reported (reply_from s.made (pool_at s span.high) call.requested)),
             record { allocator = s; spent = spent; calls = m },
-          ))
-          (sym (map_values-remove (open_call_of s) calls caller))
+          )) (sym (map_values-remove (open_call_of s) calls caller))
 
       pub answer-consistent : AreConsistent s spent calls → (span : Span) → call.span ≡ Some span
           → AreConsistent s spent (finite.remove calls caller)

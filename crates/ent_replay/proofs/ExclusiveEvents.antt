@@ -97,8 +97,7 @@ module _ (s : Allocator) (spent : FinMap nat_cmp ℕ) (calls : FinMap nat_cmp St
   asked-bound h =
       let before = h.asked in
       let bound : sum_below (λ q. unwrap_or (finite.get spent q) 0) callers ≤ callers
-      * credit = sum_below-bound (λ q. unwrap_or (finite.get spent q) 0) credit callers h.credit
-      in
+      * credit = sum_below-bound (λ q. unwrap_or (finite.get spent q) 0) credit callers h.credit in
       omega arith
 
   -- ---- events that need the allocator to themselves
@@ -138,12 +137,7 @@ module _ (s : Allocator) (spent : FinMap nat_cmp ℕ) (calls : FinMap nat_cmp St
         alloc-flushed rest ∙ ap (alloc_front (machine_state s spent calls)) (front s.pool h first)
         ∙ ap (λ m. (
           Ok (outcome.Handle h),
-          record {
-            allocator = after_alloc s h;
-            spent =
-                spent;
-            calls = m;
-          },
+          record { allocator = after_alloc s h; spent = spent; calls = m },
         )) (quiet_calls none (after_alloc s h))
 
     -- if no old slot waits, the front of the pool makes a slot
@@ -179,23 +173,14 @@ module _ (s : Allocator) (spent : FinMap nat_cmp ℕ) (calls : FinMap nat_cmp St
 
     pub free-freed : (h : Handle) → ¬ (0 < s.asked) → set.contains s.live h ≡ true
         → on_free (machine_state s spent calls) h
-        ≡ (
-          Ok (outcome.Freed h (next s.limits h)),
-          machine_state
-              (after_free s h) spent calls,
-        )
+        ≡ (Ok (outcome.Freed h (next s.limits h)), machine_state (after_free s h) spent calls)
     free-freed h rest lives =
         unless (is_busy (machine_state s spent calls)) _ _ (quiet none)
         ∙ unless (nat_lt 0 s.asked) _ _ (grind (arith, nat_tests))
         ∙ when (set.contains s.live h) _ _ lives
         ∙ ap (λ m. (
           Ok (outcome.Freed h (next s.limits h)),
-          record {
-            allocator =
-                after_free s h;
-            spent = spent;
-            calls = m;
-          },
+          record { allocator = after_free s h; spent = spent; calls = m },
         )) (quiet_calls none (after_free s h))
 
     -- to free what lives takes memory, unless its slot is retired
@@ -221,12 +206,7 @@ module _ (s : Allocator) (spent : FinMap nat_cmp ℕ) (calls : FinMap nat_cmp St
         unless (is_busy (machine_state s spent calls)) _ _ (quiet none)
         ∙ ap (λ m. (
           Ok (outcome.Born (born s)),
-          record {
-            allocator = after_flush s;
-            spent =
-                finite.empty;
-            calls = m;
-          },
+          record { allocator = after_flush s; spent = finite.empty; calls = m },
         )) (quiet_calls none (after_flush s))
 
     -- to bring handles to life takes memory

@@ -134,8 +134,7 @@ given-next s e given h (allocates x rest is none flushed pool at) =
       once = subst (spent.AreSpent (after_alloc s.allocator x))
           (sym (none_left (given ++ x ∷ []) (all_held s.calls) nothing))
           (alloc-given s.allocator x rest given h.sound flushed pool
-          (subst (spent.AreSpent s.allocator) (none_left given (all_held s.calls) nothing)
-          h.once));
+          (subst (spent.AreSpent s.allocator) (none_left given (all_held s.calls) nothing) h.once));
     })
 given-next s e given h (frees x is none flushed lives at) =
     onward s e given _ (record s { allocator = after_free s.allocator x }) is (record {
@@ -164,8 +163,7 @@ given-next s e given h (begins caller n costs is below none at) =
           (IsPermutation-append_right given (all_held s.calls)
           (all_held (finite.insert s.calls caller new))
           (subst (λ hs. IsPermutation hs (all_held (finite.insert s.calls caller new)))
-          (append-nil (all_held s.calls)) kept)))
-          h.once;
+          (append-nil (all_held s.calls)) kept))) h.once;
     })
 given-next s e given h (steps caller call is below some waits makes at) =
     let n = call.requested in
@@ -174,8 +172,7 @@ given-next s e given h (steps caller call is below some waits makes at) =
     let kept = all_held-inserted s.calls caller below new (ap held some ∙ ap held_by waits) in
     onward s e given _ (record s {
       allocator = after_take s.allocator n;
-      calls =
-          finite.insert s.calls caller new;
+      calls = finite.insert s.calls caller new;
     }) is (record {
       sound = after_take-sound s.allocator n h.sound;
       once = given-IsPermutation (after_take s.allocator n) ((given ++ all_held s.calls) ++ hs)
@@ -207,8 +204,7 @@ given-next s e given h (answers caller call reply is below some stepped at) =
           (IsPermutation-sym (left ++ hs) (all_held s.calls) kept))
           (IsPermutation-trans (given ++ (left ++ hs)) ((given ++ left) ++ hs) ((given ++ hs)
           ++ left) (same_order (given ++ (left ++ hs)) ((given ++ left) ++ hs)
-          (sym (append_assoc given left hs))) (swapped given left hs)))
-          h.once);
+          (sym (append_assoc given left hs))) (swapped given left hs))) h.once);
     })
 
 -- ---- the handles that are kept for open calls, after one event
@@ -218,8 +214,7 @@ given-right : (s : Allocator) (xs ys : List Handle) → spent.AreSpent s (xs ++ 
     → spent.AreSpent s ys
 given-right s xs ys h = record {
   distinct = AllPairs-right (λ g h. g ≢ h) xs ys h.distinct;
-  spent =
-      All-right (spent.IsSpent s) xs ys h.spent;
+  spent = All-right (spent.IsSpent s) xs ys h.spent;
 }
 
 -- so was an empty list
@@ -228,8 +223,7 @@ given-none s hs none = search (rules, All-nil)
 
 pub all_held-next : (s : MachineState) (e : Event) (r : Result Outcome ReplayFault)
     (t : MachineState) → on_event s e ≡ (r, t) → IsSound s.allocator → spent.AreSpent s.allocator
-    (all_held s.calls)
-    → spent.AreSpent t.allocator (all_held t.calls)
+    (all_held s.calls) → spent.AreSpent t.allocator (all_held t.calls)
 all_held-next s e r t is sound once =
     let h = given-next s e [] (record { sound = sound; once = once }) (move s e) in
     subst (λ (p : Returned). spent.AreSpent p.1.allocator (all_held p.1.calls)) is

@@ -127,8 +127,7 @@ module _ (p : Phase) (s : MachineState) (e : Event) (h : IsFollowed p s) where
   same_phase : reservations s e ≡ [] → p ≡ onward
   same_phase none = λ i. record {
     start = p.start;
-    calls = (sym (append-nil p.calls)
-        ∙ ap (p.calls ++◌) (sym none)) i;
+    calls = (sym (append-nil p.calls) ∙ ap (p.calls ++◌) (sym none)) i;
   }
 
   -- where nothing is asked for after the event
@@ -160,10 +159,7 @@ module _ (p : Phase) (s : MachineState) (e : Event) (h : IsFollowed p s) where
       let still = h.rest parts.0 in
       subst NothingTold (sym t) (on_inserted (λ q. RequestedNone) s.calls caller
       (λ q call r _. still q call r)
-      (record {
-        requested = call.requested;
-        reply = Some (reply_to s.allocator call.requested);
-      })
+      (record { requested = call.requested; reply = Some (reply_to s.allocator call.requested) })
       (λ r told. (
         parts.1,
         sym (same_Some (reply_to s.allocator call.requested) r told)
@@ -213,8 +209,7 @@ module _ (p : Phase) (s : MachineState) (e : Event) (h : IsFollowed p s) where
       let made : Call = record {
         caller = caller;
         requested = suc n;
-        reply = reply_to s.allocator
-            (suc n);
+        reply = reply_to s.allocator (suc n);
       } in
       let asked = asked-after_take s.allocator (suc n) in
       record {
@@ -228,19 +223,16 @@ module _ (p : Phase) (s : MachineState) (e : Event) (h : IsFollowed p s) where
               | inl nothing ↦ inl nothing
               | inr found ↦ inr (
                 found.0,
-                last_of-append_other q p.calls made
-                    (λ same. other (sym same)) ∙ found.1,
+                last_of-append_other q p.calls made (λ same. other (sym same)) ∙ found.1,
                 found.2,
                 found.3,
               )
-            ])
-            (record { requested = suc n; reply = Some (reply_to s.allocator (suc n)) })
+            ]) (record { requested = suc n; reply = Some (reply_to s.allocator (suc n)) })
             (λ r told. inr (
               made,
               last_of-append caller p.calls made refl,
               refl,
-              sym
-                  (same_Some (reply_to s.allocator (suc n)) r told),
+              sym (same_Some (reply_to s.allocator (suc n)) r told),
             ));
       }
 
@@ -258,8 +250,7 @@ module _ (p : Phase) (s : MachineState) (e : Event) (h : IsFollowed p s) where
       (subst (λ q. IsFollowed q
       (record s {
         spent = spent;
-        calls = finite.insert s.calls caller
-            (record { requested = n; reply = None });
+        calls = finite.insert s.calls caller (record { requested = n; reply = None });
       })) (same_phase (ap (reservations s) at))
       (record {
         legal = h.legal;
@@ -282,8 +273,7 @@ module _ (p : Phase) (s : MachineState) (e : Event) (h : IsFollowed p s) where
               requested = call.requested;
               reply = Some (reply_to s.allocator call.requested);
             });
-      }))
-      (sym makes) (after_step caller call.requested))
+      })) (sym makes) (after_step caller call.requested))
   goes_on (answers caller call reply is below some stepped at) asked =
       subst (λ t. IsFollowed onward t) (sym (ap (λ x. x.1) is))
       (subst (λ q. IsFollowed q (record s { calls = finite.remove s.calls caller }))
@@ -368,8 +358,7 @@ follows p s (e ∷ events) h =
       tells p s e h,
       then.legal,
       then.reached,
-      follows (phase_after p s e) (after_event s e) events
-          then,
+      follows (phase_after p s e) (after_event s e) events then,
     )
 
 pub linear : (s : MachineState) (events : List Event) → IsAtRest s → StandInHistory (new_phase s) s

@@ -23,10 +23,8 @@ use Rattle.ent_replay.specs.declared.stored_call.StoredCall.{StoredCall}
 -- contract sees.
 pub done : (on : MachineState → Returned) (inside now : MachineState) → inside ≡ now
     → (result answer : Result Outcome ReplayFault) → result ≡ answer → (after next : MachineState)
-    → after ≡ next
-    → on inside ≡ (answer, next) → Makes (on now) now result after
-done on inside now view result answer is after next is_next step =
-    search (rules)
+    → after ≡ next → on inside ≡ (answer, next) → Makes (on now) now result after
+done on inside now view result answer is after next is_next step = search (rules)
 
 -- It found a fault, and changed nothing.
 pub faulty : (on : MachineState → Returned) (inside now : MachineState) → inside ≡ now
@@ -65,8 +63,7 @@ module _ (on : MachineState → Returned) (s : Allocator) (spent : finite.FinMap
 pub consistent_as : {s t : Allocator} {spent : finite.FinMap nat_cmp ℕ}
     {calls : finite.FinMap nat_cmp StoredCall} → t ≡ s → AreConsistent s spent calls
     → AreConsistent t spent calls
-consistent_as {s} {t} {spent} {calls} is h =
-    subst (λ a. AreConsistent a spent calls) (sym is) h
+consistent_as {s} {t} {spent} {calls} is h = subst (λ a. AreConsistent a spent calls) (sym is) h
 
 -- what a test of an answer tells
 pub some_of : {X : Type 0} (o : Option X) → true ≡ is_some o → (x : X) × (o ≡ Some x)
@@ -108,11 +105,6 @@ front (y ∷ ys) x is = let same : y ≡ x = cc in ap (λ z. z ∷ ys) same
 pub none_is_none : {X Y : Type 0} (f : X → Y) (o : Option X) → option_map f o ≡ None → o ≡ None
 none_is_none f None is = refl
 none_is_none f (Some x) is = absurd cc
-
--- with no old handle in it, the pool gives a fresh one
-front_is_fresh : (made : ℕ) (pool : List Handle) (h : Handle) (rest : List Handle) → pool ≡ h ∷ rest
-    → length (filter (is_old made) pool) ≡ 0 → is_fresh made h ≡ true
-front_is_fresh made pool h rest is none = grind (arith, common_steps)
 
 -- to take the front of a pool takes memory if it makes a slot
 pub front_takes_memory : (s : MachineState) (pool : List Handle) → ¬ (pool ≡ [])

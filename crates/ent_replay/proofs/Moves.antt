@@ -165,8 +165,7 @@ begin_enough s caller n below none true short =
 begin_enough s caller n below none false enough =
     begins caller n (finite.insert s.spent caller (spent_by s caller + n))
     (when (nat_lt caller callers) _ _ below ∙ ap (begin_with s caller n) none
-    ∙ unless (nat_lt (left_of s caller) n) _ _ enough)
-    (grind (arith, nat_tests)) none refl
+    ∙ unless (nat_lt (left_of s caller) n) _ _ enough) (grind (arith, nat_tests)) none refl
 
 begin_at : (s : MachineState) (caller n : ℕ) → nat_lt caller callers ≡ true → (o : Option OpenCall)
     → finite.get s.calls caller ≡ o → Move s (event.Begin caller n)
@@ -256,13 +255,3 @@ plain s e (answers caller call reply is below some stepped at) = ap (λ x. ran_o
     told : (reply : Reply) → ran_out (Ok (reported reply)) ≡ false
     told (Ok handles) = refl
     told (Err space) = refl
-
-pub outcome-not_memory : (s : MachineState) (e : Event) → outcome_of s e ≢ Err fault.Memory
-outcome-not_memory s e is = no_test (sym (plain s e (move s e)) ∙ ap ran_out is)
-
-pub outcomes-not_memory : (s : MachineState) (events : List Event) → All (λ r. r ≢ Err fault.Memory)
-    (outcomes_of s events)
-outcomes-not_memory s [] = All-nil (λ r. r ≢ Err fault.Memory)
-outcomes-not_memory s (e ∷ events) = All-cons (λ r. r ≢ Err fault.Memory) (outcome_of s e)
-    (outcomes_of (after_event s e) events) (outcome-not_memory s e)
-    (outcomes-not_memory (after_event s e) events)

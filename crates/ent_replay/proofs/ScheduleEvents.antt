@@ -72,8 +72,7 @@ abbrev text_fault : {A : Type 0} → TextFault → Result A TextFault
 text_fault f = Err f
 
 number_is_small : (word : List ℕ) (n : ℕ) → number_of word ≡ Ok n → n < 2 ^ 32
-number_is_small word n e =
-    grind (arith, common_steps)
+number_is_small word n e = grind (arith, common_steps)
 
 number_ok : (word : List ℕ) (n : ℕ) → number_word word ≡ Ok n → (n < 2 ^ 32) × (word ≡ decimal n)
 number_ok word n e =
@@ -97,8 +96,7 @@ lacks separator bytes = list_all (λ byte. not (eqb byte separator)) bytes
 
 digit_is_other : (separator c : ℕ) → is_ascii_digit separator ≡ false → is_ascii_digit c ≡ true
     → not (eqb c separator) ≡ true
-digit_is_other separator c h d =
-    grind (arith, common_steps)
+digit_is_other separator c h d = grind (arith, common_steps)
 
 digits_lack : (separator : ℕ) (ds : List ℕ) → is_ascii_digit separator ≡ false
     → list_all is_ascii_digit ds ≡ true → lacks separator ds ≡ true
@@ -172,8 +170,7 @@ word_is word text e = (bytes_eq-Decides word text).0 e
 
 alone_found : (word : List ℕ) (others : List (List ℕ)) (event e : Event) → word ≡ event_text event
     → IsEvent event → none event others ≡ Ok e → IsRead (word ∷ others) e
-alone_found word others event e is fits h =
-    search (rules, none_ok)
+alone_found word others event e is fits h = search (rules, none_ok)
 
 free_found : (word : List ℕ) (others : List (List ℕ)) (e : Event) → word ≡ codes "free"
     → (one others >>= handle_word >>= λ h. Ok (Free h)) ≡ Ok e → IsRead (word ∷ others) e
@@ -191,8 +188,7 @@ free_found word others e is h =
 caller_found : (make : ℕ → Event) (keyword : List ℕ) → ((n : ℕ) → n < 2 ^ 32 → IsEvent (make n))
     → ((n : ℕ) → event_text (make n) ≡ keyword ++ 32 ∷ decimal n)
     → (word : List ℕ) (others : List (List ℕ)) (e : Event) → word ≡ keyword
-    → (one others >>= number_word >>= λ caller. Ok (make caller)) ≡ Ok e
-    → IsRead (word ∷ others) e
+    → (one others >>= number_word >>= λ caller. Ok (make caller)) ≡ Ok e → IsRead (word ∷ others) e
 caller_found make keyword fits text word others e is h =
     search (rules, bind_ok, number_ok, ok_is, one_ok)
 
@@ -222,8 +218,7 @@ tested : (word : List ℕ) (others : List (List ℕ)) (e : Event) (keyword : Lis
     (x y : Result Event Cause) → cond (bytes_eq word keyword) x y ≡ Ok e
     → (word ≡ keyword → x ≡ Ok e → IsRead (word ∷ others) e) → (y ≡ Ok e → IsRead (word ∷ others) e)
     → IsRead (word ∷ others) e
-tested word others e keyword x y h found goes_on =
-    search (rules, chosen, word_is)
+tested word others e keyword x y h found goes_on = search (rules, chosen, word_is)
 
 pub event_found : (words : List (List ℕ)) (e : Event) → event_of words ≡ Ok e → IsRead words e
 unfolding event_with
@@ -238,8 +233,7 @@ event_found (word ∷ others) e h =
     tested word others e (codes "step") _ _ h4 (λ is p. caller_found (λ n. Step n) (codes "step")
     (λ n small. small) (λ n. refl) word others e is p) (λ h5.
     tested word others e (codes "answer") _ _ h5 (λ is p. caller_found (λ n. Answer n)
-    (codes "answer") (λ n small. small) (λ n. refl) word others e is p) (λ unknown.
-    absurd cc))))))
+    (codes "answer") (λ n small. small) (λ n. refl) word others e is p) (λ unknown. absurd cc))))))
 
 -- ---- what is spelled so is read
 

@@ -39,8 +39,7 @@ goes_on_ok line (Ok event) (Ok rest) events e = search (rules)
 
 events_found : (number : ℕ) (lines : List (List ℕ)) (events : List Event) → events_of number lines
     ≡ Ok events → AreEvents events × (lines ≡ map event_text events)
-events_found number [] events e =
-    search (rules)
+events_found number [] events e = search (rules)
 events_found number (line ∷ lines) events e =
     let g = goes_on_ok number (event_of (words_of line)) (events_of (number + 1) lines) events e in
     let first = event_found (words_of line) g.0 g.2 in
@@ -57,8 +56,7 @@ events_again : (number : ℕ) (events : List Event) → AreEvents events
 events_again number [] fits = refl
 events_again number (event ∷ events) fits = rw (
   event_again event fits.0,
-  events_again (number + 1)
-      events fits.1,
+  events_again (number + 1) events fits.1,
 ) refl
 
 -- the first fault of lines that are numbered from this one on
@@ -132,12 +130,10 @@ IsEnded text lines = (text ≡ ended lines) ⊎ (text ++ 10 ∷ [] ≡ ended lin
 more_ended : (line text : List ℕ) (lines : List (List ℕ)) → IsEnded text lines
     → IsEnded (line ++ 10 ∷ text) (line ∷ lines)
 more_ended line text lines (inl e) = grind (arith, common_steps)
-more_ended line text lines (inr e) =
-    grind (arith, common_steps)
+more_ended line text lines (inr e) = grind (arith, common_steps)
 
 last_ended : (part : List ℕ) → IsEnded part (without_empty_end (part ∷ []))
-last_ended part =
-    grind (arith, common_steps)
+last_ended part = grind (arith, common_steps)
 
 parts_ended : (parts : List (List ℕ)) → 0 < length parts → IsEnded (join_with_byte 10 parts)
     (without_empty_end parts)
@@ -158,8 +154,7 @@ ended_events events = flat_map-map (λ line. line ++ 10 ∷ []) event_text event
 
 spells_from_lines : (text : List ℕ) (events : List Event) → lines_of text ≡ map event_text events
     → Spells events text
-spells_from_lines text events e =
-    search (rules, ended_events, text_ended)
+spells_from_lines text events e = search (rules, ended_events, text_ended)
 
 -- ---- the lines of what is spelled
 
@@ -237,8 +232,7 @@ schedule_again text events fits spelled = ap (events_of 1) (lines_from_spelling 
 
 first_fault : (text : List ℕ) (fault : ReadFault) → FaultAt 1 (lines_of text) fault
     → ExplainsFault text fault
-first_fault text fault f =
-    search (rules, event_refused)
+first_fault text fault f = search (rules, event_refused)
 
 pub schedule_refused : (text : List ℕ) (fault : ReadFault) → schedule_of text ≡ Err fault
     → ExplainsFault text fault

@@ -21,8 +21,7 @@ parts_whole separator bytes h = slice_split_none (λ byte. eqb byte separator) b
     (fails separator bytes h)
 
 pub parts_first : (separator : ℕ) (bytes first others : List ℕ) → bytes ≡ first ++ separator
-    ∷ others → IsWithout separator first
-    → slice_split (λ byte. eqb byte separator) bytes ≡ first
+    ∷ others → IsWithout separator first → slice_split (λ byte. eqb byte separator) bytes ≡ first
     ∷ slice_split (λ byte. eqb byte separator) others
 parts_first separator bytes first others e h =
     ap (slice_split (λ byte. eqb byte separator)) e ∙ slice_split_at (λ byte. eqb byte separator)

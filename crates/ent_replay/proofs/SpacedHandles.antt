@@ -9,11 +9,9 @@ use Rattle.ent_replay.specs.OutcomeText.{handles_text, spaced}
 
 -- the texts from a handle on begin with its own
 pub length-spaced_drop : (handles : List Handle) (i : ℕ) (h : Handle) → i < length handles → h
-    ≡ get_or handles i h
-    → length (spaced (drop i handles)) ≡ (1 + length (handle_text h))
+    ≡ get_or handles i h → length (spaced (drop i handles)) ≡ (1 + length (handle_text h))
     + length (spaced (drop (i + 1) handles))
-length-spaced_drop handles i h lt is =
-    grind (arith, common_steps)
+length-spaced_drop handles i h lt is = grind (arith, common_steps)
 
 -- what is written and the next handle are no longer than all
 pub spaced_fits : (old now : List ℕ) (handles : List Handle) (i : ℕ) (h : Handle) → i
@@ -24,8 +22,7 @@ spaced_fits old now handles i h lt is e =
     omega (
       arith,
       length-spaced_drop handles i h lt is,
-      sym
-          (length-append now (spaced (drop i handles))) ∙ ap length e
+      sym (length-append now (spaced (drop i handles))) ∙ ap length e
           ∙ length-append old (spaced handles),
     )
 
@@ -39,5 +36,4 @@ handles_text-cons first (next ∷ others) = search (rules, handles_text-cons nex
 pub length-handles_text : (handles : List Handle) → length (handles_text handles) + 1
     ≡ max (length (spaced handles)) 1
 length-handles_text [] = refl
-length-handles_text (h ∷ others) =
-    search (rules, handles_text-cons, length-append)
+length-handles_text (h ∷ others) = search (rules, handles_text-cons, length-append)

@@ -134,8 +134,7 @@ module _ {S : Type 0} (may : S → View → List Command → Type 0) (systems : 
       record {
         legal = subst (IsLegal before.allocator) is ends.frame.legal;
         world = subst (λ h. after ≡ (sync queues (reserved_by h before)).world) is ends.world;
-        born_are = subst (λ h. births ≡ born (after_history before.allocator h)) is
-            ends.born_are;
+        born_are = subst (λ h. births ≡ born (after_history before.allocator h)) is ends.born_are;
         faults_are = subst (λ h. faults ≡ (sync queues (reserved_by h before)).faults) is
             ends.faults_are;
       }
@@ -154,10 +153,7 @@ pub ends : {S : Type 0} (may leave : S → View → List Command → Type 0) (sy
     (seen : List (List Command)) (births : List Handle) (faults : List Fault)
     → ClosedAgain may leave systems world closed got
     → got ≡ Some queues → world_at_start world ≡ before → world.shared.count ≡ workers → seen
-    ≡ queues.items
-    → after ≡ (sync seen closed).world → births ≡ born closed.allocator → faults
-    ≡ (sync seen closed).faults
-    → Ends may systems workers before queues.items after births faults
+    ≡ queues.items → after ≡ (sync seen closed).world → births ≡ born closed.allocator → faults
+    ≡ (sync seen closed).faults → Ends may systems workers before queues.items after births faults
 ends may leave systems workers before world closed after got queues seen births faults r some same
-    count shown ok born_are faults_are =
-    search (rules)
+    count shown ok born_are faults_are = search (rules)

@@ -46,8 +46,7 @@ put_other n d (i ∷ issued) by_system none =
 
 pub all_put : (d : Option (List Command)) (issued : List SystemQueue)
     (by_system : List (Option (List Command))) → All (λ (i : SystemQueue). i.system
-    < length by_system)
-    issued → ((n : ℕ) → times n issued ≤ 1)
+    < length by_system) issued → ((n : ℕ) → times n issued ≤ 1)
     → All (λ (i : SystemQueue). get_or (queues_put issued by_system) i.system d ≡ Some i.queue)
     issued
 all_put d [] by_system inside once = All-nil (λ (i : SystemQueue). get_or by_system i.system d
@@ -66,15 +65,13 @@ all_put d (i ∷ issued) by_system inside once =
     All-cons (λ (j : SystemQueue). get_or (queues_put (i ∷ issued) by_system) j.system d
     ≡ Some j.queue) i issued
     (put_other i.system d issued next alone ∙ get_or-set_same by_system i.system (Some i.queue) d
-    here)
-    (all_put d issued next longer (λ n. let s = sums n in let o = once n in omega arith))
+    here) (all_put d issued next longer (λ n. let s = sums n in let o = once n in omega arith))
 
 -- one more queue is put at its number
 pub put_on : (rest new : List SystemQueue) (i : SystemQueue)
     (by_system next all : List (Option (List Command))) → rest ≡ i ∷ new → next
     ≡ slice_set by_system i.system (Some i.queue) → All (λ (j : SystemQueue). j.system
-    < length by_system)
-    rest → queues_put rest by_system ≡ all
+    < length by_system) rest → queues_put rest by_system ≡ all
     → All (λ (j : SystemQueue). j.system < length next) new × (queues_put new next ≡ all)
 put_on rest new i by_system next all front set inside same =
     let long : length next ≡ length by_system = ap length set ∙ length-set by_system i.system

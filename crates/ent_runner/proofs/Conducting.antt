@@ -137,8 +137,7 @@ module _ {S : Type 0} (may leave : S → View → List Command → Type 0) (syst
           (record {
             gains = g.gains;
             each = g.each;
-            rising = subst (AllPairs (λ m n. m < n))
-                (sym g.claims) d.claimer.rises;
+            rising = subst (AllPairs (λ m n. m < n)) (sym g.claims) d.claimer.rises;
           }))
 
     mine_flat : flat_map (λ mine. mine) (map issued_by team) ≡ flat_map issued_by team
@@ -152,8 +151,7 @@ module _ {S : Type 0} (may leave : S → View → List Command → Type 0) (syst
         (respects : All (Respects (reservations_of (all_records team))) (all_records team)) where
       pub is_frame : All (λ (w : Worker). w.stopped ≡ false) team
           → IsPermutation (flat_map (λ (w : Worker). systems_of w.issued.items) team)
-          (range_with_len 0 claims.numbers)
-          → (queues : List (List Command)) → map Some queues
+          (range_with_len 0 claims.numbers) → (queues : List (List Command)) → map Some queues
           ≡ queues_put (flat_map (λ (w : Worker). w.issued.items) team)
           (replicate claims.numbers None)
           → IsFrame may systems world.shared.count (world_at_start world) queues
@@ -312,8 +310,7 @@ pub queues_back : (count n : ℕ) (issued : List SystemQueue)
     (start new : List (Option (List Command))) → start ≡ replicate count None → n ≡ length start
     → new ≡ queues_put issued start → take n (new ++ drop (length new) start)
     ≡ queues_put issued (replicate count None)
-queues_back count n issued start new empty n_is put =
-    search (rules, length_put, written_back)
+queues_back count n issued start new empty n_is put = search (rules, length_put, written_back)
 
 unmapped : {X Y : Type 0} (P : Y → Type 0) (f : X → Y) (xs : List X) → All P (map f xs)
     → All (λ x. P (f x)) xs
@@ -323,12 +320,9 @@ unmapped P f (x ∷ xs) all = All-cons (λ x. P (f x)) x xs (All-head P (f x) (m
 
 -- the workers are ready to begin
 pub all_ready : (shared : Shared) (claims : Claims) (old : List Worker) (given : List Reserver)
-    (fresh : List Claimer)
-    → map (λ (w : Worker). w.reserver) old ≡ given → All (IsOf shared) given
+    (fresh : List Claimer) → map (λ (w : Worker). w.reserver) old ≡ given → All (IsOf shared) given
     → map (λ (w : Worker). w.claimer) old ≡ reverse fresh → All (IsClaimerOf claims) fresh
-    → All IsUnused fresh
-    → All (λ (w : Worker). IsRoomForOne w.issued) old
-    → All
+    → All IsUnused fresh → All (λ (w : Worker). IsRoomForOne w.issued) old → All
     (λ (w : Worker). IsOf shared w.reserver × IsClaimerOf claims w.claimer × IsNewWorker w) old
 all_ready shared claims old given fresh reservers own claimers theirs unused empty =
     let one : All (λ (w : Worker). IsOf shared w.reserver) old = unmapped (IsOf shared)
@@ -343,11 +337,7 @@ all_ready shared claims old given fresh reservers own claimers theirs unused emp
     λ k d within. (
       one k d within,
       two k d within,
-      record {
-        unused = three k d within;
-        issued =
-            empty k d within;
-      },
+      record { unused = three k d within; issued = empty k d within },
     )
 
 -- the queues, if there are any, are those of a frame
@@ -360,8 +350,7 @@ pub framed : {S : Type 0} (may leave : S → View → List Command → Type 0) (
     → IfSome queues (λ q. IsPermutation (flat_map (λ (w : Worker). systems_of w.issued.items) team)
     (range_with_len 0 claims.numbers))
     → IfSome queues (λ q. map Some q.items
-    ≡ queues_put (flat_map (λ (w : Worker). w.issued.items) team)
-    (replicate claims.numbers None))
+    ≡ queues_put (flat_map (λ (w : Worker). w.issued.items) team) (replicate claims.numbers None))
     → IfSome queues (λ q. IsFrame may systems world.shared.count (world_at_start world) q.items
     (history_of (all_records team)))
 framed may leave systems world claims team done numbers None legal respects going once by_system =
@@ -376,8 +365,7 @@ pub closed_by : (world : OpenWorld) (after : World) (records same : List Record)
     → after.phase ≡ world.phase → after.entities ≡ world.entities → after.allocator
     ≡ after_history world.shared.start (history_of records) → after ≡ reserved_by (history_of same)
     (world_at_start world)
-closed_by world after records same is phase entities allocator =
-    search (rules)
+closed_by world after records same is phase entities allocator = search (rules)
 
 pub view_is : (world : OpenWorld) (view : View) → view.phase ≡ world.phase → view.entities
     ≡ world.entities → view ≡ view_of (world_at_start world)

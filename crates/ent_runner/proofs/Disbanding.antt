@@ -28,11 +28,9 @@ pub record Disbanded (workers yielded rest : List Worker) (w : Worker)
 
 pub disbanded_on : (workers yielded old rest : List Worker) (w : Worker)
     (by_system next : List (Option (List Command))) → old ≡ w ∷ rest → yielded ++ old ≡ workers
-    → next
-    ≡ queues_put w.issued.items by_system
+    → next ≡ queues_put w.issued.items by_system
     → All (λ (w : Worker). All (λ (i : SystemQueue). i.system < length by_system) w.issued.items)
-    old
-    → Disbanded workers yielded rest w by_system next
+    old → Disbanded workers yielded rest w by_system next
 disbanded_on workers yielded old rest w by_system next front all put inside =
     let long : length next ≡ length by_system = ap length put ∙ length_put w.issued.items by_system
     in

@@ -48,8 +48,7 @@ asked r = (r.requested, r.reply)
 -- the calls of one caller in the history
 by_caller : (k : ℕ) (records : List Record) → requests_by k (history_of records)
     ≡ map asked (reservations_by k (reservations_of records))
-by_caller k records =
-    search (rules, filter_map_is, map_map_is)
+by_caller k records = search (rules, filter_map_is, map_map_is)
 
 -- an element that is there so often is somewhere
 found : (n : ℕ) (issued : List SystemQueue) → 0 < times n issued → (k : ℕ) × (i : SystemQueue)
@@ -124,8 +123,7 @@ module _ (count : ℕ) (work : List (List SystemQueue))
       let here : get_or (queues_put all (replicate count none)) i.system d ≡ Some i.queue =
       each_of_all (λ (i : SystemQueue). get_or (queues_put all (replicate count none))
       i.system d ≡ Some i.queue) all there.0 i (stand d) there.2 in
-      ap is_some (ap (λ k. get_or (queues_put all (replicate count none)) k d) (sym there.3)
-      ∙ here)
+      ap is_some (ap (λ k. get_or (queues_put all (replicate count none)) k d) (sym there.3) ∙ here)
 
 module _ (P : SystemQueue → Type 0) (before : World) where
   -- what the worker of this number did

@@ -16,8 +16,7 @@ pub ends_frame : {S : Type 0} (may : S → View → List Command → Type 0) (sy
     → StopsAt may systems workers before queues now (stop.Memory system command done so_far)
     → ((w : World) (earlier : List Fault)
     → HasStoppedSo system command done queues w now earlier → after ≡ (sync queues w).world)
-    → ((w : World) (earlier : List Fault)
-    → HasStoppedSo system command done queues w now earlier
+    → ((w : World) (earlier : List Fault) → HasStoppedSo system command done queues w now earlier
     → earlier ++ faults ≡ (sync queues w).faults)
     → Ends may systems workers before queues after so_far.born.items (so_far.faults.items ++ faults)
 ends_frame may systems workers before now after queues system command done so_far faults stops

@@ -13,8 +13,7 @@ use Rattle.ent_runner.specs.Worker.{HasWorked, HaveAllWorked}
 module _ {S : Type 0} (may leave : S → View → List Command → Type 0) (shared : Shared)
     (claims : Claims) (systems : List S) (view : View) where
   abbrev Did : Worker → Worker → Type 0
-  Did before after =
-      HasWorked may leave shared claims systems view before.reserver.own after
+  Did before after = HasWorked may leave shared claims systems view before.reserver.own after
 
   abbrev HaveDone : List Worker → List Worker → Type 0
   HaveDone before after = HaveAllWorked may leave shared claims systems view before after
@@ -35,14 +34,12 @@ module _ {S : Type 0} (may leave : S → View → List Command → Type 0) (shar
               rw (
                 get_or_append_left front back d k early,
                 get_or_append_left front' back' d k (omega (arith, first.count)),
-              )
-              (first.each k d early)
+              ) (first.each k d early)
           | inr late ↦
               rw (
                 get_or-append_right front back (length front) k d refl late,
                 get_or-append_right front' back' (length front) k d first.count late,
-              )
-              (second.each (k - length front) d (omega (arith, length-append front back)))
+              ) (second.each (k - length front) d (omega (arith, length-append front back)))
         ];
   }
 

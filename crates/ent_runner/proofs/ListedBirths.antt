@@ -66,8 +66,7 @@ module _ {X : Type 0} (f : X → ℕ) where
             (All-cons (λ x. f x < n) x (others n xs) (omega arith) rest)
       ]
 
-  one_less : (n : ℕ) (xs : List X) → AllPairs HaveTwo xs
-      → length xs ≤ suc (length (others n xs))
+  one_less : (n : ℕ) (xs : List X) → AllPairs HaveTwo xs → length xs ≤ suc (length (others n xs))
   unfolding others
   one_less n [] apart = omega arith
   one_less n (x ∷ xs) apart =
@@ -104,8 +103,7 @@ few_of_all : (queues : List (List Command)) (n : ℕ)
 few_of_all [] n = omega arith
 few_of_all (q ∷ qs) zero =
     let both = length-append (handles_listed q) (flat_map handles_listed qs) in omega arith
-few_of_all (q ∷ qs) (suc n) =
-    grind (arith, common_steps, few_of_all qs n)
+few_of_all (q ∷ qs) (suc n) = grind (arith, common_steps, few_of_all qs n)
 
 -- ---- the births
 
@@ -113,8 +111,7 @@ few_of_all (q ∷ qs) (suc n) =
 abbrev pub IsListed : List (List Command) → Handle → Type 0
 IsListed queues h = (system : ℕ) × (k : ℕ) × (system < length queues) × Lists queues system k h
 
-all_listed : (queues : List (List Command))
-    → All (IsListed queues) (flat_map handles_listed queues)
+all_listed : (queues : List (List Command)) → All (IsListed queues) (flat_map handles_listed queues)
 all_listed [] = All-nil (IsListed [])
 all_listed (q ∷ qs) = All-append (IsListed (q ∷ qs)) (handles_listed q) (flat_map handles_listed qs)
     (λ k d within. (0, k, omega arith, slice_get-get_or (handles_listed q) k d within))
@@ -237,8 +234,7 @@ module _ {S : Type 0} (may : S → View → List Command → Type 0) (systems : 
       ∙ ap (λ b. cond b (Some (record {
         birth = birth_in before.phase queues handles h;
         components = map.empty;
-      })) (map.get before.entities h))
-      (not_there handles h (λ there. away (born-listed h there)))
+      })) (map.get before.entities h)) (not_there handles h (λ there. away (born-listed h there)))
 
   -- Who is listed was not there before the frame.
   pub listed-new : AreLiving before.allocator before.entities → (system k : ℕ) (h : Handle)

@@ -56,13 +56,11 @@ module _ {X Y : Type 0} (f : X → List Y) where
       let rest = flat_put x xs k (omega arith) in
       let z : X = get_or xs k x in
       IsPermutation-trans (f x ++ (f y ++ flat_map f xs)) (f y ++ (f x ++ flat_map f xs))
-      (f z ++ (f y ++ flat_map f (set xs k x)))
-      (flipped (f x) (f y) (flat_map f xs))
+      (f z ++ (f y ++ flat_map f (set xs k x))) (flipped (f x) (f y) (flat_map f xs))
       (IsPermutation-trans (f y ++ (f x ++ flat_map f xs)) (f y ++ (f z ++ flat_map f (set xs k x)))
       (f z ++ (f y ++ flat_map f (set xs k x)))
       (IsPermutation-append_right (f y) (f x ++ flat_map f xs) (f z ++ flat_map f (set xs k x))
-      rest)
-      (flipped (f y) (f z) (flat_map f (set xs k x))))
+      rest) (flipped (f y) (f z) (flat_map f (set xs k x))))
 
   flat_swap : (xs : List X) (i j : ℕ) → i < length xs → j < length xs
       → IsPermutation (flat_map f xs) (flat_map f (swap xs i j))
@@ -249,8 +247,7 @@ not_in_both xs ys h once here there = All-contains (Differ h) ys h
 pub position_is : (hs : List Handle) (index k : ℕ) (h : Handle) → AreGivenOnce hs → slice_get hs k
     ≡ Some h → position_from (eq_by_cmp handle_cmp h) index hs ≡ Some (index + k)
 position_is [] index k h once at = absurd (cc)
-position_is (x ∷ hs) index zero h once at =
-    search (rules, itself)
+position_is (x ∷ hs) index zero h once at = search (rules, itself)
 position_is (x ∷ hs) index (suc k) h once at =
     let apart : x ≢ h = each_of_all (Differ x) hs k h (AllPairs-head Differ x hs once) at in
     let on : eq_by_cmp handle_cmp h x ≡ false = other_handle h x (λ e. apart (sym e)) in
@@ -297,8 +294,7 @@ module _ {S : Type 0} (may : S → View → List Command → Type 0) (systems : 
       (IsPermutation-sym (given_in history) (flat_map listed_at numbers)
       (IsPermutation-trans (given_in history) (flat_map listed_at ran) (flat_map listed_at numbers)
       (subst (IsPermutation (given_in history)) by_worker
-      (by_callers workers history frame.callers))
-      (flat_moved listed_at ran numbers frame.once)))
+      (by_callers workers history frame.callers)) (flat_moved listed_at ran numbers frame.once)))
 
   module _ (sound : IsSound before.allocator) where
     -- No handle is listed twice, by one queue or by two.

@@ -67,8 +67,7 @@ map_map_is g f (x ∷ xs) = ap (λ ys. g (f x) ∷ ys) (map_map_is g f xs)
 pub sum_map : {X Y : Type 0} (g : Y → ℕ) (f : X → Y) (xs : List X) → sum_by g (map f xs)
     ≡ sum_by (λ x. g (f x)) xs
 sum_map g f [] = refl
-sum_map g f (x ∷ xs) =
-    grind (arith, common_steps, sum_map g f xs)
+sum_map g f (x ∷ xs) = grind (arith, common_steps, sum_map g f xs)
 
 -- the element of a mapped list is that of one element
 pub mapped_at : {X Y : Type 0} (f : X → Y) (xs : List X) (k : ℕ) (y : Y) → slice_get (map f xs) k
@@ -104,8 +103,7 @@ below_range n a (suc many) less =
     omega arith
 
 -- the first number of a range is this one, and no later one is, or it is another
-range_step : (n a many : ℕ)
-    → ((a ≡ n) × (sum_by (is_number n) (range_with_len a (suc many)) ≡ 1))
+range_step : (n a many : ℕ) → ((a ≡ n) × (sum_by (is_number n) (range_with_len a (suc many)) ≡ 1))
     ⊎ ((a ≢ n) × (sum_by (is_number n) (range_with_len a (suc many))
     ≡ sum_by (is_number n) (range_with_len (a + 1) many)))
 range_step n a many =
@@ -141,8 +139,7 @@ some_in_range n a (suc many) from below = elim (range_step n a many) [
 
 all_in_range : (a many : ℕ) → All (λ n. n < a + many) (range_with_len a many)
 all_in_range a zero = All-nil (λ n. n < a + zero)
-all_in_range a (suc many) =
-    search (rules, All-cons, all_in_range (a + 1) many)
+all_in_range a (suc many) = search (rules, All-cons, all_in_range (a + 1) many)
 
 pub all_below : (many : ℕ) → All (λ n. n < many) (range_with_len 0 many)
 all_below many = search (rules, all_in_range)
@@ -150,12 +147,10 @@ all_below many = search (rules, all_in_range)
 -- one more was taken from the front of what is left, and mapped
 pub moved_over : {X Y : Type 0} (f : X → Y) (old new : List X) (x : X) (left next all : List Y)
     → new ≡ old ++ x ∷ [] → left ≡ f x ∷ next → map f old ++ left ≡ all → map f new ++ next ≡ all
-moved_over f old new x left next all pushed taken whole =
-    grind (arith, common_steps)
+moved_over f old new x left next all pushed taken whole = grind (arith, common_steps)
 
 -- one more was taken from the end of what is left
 pub moved_back : {X Y : Type 0} (g : X → Y) (old new : List X) (x : X) (left next all : List Y)
     → new ≡ old ++ x ∷ [] → left ≡ next ++ g x ∷ [] → left ++ reverse (map g old) ≡ all
     → next ++ reverse (map g new) ≡ all
-moved_back g old new x left next all pushed taken whole =
-    grind (arith, common_steps)
+moved_back g old new x left next all pushed taken whole = grind (arith, common_steps)

@@ -141,8 +141,7 @@ left_last leave systems view before issued last pushed left = inl (
 pub inside_more : {S : Type 0} (systems : List S) (issued next : List SystemQueue) (i : SystemQueue)
     → All (λ (i : SystemQueue). i.system < length systems) issued → i.system < length systems → next
     ≡ issued ++ i ∷ [] → All (λ (i : SystemQueue). i.system < length systems) next
-inside_more systems issued next i inside here pushed =
-    grind (arith, common_steps)
+inside_more systems issued next i inside here pushed = grind (arith, common_steps)
 
 -- one number more was claimed
 pub claims_more : (old new : Claimed) (n : ℕ) → new ≡ record old { claims = old.claims ++ n ∷ [] }

@@ -32,8 +32,7 @@ decimal_without_dot ds is k d lt e =
 
 -- what is no decimal has no number
 number_refused : (ds : List ℕ) → is_decimal ds ≡ false → birth_number ds ≡ Err cause.Birth
-number_refused ds lacks =
-    search (rules, cond-false)
+number_refused ds lacks = search (rules, cond-false)
 
 -- whatever comes after a number, it is refused as the number is
 after_number : {A : Type 0} (ds : List ℕ) (f : ℕ → Result A Cause)
@@ -43,8 +42,7 @@ after_number {A} ds f all = search (rules)
 pub ordinal_refused : (before : ℕ) (frame system ordinal : List ℕ)
     → birth_number ordinal ≡ Err cause.Birth
     → birth_of_parts before (frame ∷ system ∷ ordinal ∷ []) ≡ Err cause.Birth
-ordinal_refused before frame system ordinal lacks =
-    grind (arith, common_steps)
+ordinal_refused before frame system ordinal lacks = grind (arith, common_steps)
 
 -- no dot: no birth
 pub birth_of_whole : (before : ℕ) (text : List ℕ) → IsWithoutDot text

@@ -25,8 +25,7 @@ onto_item bundle item (Ok items) = refl
 onto_item bundle item (Err c) = refl
 
 pub goes_on : (components : List (List ℕ)) (bundle : Bundle) (m : List ℕ × Data)
-    (ms : List (List ℕ × Data)) (item : ComponentId × ℤ)
-    → item_of components m ≡ Ok item
+    (ms : List (List ℕ × Data)) (item : ComponentId × ℤ) → item_of components m ≡ Ok item
     → onto bundle (items_of components (m ∷ ms))
     ≡ onto (put component_cmp item.0 item.1 bundle) (items_of components ms)
 goes_on components bundle m ms item e =

@@ -115,10 +115,8 @@ has_keys-cut : (l : ℕ) (required allowed : List (List ℕ)) (d : Data) → has
 unfolding has_keys
 has_keys-cut l required allowed d =
     ap₂ (λ (a b : Bool). a && b) (all_cut l required d)
-    (ap
-    (λ (o : Option Bool). unwrap_or o false)
-    (ap (option_map (keys_among allowed)) (members-cut l d) ∙ among_option l allowed
-    (members d)))
+    (ap (λ (o : Option Bool). unwrap_or o false)
+    (ap (option_map (keys_among allowed)) (members-cut l d) ∙ among_option l allowed (members d)))
 
 kind_of-cut : (l : ℕ) (d : Data) → kind_of (cut (suc l) d) ≡ kind_of d
 unfolding is_spawn is_spawn_many is_insert is_remove is_despawn
@@ -134,15 +132,10 @@ kind_of-cut l d =
 
 -- ---- the parts of an operation
 
-item_of-cut : (l : ℕ) (components : List (List ℕ)) (m : List ℕ × Data) → item_of components
-    (cut_pair l m) ≡ item_of components m
-item_of-cut l components m = rw (whole-cut l m.1) refl
-
 items_of-cut : (l : ℕ) (components : List (List ℕ)) (ms : List (List ℕ × Data)) → items_of
     components (map (cut_pair l) ms) ≡ items_of components ms
 items_of-cut l components [] = refl
-items_of-cut l components (m ∷ ms) =
-    grind (arith, common_steps, items_of-cut l components ms)
+items_of-cut l components (m ∷ ms) = grind (arith, common_steps, items_of-cut l components ms)
 
 bundle_option : (l : ℕ) (components : List (List ℕ)) (o : Option (List (List ℕ × Data)))
     → (ok_or (option_map (map (cut_pair l)) o) cause.Bundle >>= bundle_by components) ≡
@@ -155,8 +148,7 @@ bundle-cut : (l : ℕ) (components : List (List ℕ)) (o : Option Data) → read
 unfolding read_bundle
 bundle-cut l components None = refl
 bundle-cut l components (Some d) =
-    ap
-    (λ (o : Option (List (List ℕ × Data))). ok_or o cause.Bundle >>= bundle_by components)
+    ap (λ (o : Option (List (List ℕ × Data))). ok_or o cause.Bundle >>= bundle_by components)
     (members-cut l d)
     ∙ bundle_option l components (members d)
 
@@ -182,22 +174,6 @@ unfolding removed_of
 removed-cut l components None = refl
 removed-cut l components (Some d) = rw (as_str-cut l d) refl
 
-only_cut : (l : ℕ) (ms : List (List ℕ × Data)) → only (map (cut_pair l) ms) ≡ option_map
-    (cut_pair l) (only ms)
-only_cut l [] = refl
-only_cut l (m ∷ []) = refl
-only_cut l (m ∷ n ∷ ms) = refl
-
-target_only : (l : ℕ) (components bound : List (List ℕ)) (before : Option ℕ)
-    (o : Option (List ℕ × Data))
-    → (ok_or (option_map (cut_pair l) o) cause.Target >>=
-    λ m. ok_or (as_str m.1) cause.Target >>= target_at components bound before m.0)
-    ≡
-    (ok_or o cause.Target >>=
-    λ m. ok_or (as_str m.1) cause.Target >>= target_at components bound before m.0)
-target_only l components bound before None = refl
-target_only l components bound before (Some m) = rw (as_str-cut l m.1) refl
-
 target_option : (l : ℕ) (components bound : List (List ℕ)) (before : Option ℕ)
     (o : Option (List (List ℕ × Data)))
     → (ok_or (option_and_then only (option_map (map (cut_pair l)) o)) cause.Target >>=
@@ -205,8 +181,7 @@ target_option : (l : ℕ) (components bound : List (List ℕ)) (before : Option 
     ≡ (ok_or (option_and_then only o) cause.Target >>=
     λ m. ok_or (as_str m.1) cause.Target >>= target_at components bound before m.0)
 target_option l components bound before None = refl
-target_option l components bound before (Some ms) =
-    grind (arith, common_steps)
+target_option l components bound before (Some ms) = grind (arith, common_steps)
 
 target-cut : (l : ℕ) (components bound : List (List ℕ)) (before : Option ℕ) (o : Option Data)
     → target_of components bound before (option_map (cut (suc l)) o)
@@ -226,8 +201,7 @@ of_kind-cut components bound before d kinds.Spawn =
     rw (
       get-cut 1 (codes "spawn") d,
       get-cut 1 (codes "as") d,
-      bundle-cut 0 components
-          (get (codes "spawn") d),
+      bundle-cut 0 components (get (codes "spawn") d),
       binding-cut 1 bound (get (codes "as") d),
     ) refl
 of_kind-cut components bound before d kinds.SpawnMany =
@@ -243,16 +217,14 @@ of_kind-cut components bound before d kinds.Insert =
     rw (
       get-cut 1 (codes "insert") d,
       get-cut 1 (codes "on") d,
-      bundle-cut 0 components
-          (get (codes "insert") d),
+      bundle-cut 0 components (get (codes "insert") d),
       target-cut 0 components bound before (get (codes "on") d),
     ) refl
 of_kind-cut components bound before d kinds.Remove =
     rw (
       get-cut 1 (codes "remove") d,
       get-cut 1 (codes "on") d,
-      removed-cut 1 components
-          (get (codes "remove") d),
+      removed-cut 1 components (get (codes "remove") d),
       target-cut 0 components bound before (get (codes "on") d),
     ) refl
 of_kind-cut components bound before d kinds.Despawn =
@@ -272,8 +244,7 @@ pub operation_of-cut : (components bound : List (List ℕ)) (before : Option ℕ
     → operation_of components bound before (cut 2 d) ≡ operation_of components bound before d
 unfolding operation_of
 operation_of-cut components bound before d =
-    ap
-    (λ (o : Option Kind). ok_or o cause.Shape >>= of_kind components bound before (cut 2 d))
+    ap (λ (o : Option Kind). ok_or o cause.Shape >>= of_kind components bound before (cut 2 d))
     (kind_of-cut 1 d)
     ∙ kind_then components bound before d (kind_of d)
 
@@ -289,35 +260,12 @@ names_from : (names : List (List ℕ)) (ds : List Data) → fold
     (λ names d. with_part names (bound_name d)) names (map (cut 2) ds) ≡ fold
     (λ names d. with_part names (bound_name d)) names ds
 names_from names [] = refl
-names_from names (d ∷ ds) =
-    grind (arith, common_steps, bound_name-cut)
-
-take_cut : (n : ℕ) (ds : List Data) → take n (map (cut 2) ds) ≡ map (cut 2) (take n ds)
-take_cut zero ds = refl
-take_cut (suc n) [] = refl
-take_cut (suc n) (d ∷ ds) = ap (λ (xs : List Data). cut 2 d ∷ xs) (take_cut n ds)
-
-operation_at-cut : (format : Format) (components : List (List ℕ)) (frame system : ℕ)
-    (all : List Data) (n : ℕ) (d : Data)
-    → operation_at format components frame system (map (cut 2) all) n (cut 2 d)
-    ≡ operation_at format components frame system all n d
-operation_at-cut format components frame system all n d =
-    search (rules, take_cut, names_from, operation_of-cut)
+names_from names (d ∷ ds) = grind (arith, common_steps, bound_name-cut)
 
 numbered-cut : {A E : Type 0} (f g : ℕ → Data → Result A E) (l n : ℕ) (ds : List Data) →
-    ((m : ℕ) (d : Data) → f m (cut l d) ≡ g m d)
-    → numbered f n (map (cut l) ds) ≡ numbered g n ds
+    ((m : ℕ) (d : Data) → f m (cut l d) ≡ g m d) → numbered f n (map (cut l) ds) ≡ numbered g n ds
 numbered-cut f g l n [] same = refl
-numbered-cut {A} {E} f g l n (d ∷ ds) same =
-    search (rules, numbered-cut f g l (n + 1) ds same)
-
--- the operations of a system
-pub operations-cut : (format : Format) (components : List (List ℕ)) (frame system : ℕ)
-    (ds : List Data)
-    → numbered (operation_at format components frame system (map (cut 2) ds)) 0 (map (cut 2) ds)
-    ≡ numbered (operation_at format components frame system ds) 0 ds
-operations-cut format components frame system ds =
-    search (rules, numbered-cut, operation_at-cut)
+numbered-cut {A} {E} f g l n (d ∷ ds) same = search (rules, numbered-cut f g l (n + 1) ds same)
 
 -- ---- the heading, and the names of the components
 
@@ -332,11 +280,9 @@ number_cut absent low high k d = search (rules, get-cut, part_cut)
 
 abbrev said : Data → Result Heading ScriptCause
 said d =
-    format_of (get (codes "format") d)
-    >>=
+    format_of (get (codes "format") d) >>=
     λ format. ok_or (or_absent 4294967295 (whole_within 1 4294967295) (get (codes "slots") d))
-    script_cause.Slots
-    >>=
+    script_cause.Slots >>=
     λ slots. ok_or (or_absent 2147483647 (whole_within 1 2147483647)
     (get (codes "generations") d)) script_cause.Generations
     >>= λ generations. Ok (record {
@@ -345,13 +291,11 @@ said d =
     })
 
 said-cut : (d : Data) → said (cut 1 d) ≡ said d
-said-cut d =
-    search (rules, number_cut)
+said-cut d = search (rules, number_cut)
 
 first_tests : (o : Option (List (List ℕ × Data))) (rest : Result Heading ScriptCause)
     → (ok_or (option_map (map (cut_pair 0)) o) script_cause.Top >>=
-    λ ms. test (keys_among script_keys ms) script_cause.Key >>= λ _. rest)
-    ≡
+    λ ms. test (keys_among script_keys ms) script_cause.Key >>= λ _. rest) ≡
     (ok_or o script_cause.Top >>=
     λ ms. test (keys_among script_keys ms) script_cause.Key >>= λ _. rest)
 first_tests None rest = refl
@@ -362,8 +306,7 @@ unfolding heading_of
 heading_of-cut d =
     ap
     (λ (o : Option (List (List ℕ × Data))). ok_or o script_cause.Top >>= λ ms. test
-    (keys_among script_keys ms) script_cause.Key >>= λ _. said (cut 1 d))
-    (members-cut 0 d)
+    (keys_among script_keys ms) script_cause.Key >>= λ _. said (cut 1 d)) (members-cut 0 d)
     ∙ first_tests (members d) (said (cut 1 d))
     ∙ ap
     (λ (r : Result Heading ScriptCause). ok_or (members d) script_cause.Top >>= λ ms. test
@@ -373,8 +316,7 @@ component_names_from : (names : List (List ℕ)) (ds : List Data) → fold
     (λ names d. with_part names (as_name d)) names (map (cut 0) ds) ≡ fold
     (λ names d. with_part names (as_name d)) names ds
 component_names_from names [] = refl
-component_names_from names (d ∷ ds) =
-    grind (arith, common_steps)
+component_names_from names (d ∷ ds) = grind (arith, common_steps)
 
 take_none : (n : ℕ) (ds : List Data) → take n (map (cut 0) ds) ≡ map (cut 0) (take n ds)
 take_none zero ds = refl
@@ -383,8 +325,7 @@ take_none (suc n) (d ∷ ds) = ap (λ (xs : List Data). cut 0 d ∷ xs) (take_no
 
 component_at-cut : (all : List Data) (n : ℕ) (d : Data) → component_at (map (cut 0) all) n (cut 0 d)
     ≡ component_at all n d
-component_at-cut all n d =
-    search (rules, take_none, component_names_from, as_name-cut)
+component_at-cut all n d = search (rules, take_none, component_names_from, as_name-cut)
 
 pub components-cut : (ds : List Data) → numbered (component_at (map (cut 0) ds)) 0 (map (cut 0) ds)
     ≡ numbered (component_at ds) 0 ds

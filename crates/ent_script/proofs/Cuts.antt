@@ -35,13 +35,6 @@ members_view-insert_entry [] k v = refl
 members_view-insert_entry (e ∷ es) k v = members_view-match_ordering (string_cmp k e.0) _ _ _ ∙
     rw (members_view-insert_entry es k v)
 
-cut_members-match_ordering : (levels : ℕ) (o : Ordering) (a b c : Members) → cut_members levels
-    (match_ordering o a b c) ≡ match_ordering o (cut_members levels a) (cut_members levels b)
-    (cut_members levels c)
-cut_members-match_ordering levels Less a b c = refl
-cut_members-match_ordering levels Equal a b c = refl
-cut_members-match_ordering levels Greater a b c = refl
-
 pub cut_members-put : (levels : ℕ) (k : List ℕ) (d : Data) (ms : Members) → cut_members levels
     (put k d ms) ≡ put k (cut levels d) (cut_members levels ms)
 cut_members-put levels k d no_members = refl
@@ -82,10 +75,8 @@ opened_array (suc n) ts r d e =
 
 pub opened_object : (depth : ℕ) (ts r : List Token) (d : Data) → converted of_json
     (value depth (Token.begin_object ∷ ts)) ≡ Some (d, r)
-    → (0 < depth) × ((ms : Members) × (d ≡ object ms)
-    ×
-    (converted
-    (λ ms. of_members ms no_members) (members (value (depth - 1)) (length ts) ts) ≡ Some
+    → (0 < depth) × ((ms : Members) × (d ≡ object ms) ×
+    (converted (λ ms. of_members ms no_members) (members (value (depth - 1)) (length ts) ts) ≡ Some
     (ms, r)))
 unfolding value
 opened_object zero ts r d e = absurd (cc)

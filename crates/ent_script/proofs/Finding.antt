@@ -80,16 +80,14 @@ module _ (p : Parse json.Json) where
       (q.0, q.1, first, sym (member_read p old (suc n) k ts s q.1 q.0 some key first) ∙ e)
 
   pub next_member : (n : ℕ) (k : List ℕ) (ts s rest : List Token) (old ms : Members) → read_key ts ≡
-      Some (Some k, s)
-      → converted (λ ms. of_members ms old) (members p n ts) ≡ Some (ms, rest)
+      Some (Some k, s) → converted (λ ms. of_members ms old) (members p n ts) ≡ Some (ms, rest)
       → (d : Data) × (r : List Token) × (converted of_json (p s) ≡ Some (d, r))
       × (converted (λ ms. of_members ms (put k d old)) (members p (n - 1) r) ≡ Some (ms, rest))
   next_member n k ts s rest old ms key e = member_by (converted of_json (p s)) n k ts s rest old ms
       refl key e
 
   pub last_member : (n : ℕ) (ts r rest : List Token) (old ms : Members) → read_key ts ≡ Some
-      (None, r)
-      → converted
+      (None, r) → converted
       (λ ms. of_members ms old) (members p n ts) ≡ Some (ms, rest) → (ms ≡ old) × (r ≡ rest)
   unfolding members
   last_member zero ts r rest old ms over e = impossible (ms, rest) e
@@ -124,8 +122,7 @@ no_array_by : (a : Parse json.Items) (o : Parse json.Members) (t : Token) (ts r 
 no_array_by a o Token.begin_object ts r d other e =
     ap as_array
     (mapped object
-    (converted
-    (λ ms. of_members ms no_members) (o ts)) d r (sym (converted-object (o ts)) ∙ e)).1
+    (converted (λ ms. of_members ms no_members) (o ts)) d r (sym (converted-object (o ts)) ∙ e)).1
 no_array_by a o Token.end_object ts r d other e = impossible (d, r) e
 no_array_by a o Token.begin_array ts r d other e = absurd (other refl)
 no_array_by a o Token.end_array ts r d other e = impossible (d, r) e
@@ -138,8 +135,7 @@ no_array_by a o Token.bad ts r d other e = impossible (d, r) e
 
 pub no_array : (depth : ℕ) (t : Token) (ts r : List Token) (d : Data) → (t ≡ Token.begin_array → ⊥)
     → converted of_json (value depth (t ∷ ts)) ≡ Some (d, r) → as_array d ≡ None
-no_array depth t ts r d other e =
-    search (rules, no_array_by, value_is)
+no_array depth t ts r d other e = search (rules, no_array_by, value_is)
 
 -- after no token there is no value
 pub no_token : (depth : ℕ) (r : List Token) (d : Data) {P : Type 0} → converted of_json
@@ -180,8 +176,7 @@ no_object_by a o (Token.bad ∷ ts) r d k other e = impossible (d, r) e
 
 pub no_object : (depth : ℕ) (ts r : List Token) (d : Data) (k : List ℕ) → begins_object ts ≡ false
     → converted of_json (value depth ts) ≡ Some (d, r) → get k d ≡ None
-no_object depth ts r d k other e =
-    search (rules, no_object_by, value_is)
+no_object depth ts r d k other e = search (rules, no_object_by, value_is)
 
 -- ---- the whole text
 

@@ -80,8 +80,7 @@ pub longer : {T : Type 0} (r : Option T) (f : T → Token) (text : List ℕ) (d 
     → MatchOption r ((left ≡ []) × (after ≡ [])) (λ t. left ≡ f t ∷ after)
     → converted of_json (value 127 (tokens text)) ≡ Some (d, left) → read text ≡ None
 longer None f text d left after some next e = absurd (cc some)
-longer (Some t) f text d left after some next e =
-    search (rules, longer_by)
+longer (Some t) f text d left after some next e = search (rules, longer_by)
 
 abbrev first : Data → Option (Data × List Token) → Data
 first d None = d
@@ -111,12 +110,3 @@ pub whole : {T : Type 0} (r : Option T) (f : T → Token) (text : List ℕ) (d :
 whole None f text d left after none next e =
     whole_by (value 127 (tokens text)) d (e ∙ ap (λ (ts : List Token). Some (d, ts)) next.0)
 whole (Some t) f text d left after none next e = absurd (cc none)
-
--- a text that was refused
-pub reads_fault : (e : ReadFault) (text : List ℕ) → (e ≡ Json) ⊎ (e ≡ Memory)
-    → (e ≡ Json → read text ≡ None) → ReadsAs {A = Heading} (Err e) (headed (read text))
-reads_fault e text (inl is) none = subst
-    (λ (f : ReadFault). ReadsAs {A = Heading} (Err f) (headed (read text))) (sym is)
-    (ap headed (none is))
-reads_fault e text (inr is) none = subst
-    (λ (f : ReadFault). ReadsAs {A = Heading} (Err f) (headed (read text))) (sym is) tt

@@ -17,8 +17,7 @@ unfolding has_keys
 both required allowed d ms all among whole is some =
     let names = map (λ (key : Bor (List ℕ)). key.now) allowed in
     ap (λ (b : Bool). b && among) (whole
-    ∙ sym (list_all-map (λ key. is_some (get key d)) (λ (key : Bor (List ℕ)). key.now)
-    required))
+    ∙ sym (list_all-map (λ key. is_some (get key d)) (λ (key : Bor (List ℕ)). key.now) required))
     ∙ ap (λ (b : Bool). list_all (λ key. is_some (get key d)) (map (λ (key : Bor (List ℕ)). key.now)
     required) && b) some
     ∙ ap (λ (o : Option (List (List ℕ × Data))). list_all (λ key. is_some (get key d))

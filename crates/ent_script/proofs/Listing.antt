@@ -86,11 +86,9 @@ module _ {A : Type 0} (p : Parse json.Json) (f : ℕ → Data → Result A ReadF
   at_start n ts ds rest e = (n, ds, e, omega arith, onto_none (numbered f 0 (list_of ds)))
 
   pub at_next : (done : List A) (number : ℕ) (now left : List Token) (x : A) (ds : Items)
-      (rest : List Token)
-      → At p f done number now ds rest → after_end_array now ≡ None
+      (rest : List Token) → At p f done number now ds rest → after_end_array now ≡ None
       → ((d : Data) (r : List Token) → converted of_json (p now) ≡ Some (d, r) → Streams (Ok x) left
-      (f number d) r)
-      → At p f (done ++ x ∷ []) (number + 1) left ds rest
+      (f number d) r) → At p f (done ++ x ∷ []) (number + 1) left ds rest
   at_next done number now left x ds rest at going reads =
       let next = next_item p at.0 now rest at.1 going at.2 in
       let is = reads next.0 next.1 next.4 in
@@ -103,8 +101,7 @@ module _ {A : Type 0} (p : Parse json.Json) (f : ℕ → Data → Result A ReadF
             ∙ sym
             (ap
             (λ (r : Result A ReadFault). onto done
-            (r >>= λ y. numbered f (number + 1) (list_of next.2) >>= λ ys. Ok (y ∷ ys)))
-            is.0)
+            (r >>= λ y. numbered f (number + 1) (list_of next.2) >>= λ ys. Ok (y ∷ ys))) is.0)
             ∙ sym (ap (λ (xs : List Data). onto done (numbered f number xs)) later)
             ∙ at.4,
       )
@@ -117,8 +114,7 @@ module _ {A : Type 0} (p : Parse json.Json) (f : ℕ → Data → Result A ReadF
       let last = last_item p at.0 now left rest at.1 over at.2 in
       let none : list_of at.1 ≡ [] = ap list_of last.0 in (
         listed_few most limit (list_of ds) (omega (arith, at.3, ap length none, few))
-            ∙ sym at.4 ∙ ap
-            (λ (xs : List Data). onto done (numbered f number xs)) none ∙ ap
+            ∙ sym at.4 ∙ ap (λ (xs : List Data). onto done (numbered f number xs)) none ∙ ap
             (λ (xs : List A). done_with xs) (append-nil done),
         last.1,
       )
@@ -160,8 +156,7 @@ module _ {A : Type 0} (p : Parse json.Json) (f : ℕ → Data → Result A ReadF
       → ((d : Data) (r : List Token) → converted of_json (p now) ≡ Some (d, r) → Streams {A = A}
       (Err e) left (f number d) r)
       → ((n : ℕ) (later : Items) (r : List Token) → converted of_items (items p n left) ≡ Some
-      (later, r)
-      → FaultOfArray (most - 1 - number) e limit found after later r)
+      (later, r) → FaultOfArray (most - 1 - number) e limit found after later r)
       → (listed most f limit (list_of ds) ≡ Err found) × (after ≡ rest)
   at_fault most limit e found done number now left after ds rest at going room other reads faults =
       let next = next_item p at.0 now rest at.1 going at.2 in
@@ -179,8 +174,7 @@ module _ {A : Type 0} (p : Parse json.Json) (f : ℕ → Data → Result A ReadF
         fault_by most limit e found (list_of ds) (length (list_of next.2)) (most - 1 - number)
             (nat_le (length (list_of next.2)) (most - 1 - number)) refl
             (λ h. omega (arith, at.3, longer, h, room)) (λ h. omega (arith, at.3, longer, h, room))
-            (λ h. omega (arith, at.3, longer, h, room))
-            (λ h. omega (arith, at.3, longer, h, room))
+            (λ h. omega (arith, at.3, longer, h, room)) (λ h. omega (arith, at.3, longer, h, room))
             fault.few fault.many means,
         fault.passed,
       )

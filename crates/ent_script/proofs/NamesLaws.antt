@@ -14,16 +14,6 @@ use Rattle.ent_script.specs.Names.{as_name, number_among, with_name}
 use Rattle.ent_script.specs.Reading.{new_name}
 use Rattle.ent_script.specs.Numbers.{HaveNumbers}
 
-within_later : (found : Option ℕ) (n : ℕ) → IfSome found (λ p. p < n)
-    → IfSome (option_map (λ p. p + 1) found) (λ p. p < suc n)
-within_later None n h = tt
-within_later (Some p) n h = omega (arith, h)
-
-within_either : (b : Bool) (found : Option ℕ) (n : ℕ) → IfSome found (λ p. p < n)
-    → IfSome (cond b (Some 0) (option_map (λ p. p + 1) found)) (λ p. p < suc n)
-within_either true found n h = omega arith
-within_either false found n h = within_later found n h
-
 -- a name's number is less than how many there are
 pub number_within : (name : List ℕ) (names : List (List ℕ)) → IfSome (number_among name names)
     (λ p. p < length names)
@@ -90,8 +80,7 @@ length_now (n ∷ names) = ap suc (length_now names)
 pub numbers_added : (names : List (Bor (List ℕ))) (numbers after : BTreeMap (Bor (List ℕ)) ℕ)
     (name : Bor (List ℕ)) (n : ℕ)
     → n ≡ length names → HaveNumbers names numbers → get_by (λ k. slice_cmp nat_cmp name.now k.now)
-    numbers ≡ None
-    → Updates (λ x y. slice_cmp nat_cmp x.now y.now) numbers after name (Some n)
+    numbers ≡ None → Updates (λ x y. slice_cmp nat_cmp x.now y.now) numbers after name (Some n)
     → HaveNumbers (names ++ name ∷ []) after
 numbers_added names numbers after name n count old none updates = λ text.
     let seen = map (λ (m : Bor (List ℕ)). m.now) names in
@@ -108,8 +97,7 @@ none_of None b e h = refl
 none_of (Some n) b e h = absurd (true≢false (sym e ∙ h))
 
 new_by : (found : Option ℕ) (name t : List ℕ) (names : List (List ℕ)) → number_among name names
-    ≡ found
-    → cond (is_some found) None (Some name) ≡ Some t → (Some name ≡ Some t)
+    ≡ found → cond (is_some found) None (Some name) ≡ Some t → (Some name ≡ Some t)
     × (number_among t names ≡ None)
 new_by None name t names e h = (search (rules))
 new_by (Some n) name t names e h = absurd (cc h)

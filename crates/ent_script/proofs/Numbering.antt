@@ -58,8 +58,7 @@ onto_one front x (Err e) = refl
 
 module _ {A E : Type 0} (f : ℕ → Data → Result A E) where
   pub goes_on : (vs : List Value) (i : ℕ) (v : Value) (front : List A) (x : A)
-      (total : Result (List A) E)
-      → i < length vs → v ≡ get_or vs i v → f i (view v) ≡ Ok x
+      (total : Result (List A) E) → i < length vs → v ≡ get_or vs i v → f i (view v) ≡ Ok x
       → onto front (numbered f i (from vs i)) ≡ total
       → onto (front ++ x ∷ []) (numbered f (i + 1) (from vs (i + 1))) ≡ total
   goes_on vs i v front x total h is means invariant =
@@ -71,8 +70,7 @@ module _ {A E : Type 0} (f : ℕ → Data → Result A E) where
       ∙ invariant
 
   pub stops : (vs : List Value) (i : ℕ) (v : Value) (front : List A) (e : E)
-      (total : Result (List A) E)
-      → i < length vs → v ≡ get_or vs i v → f i (view v) ≡ Err e
+      (total : Result (List A) E) → i < length vs → v ≡ get_or vs i v → f i (view v) ≡ Err e
       → onto front (numbered f i (from vs i)) ≡ total → total ≡ Err e
   stops vs i v front e total h is means invariant =
       sym invariant

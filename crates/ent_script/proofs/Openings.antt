@@ -35,8 +35,7 @@ module _ (text : List ℕ) (d : Data) (read_as : read text ≡ Some d) (all : Li
       × (converted (λ ms. of_members ms no_members) (members (value 126) (length ts) ts) ≡ Some
       (ms, []))
   text_object ts begins =
-      (opened_object 127 ts [] d
-      (ap (λ x. converted of_json (value 127 x)) (sym begins) ∙ whole)).1
+      (opened_object 127 ts [] d (ap (λ x. converted of_json (value 127 x)) (sym begins) ∙ whole)).1
 
   pub text_no_object : (k : List ℕ) → begins_object all ≡ false → get k d ≡ None
   text_no_object k other = no_object 127 all [] d k other whole
@@ -46,5 +45,4 @@ pub passed_nested : (depth : ℕ) (t u : Token) (all ts r : List Token) → all 
     → left (converted of_json (value depth (t ∷ ts))) ≡ Some r
     → (d : Data) × (converted of_json (value depth all) ≡ Some (d, r))
     × (converted of_json (value depth (u ∷ ts)) ≡ Some (d, r))
-passed_nested depth t u all ts r first is over =
-    search (rules, left_some)
+passed_nested depth t u all ts r first is over = search (rules, left_some)

@@ -32,8 +32,7 @@ memory_only e (inr is) other = is
 pub cut_read : (p : Parse json.Json) (ts left rest : List Token) (d was : Data) (v : Value)
     → converted of_json (p ts) ≡ Some (was, left) → view v ≡ cut 2 was
     → converted of_json (p ts) ≡ Some (d, rest) → (view v ≡ cut 2 d) × (left ≡ rest)
-cut_read p ts left rest d was v found seen e =
-    grind (arith, common_steps)
+cut_read p ts left rest d was v found seen e = grind (arith, common_steps)
 
 pub operation_read : (components bound : List (List ℕ)) (before : Option ℕ)
     (frame system number : ℕ) (v : Value) (d : Data) → view v ≡ cut 2 d
@@ -64,8 +63,7 @@ here (x ∷ ds) (suc i) d later e =
 names_here : (ds : List Data) (i : ℕ) (d : Data) (later : List Data) → drop i ds ≡ d ∷ later
     → names_in bound_name (take (i + 1) ds)
     ≡ with_part (names_in bound_name (take i ds)) (bound_name d)
-names_here ds i d later e =
-    search (rules, add-one, here, fold-append)
+names_here ds i d later e = search (rules, add-one, here, fold-append)
 
 -- of an array that is read as ds, so many operations were taken, which bind these names
 abbrev pub Reached : {A : Type 0} → Parse json.Json → (ℕ → Data → Result A ReadFault) → List A → ℕ
@@ -112,8 +110,7 @@ module _ {A : Type 0} (p : Parse json.Json) (f : ℕ → Data → Result A ReadF
             ∙ sym
             (ap
             (λ (r : Result A ReadFault). onto done
-            (r >>= λ y. numbered f (number + 1) (list_of next.2) >>= λ ys. Ok (y ∷ ys)))
-            is.0)
+            (r >>= λ y. numbered f (number + 1) (list_of next.2) >>= λ ys. Ok (y ∷ ys))) is.0)
             ∙ sym (ap (λ (xs : List Data). onto done (numbered f number xs)) later)
             ∙ at.4,
         ap (λ (n : ℕ). drop n (list_of ds)) (add-one number)

@@ -35,8 +35,7 @@ use Rattle.ent_script.specs.Reading.{births_before, target_birth}
 use Rattle.ent_script.proofs.NamesLaws.{number_within}
 
 pub then_ok : {A B E : Type 0} (Q : A → Type 0) (P : B → Type 0) (r : Result A E)
-    (f : A → Result B E)
-    → IfOk r Q → ((x : A) → Q x → IfOk (f x) P) → IfOk (r >>= f) P
+    (f : A → Result B E) → IfOk r Q → ((x : A) → Q x → IfOk (f x) P) → IfOk (r >>= f) P
 then_ok Q P (Ok x) f h k = k x h
 then_ok Q P (Err e) f h k = tt
 
@@ -69,8 +68,7 @@ pub numbered_each : {A E : Type 0} (P : A → Type 0) (f : ℕ → Data → Resu
     → ((i : ℕ) (d : Data) → IfOk (f i d) P) → IfOk (numbered f n ds) (λ xs. (length xs ≤ length ds)
     × AllByRecursion P xs)
 numbered_each P f n [] each = (omega arith, tt)
-numbered_each P f n (d ∷ ds) each =
-    search (rules, then_ok, numbered_each P f (n + 1) ds each)
+numbered_each P f n (d ∷ ds) each = search (rules, then_ok, numbered_each P f (n + 1) ds each)
 
 pub loosened : {A E : Type 0} (P : A → Type 0) (r : Result (List A) E) (n most : ℕ) → n ≤ most
     → IfOk r (λ xs. (length xs ≤ n) × AllByRecursion P xs)
@@ -79,8 +77,7 @@ loosened P (Ok xs) n most h k = (omega (arith, h, k.0), k.1)
 loosened P (Err e) n most h k = tt
 
 pub first_part : {A E : Type 0} (P : A → Type 0) (r : Result (List A) E) (most : ℕ)
-    → IfOk r (λ xs. (length xs ≤ most) × AllByRecursion P xs)
-    → IfOk r (λ xs. length xs ≤ most)
+    → IfOk r (λ xs. (length xs ≤ most) × AllByRecursion P xs) → IfOk r (λ xs. length xs ≤ most)
 first_part P (Ok xs) most k = k.0
 first_part P (Err e) most k = tt
 
@@ -113,11 +110,6 @@ pub whole_in : (low high : ℕ) (d : Data) → IfSome (whole_within low high d) 
 whole_in low high d = chained (Between low high) (in_range low high) (whole d)
     (in_range_within low high)
 
-few_by : (b : Bool) (most : ℕ) (ds : List Data) → (b ≡ true → length ds ≤ most)
-    → IfSome (cond b (Some ds) None) (λ xs. length xs ≤ most)
-few_by true most ds h = h refl
-few_by false most ds h = tt
-
 pub few : (most : ℕ) (d : Data) → IfSome (at_most most d) (λ ds. length ds ≤ most)
 few most d = grind (arith, common_steps)
 
@@ -144,18 +136,15 @@ items_in components (m ∷ ms) =
     grind (arith, common_steps, item_in components m, items_in components ms)
 
 ordered : {X : Type 0} (P : X → Type 0) (o : Ordering) (xs ys zs : List X) → AllByRecursion P xs
-    → AllByRecursion P ys → AllByRecursion P zs
-    → AllByRecursion P (by_order o xs ys zs)
+    → AllByRecursion P ys → AllByRecursion P zs → AllByRecursion P (by_order o xs ys zs)
 ordered P Less xs ys zs a b c = a
 ordered P Equal xs ys zs a b c = b
 ordered P Greater xs ys zs a b c = c
 
 insert_in : (n : ℕ) (bundle : List (ComponentId × ℤ)) (id : ComponentId) (value : ℤ) → id.0 < n
-    → IsBundleOf n bundle
-    → IsBundleOf n (put component_cmp id value bundle)
+    → IsBundleOf n bundle → IsBundleOf n (put component_cmp id value bundle)
 insert_in n [] id value h all = (h, tt)
-insert_in n (e ∷ es) id value h all =
-    search (rules, ordered, insert_in n es id value h all.1)
+insert_in n (e ∷ es) id value h all = search (rules, ordered, insert_in n es id value h all.1)
 
 with_put_in : (n : ℕ) (bundle items : List (ComponentId × ℤ)) → IsBundleOf n bundle → IsBundleOf n items
     → IsBundleOf n (with_put bundle items)
@@ -217,8 +206,7 @@ binding_in bound most few None = tt
 binding_in bound most few (Some d) =
     then_ok (λ _. Unit {0}) (IsBindingAt most) (ok_or (as_name d) cause.Name) _
     (always (ok_or (as_name d) cause.Name))
-    (λ name _. or_next (number_among name bound) (length bound) most few
-    (number_within name bound))
+    (λ name _. or_next (number_among name bound) (length bound) most few (number_within name bound))
 
 one_more : (b : Bool) (names : List (List ℕ)) (name : List ℕ)
     → length (cond b names (names ++ name ∷ [])) ≤ length names + 1
@@ -260,8 +248,7 @@ parts_in : (before : ℕ) (parts : List (List ℕ)) → IfOk (birth_of_parts bef
 parts_in before [] = tt
 parts_in before (frame ∷ []) = tt
 parts_in before (frame ∷ system ∷ []) = tt
-parts_in before (frame ∷ system ∷ ordinal ∷ []) =
-    search (rules, then_ok, always, numbers_in)
+parts_in before (frame ∷ system ∷ ordinal ∷ []) = search (rules, then_ok, always, numbers_in)
 parts_in before (frame ∷ system ∷ ordinal ∷ more ∷ others) = tt
 
 birth_in : (components most : ℕ) (format : Format) (frame : ℕ) (text : List ℕ)
@@ -334,8 +321,7 @@ module _ (components bound : List (List ℕ)) (format : Format) (frame most : �
       (λ bundle h. then_ok (IsTargetAt (length components) frame most)
       (IsOperationAt (length components) frame most)
       (target_of components bound (births_before format frame) (get (codes "on") d)) _
-      (target_in (get (codes "on") d))
-      (λ on k. (h, k)))
+      (target_in (get (codes "on") d)) (λ on k. (h, k)))
   of_kind_in d kinds.Remove =
       then_ok (ComponentIn (length components)) (IsOperationAt (length components) frame most)
       (removed_of components (get (codes "remove") d)) _
@@ -343,8 +329,7 @@ module _ (components bound : List (List ℕ)) (format : Format) (frame most : �
       (λ c h. then_ok (IsTargetAt (length components) frame most)
       (IsOperationAt (length components) frame most)
       (target_of components bound (births_before format frame) (get (codes "on") d)) _
-      (target_in (get (codes "on") d))
-      (λ on k. (h, k)))
+      (target_in (get (codes "on") d)) (λ on k. (h, k)))
   of_kind_in d kinds.Despawn =
       then_ok (IsTargetAt (length components) frame most)
       (IsOperationAt (length components) frame most)

@@ -59,10 +59,8 @@ get_member-put_other q k d (member l e ms) other = get_member-put_other_at _ q k
 
 pub found_here : (name k : List ℕ) (d : Data) (ms : Members) → bytes_eq k name ≡ true → get_member
     name (put k d ms) ≡ Some d
-found_here name k d ms e =
-    search (rules, bytes_eq-Decides, get_member-put)
+found_here name k d ms e = search (rules, bytes_eq-Decides, get_member-put)
 
 pub found_before : (name k : List ℕ) (d : Data) (ms : Members) → bytes_eq k name ≡ false →
     get_member name (put k d ms) ≡ get_member name ms
-found_before name k d ms e =
-    search (rules, get_member-put_other, bytes_eq-Decides)
+found_before name k d ms e = search (rules, get_member-put_other, bytes_eq-Decides)

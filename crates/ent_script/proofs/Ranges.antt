@@ -38,8 +38,7 @@ numbered_from : {A E : Type 0} (P : ℕ → A → Type 0) (f : ℕ → Data → 
     (ds : List Data) → ((i : ℕ) (d : Data) → IfOk (f i d) (P i))
     → IfOk (numbered f n ds) (AreFrom P n (length ds))
 numbered_from P f n [] each = (omega arith, tt)
-numbered_from P f n (d ∷ ds) each =
-    search (rules, then_ok, numbered_from P f (n + 1) ds each)
+numbered_from P f n (d ∷ ds) each = search (rules, then_ok, numbered_from P f (n + 1) ds each)
 
 few_from : {A E : Type 0} (P : ℕ → A → Type 0) (r : Result (List A) E) (n most : ℕ) → n ≤ most
     → IfOk r (AreFrom P 0 n) → IfOk r (AreFrom P 0 most)
@@ -143,8 +142,7 @@ script_in d =
     (numbered (frame_of heading.format components) 0 ds) _
     (few_from (IsFrameOf (length components)) (numbered (frame_of heading.format components) 0 ds)
     (length ds) 1000 short (numbered_from (IsFrameOf (length components))
-    (frame_of heading.format components) 0 ds
-    (λ i e. frame_in heading.format components i e)))
+    (frame_of heading.format components) 0 ds (λ i e. frame_in heading.format components i e)))
     (λ frames f. record { limits = l; components = c; count = f.0; frames = f.1 }))))
 
 -- so is what was returned, if it is what a value means

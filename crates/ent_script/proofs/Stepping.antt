@@ -10,8 +10,7 @@ use Rattle.ent_script.proofs.Turns.{item_read, item_refused, member_read, member
 use Rattle.ent_script.specs.Passing.{left}
 
 pub item_passed : (p : Parse json.Json) (n : ℕ) (ts r : List Token) → 0 < n → after_end_array ts ≡
-    None
-    → left (converted of_json (p ts)) ≡ Some r
+    None → left (converted of_json (p ts)) ≡ Some r
     → left (converted of_items (items p n ts)) ≡ left (converted of_items (items p (n - 1) r))
 item_passed p n ts r some going e =
     let d = left_some (converted of_json (p ts)) r e in
@@ -21,8 +20,7 @@ pub member_passed : (p : Parse json.Json) (n : ℕ) (k : List ℕ) (ts s r : Lis
     → 0 < n → read_key ts ≡ Some (Some k, s) → left (converted of_json (p s)) ≡ Some r
     → (d : Data) × (left (converted (λ ms. of_members ms old) (members p n ts))
     ≡ left (converted (λ ms. of_members ms (put k d old)) (members p (n - 1) r)))
-member_passed p n k ts s r old some key e =
-    search (rules, left_some, member_read)
+member_passed p n k ts s r old some key e = search (rules, left_some, member_read)
 
 pub item_stuck : (p : Parse json.Json) (n : ℕ) (ts : List Token) → after_end_array ts ≡ None
     → left (converted of_json (p ts)) ≡ None → left (converted of_items (items p n ts)) ≡ None

@@ -9,10 +9,6 @@ use Rattle.serde_json.specs.Data.{Data}
 use Rattle.serde_json.specs.Read.{read}
 use Rattle.ent_script.specs.Reading.{json_of}
 
-pub json_read : (text : List ℕ) (d : Data) → IsUtf8 text → read text ≡ Some d → json_of text
-    ≡ Some d
-json_read text d utf8 is = search (rules, is_utf8-from_IsUtf8)
-
 none_by : (text : List ℕ) (b : Bool) → is_utf8 text ≡ b → (IsUtf8 text → read text ≡ None)
     → cond b (read text) None ≡ None
 none_by text true e refused = refused (IsUtf8-from_is_utf8 text e)
@@ -34,5 +30,4 @@ pub one_more : (names : List (Bor (List ℕ))) (i : ℕ) (texts : List (String G
     → string_bytes text ≡ (get_or names i (record { ref_ptr = (0, 0); now = [] })).now
     → map string_bytes texts ≡ take i (map (λ name. name.now) names)
     → map string_bytes (texts ++ text ∷ []) ≡ take (i + 1) (map (λ name. name.now) names)
-one_more names i texts text h is before =
-    search (rules, map-append, taken, add-one)
+one_more names i texts text h is before = search (rules, map-append, taken, add-one)

@@ -56,8 +56,7 @@ without_item j e None = refl
 without_item j e (Some p) = rw e
 
 with_member : (k : List ℕ) (j : json.Json) (d : Data) (old : Members) → of_json j ≡ Some d →
-    (o : Option (json.Members × List Token))
-    → converted
+    (o : Option (json.Members × List Token)) → converted
     (λ ms. of_members ms old) (parse_map (json.member k j) o) ≡ converted
     (λ ms. of_members ms (put k d old)) o
 with_member k j d old e None = refl
@@ -97,8 +96,7 @@ module _ (p : Parse json.Json) where
 
   module _ (old : Members) where
     pub member_read : (n : ℕ) (k : List ℕ) (ts s r : List Token) (d : Data) → 0 < n → read_key ts ≡
-        Some (Some k, s) → converted of_json (p s) ≡ Some (d, r)
-        → converted
+        Some (Some k, s) → converted of_json (p s) ≡ Some (d, r) → converted
         (λ ms. of_members ms old) (members p n ts) ≡ converted
         (λ ms. of_members ms (put k d old)) (members p (n - 1) r)
     member_read n k ts s r d some key e =
@@ -109,8 +107,7 @@ module _ (p : Parse json.Json) where
         j.0 d old j.2 _
 
     no_member : (k : List ℕ) (more : Parse json.Members) (o : Option (json.Json × List Token)) →
-        converted of_json o ≡ None
-        → converted
+        converted of_json o ≡ None → converted
         (λ ms. of_members ms old) (option_and_then
         (λ q. parse_map (json.member k q.0) (more q.1)) o) ≡ None
     no_member k more None e = refl

@@ -36,8 +36,7 @@ pub elements_seen : (r : Option (Bor (Vec Value Global))) (o : Option Items)
     → option_map (λ v. items_view v.now.items) r ≡ o
     → option_map (λ v. map view v.now.items) r ≡ option_map list_of o
 elements_seen None o e = ap (option_map list_of) e
-elements_seen (Some v) o e =
-    search (rules, list_of-items_view)
+elements_seen (Some v) o e = search (rules, list_of-items_view)
 
 pub length_of_views : (vs : List Value) → length (map view vs) ≡ length vs
 length_of_views vs = length-map vs view

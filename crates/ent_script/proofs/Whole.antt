@@ -29,12 +29,10 @@ no_names_by None e = refl
 no_names_by (Some ds) e = absurd (cc e)
 
 names_by : (o : Option (List Data)) (vs : List Value) → Some (map view vs) ≡ option_map
-    (map (cut 0)) o
-    → in_script (numbered (component_at (map view vs)) 0 (map view vs)) ≡ in_script
+    (map (cut 0)) o → in_script (numbered (component_at (map view vs)) 0 (map view vs)) ≡ in_script
     (ok_or o script_cause.Components >>= λ ds. numbered (component_at ds) 0 ds)
 names_by None vs e = absurd (cc e)
-names_by (Some ds) vs e =
-    search (rules, components-cut)
+names_by (Some ds) vs e = search (rules, components-cut)
 
 pub no_names : (part : Option Data) → None ≡ option_map (map (cut 0))
     (option_and_then (at_most 256) part) → in_script (component_names part) ≡ Err

@@ -102,11 +102,6 @@ commands-granted left (c ∷ cs) fit within replied =
 abbrev HasLeft : ℕ → World → Type 0
 HasLeft n w = n ≤ length w.allocator.pool
 
-in_front-longer : (o : Option Handle) (handles : List Handle)
-    → length handles ≤ length (in_front o handles)
-in_front-longer None handles = omega arith
-in_front-longer (Some h) handles = omega arith
-
 -- Who goes takes nothing away: its slot puts a handle back, or is retired and puts back none.
 left-kept : (n : ℕ) → IsKept (HasLeft n)
 left-kept n = grind (arith, common_steps)
@@ -121,8 +116,7 @@ sync-left n queues w left =
 -- ---- a frame
 
 -- what holds of all numbers of a range holds of each
-at_number : (P : ℕ → Type 0) (a many k : ℕ) → k < many → All P (range_with_len a many)
-    → P (a + k)
+at_number : (P : ℕ → Type 0) (a many k : ℕ) → k < many → All P (range_with_len a many) → P (a + k)
 at_number P a zero k within all = absurd (omega arith)
 at_number P a (suc many) zero within all =
     let zeroth : a ≡ a + 0 = omega arith in
@@ -208,8 +202,7 @@ more_granted workers w (systems ∷ frames) (e ∷ executions) went enough small
     (frame-granted systems workers w e.queues e.history went.0 here fits)
     (more_granted workers (synced w e).world frames executions went.1
     (frame-left systems workers w e.queues e.history went.0 here fits
-    (sum_by requested_by_systems frames) (omega arith))
-    (omega arith))
+    (sum_by requested_by_systems frames) (omega arith)) (omega arith))
 
 -- In the first world each slot has a handle to give, and a worker's credit is more than all slots.
 pub granted_if_enough : (script : Script) (workers : ℕ) (executions : List Execution)

@@ -142,8 +142,7 @@ module _ (systems : List (List Operation)) (workers : ℕ) (w : World)
 
   -- the entities of an `each`, in the order of births
   each_named : (id : ComponentId) (hs : List Handle) → ListsWith id w.entities hs
-      → All (IsThere all_born) hs
-      × (births_meant view (λ n. []) (target.Each id) ≡ map name hs)
+      → All (IsThere all_born) hs × (births_meant view (λ n. []) (target.Each id) ≡ map name hs)
   each_named id hs lists = (
     All-weaker _ (IsThere all_born) (λ h has. old_there h (there_of _ (finite.get w.entities h)
         ((lists.holds h).0 has))) hs (All-contains_itself hs),
@@ -160,8 +159,7 @@ module _ (systems : List (List Operation)) (workers : ℕ) (w : World)
 
   -- the entity of a birth
   birth_named : (birth : Birth) (hs : List Handle) → IsOfBirth (view_of w) birth hs
-      → All (IsThere all_born) hs
-      × (births_meant view (λ n. []) (target.Birth birth) ≡ map name hs)
+      → All (IsThere all_born) hs × (births_meant view (λ n. []) (target.Birth birth) ≡ map name hs)
   birth_named birth [] none = (All-nil (IsThere all_born), nobody (find birth_cmp birth view) refl)
     where
       nobody : (o : Option Bundle) → find birth_cmp birth view ≡ o
@@ -197,8 +195,7 @@ module _ (systems : List (List Operation)) (workers : ℕ) (w : World)
             let own : j ≡ 0 + j = omega arith in (
               one.0,
               one.1 ∙ (λ i. record { frame = w.phase; system = here i; ordinal = own i }),
-            )))
-            (All-head (All IsGranted) q qs granted) (All-head NamesNoHandle ops ss free)
+            ))) (All-head (All IsGranted) q qs granted) (All-head NamesNoHandle ops ss free)
             (may 0 ops refl),
         all_named (system + 1) qs ss (omega arith) (All-tail NamesNoHandle ops ss free)
             (All-tail (All IsGranted) q qs granted) (λ n. may (suc n))
@@ -236,8 +233,7 @@ module _ (systems : List (List Operation)) (workers : ℕ) (w : World)
   synced : IsFlushed (sync queues reserved).world
   synced =
       let born_world = after_births-world queues reserved is_reserved in
-      after_queues-keeps IsFlushed flushed-kept 0 queues
-      (applied (after_births queues reserved) [])
+      after_queues-keeps IsFlushed flushed-kept 0 queues (applied (after_births queues reserved) [])
       (record { asked = refl; sound = born_world.sound; living = born_world.living })
 
   next_number : (sync queues reserved).world.phase ≡ w.phase + 1

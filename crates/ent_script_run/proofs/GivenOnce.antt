@@ -28,8 +28,7 @@ more_given workers w (systems ∷ frames) (e ∷ executions) given sound living 
     subst (AllPairs (λ g h. g ≢ h)) (append_assoc given (given_in e.history)
     (handles_in_run executions))
     (more_given workers (synced w e).world frames executions now
-    (frame-sound e.queues e.history w sound living)
-    (frame-living e.queues e.history w sound living)
+    (frame-sound e.queues e.history w sound living) (frame-living e.queues e.history w sound living)
     went.1 (frame-given e.queues e.history w given sound living went.0.legal once))
 
 pub given_once : (script : Script) (workers : ℕ) (show : Show) (executions : List Execution)

@@ -87,8 +87,7 @@ before_queues system (q ∷ queues) a none =
 
 pub sync-granted : (queues : List (List Command)) (w : World)
     → All IsNoRefusal (sync queues w).faults → AreGranted queues
-sync-granted queues w none =
-    (before_queues 0 queues (applied (after_births queues w) []) none).1
+sync-granted queues w none = (before_queues 0 queues (applied (after_births queues w) []) none).1
 
 -- ---- lines
 

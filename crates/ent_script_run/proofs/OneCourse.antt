@@ -106,8 +106,7 @@ same_of_birth view birth [] [] a b = refl
 same_of_birth view birth [] (k ∷ []) a b = absurd (a k b.0)
 same_of_birth view birth [] (k ∷ l ∷ ks) a b = absurd b
 same_of_birth view birth (h ∷ []) [] a b = absurd (b h a.0)
-same_of_birth view birth (h ∷ []) (k ∷ []) a b =
-    grind (arith, common_steps)
+same_of_birth view birth (h ∷ []) (k ∷ []) a b = grind (arith, common_steps)
 same_of_birth view birth (h ∷ []) (k ∷ l ∷ ks) a b = absurd b
 same_of_birth view birth (h ∷ g ∷ hs) ks a b = absurd a
 
@@ -210,8 +209,7 @@ is_alone systems w queues history frame =
       calls = calls;
       served = record {
         legal = subst (IsLegal w.allocator) calls frame.legal;
-        within =
-            work.within;
+        within = work.within;
       };
     }
 

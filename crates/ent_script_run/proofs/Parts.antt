@@ -8,8 +8,7 @@ use Rattle.std.specs.List.{flat_map}
 pub length-parts : {X : Type 0} (g : X → List ℕ) (xs : List X) (i : ℕ) (x : X) → i < length xs → x
     ≡ get_or xs i x
     → length (flat_map g (drop i xs)) ≡ length (g x) + length (flat_map g (drop (i + 1) xs))
-length-parts g xs i x lt is =
-    grind (arith, common_steps)
+length-parts g xs i x lt is = grind (arith, common_steps)
 
 -- what is written and the next part are no longer than all
 pub part_fits : {X : Type 0} (g : X → List ℕ) (old now : List ℕ) (xs : List X) (i : ℕ) (x : X) → i

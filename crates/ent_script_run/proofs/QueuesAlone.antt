@@ -50,8 +50,7 @@ none_listed : (command : Handle → Command) → ((h : Handle) → listed_by (co
     → (hs : List Handle) (rest : List Command)
     → handles_listed (map command hs ++ rest) ≡ handles_listed rest
 none_listed command none [] rest = refl
-none_listed command none (h ∷ hs) rest =
-    search (rules, none_listed command none hs rest)
+none_listed command none (h ∷ hs) rest = search (rules, none_listed command none hs rest)
 
 module _ (name : Handle → Birth) (m : EntityMap) where
   -- ---- commands and the same ones by births
@@ -62,8 +61,7 @@ module _ (name : Handle → Birth) (m : EntityMap) where
   named_append [] ys [] cs first rest = rest
   named_append [] ys (b ∷ bs) cs first rest = absurd first
   named_append (x ∷ xs) ys [] cs first rest = absurd first
-  named_append (x ∷ xs) ys (b ∷ bs) cs first rest =
-      (first.0, named_append xs ys bs cs first.1 rest)
+  named_append (x ∷ xs) ys (b ∷ bs) cs first rest = (first.0, named_append xs ys bs cs first.1 rest)
 
   -- one command for each of these handles, which are all there
   named_each : (command : Handle → Command) (by_birth : Birth → BirthCommand)
@@ -144,8 +142,7 @@ module _ (name : Handle → Birth) (m : EntityMap) where
 
     order_first : (k : ℕ) (xs ys : List Handle) → AreInOrder k (xs ++ ys) → AreInOrder k xs
     order_first k [] ys order = tt
-    order_first k (x ∷ xs) ys order =
-        (order.0, order.1, order_first (k + 1) xs ys order.2)
+    order_first k (x ∷ xs) ys order = (order.0, order.1, order_first (k + 1) xs ys order.2)
 
     order_rest : (k : ℕ) (xs ys : List Handle) → AreInOrder k (xs ++ ys)
         → AreInOrder (k + length xs) ys
@@ -201,8 +198,7 @@ module _ (name : Handle → Birth) (m : EntityMap) where
           → (on : Target) → IsNoHandle on → (hs : List Handle) → IsTargeted view names on hs
           → (command : Handle → Command) (by_birth : Birth → BirthCommand)
           → ((h : Handle) → IsThere m h → IsNamedBy name m (command h) (by_birth (name h)))
-          → (rest : List Command) (later : List BirthCommand)
-          → AllZip (IsNamedBy name m) rest later
+          → (rest : List Command) (later : List BirthCommand) → AllZip (IsNamedBy name m) rest later
           → AllZip (IsNamedBy name m) (map command hs ++ rest)
           (map by_birth (births_meant births bound on) ++ later)
       on_target names bound stand on free hs are command by_birth same rest later after =
@@ -218,8 +214,7 @@ module _ (name : Handle → Birth) (m : EntityMap) where
           → ((h : Handle) → IsThere m h → IsNamedBy name m (command h) (by_birth (name h)))
           → (queue first rest : List Command) → queue ≡ first ++ rest → first ≡ map command hs
           → (later : List BirthCommand) → AllZip (IsNamedBy name m) rest later
-          → AllZip (IsNamedBy name m) queue
-          (map by_birth (births_meant births bound on) ++ later)
+          → AllZip (IsNamedBy name m) queue (map by_birth (births_meant births bound on) ++ later)
       changed names bound stand on free hs are command by_birth same queue first rest is first_is
           later after =
           subst (λ q. AllZip (IsNamedBy name m) q
@@ -274,8 +269,7 @@ module _ (name : Handle → Birth) (m : EntityMap) where
           let mine = order_first k hs (handles_listed rest) here in
           let bs : births_from (birth_at k) count ≡ map name hs =
           ap (births_from (birth_at k)) (sym one.1.1) ∙ births_are k hs mine in
-          let after = issued-named ops (k + count)
-          (names_after names op (SpawnMany hs bundle ∷ []))
+          let after = issued-named ops (k + count) (names_after names op (SpawnMany hs bundle ∷ []))
           (with_binding binds (births_from (birth_at k) count) bound) rest
           (stand_many names bound count bundle binds hs (births_from (birth_at k) count) stand
           (order_there k hs mine) bs)

@@ -33,23 +33,19 @@ use Rattle.ent_script_run.specs.SameReport.{requested_by_operation}
 sum_flat : {X Y : Type 0} (g : Y → ℕ) (f : X → List Y) (xs : List X)
     → sum_by g (flat_map f xs) ≡ sum_by (λ x. sum_by g (f x)) xs
 sum_flat g f [] = refl
-sum_flat g f (x ∷ xs) =
-    grind (arith, common_steps, sum_flat g f xs)
+sum_flat g f (x ∷ xs) = grind (arith, common_steps, sum_flat g f xs)
 
 sum_of_two : {X : Type 0} (f g : X → ℕ) (xs : List X)
     → sum_by (λ x. f x + g x) xs ≡ sum_by f xs + sum_by g xs
 sum_of_two f g [] = omega arith
-sum_of_two f g (x ∷ xs) =
-    grind (arith, common_steps, sum_of_two f g xs)
+sum_of_two f g (x ∷ xs) = grind (arith, common_steps, sum_of_two f g xs)
 
 -- one element adds no more than all together
 one_of_sum : {X : Type 0} (f : X → ℕ) (xs : List X) (k : ℕ) (x : X) → slice_get xs k ≡ Some x
     → f x ≤ sum_by f xs
 one_of_sum f [] k x at = absurd (cc)
-one_of_sum f (y ∷ xs) zero x at =
-    grind (arith, common_steps)
-one_of_sum f (y ∷ xs) (suc k) x at =
-    grind (arith, common_steps, one_of_sum f xs k x)
+one_of_sum f (y ∷ xs) zero x at = grind (arith, common_steps)
+one_of_sum f (y ∷ xs) (suc k) x at = grind (arith, common_steps, one_of_sum f xs k x)
 
 -- the elements of a list by their numbers
 sum_by_number : {X : Type 0} (f : ℕ → ℕ) (g : X → ℕ) (a : ℕ) (xs : List X)
@@ -77,8 +73,7 @@ requested_in history = sum_by requested history
 
 -- by one caller
 abbrev requested_of : List Call → ℕ → ℕ
-requested_of history caller =
-    requested_in (filter (λ (call : Call). call.caller == caller) history)
+requested_of history caller = requested_in (filter (λ (call : Call). call.caller == caller) history)
 
 -- who has made a call is one of the callers
 one_caller : (c n a many : ℕ) → a ≤ c → c < a + many
@@ -162,12 +157,10 @@ many-wanted count bundle _ is = absurd is
 
 operation-wanted : (view : View) (names : Bindings) (op : Operation) (issued : List Command)
     → Issues view names op issued → wanted_in issued ≡ requested_by_operation op
-operation-wanted view names (operation.Spawn bundle binds) issued is =
-    spawn-wanted bundle issued is
+operation-wanted view names (operation.Spawn bundle binds) issued is = spawn-wanted bundle issued is
 operation-wanted view names (operation.SpawnMany count bundle binds) issued is =
     many-wanted count bundle issued is
-operation-wanted view names _ issued (hs, are, is) =
-    ap wanted_in is ∙ none_wanted _ (λ h. refl) hs
+operation-wanted view names _ issued (hs, are, is) = ap wanted_in is ∙ none_wanted _ (λ h. refl) hs
 
 operations-wanted : (view : View) (names : Bindings) (ops : List Operation) (queue : List Command)
     → IssuesAll view names ops queue → wanted_in queue ≡ sum_by requested_by_operation ops
@@ -214,8 +207,7 @@ module _ {S : Type 0} (may : S → View → List Command → Type 0) (systems : 
       let numbers : List ℕ = range_with_len 0 (length systems) in
       let flat = sum_flat wanted_at (λ mine. mine) frame.ran in
       let moved = sum_by-IsPermutation wanted_at ran numbers frame.once in
-      let by_queue : sum_by wanted_at (range_with_len 0 (length queues))
-      ≤ sum_by wanted_in queues =
+      let by_queue : sum_by wanted_at (range_with_len 0 (length queues)) ≤ sum_by wanted_in queues =
       sum_by_number wanted_at wanted_in 0 queues (λ k q at.
       let same : k ≡ 0 + k = omega arith in
       let queue : queue_at queues k ≡ q = get_or_from_slice_get queues k q [] at in

@@ -38,12 +38,10 @@ world_on w (x ∷ executions) e = world_on (synced w x).world executions e
 text_on : (workers : ℕ) (show : Show) (number : ℕ) (w : World)
     (frames : List (List (List Operation)))
     (executions : List Execution) (e : Execution) → AreExecutions workers w frames executions
-    → frames_text show number w (executions ++ e ∷ [])
-    ≡ frames_text show number w executions
+    → frames_text show number w (executions ++ e ∷ []) ≡ frames_text show number w executions
     ++ frame_text show (number + length frames) (born_in (last_world w executions) e)
     (synced (last_world w executions) e).faults
-text_on workers show number w [] [] e went =
-    search (rules, append-nil)
+text_on workers show number w [] [] e went = search (rules, append-nil)
 text_on workers show number w [] (x ∷ executions) e went = absurd went
 text_on workers show number w (s ∷ frames) [] e went = absurd went
 text_on workers show number w (s ∷ frames) (x ∷ executions) e went =
@@ -81,8 +79,7 @@ module _ (workers : ℕ) (show : Show) (first now after : World)
             ∙ sym (world_on first run.executions e);
         text_is =
             ap (λ (p : List ℕ × (List Handle × List Fault)). p.0 ++ frame_text show (length frames)
-            p.1.0 p.1.1)
-            (λ i. (run.text_is i, (ends.born_are i, ends.faults_are i)))
+            p.1.0 p.1.1) (λ i. (run.text_is i, (ends.born_are i, ends.faults_are i)))
             ∙ ap (λ (w : World). frames_text show 0 first run.executions
             ++ frame_text show (length frames) (born_in w e) (synced w e).faults) run.world_is
             ∙ ap (λ (n : ℕ). frames_text show 0 first run.executions
@@ -96,8 +93,7 @@ pub has_run : (workers : ℕ) (show : Show) (first now after : World)
     (systems : List (List Operation)) (text : List ℕ) (queues : List (List Command))
     (births : List Handle) (faults : List Fault)
     → i < length frames → systems ≡ get_or frames i systems → HaveGone (take i frames) workers show
-    first now text
-    → Ends MayIssue systems workers now queues after births faults
+    first now text → Ends MayIssue systems workers now queues after births faults
     → HaveGone (take (i + 1) frames) workers show first after (text
     ++ frame_text show i births faults)
 has_run workers show first now after frames i systems text queues births faults within is run ends =
@@ -106,8 +102,7 @@ has_run workers show first now after frames i systems text queues births faults 
     (sym is) in
     let count : length (take i frames) ≡ i = length-take-le i frames (omega (arith, within)) in
     subst (λ (p : List (List (List Operation)) × ℕ). HaveGone p.0 workers show first after (text
-    ++ frame_text show p.1 births faults))
-    (λ j. (sym more j, count j))
+    ++ frame_text show p.1 births faults)) (λ j. (sym more j, count j))
     (has_gone_on workers show first now after (take i frames) systems text queues births faults run
     ends)
 

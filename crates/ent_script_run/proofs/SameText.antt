@@ -70,8 +70,7 @@ nobody_named = search (rules, nobody, no_birth, none-some)
 
 pub same_if_granted : (script : Script) (workers : ℕ) (executions : List Execution)
     (text : List ℕ) → IsScript script → IsReportOf script workers Births executions text
-    → IsWithoutHandles script → All (λ e. AreGranted e.queues) executions
-    → text ≡ text_alone script
+    → IsWithoutHandles script → All (λ e. AreGranted e.queues) executions → text ≡ text_alone script
 same_if_granted script workers executions text ranges report free granted =
     search (
       rules,

@@ -25,8 +25,7 @@ pub record HasRun (view : View) (ops : List Operation) (i : ℕ) (names : Bindin
 
 pub has_begun : (view : View) (ops : List Operation) (start : List Command)
     (lists : List (List Handle)) → lists ≡ [] → HasRun view ops 0 (names_of lists) start start
-has_begun view ops start lists none =
-    search (rules, append-nil)
+has_begun view ops start lists none = search (rules, append-nil)
 
 pub has_gone_on : (view : View) (ops : List Operation) (i : ℕ) (op : Operation)
     (start : List Command) (before after : Issued) (lists lists_after : List (List Handle)) → i
@@ -57,13 +56,6 @@ has_gone_on view ops i op start before after lists lists_after within is run ste
           (subst (λ (os : List Operation). StopsAmong view (names_of lists) os (step.issued
           ++ cs)) (sym from) (inr (step.issued, cs, refl, step.may, names))));
     }
-
-pub has_stopped : (view : View) (ops : List Operation) (i : ℕ) (op : Operation)
-    (start : List Command) (before after : Issued) (lists : List (List Handle)) → i < length ops
-    → op ≡ get_or ops i op → HasRun view ops i (names_of lists) start (queue_of before)
-    → start ≡ [] → HasStopped view op before after lists → MayStop ops view (queue_of after)
-has_stopped view ops i op start before after lists within is run empty stopped =
-    search (rules, drop_more)
 
 pub has_ended : (view : View) (ops : List Operation) (i : ℕ) (names : Bindings)
     (start now : List Command) → drop i ops ≡ [] → HasRun view ops i names start now → start ≡ []

@@ -19,8 +19,7 @@ use Rattle.ent_script_run.specs.Parts.{HasStopped}
 pub found_targeted : (view : View) (names : Bindings) (on : Target) (birth : Birth)
     (o : Option Handle) (h : Handle) → on ≡ target.Birth birth → o ≡ Some h
     → IfSome o (λ k. IsOfBirth view birth (k ∷ [])) → IsTargeted view names on (h ∷ [])
-found_targeted view names on birth o h is some found =
-    search (rules)
+found_targeted view names on birth o h is some found = search (rules)
 
 pub issued_on : (view : View) (names : Bindings) (on : Target) (command : Handle → Command)
     (before after : Issued) (hs : List Handle) (result : Result (Unit {0}) Memory)

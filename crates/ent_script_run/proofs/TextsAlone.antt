@@ -48,11 +48,6 @@ use Rattle.ent_script_run.specs.ScriptAlone.{text_from}
 
 -- ---- the text of a frame
 
-fault_alike : (fault : Fault) (by_birth : BirthFault) → IsSameFault fault by_birth
-    → fault_line Births fault ≡ birth_fault_line by_birth
-fault_alike fault by_birth same =
-    search (rules)
-
 faults_alike : (faults : List Fault) (by_births : List BirthFault)
     → AllZip IsSameFault faults by_births
     → flat_map (fault_line Births) faults ≡ flat_map birth_fault_line by_births
@@ -67,8 +62,7 @@ frame_alike : (w : World) (e : Execution) (systems : List (List Operation)) (vie
     → frame_text Births number (born_in w e) (synced w e).faults
     ≡ frame_text_alone number (queues_by_births w view systems)
     (frame_alone (queues_by_births w view systems) view)
-frame_alike w e systems view number one =
-    search (rules, faults_alike, AllZip-long)
+frame_alike w e systems view number one = search (rules, faults_alike, AllZip-long)
 
 -- ---- the text of a world
 
@@ -205,8 +199,7 @@ AreToldAlone w view [] [] = Unit {0}
 AreToldAlone w view [] (e ∷ executions) = ⊥
 AreToldAlone w view (systems ∷ frames) [] = ⊥
 AreToldAlone w view (systems ∷ frames) (e ∷ executions) =
-    IsFrameAlone w e.queues e.history systems view
-    × AreToldAlone (synced w e).world
+    IsFrameAlone w e.queues e.history systems view × AreToldAlone (synced w e).world
     (frame_alone (queues_by_births w view systems) view).entities frames executions
 
 -- the birth of each entity is a name for it

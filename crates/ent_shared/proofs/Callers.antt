@@ -79,8 +79,7 @@ none_of_number number g (r ∷ rs) none =
 counted : (number : ℕ) (rs : List Record) (r : Record) → Contains rs r → r.number ≡ number → 1
     ≤ count_by (λ (x : Record). x.number == number) rs
 counted number [] r inside is = absurd (omega arith)
-counted number (x ∷ rs) r inside is =
-    grind (arith, common_steps)
+counted number (x ∷ rs) r inside is = grind (arith, common_steps)
 
 -- records of which no two have one number differ in it
 pub numbers_differ : (rs : List Record) → ((k : ℕ) → count_by (λ (r : Record). r.number == k) rs
@@ -129,5 +128,4 @@ one_of_number number g (x ∷ rs) r few inside is =
     let zero_here : goal (x.number == number) = elim (x.number == number) as goal
     [ true ↦ (λ e. absurd (omega arith)) | false ↦ (λ e. refl) ] in
     let here = zero_here no in
-    omega arith)
-    (contains_cases x rs r inside)
+    omega arith) (contains_cases x rs r inside)

@@ -112,8 +112,7 @@ module _ (start : Allocator) (count : ℕ) (records : List Record) (at : ℤ)
         let below = floor_below start k.log in
         let high : ℤ = pos (top start) -ℤ pos (length start.taken) in
         let down : f ≤ℤ high = omega (arith, ints) in
-        let taken : int_min high f
-        ≡ pos (top start) -ℤ pos
+        let taken : int_min high f ≡ pos (top start) -ℤ pos
         (length (history.after_history start (map as_call k.log)).taken) = taken_floor start
         start k.log at flushed itself k.follow in
         of_log ∙ (sym (min_right high f down)

@@ -74,8 +74,7 @@ module _ (start : Allocator) (count : ℕ) where
             let none : numbered k (opened_records start (number + 1) many)
             ≡ nought = none_below (omega arith) in
             let counts : cond (number == k) one nought
-            ≡ nought = ap (λ (b : Bool). cond b one nought) (ne_eqb number k (λ e. omega arith))
-            in
+            ≡ nought = ap (λ (b : Bool). cond b one nought) (ne_eqb number k (λ e. omega arith)) in
             omega (arith, here, counts, none),
       )
 

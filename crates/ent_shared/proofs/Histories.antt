@@ -106,8 +106,7 @@ after_all : (cs before after : List Reservation) → FallsStrictly cs
     before) after
     → All (λ (later : Reservation). All (λ (earlier : Reservation). StandsBefore cs earlier
     later) before) after
-after_all cs before [] falls requests in_before in_after order =
-    search (rules, All-nil)
+after_all cs before [] falls requests in_before in_after order = search (rules, All-nil)
 after_all cs before (later ∷ after) falls requests in_before in_after order =
     search (rules, All-cons, after_one, All-head, All-tail)
 
@@ -175,8 +174,7 @@ contains_by caller (d ∷ cs) c inside is =
     let rest = contains_by caller cs c behind is in
     let yes : goal true = (suc rest.0, omega arith, rest.2) in
     let no : goal false = rest in
-    elim (d.caller == caller) as goal [ true ↦ yes | false ↦ no ])
-    (contains_cases d cs c inside)
+    elim (d.caller == caller) as goal [ true ↦ yes | false ↦ no ]) (contains_cases d cs c inside)
 
 all_contain_by : (caller : ℕ) (cs own : List Reservation) → All (Contains cs) own
     → All (λ (c : Reservation). c.caller ≡ caller) own → All (Contains (reservations_by caller cs))

@@ -33,13 +33,11 @@ own-after_meeting r met = own-met r.entries (known_reservations met.entries)
 pub handles_of-append : (xs ys : List Reservation) → handles_of (xs ++ ys) ≡ handles_of xs
     ++ handles_of ys
 handles_of-append [] ys = refl
-handles_of-append (x ∷ xs) ys =
-    grind (arith, common_steps, handles_of-append xs ys)
+handles_of-append (x ∷ xs) ys = grind (arith, common_steps, handles_of-append xs ys)
 
 pub given-reserved : (r : Record) (high : ℤ) (n : ℕ) → handles_given (after_reservation r high n)
     ≡ handles_given r ++ history.handles_in (reservation_at r high n).reply
-given-reserved r high n =
-    search (rules, own-reserved, handles_of-append, append-nil)
+given-reserved r high n = search (rules, own-reserved, handles_of-append, append-nil)
 
 pub given-after_meeting : (r met : Record) → handles_given (after_meeting r met) ≡ handles_given r
 given-after_meeting r met = ap handles_of (own-after_meeting r met)
@@ -67,8 +65,7 @@ given_sorted (c ∷ cs) =
     IsPermutation-trans (handles_of (c ∷ cs)) (handles_of (c ∷ by_falling_high cs))
     (handles_of (by_falling_high (c ∷ cs)))
     (IsPermutation-append_right (history.handles_in c.reply) (handles_of cs)
-    (handles_of (by_falling_high cs)) (given_sorted cs))
-    (given_inserted c (by_falling_high cs))
+    (handles_of (by_falling_high cs)) (given_sorted cs)) (given_inserted c (by_falling_high cs))
 
 given_all : (records : List Record) → handles_of (own_of_all records)
     ≡ flat_map handles_given records

@@ -92,10 +92,7 @@ reservations_within start high (c ∷ cs) end asked up is f =
     grind (
       arith,
       common_steps,
-      reservations_within start (low c) cs end asked (omega (
-        arith,
-        ints,
-      )) is f.2,
+      reservations_within start (low c) cs end asked (omega (arith, ints)) is f.2,
     )
 
 -- what the closing call with lost reservers owes and gives
@@ -141,8 +138,7 @@ module _ (start : Allocator) (sound : IsSound start) (flushed : start.asked ≡ 
       ∙ sym (take_all asked start.pool (omega arith))) which in
       let short = length-take asked start.pool in
       let none_aside : drop given (take asked start.pool)
-      ≡ [] = ⊎_elim (λ (e : given ≡ asked). drop_all given (take asked start.pool)
-      (omega arith))
+      ≡ [] = ⊎_elim (λ (e : given ≡ asked). drop_all given (take asked start.pool) (omega arith))
       (λ (e : given ≡ length start.pool). drop_all given (take asked start.pool) (omega arith))
       which in
       λ i. record start {
@@ -187,8 +183,7 @@ lost_at start count records at floor sound flushed few k which =
     inl (ap (asked_at (top start)) p.0 ∙ asked_is))
     (λ (p : (floor ≡ neg_ℤ (pos (start.limits.slots - start.made))) × (at ≤ℤ floor)). let e = p.0 in
     inr (omega (arith, ints))) which in
-    let le : given
-    ≤ asked = ⊎_elim
+    let le : given ≤ asked = ⊎_elim
     (λ (p : (floor ≡ at) × (neg_ℤ (pos (start.limits.slots - start.made)) ≤ℤ at)). let e =
     p.0 in omega (arith, ints)) (λ (p : (floor ≡ neg_ℤ (pos (start.limits.slots - start.made)))
     × (at ≤ℤ floor)). let e = p.0 in let l = p.1 in omega (arith, ints)) which in
@@ -234,8 +229,7 @@ lost_at start count records at floor sound flushed few k which =
 pub lost : (entities : Entities) (start : Allocator) (n count room : ℕ) (key : Opening)
     (records : List Record) (at floor roomed : ℤ) → IsStart entities.allocator
     → IsSound entities.allocator → n ≤ 1024 → key ≡ record { entities = entities; count = n }
-    → entities.allocator ≡ start → n ≡ count
-    → IsClosed key.entities.allocator key.count records at
+    → entities.allocator ≡ start → n ≡ count → IsClosed key.entities.allocator key.count records at
     → room ≡ entities.allocator.limits.slots - entities.allocator.made → room < 2 ^ 32
     → roomed ≡ pos room → floor ≡ int_max (to_z w64 (of_z w64 at))
     (to_z w64 (of_z w64 (pos 0 -ℤ to_z w64 (of_z w64 roomed))))
@@ -258,8 +252,7 @@ lost entities start n count room key records at floor roomed begins sound few ke
     let which : (floor ≡ at) × (end ≤ℤ at) ⊎ (floor ≡ end) × (at ≤ℤ floor) =
     by_lt_z {P = (floor ≡ at) × (end ≤ℤ at) ⊎ (floor ≡ end) × (at ≤ℤ floor)} at end
     (λ less. let is : floor ≡ end = max_is ∙ max_right at end (omega (arith, ints)) in
-    inr (is, omega (arith, ints)))
-    (λ more. inl (max_is ∙ max_left at end more, more)) in
+    inr (is, omega (arith, ints))) (λ more. inl (max_is ∙ max_left at end more, more)) in
     let floor_word : to_z w64 (of_z w64 floor) ≡ floor = ⊎_elim (λ (p : (floor ≡ at) × (end ≤ℤ at)).
     let e = p.0 in omega (arith, ints)) (λ (p : (floor ≡ end) × (at ≤ℤ floor)). let e = p.0 in
     omega (arith, ints)) which in

@@ -42,8 +42,7 @@ known-more (d ∷ es) e = grind (arith, common_steps, known-more es e)
 -- how much a reserver has requested after a reservation and after a meeting
 pub requested-reserved : (r : Record) (high : ℤ) (n : ℕ) → requested_by (after_reservation r high n)
     ≡ requested_by r + n
-requested-reserved r high n =
-    search (rules, sum_by-append, sum_by-cons, add-zero, own-made)
+requested-reserved r high n = search (rules, sum_by-append, sum_by-cons, add-zero, own-made)
 
 pub requested-met : (r met : Record) → requested_by (after_meeting r met) ≡ requested_by r
 requested-met r met = search (rules, own-met)
@@ -146,8 +145,7 @@ kept_reserved start at log n r within top k =
         known = subst (All (Contains (log ++ c ∷ []))) (sym (known-more es (Own c)))
             (All-append (Contains (log ++ c ∷ [])) (known_reservations es) (c ∷ [])
             (All-weaker (Contains log) (Contains (log ++ c ∷ []))
-            (λ d h. Contains-append_left log (c ∷ []) d h) (known_reservations es)
-            k.marks.known)
+            (λ d h. Contains-append_left log (c ∷ []) d h) (known_reservations es) k.marks.known)
             (all_one (Contains (log ++ c ∷ [])) c (Contains-push log c)));
       };
     }
@@ -207,5 +205,4 @@ below_meeting r met mine theirs =
     subst (All P) (sym (known-more r.entries (Met (known_reservations met.entries))))
     (All-append P (known_reservations r.entries) (known_reservations met.entries)
     (All-weaker (λ (d : Reservation). r.mark ≤ℤ low d) P (λ d h. grind (arith, ints))
-    (known_reservations r.entries) mine)
-    (met_below r met theirs))
+    (known_reservations r.entries) mine) (met_below r met theirs))

@@ -16,8 +16,7 @@ use Rattle.ent_shared.specs.Record.{reservation_at, after_reservation}
 use Rattle.ent_alloc.specs.Sequential.{Allocator, pool_at, reply_from, listed}
 
 pub reply-none : (made : ℕ) (pool : List Handle) → reply_from made pool 0 ≡ Ok []
-reply-none made pool =
-    search (rules, nat_tests)
+reply-none made pool = search (rules, nat_tests)
 
 -- a span of n numbers from high down
 pub low_of : (span : Span) (high : ℤ) (n : ℕ) → span ≡ record { high = high; low = high -ℤ pos n }
@@ -30,8 +29,7 @@ no_space r space good bad = cc
 -- whether a reply serves tells whether there was enough
 pub enough_served : (made : ℕ) (pool handles : List Handle) (n : ℕ) → reply_from made pool n
     ≡ Ok handles → nat_le n (length pool) ≡ true
-enough_served made pool handles n is =
-    search (rules)
+enough_served made pool handles n is = search (rules)
 
 -- a reply that serves n lists n handles
 pub length-served : (made : ℕ) (pool handles : List Handle) (n : ℕ) → reply_from made pool n
@@ -69,15 +67,8 @@ pub recorded_reply : (r : Record) (start : Allocator) (high : ℤ) (n : ℕ) (sp
     (reply : Result (List Handle) Space) → r.start ≡ start → span
     ≡ record { high = high; low = high -ℤ pos n }
     → ((k : ℕ) → span.low ≡ span.high -ℤ pos k → reply
-    ≡ reply_from start.made (pool_at start span.high) k) → (reservation_at r high n).reply
-    ≡ reply
-recorded_reply r start high n span reply same is replies =
-    search (rules, low_of)
-
-pub short_refused : (made : ℕ) (pool : List Handle) (n : ℕ) (refusal : Space)
-    → reply_from made pool n ≡ Err refusal → nat_le n (length pool) ≡ false
-short_refused made pool n refusal is =
-    search (rules)
+    ≡ reply_from start.made (pool_at start span.high) k) → (reservation_at r high n).reply ≡ reply
+recorded_reply r start high n span reply same is replies = search (rules, low_of)
 
 -- the floor after a reservation, if it is known whether there was enough
 floor_is : (r : Record) (start : Allocator) (high at : ℤ) (n : ℕ) (enough : Bool) → r.start ≡ start
@@ -92,8 +83,7 @@ pub served_floor : (r : Record) (start : Allocator) (high : ℤ) (n : ℕ) (span
     → ((k : ℕ) → span.low ≡ span.high -ℤ pos k → reply
     ≡ reply_from start.made (pool_at start span.high) k) → reply ≡ Ok handles → span.low
     ≡ (after_reservation r high n).floor
-served_floor r start high n span handles reply same is replies served =
-    grind (arith, common_steps)
+served_floor r start high n span handles reply same is replies served = grind (arith, common_steps)
 
 pub refused_floor : (r : Record) (start : Allocator) (high : ℤ) (n : ℕ) (span : Span)
     (refusal : Space) (reply : Result (List Handle) Space) → r.start ≡ start → span

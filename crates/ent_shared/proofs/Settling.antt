@@ -76,13 +76,9 @@ min_comm a b = grind (arith, ints)
 min_assoc : (a b c : ℤ) → int_min (int_min a b) c ≡ int_min a (int_min b c)
 min_assoc a b c = grind (arith, ints)
 
-min_le : (a b : ℤ) → int_min a b ≤ℤ b
-min_le a b = grind (arith, ints)
-
 pub floor_below : (start : Allocator) (cs : List Reservation) → floor_of start cs ≤ℤ cursor start
 floor_below start [] = omega (arith, ints)
-floor_below start (c ∷ cs) =
-    grind (arith, common_steps, floor_below start cs)
+floor_below start (c ∷ cs) = grind (arith, common_steps, floor_below start cs)
 
 -- where the least of these calls ends is told by how many handles are taken after them
 pub taken_floor : (start s : Allocator) (cs : List Reservation) (end : ℤ) → start.asked ≡ 0
@@ -145,8 +141,7 @@ floor-append start (x ∷ xs) ys = search (rules, min_assoc, floor-append start 
 floor_inserted : (start : Allocator) (c : Reservation) (cs : List Reservation)
     → floor_of start (insert_reservation c cs) ≡ int_min (floor_after start c) (floor_of start cs)
 floor_inserted start c [] = refl
-floor_inserted start c (d ∷ ds) =
-    search (rules, min_assoc, min_comm, floor_inserted start c ds)
+floor_inserted start c (d ∷ ds) = search (rules, min_assoc, min_comm, floor_inserted start c ds)
 
 pub floor_sorted : (start : Allocator) (cs : List Reservation) → floor_of start (by_falling_high cs)
     ≡ floor_of start cs

@@ -70,8 +70,7 @@ module _ (start : Allocator) (n number : ℕ) (word seat : TableId) (made : List
         number_is = refl;
         left_is = refl;
         floor_is = at;
-        below =
-            All-nil (λ (c : Reservation). cursor start ≤ℤ low c);
+        below = All-nil (λ (c : Reservation). cursor start ≤ℤ low c);
         credit = omega arith;
       })
 
@@ -117,8 +116,7 @@ all_of start rows count word number zero within =
     All-nil (IsOf (record { word = word; start = start; rows = rows; count = count }))
 all_of start rows count word number (suc many) within =
     All-cons (IsOf (record { word = word; start = start; rows = rows; count = count }))
-    (seated word (opened start number))
-    (map (seated word) (opened_records start (number + 1) many))
+    (seated word (opened start number)) (map (seated word) (opened_records start (number + 1) many))
     (record { word = refl; start = refl; number = omega arith; credit = omega arith })
     (all_of start rows count word (number + 1) many (omega arith))
 
@@ -140,7 +138,6 @@ all_unused start n word seat made me d = search (rules, none_used)
 pub all_own : (start : Allocator) (n : ℕ) (word seat : TableId) (made : List Reserver)
     (me : Me (Unit {0}) (List Record)) → AreShared start n n word made seat me
     → (shared : Shared) (rows : maps.FinMap handle_cmp ℕ) → shared
-    ≡ record { word = word; start = start; rows = rows; count = n }
-    → All (IsOf shared) made
+    ≡ record { word = word; start = start; rows = rows; count = n } → All (IsOf shared) made
 all_own start n word seat made me d shared rows is =
     grind (arith, common_steps, all_of start rows n word 0 n (omega arith), d.made_is)

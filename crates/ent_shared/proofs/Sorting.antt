@@ -116,8 +116,7 @@ below_at at c is = grind (arith, common_steps)
 reached_by_none : (at : ℤ) (cs : List Reservation) → sum_by (reaches at) cs ≡ 0
     → All (λ (c : Reservation). c.high <ℤ at) cs
 reached_by_none at [] none = All-nil (λ (c : Reservation). c.high <ℤ at)
-reached_by_none at (c ∷ cs) none =
-    grind (arith, common_steps)
+reached_by_none at (c ∷ cs) none = grind (arith, common_steps)
 
 -- the two lists weigh the same, however each call is weighed
 abbrev pub WeighSame : List Reservation → List Reservation → Type 0
@@ -161,8 +160,7 @@ same_fall (x ∷ xs) (y ∷ ys) falls strictly within same =
     (λ d le. omega (arith, ints)) xs falls.0 in
     let none = none_reach y.high xs all_less in
     let x_none = reaches_not y.high x less in
-    absurd (omega arith))
-    (contains_cases y ys x (All-head (Contains (y ∷ ys)) x xs within)) in
+    absurd (omega arith)) (contains_cases y ys x (All-head (Contains (y ∷ ys)) x xs within)) in
     let x_one : reaches y.high x ≡ 1 = ap (reaches y.high) first ∙ y_one in
     let rest_below : All (λ (c : Reservation). c.high <ℤ y.high) xs = reached_by_none y.high xs
     (omega arith) in
@@ -177,8 +175,7 @@ same_fall (x ∷ xs) (y ∷ ys) falls strictly within same =
 pub follow_below : (high : ℤ) (cs : List Reservation) (end : ℤ) → Follow high cs end
     → All (λ (c : Reservation). c.high ≤ℤ high) cs
 follow_below high [] end f = All-nil (λ (c : Reservation). c.high ≤ℤ high)
-follow_below high (c ∷ cs) end f =
-    grind (arith, common_steps, follow_below (low c) cs end f.2)
+follow_below high (c ∷ cs) end f = grind (arith, common_steps, follow_below (low c) cs end f.2)
 
 pub follow_falls : (high : ℤ) (cs : List Reservation) (end : ℤ) → Follow high cs end
     → FallsStrictly cs
@@ -187,8 +184,7 @@ follow_falls high (c ∷ cs) end f =
     let some_request = f.1 in (
       All-weaker (λ (d : Reservation). d.high ≤ℤ low c) (λ (d : Reservation). d.high <ℤ c.high)
           (λ d le. omega (arith, ints)) cs (follow_below (low c) cs end f.2),
-      follow_falls (low c) cs
-          end f.2,
+      follow_falls (low c) cs end f.2,
     )
 
 pub follow_requests : (high : ℤ) (cs : List Reservation) (end : ℤ) → Follow high cs end

@@ -57,8 +57,7 @@ module _ (start : Allocator) (count : ℕ) where
       + 0 = sum_by-cons g (after_reservation r at n) [] in
       let more : sum_by f (own_reservations (r.entries ++ Own c ∷ [])) ≡ sum_by f own + (f c + 0) =
       ap (sum_by f) (own-made r.entries c)
-      ∙ (sum_by-append f own (c ∷ []) ∙ ap (λ (k : ℕ). sum_by f own + k) (sum_by-cons f c []))
-      in
+      ∙ (sum_by-append f own (c ∷ []) ∙ ap (λ (k : ℕ). sum_by f own + k) (sum_by-cons f c [])) in
       omega arith
 
   pub reserves : (slots id : ℕ) (r : Record) (n : ℕ) → 0 < n → n ≤ r.left
@@ -96,8 +95,7 @@ module _ (start : Allocator) (count : ℕ) where
         least = least;
         greatest = greatest;
         mark = mark;
-        top =
-            subst (λ (a : Allocator). high ≤ℤ cursor a) (sym kept.start_is) up;
+        top = subst (λ (a : Allocator). high ≤ℤ cursor a) (sym kept.start_is) up;
         after = refl;
       }) in
       let own : K (high -ℤ pos n) w = all_one (IsKept start (high -ℤ pos n) (log ++ c ∷ []))
@@ -227,8 +225,7 @@ module _ (start : Allocator) (count : ℕ) where
       (met_in (r ∷ []) (met ∷ [])) []
   meets id other r met = joins id other (r ∷ []) (met ∷ []) (after_meeting r met ∷ met ∷ [])
       (λ f. weigh_two f (after_meeting r met ∷ []) (met ∷ [])
-      ∙ ap (λ (k : ℕ). k + weigh f (met ∷ [])) (weigh-met f r met))
-      refl
+      ∙ ap (λ (k : ℕ). k + weigh f (met ∷ [])) (weigh-met f r met)) refl
       (λ k. numbered_two k (r ∷ []) (met ∷ []))
       (λ at log v w. All-cons (IsKept start at log) (after_meeting r met) (met ∷ [])
       (kept_met start at log r met (All-head (IsKept start at log) r [] v)

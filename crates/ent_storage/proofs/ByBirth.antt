@@ -60,8 +60,7 @@ later xs y x h = (suc h.0, omega (arith, h.1), h.2)
 contains_filter : {X : Type 0} (p : X → Bool) (xs : List X) (x : X) (k : ℕ) → k < length xs
     → get_or xs k x ≡ x → p x ≡ true → Contains (filter p xs) x
 contains_filter p [] x k l e pass = absurd (omega arith)
-contains_filter p (y ∷ ys) x zero l e pass =
-    search (rules)
+contains_filter p (y ∷ ys) x zero l e pass = search (rules)
 contains_filter p (y ∷ ys) x (suc k) l e pass =
     let rest = contains_filter p ys x k (omega arith) e pass in
     elim (p y) as (λ b. Contains (cond b (y ∷ filter p ys) (filter p ys)) x)

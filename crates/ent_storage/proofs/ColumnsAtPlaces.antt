@@ -64,10 +64,8 @@ find_value : (n : ℕ) (o : Option ℤ) (items : List (ComponentId × ℤ)) (id 
     ⊎ (n ≢ id.0) → (n ≡ id.0 → find component_cmp id items ≡ None)
     → find component_cmp id (with_value o n items) ≡ cond (eq_by_cmp nat_cmp id.0 n) o
     (find component_cmp id items)
-find_value n None items id (inl e) none =
-    search (rules, tied)
-find_value n None items id (inr a) none =
-    search (rules, apart)
+find_value n None items id (inl e) none = search (rules, tied)
+find_value n None items id (inr a) none = search (rules, apart)
 find_value n (Some v) items id c none = refl
 
 -- components of smaller numbers are not among the items
@@ -180,8 +178,7 @@ module _ (old new : List Column) (place : ℕ) (id : ComponentId) (others : (n :
         map.nat_cmp-IsAntisymmetric (column_at old id.0).values place v place refl in
         record {
           spare = λ none. absurd (none-some v (sym none ∙ there));
-          in_range = λ none.
-              absurd (none-some v (sym none ∙ there));
+          in_range = λ none. absurd (none-some v (sym none ∙ there));
         }
     room_by n (inr far) room = subst (λ c. HasRoomAt c place) (sym (others n far)) room
 
@@ -231,14 +228,6 @@ module _ (columns : List Column) (n : ℕ) (was is : Column) (inside : n < lengt
 
   pub column_kept : (k : ℕ) → k ≢ n → column_at (set columns n is) k ≡ column_at columns k
   column_kept k far = get_or-set_other columns n k is no_column far
-
--- a column without values is added
-pub column_pushed : (columns : List Column) (n : ℕ) → column_at (columns ++ no_column ∷ []) n
-    ≡ column_at columns n
-column_pushed [] zero = refl
-column_pushed [] (suc n) = refl
-column_pushed (c ∷ columns) zero = refl
-column_pushed (c ∷ columns) (suc n) = column_pushed columns n
 
 -- what is not there stays out
 pub taken_none : (columns : List Column) (place : ℕ) (id : ComponentId) → length columns ≤ id.0

@@ -157,15 +157,13 @@ module _ (living : List LivingEntity) (index : FinMap handle_cmp ℕ) (room : �
 
   module _ (h : Handle) (i : ℕ) (placed : finite.get (counted living index) h ≡ Some i) where
     pub kept_changed : (entity : LivingEntity) → entity ≡ get_or living i entity
-        → (held : Components)
-        → IsKeptIndex
+        → (held : Components) → IsKeptIndex
         (set living i (record { handle = entity.handle; birth = entity.birth; components = held }))
         index room
     kept_changed entity read held =
         let changed : LivingEntity = record {
           handle = entity.handle;
-          birth =
-              entity.birth;
+          birth = entity.birth;
           components = held;
         } in
         let at = ap (finite.get (counted living index)) (read_handle living (counted living index)

@@ -57,8 +57,7 @@ pub filled : (D L : List (ℕ × ℤ)) (i n m : ℕ) → n ≡ length D → m �
     × ((k : ℕ) (d : ℕ × ℤ) → k ≢ i → k + 1 < n → get_or L k d ≡ get_or D k d) → IsFilled D i L
 filled D L i n m whole left one_less by_index = record {
   one_less = omega arith;
-  others = λ k apart l.
-      slice_get-get_or L k (0, pos 0) l
+  others = λ k apart l. slice_get-get_or L k (0, pos 0) l
       ∙ ap Some (by_index.1 k (0, pos 0) apart (omega arith))
       ∙ sym (slice_get-get_or D k (0, pos 0) (omega arith));
   moved = λ l.
@@ -112,8 +111,7 @@ module _ (D : List (ℕ × ℤ)) (S : List ℕ) (dense : IsDense D S) where
         ∙ sym (get-insert_same total same (map.from_entries {R = nat_cmp} D) p v q e) ∙ found
     over_back q w (inr n) found =
         let h = at D S dense q w
-        (sym (get-insert_other total same (map.from_entries {R = nat_cmp} D) p v q n) ∙ found)
-        in
+        (sym (get-insert_other total same (map.from_entries {R = nat_cmp} D) p v q n) ∙ found) in
         let other : h.0
         ≢ i = λ e. n (sym (some_pair_parts p q u w (sym here ∙ ap (slice_get D) (sym e)
         ∙ h.1)).0) in
@@ -198,8 +196,7 @@ module _ (D : List (ℕ × ℤ)) (S : List ℕ) (dense : IsDense D S) where
           q e) ∙ found))
       removed_back q w (inr n) found =
           let h = at D S dense q w
-          (sym (get-remove_other total same (map.from_entries {R = nat_cmp} D) p q n) ∙ found)
-          in
+          (sym (get-remove_other total same (map.from_entries {R = nat_cmp} D) p q n) ∙ found) in
           let other : h.0
           ≢ i = λ e. n (sym (some_pair_parts p q u w (sym here ∙ ap (slice_get D) (sym e)
           ∙ h.1)).0) in
@@ -279,8 +276,7 @@ module _ (D : List (ℕ × ℤ)) (S : List ℕ) (dense : IsDense D S) where
         ∙ at_set_same D i (t, u) (slice_get_within D i (p, u) here)) ∙ h.1)).0) in
         let was = sym (at_set_other D i h.0 (t, u) other) ∙ h.1 in (
           has D S dense h.0 q w was,
-          λ e.
-              other (once D S dense h.0 i p w u (was ∙ (λ j. Some (e j, w))) here),
+          λ e. other (once D S dense h.0 i p w u (was ∙ (λ j. Some (e j, w))) here),
         )
 
     renamed_back : (q : ℕ) (w : ℤ) → q ≢ p → map.get (map.from_entries {R = nat_cmp} D) q ≡ Some w

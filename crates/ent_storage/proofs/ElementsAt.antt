@@ -54,8 +54,7 @@ same_option (Some x) (Some y) f g = g y refl
 pub find_at : (D : List (ℕ × ℤ)) (k p : ℕ) (v : ℤ) → slice_get D k ≡ Some (p, v)
     → ((j : ℕ) (w : ℤ) → j < k → slice_get D j ≢ Some (p, w)) → find nat_cmp p D ≡ Some v
 find_at [] k p v e first = absurd (none-some (p, v) e)
-find_at (x ∷ D) zero p v e first =
-    grind (arith, common_steps)
+find_at (x ∷ D) zero p v e first = grind (arith, common_steps)
 find_at (x ∷ D) (suc k) p v e first =
     ap (λ t. cond t (Some x.1) (find nat_cmp p D))
     (apart total same p x.0
@@ -65,8 +64,7 @@ find_at (x ∷ D) (suc k) p v e first =
 find_gives_first : (x : ℕ × ℤ) (D : List (ℕ × ℤ)) (p : ℕ) (v : ℤ)
     → (find nat_cmp p D ≡ Some v → (k : ℕ) × (slice_get D k ≡ Some (p, v))) → (p ≡ x.0) ⊎ (p ≢ x.0)
     → find nat_cmp p (x ∷ D) ≡ Some v → (k : ℕ) × (slice_get (x ∷ D) k ≡ Some (p, v))
-find_gives_first x D p v rest (inl q) e =
-    grind (arith, common_steps)
+find_gives_first x D p v rest (inl q) e = grind (arith, common_steps)
 find_gives_first x D p v rest (inr n) e =
     let later = rest
     (sym (ap (λ t. cond t (Some x.1) (find nat_cmp p D)) (apart total same p x.0 n)) ∙ e) in

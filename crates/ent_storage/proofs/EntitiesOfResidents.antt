@@ -27,8 +27,7 @@ entity_at columns place resident =
     record {
       handle = resident.handle;
       birth = resident.birth;
-      components = components_at columns
-          place;
+      components = components_at columns place;
     }
 
 pub length_from : (n : ℕ) (residents : List Resident) (columns : List Column)
@@ -193,15 +192,7 @@ module _ (residents left : List Resident) (i n m : ℕ) (whole : n ≡ length re
 -- ---- what stays within the residents
 
 pub none_within : AreColumnsOf 0 []
-none_within = record {
-  none_beyond = λ p id l. finite.get-empty _ p;
-  numbered = omega arith;
-}
-
-pub pushed_within : (residents : List Resident) (resident : Resident) (columns : List Column)
-    → AreColumnsOf (length residents) columns → AreColumnsOf (length (residents ++ resident ∷ []))
-    columns
-pushed_within residents resident columns within = grind (arith, common_steps)
+none_within = record { none_beyond = λ p id l. finite.get-empty _ p; numbered = omega arith }
 
 pub changed_within : (count place : ℕ) (old new : List Column) → place < count → length new ≤ 256
     → ((p : ℕ) (id : ComponentId) → p ≢ place → value_at new p id ≡ value_at old p id)
@@ -211,8 +202,7 @@ changed_within count place old new inside numbered others within = search (rules
 -- a slice of a whole vector, written back
 pub written_back : {X : Type 0} (new old : List X) (n : ℕ) → length new ≡ length old → n
     ≡ length old → take n (new ++ drop (length new) old) ≡ new
-written_back new old n same whole =
-    grind (arith, common_steps)
+written_back new old n same whole = grind (arith, common_steps)
 
 -- what the entity at a place is tested for
 pub handle_get : (residents : List Resident) (columns : List Column) (n i : ℕ)
@@ -234,8 +224,7 @@ pub value_get : (residents : List Resident) (columns : List Column) (n i : ℕ) 
     < length residents → option_and_then (λ (e : LivingEntity). finite.get e.components id)
     (slice_get (entities_from n residents columns) i) ≡ value_at columns (n + i) id
 value_get [] columns n i id l = absurd (omega arith)
-value_get (resident ∷ residents) columns n zero id l =
-    search (rules, get_components)
+value_get (resident ∷ residents) columns n zero id l = search (rules, get_components)
 value_get (resident ∷ residents) columns n (suc i) id l =
     search (rules, value_get residents columns (suc n) i id (omega arith))
 
@@ -267,13 +256,11 @@ pub test_at : (residents : List Resident) (columns : List Column) (i : ℕ) (res
     (h : Handle) → slice_get residents i ≡ Some resident
     → has_handle_at (entities_from 0 residents columns) h (Some i)
     ≡ eq_by_cmp handle_cmp resident.handle h
-test_at residents columns i resident h at =
-    search (rules, test_some, handle_get)
+test_at residents columns i resident h at = search (rules, test_some, handle_get)
 
 pub test_past : (residents : List Resident) (columns : List Column) (i : ℕ) (h : Handle)
     → length residents ≤ i → has_handle_at (entities_from 0 residents columns) h (Some i) ≡ false
-test_past residents columns i h l =
-    search (rules, test_none, handle_get, slice_get_past)
+test_past residents columns i h l = search (rules, test_none, handle_get, slice_get_past)
 
 -- the birth and the handle of each resident
 pub births_from : (n : ℕ) (residents : List Resident) (columns : List Column)

@@ -25,11 +25,6 @@ pub in_use_changed : (used : List ℕ) (old new : List Column) → length old �
     → AreInUse used old → AreInUse used new
 in_use_changed used old new longer kept in_use = search (rules)
 
--- a column that has had room is in use
-pub in_use_with_room : (used : List ℕ) (columns : List Column) (n : ℕ) → AreInUse used columns
-    → 0 < (column_at columns n).places → Contains used n
-in_use_with_room used columns n in_use room = search (rules)
-
 -- ---- a number is put in its gap
 
 pub rising_from_start : (used : List ℕ) → AllPairs (λ a b. a < b) used → (i j : ℕ) → i ≤ j
@@ -165,8 +160,7 @@ rest_kept old new place item n others room none = by (same_or_apart total same n
 pub removed_rest : (columns : List Column) (id n : ℕ) (was is : Column) (place : ℕ)
     → id < length columns → was ≡ get_or columns id was
     → (map.get (get_or columns id was).values place ≡ None → is ≡ get_or columns id was)
-    → column_at columns n ≡ no_column
-    → column_at (set columns id is) n ≡ no_column
+    → column_at columns n ≡ no_column → column_at (set columns id is) n ≡ no_column
 removed_rest columns id n was is place inside read stays none = by (same_or_apart total same n id)
   where
     by : (n ≡ id) ⊎ (n ≢ id) → column_at (set columns id is) n ≡ no_column
@@ -181,8 +175,7 @@ removed_rest columns id n was is place inside read stays none = by (same_or_apar
 -- a column in use is changed
 pub in_use_set : (used : List ℕ) (columns : List Column) (id : ℕ) (is : Column) → Contains used id
     → AreInUse used columns → AreInUse used (set columns id is)
-in_use_set used columns id is there in_use =
-    grind (arith, common_steps)
+in_use_set used columns id is there in_use = grind (arith, common_steps)
 
 -- ---- the columns in use are passed one by one
 

@@ -35,8 +35,7 @@ find_entity : (living : List LivingEntity) (q : Handle) (i : ℕ) (d : LivingEnt
     → find handle_cmp q (map (λ entity. (entity.handle, entity_of entity)) living)
     ≡ Some (entity_of (get_or living i d))
 find_entity [] q i d l at first = absurd (omega arith)
-find_entity (entity ∷ living) q zero d l at first =
-    search (rules, tied)
+find_entity (entity ∷ living) q zero d l at first = search (rules, tied)
 find_entity (entity ∷ living) q (suc i) d l at first =
     ap (λ t. cond t (Some (entity_of entity))
     (find handle_cmp q (map (λ entity. (entity.handle, entity_of entity)) living)))
@@ -73,8 +72,7 @@ module _ (living : List LivingEntity) (index : FinMap handle_cmp ℕ)
       absurd (omega arith))
 
   -- and at one that has none
-  pub get_unplaced : (q : Handle) → finite.get index q ≡ None → finite.get (map_of living) q
-      ≡ None
+  pub get_unplaced : (q : Handle) → finite.get index q ≡ None → finite.get (map_of living) q ≡ None
   get_unplaced q none =
       finite.get-from_entries total _ q
       ∙ find_missing living q (λ i d l is. some_not_none i _ (ap (finite.get index) (sym is)
@@ -121,12 +119,10 @@ module _ (living : List LivingEntity) (index : FinMap handle_cmp ℕ)
         → (i < length (living ++ entity ∷ []))
         × ((d : LivingEntity) → (get_or (living ++ entity ∷ []) i d).handle ≡ q)
     each_place_pushed q i (inl e) at =
-        let last : length living
-        ≡ i = same_place _ i
+        let last : length living ≡ i = same_place _ i
         (sym (get-insert_same total same index entity.handle (length living) q e) ∙ at) in (
           omega (arith, length_push living entity),
-          λ d. ap (λ (r : LivingEntity). r.handle)
-              (get_or_push living entity d i last) ∙ sym e,
+          λ d. ap (λ (r : LivingEntity). r.handle) (get_or_push living entity d i last) ∙ sym e,
         )
     each_place_pushed q i (inr n) at =
         let old = indexed.each_place q i
@@ -186,8 +182,7 @@ module _ (living : List LivingEntity) (index : FinMap handle_cmp ℕ)
           (same_number j i);
       each_place = λ q j at. (
         omega (arith, length-set living i entity, (indexed.each_place q j at).0),
-        each_place_set
-            q j at (same_number j i),
+        each_place_set q j at (same_number j i),
       );
     }
 

@@ -14,17 +14,11 @@ use Rattle.ent_storage.specs.Living.{AreInUse}
 
 -- ---- one number after the other
 
-count_value : (n : ℕ) (o : Option ℤ) (items : List (ComponentId × ℤ)) → cond (is_some o) 1 0
-    + length items ≡ length (with_value o n items)
-count_value n None items = omega arith
-count_value n (Some v) items = omega arith
-
 pub count_items : (used : List ℕ) (columns : List Column) (place : ℕ)
     → count_by (λ number. is_some (value_at columns place (record { 0 = number }))) used
     ≡ length (items_of used columns place)
 count_items [] columns place = refl
-count_items (n ∷ used) columns place =
-    grind (arith, common_steps, count_items used columns place)
+count_items (n ∷ used) columns place = grind (arith, common_steps, count_items used columns place)
 
 -- ---- the columns from a number on
 

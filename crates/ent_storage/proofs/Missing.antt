@@ -6,14 +6,10 @@ use Rattle.std.specs.FinMap as map
 use Rattle.ent_handle.specs.declared.component.ComponentId.{ComponentId}
 use Rattle.ent_storage.specs.Components.{Components, missing}
 
-one_if : (o : Option ℤ) → o ≡ None → 1 ≤ cond (is_none o) 1 0
-one_if o e = rw e (omega arith)
-
 -- a component is missing that one of the items sets
 pub missing_at : (m : Components) (items : List (ComponentId × ℤ)) (i : ℕ) (d : ComponentId × ℤ) → i
     < length items → map.get m (get_or items i d).0 ≡ None → 0 < missing m items
-missing_at m items i d l none =
-    grind (arith, common_steps)
+missing_at m items i d l none = grind (arith, common_steps)
 
 -- what holds, holds also if a call was refused
 pub on_err : {X E : Type 0} {P : Type 0} (r : Result X E) → P → OnErr r P

@@ -45,8 +45,7 @@ less_not r p q = cc
 by_cases : (a b c : Handle) (r s : Ordering) → handle_cmp a b ≡ r → handle_cmp b c ≡ s
     → r ≢ Greater → s ≢ Greater → handle_cmp a c ≢ Greater
 by_cases a b c Less Less p q n m = less_not _ (total.trans a b c p q)
-by_cases a b c Less Equal p q n m =
-    less_not _ (ap (handle_cmp a) (sym (same b c q)) ∙ p)
+by_cases a b c Less Equal p q n m = less_not _ (ap (handle_cmp a) (sym (same b c q)) ∙ p)
 by_cases a b c Less Greater p q n m = absurd (m refl)
 by_cases a b c Equal s p q n m = λ e. m (sym q ∙ sym (total.congr a b c p) ∙ e)
 by_cases a b c Greater s p q n m = absurd (n refl)

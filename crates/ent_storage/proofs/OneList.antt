@@ -61,8 +61,7 @@ module _ {X : Type 0} (R : X → X → Type 0) (asym : (a b : X) → R a b → �
 
 not_both : {K : Type 0} {C : K → K → Ordering} → IsTotalOrder C → (a b : K) → C a b ≡ Less
     → ¬ (C b a ≡ Less)
-not_both o a b r s =
-    search (rules)
+not_both o a b r s = search (rules)
 
 birth_order_total : (m : EntityMap) → IsTotalOrder (birth_order m)
 birth_order_total m = then_total (on_total (birth_of m) (options_total birth_cmp_total))
@@ -73,8 +72,7 @@ pub one_list : (passes : Entity → Bool) (m : EntityMap) (hs ks : List Handle)
     → ListsByBirth passes m hs → ListsByBirth passes m ks → hs ≡ ks
 one_list passes m hs ks a b =
     same_list (λ x y. birth_order m x y ≡ Less) (not_both (birth_order_total m)) hs ks a.rising
-    b.rising
-    (λ h c. (b.holds h).1 ((a.holds h).0 c)) (λ h c. (a.holds h).1 ((b.holds h).0 c))
+    b.rising (λ h c. (b.holds h).1 ((a.holds h).0 c)) (λ h c. (a.holds h).1 ((b.holds h).0 c))
 
 -- so have all entities
 pub one_list_of_all : (m : EntityMap) (hs ks : List Handle) → ListsAll m hs → ListsAll m ks → hs

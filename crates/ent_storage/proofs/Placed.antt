@@ -88,12 +88,10 @@ handles_set (x ∷ living) (suc i) entity is =
     (handles_set living i entity (λ d l. is d (omega arith)))
 
 pub handles_changed : (living : List LivingEntity) (i : ℕ) (entity : LivingEntity) → entity
-    ≡ get_or living i entity → (held : Components)
-    → handles_by_place
+    ≡ get_or living i entity → (held : Components) → handles_by_place
     (set living i (record { handle = entity.handle; birth = entity.birth; components = held }))
     ≡ handles_by_place living
-handles_changed living i entity read held =
-    search (rules, handles_set, get_or_default)
+handles_changed living i entity read held = search (rules, handles_set, get_or_default)
 
 -- a handle has a place if it is in the map
 pub placed_known : (living : List LivingEntity) (index : FinMap handle_cmp ℕ)

@@ -24,8 +24,7 @@ pub reborn_from : (n : ℕ) (residents : List Resident) (columns : List Column) 
     → entities_from n (set residents i (record resident { birth = birth })) columns
     ≡ with_birth_at (entities_from n residents columns) i birth
 reborn_from n [] columns i birth resident l read = absurd (omega arith)
-reborn_from n (r ∷ residents) columns zero birth resident l read =
-    search (rules)
+reborn_from n (r ∷ residents) columns zero birth resident l read = search (rules)
 reborn_from n (r ∷ residents) columns (suc i) birth resident l read =
     search (rules, reborn_from (suc n) residents columns i birth resident (omega arith) read)
 
@@ -70,8 +69,7 @@ module _ (living : List LivingEntity) (index : FinMap handle_cmp ℕ) (room : �
   is_set : with_birth_at living i birth ≡ set living i changed
   is_set = as_set living i (some_entity h) birth inside
 
-  pub reborn_entities : map_of (with_birth_at living i birth)
-      ≡ with_birth (map_of living) h birth
+  pub reborn_entities : map_of (with_birth_at living i birth) ≡ with_birth (map_of living) h birth
   reborn_entities =
       ap map_of is_set
       ∙ entities_set living (counted living index) kept.indexed i changed at

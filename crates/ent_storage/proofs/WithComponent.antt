@@ -77,8 +77,7 @@ some_value (Some v) e = (v, refl)
 pub as_many : (living : List LivingEntity) (births : List (Birth × Handle)) (pairs : List (ℕ × ℤ))
     → map {B = Option (Birth × Handle)} Some births
     ≡ map (λ (pair : ℕ × ℤ). born_at living pair.0) pairs → length births ≡ length pairs
-as_many living births pairs are =
-    search (rules, length-map)
+as_many living births pairs are = search (rules, length-map)
 
 module _ (living : List LivingEntity) (index : FinMap handle_cmp ℕ)
     (indexed : IsIndexed living index) (id : ComponentId)
@@ -151,8 +150,7 @@ module _ (living : List LivingEntity) (index : FinMap handle_cmp ℕ)
       (slice_get-get_or living i r l) in (
         at.0,
         omega (arith, as_many living births pairs are, at.1),
-        get_or_from_slice_get births at.0 _
-            (born_of (get_or living i r)) born,
+        get_or_from_slice_get births at.0 _ (born_of (get_or living i r)) born,
       )
 
   pub lists_with : (handles : List Handle) → IsInOrder births handles
@@ -175,5 +173,4 @@ pub some_with : (living : List LivingEntity) (index : FinMap handle_cmp ℕ)
 some_with living index indexed id [] has some = absurd (omega arith)
 some_with living index indexed id (pair ∷ pairs) has some =
     valued (map_of living) id (slice_get (handles_by_place living) pair.0) pair.1
-    (sym (same_value living index indexed id pair.0)
-    ∙ has pair.0 pair.1 (0, omega arith, refl))
+    (sym (same_value living index indexed id pair.0) ∙ has pair.0 pair.1 (0, omega arith, refl))

@@ -32,8 +32,7 @@ abbrev pub IsPlacedOrder : List Placed → List Placed → Type 0
 IsPlacedOrder run [] = run ≡ []
 IsPlacedOrder run (p ∷ order) =
     (before : List Placed) × (after : List Placed) × (run ≡ before ++ p ∷ after)
-    × AllByRecursion (IsOfOther p) before
-    × IsPlacedOrder (before ++ after) order
+    × AllByRecursion (IsOfOther p) before × IsPlacedOrder (before ++ after) order
 
 -- what holds of all in the run holds of all in the order, and the other way round
 module _ (P : Placed → Type 0) where
@@ -72,8 +71,7 @@ all_alike P sorted run alike all =
 
 nothing_sorted : (sorted : List Placed) → TieAlike sorted [] → sorted ≡ []
 nothing_sorted [] alike = refl
-nothing_sorted (d ∷ sorted) alike =
-    grind (arith, common_steps, tie d, tie_from d d)
+nothing_sorted (d ∷ sorted) alike = grind (arith, common_steps, tie d, tie_from d d)
 
 no_middle : (before after : List Placed) (c : Placed) → before ++ c ∷ after ≡ [] → ⊥
 no_middle [] after c e = cc
@@ -105,8 +103,7 @@ module _ (given : List Handle) where
   pub takes_place : (n m left own other : ℕ) (reply mine : ReserveReply)
       → FitsReserved reply (Err (record { wanted = n; left = left }))
       → FitsReserved reply (Err (record { wanted = n; left = 0 })) → left < n
-      → KeyOf given n reply own
-      → FitsReserved mine (Err (record { wanted = m; left = 0 })) → 0 < m
+      → KeyOf given n reply own → FitsReserved mine (Err (record { wanted = m; left = 0 })) → 0 < m
       → KeyOf given m mine other → other ≤ own
       → FitsReserved mine (Err (record { wanted = m; left = left })) × (left < m)
   takes_place n m left own other (reserve.Handles told) mine fits later more key answered some of le =
@@ -155,8 +152,7 @@ IsLow f s = (q : ℕ) → (f q ≤ s.asked) × (f q < 2 ^ 32)
 
 low_next : (f : ℕ → ℕ) (s : Allocator) (c : Placed) → IsLow f s → c.key < s.asked + asks c
     → c.key < 2 ^ 32 → IsLow (raised f c) (after_take s (asks c))
-low_next f s c low below small q =
-    grind (arith, common_steps)
+low_next f s c low below small q = grind (arith, common_steps)
 
 module _ (given : List Handle) where
   pub sorted_is : (order sorted run : List Placed) (s : Allocator) (f : ℕ → ℕ) → IsSound s
@@ -245,8 +241,7 @@ module _ (given : List Handle) where
             ] in
             let ordered = refused_run s c order short fits order_none in
             let ends : left < asks h → FitsLeft left h → AllByRecursion FindsNone sorted
-            → Answers s (h ∷ sorted)
-            × (after_run s (c ∷ order) ≡ after_run s (h ∷ sorted)) =
+            → Answers s (h ∷ sorted) × (after_run s (c ∷ order) ≡ after_run s (h ∷ sorted)) =
             λ h_short h_fits none.
             let other = refused_run s h sorted h_short h_fits none in
             let same : s.asked + (n + total order) ≡ s.asked + (asks h + total sorted) =

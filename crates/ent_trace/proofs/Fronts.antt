@@ -14,14 +14,12 @@ use Rattle.ent_alloc.proofs.PoolLaw.{pool_at-cursor, pool_at-later, top-after_ta
 -- one position below, one more was asked for
 asked_below : (high : ℕ) (p : ℤ) → p ≤ℤ pos high → asked_at high (p -ℤ pos 1) ≡ asked_at high p + 1
 asked_below high (pos zero) below = omega (arith, ints)
-asked_below high (pos (suc p)) below =
-    search (rules, ints)
+asked_below high (pos (suc p)) below = search (rules, ints)
 asked_below high (negsuc p) below = omega (arith, ints)
 
 pool_below : (s : Allocator) (p : ℤ) → p ≤ℤ pos (top s) → pool_at s (p -ℤ pos 1)
     ≡ drop 1 (pool_at s p)
-pool_below s p below =
-    search (rules, asked_below, drop-drop)
+pool_below s p below = search (rules, asked_below, drop-drop)
 
 -- nothing of an empty list
 none_of : (k : ℕ) → take {A = Handle} k [] ≡ []
@@ -72,8 +70,7 @@ module _ (s : Allocator) (start next : ℤ) (front : List Handle)
 -- at the cursor it is the front of the pool
 pub front_here : (s : Allocator) (at : ℤ) → IsSound s → at ≡ cursor s
     → take 8 (pool_at s at) ≡ take 8 s.pool
-front_here s at sound is =
-    ap (λ p. take 8 (pool_at s p)) is ∙ ap (take 8) (pool_at-cursor s sound)
+front_here s at sound is = ap (λ p. take 8 (pool_at s p)) is ∙ ap (take 8) (pool_at-cursor s sound)
 
 -- and after a request that found the cursor there
 pub front_before : (s t : Allocator) (n : ℕ) (at : ℤ) → IsSound s → t ≡ after_take s n

@@ -22,10 +22,8 @@ requested r = r.requested
 -- one more is requested
 pub requested-push : (run : List Placed) (p : Placed) → requested_in (reservations_of (run ++ p ∷ []))
     ≡ requested_in (reservations_of run) + p.reservation.requested
-requested-push [] p =
-    grind (arith, common_steps)
-requested-push (q ∷ run) p =
-    grind (arith, common_steps, requested-push run p)
+requested-push [] p = grind (arith, common_steps)
+requested-push (q ∷ run) p = grind (arith, common_steps, requested-push run p)
 
 keyed_push : (given : List Handle) (run : List Placed) (f : ℕ → ℕ) (p : Placed)
     → AreKeyed given f run → IsKeyed given (keys_after f run p.reservation.caller) p
@@ -97,8 +95,7 @@ module _ (latest : finite.FinMap nat_cmp ℕ) (p : Placed)
         ∙ ap (λ o. unwrap_or o 0) (get-inserted latest p.reservation.caller p.key)
         ∙ sym (ap (λ b. cond b p.key (f q)) (eq-eqb q p.reservation.caller same))
     | inr other ↦
-        ap (λ o. unwrap_or o 0)
-        (get-insert_other latest p.reservation.caller p.key q other)
+        ap (λ o. unwrap_or o 0) (get-insert_other latest p.reservation.caller p.key q other)
         ∙ last q ∙ sym (ap (λ b. cond b p.key (f q)) (ne_eqb q p.reservation.caller other))
   ]
 

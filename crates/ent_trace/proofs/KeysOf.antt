@@ -105,8 +105,7 @@ refused_key given n own left (reserve.SpaceLeft (suc told)) small fits key = ome
 -- ---- keys along a caller
 
 pub raised_other : (f : ℕ → ℕ) (p : Placed) (q : ℕ) → q ≢ p.reservation.caller → raised f p q ≡ f q
-raised_other f p q other =
-    ap (λ b. cond b p.key (f q)) (ne_eqb q p.reservation.caller other)
+raised_other f p q other = ap (λ b. cond b p.key (f q)) (ne_eqb q p.reservation.caller other)
 
 pub raised_own : (f : ℕ → ℕ) (p : Placed) (q : ℕ) → q ≡ p.reservation.caller → raised f p q ≡ p.key
 raised_own f p q same = ap (λ b. cond b p.key (f q)) (eq-eqb q p.reservation.caller same)

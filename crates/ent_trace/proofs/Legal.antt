@@ -105,8 +105,7 @@ pub record FindsNone (p : Placed) : Type 0 where
 
 empty-refuses : (s : Allocator) (n : ℕ) → s.pool ≡ [] → 0 < n
     → reply_to s n ≡ Err (record { wanted = n; left = 0 })
-empty-refuses s n none some =
-    grind (arith, common_steps)
+empty-refuses s n none some = grind (arith, common_steps)
 
 stays-empty : (s : Allocator) (n : ℕ) → s.pool ≡ [] → (after_take s n).pool ≡ []
 stays-empty s n none = grind (arith, common_steps)

@@ -244,8 +244,7 @@ total_is (p ∷ run) =
     let rest = total_is run in
     omega (
       arith,
-      sum_by-cons (λ (r : Reservation). r.requested) p.reservation
-          (reservations_of run),
+      sum_by-cons (λ (r : Reservation). r.requested) p.reservation (reservations_of run),
     )
 
 some_filtered : (run : List Placed) → AllByRecursion (λ p. 0 < asks p) (filter asks_some run)

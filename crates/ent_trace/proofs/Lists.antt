@@ -18,8 +18,7 @@ module _ {X : Type 0} (P : X → Type 0) where
   all_left [] ys all = tt
   all_left (x ∷ xs) ys all = (all.0, all_left xs ys all.1)
 
-  pub all_push : (xs : List X) (x : X) → AllByRecursion P xs → P x
-      → AllByRecursion P (xs ++ x ∷ [])
+  pub all_push : (xs : List X) (x : X) → AllByRecursion P xs → P x → AllByRecursion P (xs ++ x ∷ [])
   all_push [] x all here = (here, tt)
   all_push (y ∷ xs) x all here = (all.0, all_push xs x all.1 here)
 
@@ -43,13 +42,7 @@ module _ {X : Type 0} (p : X → Bool) (h : X) (rest : List X) where
   split_more d xs true is more e =
       let first : d ≡ h = cc in
       let others : filter p xs ≡ rest = cc in
-      record {
-        before = [];
-        after = xs;
-        is = ap (λ x. x ∷ xs) first;
-        none = tt;
-        rest_is = others;
-      }
+      record { before = []; after = xs; is = ap (λ x. x ∷ xs) first; none = tt; rest_is = others }
   split_more d xs false is more e =
       let s = more e in
       record {

@@ -23,8 +23,7 @@ IsOrderOf-append front rest (l ∷ first) second (before, after, parts, passes, 
   after ++ rest,
   ap (λ (lines : List Line). lines ++ rest) parts ∙ append_assoc before (l ∷ after) rest,
   passes,
-  subst (λ (lines : List Line). IsOrderOf lines (first ++ second))
-      (append_assoc before after rest)
+  subst (λ (lines : List Line). IsOrderOf lines (first ++ second)) (append_assoc before after rest)
       (IsOrderOf-append (before ++ after) rest first second more is),
 )
 
@@ -72,8 +71,7 @@ pub record Told (c : Checked) (l : Line) (rest : List Line) : Type 0 where
 
 pub told : (c : Checked) (l : Line) (rest : List Line) → IsAlone l → AgreesWith c (l ∷ rest)
     → Told c l rest
-told c l rest alone agrees =
-    search (rules, parts, all_reserve, answered_back, answered_front)
+told c l rest alone agrees = search (rules, parts, all_reserve, answered_back, answered_front)
 
 -- the run was settled, and the line fits then
 pub called-Follows : (c : Checked) (l : Line) (after : Allocator) → IsAlone l → IsSettled c after
@@ -95,10 +93,6 @@ called-Follows c l after alone settled fits = record {
             (settled.only t.first t.is_order t.answered) t.rest_answered;
       };
 }
-
--- the run was settled, and nothing follows
-pub settled-Agrees : (c : Checked) (after : Allocator) → IsSettled c after → AgreesWith c []
-settled-Agrees c after settled = grind (arith, common_steps)
 
 -- ---- where a trace doesn't agree
 
@@ -142,18 +136,15 @@ called-None c l after alone settled unlike rest agrees =
 
 -- no order of the run is answered so
 pub settled-None : (c : Checked) (l : Line) → IsAlone l → HasNoOrder c → NoneFollows c l
-settled-None c l alone none rest agrees =
-    grind (arith, common_steps, told c l rest alone agrees)
+settled-None c l alone none rest agrees = grind (arith, common_steps, told c l rest alone agrees)
 
 pub finished-None : (c : Checked) → HasNoOrder c → AgreesWith c [] → ⊥
-finished-None c none agrees =
-    search (rules, append-nil)
+finished-None c none agrees = search (rules, append-nil)
 
 -- the run isn't answered so in this order
 pub fails_none : (s : Allocator) (n : ℕ) (order : List Line) (d : Difference) → Fails s n order d
     → AreAnswered s order → ⊥
-fails_none s n order d fails all =
-    search (rules, answered_back)
+fails_none s n order d fails all = search (rules, answered_back)
 
 -- the run isn't answered so in this order
 pub ordered-Shows : (c : Checked) (order : List Line) (n : ℕ) (d : Difference)

@@ -40,10 +40,6 @@ pub record Rest (old s : Allocator) (run : List Placed) (i : ℕ) : Type 0 where
   pub after : after_lines s (lines (drop i run)) ≡ after_lines old (lines run)
   pub asked : s.asked + requested_in (reservations_of (drop i run)) ≤ 2 ^ 50
 
-pub Rest-first : (s : Allocator) (run : List Placed)
-    → s.asked + requested_in (reservations_of run) ≤ 2 ^ 50 → Rest s s run 0
-Rest-first s run few = search (rules)
-
 module _ (old s : Allocator) (run : List Placed) (i : ℕ) where
   -- the next one requests no more than all that are left
   next_is : (p : Placed) → i < length run → p ≡ get_or run i p → drop i run ≡ p ∷ drop (i + 1) run
@@ -62,8 +58,7 @@ module _ (old s : Allocator) (run : List Placed) (i : ℕ) where
       omega arith
 
   -- a line that fits comes before
-  fails_later : (p : Placed)
-      → FitsReserved p.reservation.reply (reply_to s p.reservation.requested)
+  fails_later : (p : Placed) → FitsReserved p.reservation.reply (reply_to s p.reservation.requested)
       → (n : ℕ) (order : List Line) (d : Difference)
       → Fails (after_take s p.reservation.requested) n order d
       → Fails s n (line.Reserve p.reservation ∷ order) d
@@ -114,8 +109,7 @@ module _ (old s : Allocator) (run : List Placed) (i : ℕ) where
       record {
         answered = λ told. here (
           fits,
-          subst (λ a. AreAnswered a (lines (drop (i + 1) run))) after
-              told,
+          subst (λ a. AreAnswered a (lines (drop (i + 1) run))) after told,
         );
         fails = λ n d later. rest.fails n d (subst (λ ps. Fails s n (lines ps) d)
             (sym (next_is p within is)) (fails_later p fits n (lines (drop (i + 1) run)) d

@@ -19,8 +19,7 @@ rest_of P x xs all k d lt = all (suc k) d (omega (arith, lt))
 
 cut : (p : ℕ → Bool) (x : ℕ) (xs : List ℕ) → p x ≡ false
     → before_first p (x ∷ xs) ≡ x ∷ before_first p xs
-cut p x xs fails =
-    search (rules)
+cut p x xs fails = search (rules)
 
 pub before_first_at : (p : ℕ → Bool) (xs : List ℕ) (y : ℕ) (ys : List ℕ)
     → All (λ x. p x ≡ false) xs → p y ≡ true → before_first p (xs ++ y ∷ ys) ≡ xs
@@ -36,16 +35,14 @@ pub before_first_none : (p : ℕ → Bool) (xs : List ℕ) → All (λ x. p x �
 before_first_none p [] none = refl
 before_first_none p (x ∷ xs) none =
     cut p x xs (first_of (λ x. p x ≡ false) x xs none)
-    ∙ ap (λ (zs : List ℕ). x ∷ zs)
-    (before_first_none p xs (rest_of (λ x. p x ≡ false) x xs none))
+    ∙ ap (λ (zs : List ℕ). x ∷ zs) (before_first_none p xs (rest_of (λ x. p x ≡ false) x xs none))
 
 fails_at : (y : ℕ) (xs : List ℕ) → All (λ x. x ≢ y) xs → All (λ x. eqb x y ≡ false) xs
 fails_at y xs none k d lt = ne_eqb _ y (none k d lt)
 
 pub comment_cut : (line text comment : List ℕ) → line ≡ text ++ 35 ∷ comment
     → All (λ x. x ≢ 35) text → before_comment line ≡ text
-comment_cut line text comment e none =
-    search (rules, before_first_at, fails_at)
+comment_cut line text comment e none = search (rules, before_first_at, fails_at)
 
 pub no_comment : (line : List ℕ) → All (λ x. x ≢ 35) line → before_comment line ≡ line
 no_comment line none = before_first_none (λ x. eqb x 35) line (fails_at 35 line none)
@@ -67,9 +64,6 @@ words_in-blanks (x ∷ xs) ys all =
     words_in-blank x (xs ++ ys) (first_of (λ x. is_blank x ≡ true) x xs all)
     ∙ words_in-blanks xs ys (rest_of (λ x. is_blank x ≡ true) x xs all)
 
-pub words_in-none : (xs : List ℕ) → AreBlank xs → words_in xs ≡ []
-words_in-none xs all = ap words_in (sym (append-nil xs)) ∙ words_in-blanks xs [] all
-
 not_empty : (n : ℕ) → 0 < n → eqb n 0 ≡ false
 not_empty n long = ne_eqb n 0 (λ e. absurd (omega (arith, e)))
 
@@ -79,8 +73,7 @@ kept : (word : List ℕ) (parts : List (List ℕ)) → 0 < length word
 kept word parts long = rw (not_empty (length word) long) refl
 
 -- the text begins with a word, which ends at its end or at a blank
-pub words_in-last : (word : List ℕ) → AreNoBlank word → 0 < length word
-    → words_in word ≡ word ∷ []
+pub words_in-last : (word : List ℕ) → AreNoBlank word → 0 < length word → words_in word ≡ word ∷ []
 words_in-last word all long = ap (filter (λ w. not (eqb (length w) 0)))
     (slice_split_none is_blank word all) ∙ kept word [] long
 
@@ -117,8 +110,7 @@ word_long (x ∷ word) rest first next long = omega arith
 
 pub first_word_found : (text front middle word rest : List ℕ) → text ≡ front ++ middle
     → middle ≡ word ++ rest → AreBlank front → AreNoBlank (take 1 middle) → 0 < length middle
-    → AreNoBlank word → AreBlank (take 1 rest)
-    → words_in text ≡ word ∷ words_in rest
+    → AreNoBlank word → AreBlank (take 1 rest) → words_in text ≡ word ∷ words_in rest
 first_word_found text front middle word rest whole parts blanks first long all next =
     let long_word : 0 < length word =
     word_long word rest (rw parts at first) next (rw parts at long) in

@@ -100,8 +100,7 @@ reborn birth e = record e { birth = birth }
 -- what a map has after one birth was changed
 pub get-with_birth : (m : EntityMap) (h : Handle) (birth : Birth) (q : Handle)
     → map.get (with_birth m h birth) q
-    ≡ cond (eq_by_cmp handle_cmp q h) (option_map (reborn birth) (map.get m q))
-    (map.get m q)
+    ≡ cond (eq_by_cmp handle_cmp q h) (option_map (reborn birth) (map.get m q)) (map.get m q)
 get-with_birth m h birth q = by_test (eq_by_cmp handle_cmp q h) refl
   where
     at_key : (e : Entity) (k : Handle) → map.get (map.insert m h e) k
@@ -130,8 +129,7 @@ get-with_birth m h birth q = by_test (eq_by_cmp handle_cmp q h) refl
     by_test false apart = elsewhere (map.get m h) apart
 
 pub get-named : (born : List Handle) (h : Handle) (birth : Birth) (m : EntityMap) (q : Handle)
-    → map.get (named born h birth m) q
-    ≡ or_named (map.get m q)
+    → map.get (named born h birth m) q ≡ or_named (map.get m q)
     (given (stands_in born q) (given (eq_by_cmp handle_cmp q h) (Some birth)))
 get-named born h birth m q = by_test (eq_by_cmp handle_cmp q h) refl
   where
@@ -232,13 +230,11 @@ by_index_of phase system (Some index) is = is
 
 pub get-named_handles : (born : List Handle) (phase system index : ℕ) (hs : List Handle)
     (m : EntityMap) (q : Handle) → eqb system no_system ≡ false
-    → map.get (named_handles born (birth_at phase system index) hs m) q
-    ≡ or_named (map.get m q)
+    → map.get (named_handles born (birth_at phase system index) hs m) q ≡ or_named (map.get m q)
     (given (stands_in born q)
     (birth_by_index phase system (position_from (eq_by_cmp handle_cmp q) index hs)))
 get-named_handles born phase system index [] m q is =
-    sym (ap (or_named (map.get m q)) (given-none (stands_in born q))
-    ∙ or_named-none (map.get m q))
+    sym (ap (or_named (map.get m q)) (given-none (stands_in born q)) ∙ or_named-none (map.get m q))
 get-named_handles born phase system index (h ∷ hs) m q is =
     let t = stands_in born q in
     let one = given (eq_by_cmp handle_cmp q h) (Some (birth_at phase system index)) in
@@ -286,8 +282,7 @@ pub get-named_queues : (born : List Handle) (phase system : ℕ) (queues : List 
     → map.get (named_queues born phase system queues m) q
     ≡ or_named (map.get m q) (given (stands_in born q) (listed_birth phase system queues q))
 get-named_queues born phase system [] m q few =
-    sym (ap (or_named (map.get m q)) (given-none (stands_in born q))
-    ∙ or_named-none (map.get m q))
+    sym (ap (or_named (map.get m q)) (given-none (stands_in born q)) ∙ or_named-none (map.get m q))
 get-named_queues born phase system (queue ∷ queues) m q few =
     let t = stands_in born q in
     let index = ordinal_among (handles_listed queue) q in

@@ -21,8 +21,7 @@ pub record IsKept (P : World → Type 0) : Type 0 where
 on_entity-keeps : (P : World → Type 0) (system command : ℕ) (change : Handle → World → World)
     → ((h : Handle) (w : World) → lives_in w h ≡ true → P w → P (change h w))
     → (h : Handle) (a : Applied) → P a.world → P (on_entity system command change h a).world
-on_entity-keeps P system command change keeps h a before =
-    search (rules)
+on_entity-keeps P system command change keeps h a before = search (rules)
 
 -- many handles
 on_each-keeps : (P : World → Type 0) (system command : ℕ) (change : Handle → World → World)

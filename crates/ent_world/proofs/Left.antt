@@ -68,8 +68,7 @@ pub each_left-skip : (system command : ℕ) (change : Handle → World → World
     (k d : ℕ) (h : Handle) (a : Applied) → drop k hs ≡ h ∷ rest → k < d
     → on_each system command change (drop d (take (k + 1) hs)) a
     ≡ on_each system command change (drop d (take k hs)) a
-each_left-skip system command change hs rest k d h a left lt =
-    grind (arith, common_steps)
+each_left-skip system command change hs rest k d h a left lt = grind (arith, common_steps)
 
 pub each_left-next : (system command : ℕ) (change : Handle → World → World) (hs rest : List Handle)
     (k d : ℕ) (h : Handle) (a : Applied) → drop k hs ≡ h ∷ rest → d ≤ k
@@ -161,8 +160,7 @@ module _ (system from done : ℕ) (q rest : List Command) (k : ℕ) (c : Command
       ap (λ cs. after_commands system from (last_part done cs) a)
       (more_left q rest k c left from ds (omega arith))
       ∙
-      (ap
-      (λ cs. after_commands system from cs a) (part_append done front ds (omega (arith, long)))
+      (ap (λ cs. after_commands system from cs a) (part_append done front ds (omega (arith, long)))
       ∙ (after_commands-append system from (last_part done front) ds a
       ∙ ap (λ n. after_commands system n ds (so_far k)) same))
 
@@ -206,8 +204,7 @@ module _ (system from done : ℕ) (q rest : List Command) (k : ℕ) (c : Command
     pub commands_left-step : so_far (k + 1) ≡ after_commands system n (last_part d (c ∷ []))
         (so_far k)
     commands_left-step = by_either (up_to from k le) (λ is. commands_left-first (sym is)
-        ∙ ap
-        (λ m. after_commands system m (last_part done (c ∷ [])) (so_far k))
+        ∙ ap (λ m. after_commands system m (last_part done (c ∷ [])) (so_far k))
         (omega (arith, is, number))
         ∙ ap
         (λ m. after_commands system n (last_part m (c ∷ [])) (so_far k)) (sym (first (sym is))))
@@ -271,8 +268,7 @@ module _ (from command done : ℕ) (qs rest : List (List Command)) (k : ℕ) (q 
       ∙ ap (after_commands from command (left_commands command done p)) (sym (no_queue_yet is))
 
   after_some : (front : List (List Command)) (p : List Command) → from + length front ≡ k
-      → 0 < length front
-      → after_left_queues from command done (front ++ p ∷ []) a
+      → 0 < length front → after_left_queues from command done (front ++ p ∷ []) a
       ≡ after_commands k 0 p (after_left_queues from command done front a)
   after_some [] p long some = absurd (omega arith)
   after_some (f ∷ front) p long some =
@@ -308,16 +304,14 @@ module _ (from command done : ℕ) (qs rest : List (List Command)) (k : ℕ) (q 
     queue_cut : cut k stop stop_done qs ≡ take k qs ++ cut_commands stop stop_done q ∷ []
     queue_cut = ap (λ xs. take k qs ++ cut_queue stop stop_done xs) left
 
-    pub queues_cut-first : k ≡ from
-        → after_left from command done (cut k stop stop_done qs) a
+    pub queues_cut-first : k ≡ from → after_left from command done (cut k stop stop_done qs) a
         ≡ after_commands from command
         (left_commands command done (cut_commands stop stop_done q)) (queues_so_far k)
     queues_cut-first is =
         ap (λ xs. after_left_queues from command done (drop from xs) a) queue_cut
         ∙ at_stop (cut_commands stop stop_done q) is
 
-    pub queues_cut-next : from < k
-        → after_left from command done (cut k stop stop_done qs) a
+    pub queues_cut-next : from < k → after_left from command done (cut k stop stop_done qs) a
         ≡ after_commands k 0 (left_commands 0 0 (cut_commands stop stop_done q)) (queues_so_far k)
     queues_cut-next lt =
         ap (λ xs. after_left_queues from command done (drop from xs) a) queue_cut
@@ -339,8 +333,7 @@ module _ (from command done : ℕ) (qs rest : List (List Command)) (k : ℕ) (q 
         ≡ after_commands n m (left_commands m d q) (queues_so_far k)
     queues_left-step = by_either (up_to from k le)
         (λ is. queues_left-first (sym is) ∙ same_step q from command done
-        (omega (arith, is, number))
-        (sym (first (sym is)).0) (sym (first (sym is)).1))
+        (omega (arith, is, number)) (sym (first (sym is)).0) (sym (first (sym is)).1))
         (λ lt. queues_left-next lt ∙ same_step q k 0 0 (sym number) (sym (later lt).0)
         (sym (later lt).1))
 

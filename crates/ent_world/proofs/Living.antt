@@ -54,8 +54,7 @@ keys-remove live m h same g =
 -- reservations bring nobody to life
 pub living-history : (s t : Allocator) (calls : List Call) (m : EntityMap) → AreLiving s m → t
     ≡ after_history s calls → AreLiving t m
-living-history s t calls m same after h =
-    search (rules, after_history-takes, live-after_takes)
+living-history s t calls m same after h = search (rules, after_history-takes, live-after_takes)
 
 -- other components of an entity that is there, or of none
 pub same_keys-components : (m : EntityMap) (h : Handle) (change : Components → Components)

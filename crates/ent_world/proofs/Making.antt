@@ -46,8 +46,7 @@ on_either (Err e) p q = inr q
 -- Of one handle.
 
 alone : (made : ℕ) (h : Handle) → listed made (h ∷ []) ≡ h ∷ []
-alone made h =
-    grind (arith, common_steps)
+alone made h = grind (arith, common_steps)
 
 front_of : (made : ℕ) (pool : List Handle) → 1 ≤ length pool → (h : Handle)
     × (slice_get pool 0 ≡ Some h) × (listed made (take 1 pool) ≡ h ∷ [])
@@ -57,12 +56,10 @@ front_of made (h ∷ pool) some = (h, refl, alone made h)
 -- a request for one is given the front of the pool
 pub one_given : (s : Allocator) (given rest : List Handle) (h : Handle) → reply_to s 1 ≡ Ok given
     → given ≡ h ∷ rest → slice_get s.pool 0 ≡ Some h
-one_given s given rest h is first =
-    grind (arith, common_steps)
+one_given s given rest h is first = grind (arith, common_steps)
 
 pub some_given : (s : Allocator) (given : List Handle) → reply_to s 1 ≡ Ok given → given ≡ [] → ⊥
-some_given s given is none =
-    grind (arith, common_steps)
+some_given s given is none = grind (arith, common_steps)
 
 pub given_new : (s : Allocator) (given rest : List Handle) (h : Handle) → IsSound s → reply_to s 1
     ≡ Ok given → given ≡ h ∷ rest → set.contains s.live h ≡ false
@@ -115,16 +112,14 @@ get_inserted m h e = map.get-insert handle_cmp_total m h e h
 pub some_items : (m n : EntityMap) (h : Handle) (birth : Birth) (items : Bundle)
     → n ≡ map.insert m h (newborn birth)
     → IfSome (components_of n h) (λ held. 0 < missing held items) → 0 < length items
-some_items m n h birth [] made some =
-    search (rules, get_inserted)
+some_items m n h birth [] made some = search (rules, get_inserted)
 some_items m n h birth (x ∷ items) made some = omega arith
 
 -- a newborn entity and its components
 pub made_whole : (m : EntityMap) (h : Handle) (birth : Birth) (items : Bundle)
     → with_components (map.insert m h (newborn birth)) h (λ held. with_items held items)
     ≡ map.insert m h (spawned birth items)
-made_whole m h birth items =
-    search (rules, get_inserted, insert_twice)
+made_whole m h birth items = search (rules, get_inserted, insert_twice)
 
 -- an entity that came and went
 pub taken_back : (m : EntityMap) (h : Handle) (e : Entity) → map.get m h ≡ None

@@ -76,8 +76,7 @@ entries-with_items : (held : Components) (items : Bundle)
 entries-with_items held [] = refl
 entries-with_items held (item ∷ items) =
     entries-with_items (finite.insert held item.0 item.1) items
-    ∙ ap (λ es. with_put es items)
-    (finite.entries-insert component_cmp_total held item.0 item.1)
+    ∙ ap (λ es. with_put es items) (finite.entries-insert component_cmp_total held item.0 item.1)
 
 -- ---- what births tell of a map
 
@@ -134,8 +133,7 @@ module _ (start : EntityMap) (name : Handle → Birth) (distinct : AreDistinct n
 
   -- If both change under one handle and its name only, in the same way, they tell the map still.
   changed : (h : Handle) (o : Option Entity) (m n : EntityMap) (births after : BirthMap)
-      → AreTold start name m births → IsThere m h
-      → ((e : Entity) → o ≡ Some e → name h ≡ e.birth)
+      → AreTold start name m births → IsThere m h → ((e : Entity) → o ≡ Some e → name h ≡ e.birth)
       → ((g : Handle) → finite.get n g ≡ cond (eq_by_cmp handle_cmp g h) o (finite.get m g))
       → T (is_sorted birth_cmp after)
       → ((b : Birth) → find birth_cmp b after
@@ -187,8 +185,7 @@ module _ (start : EntityMap) (name : Handle → Birth) (distinct : AreDistinct n
   -- A change of the components of an entity, and the same change of the bundle of its birth.
   components-told : (change : Components → Components) (alike_change : Bundle → Bundle)
       → ((held : Components) → finite.entries (change held) ≡ alike_change (finite.entries held))
-      → (h : Handle) (m : EntityMap) (births : BirthMap) → IsThere m h
-      → AreTold start name m births
+      → (h : Handle) (m : EntityMap) (births : BirthMap) → IsThere m h → AreTold start name m births
       → AreTold start name (with_components m h change)
       (put birth_cmp (name h) (alike_change (held_by births (name h))) births)
   components-told change alike_change respects h m births here before =
@@ -217,11 +214,9 @@ module _ (start : EntityMap) (name : Handle → Birth) (distinct : AreDistinct n
       → AreTold start name (finite.remove m h) (despawned (name h) births)
   despawn-told h m births here before =
       changed h None m (finite.remove m h) births (despawned (name h) births) before here
-      (λ e is. absurd (none-some e is))
-      (λ g. finite.get-remove handle_cmp_total m h g)
+      (λ e is. absurd (none-some e is)) (λ g. finite.get-remove handle_cmp_total m h g)
       (is_sorted-where_key birth_cmp (λ x. not (eq_by_cmp birth_cmp x (name h))) births
-      before.rising)
-      (λ b. find-without birth_cmp_total birth_cmp-IsAntisymmetric (name h) b births)
+      before.rising) (λ b. find-without birth_cmp_total birth_cmp-IsAntisymmetric (name h) b births)
 
   -- ---- commands
 
@@ -257,16 +252,14 @@ module _ (start : EntityMap) (name : Handle → Birth) (distinct : AreDistinct n
   zip-push S [] [] x y zipped one = (one, tt)
   zip-push S [] (y' ∷ ys) x y zipped one = absurd zipped
   zip-push S (x' ∷ xs) [] x y zipped one = absurd zipped
-  zip-push S (x' ∷ xs) (y' ∷ ys) x y zipped one =
-      (zipped.0, zip-push S xs ys x y zipped.1 one)
+  zip-push S (x' ∷ xs) (y' ∷ ys) x y zipped one = (zipped.0, zip-push S xs ys x y zipped.1 one)
 
   module _ (system command : ℕ) where
     module _ (change : Handle → World → World) (change_alone : Birth → BirthMap → BirthMap)
         (is_told : IsToldBy change change_alone) where
       -- one handle
       entity-told : (h : Handle) (a : Applied) (b : AppliedAlone) → IsThere start h
-          → AreAppliedTold a b
-          → AreAppliedTold (on_entity system command change h a)
+          → AreAppliedTold a b → AreAppliedTold (on_entity system command change h a)
           (on_birth system command change_alone (name h) b)
       entity-told h a b here before =
           let same : is_some (find birth_cmp (name h) b.entities) ≡ lives_in a.world h =
@@ -299,21 +292,18 @@ module _ (start : EntityMap) (name : Handle → Birth) (distinct : AreDistinct n
 
       -- each of the handles in turn
       each-told : (hs : List Handle) (a : Applied) (b : AppliedAlone) → All (IsThere start) hs
-          → AreAppliedTold a b
-          → AreAppliedTold (on_each system command change hs a)
+          → AreAppliedTold a b → AreAppliedTold (on_each system command change hs a)
           (on_each_birth system command change_alone (map name hs) b)
       each-told [] a b there before = before
       each-told (h ∷ hs) a b there before =
           each-told hs (on_entity system command change h a)
-          (on_birth system command change_alone (name h) b)
-          (All-tail (IsThere start) h hs there)
+          (on_birth system command change_alone (name h) b) (All-tail (IsThere start) h hs there)
           (entity-told h a b (All-head (IsThere start) h hs there) before)
 
     -- a command
     command-told : (c : Command) (d : BirthCommand) (a : Applied) (b : AppliedAlone)
         → IsNamedBy name start c d → AreAppliedTold a b
-        → AreAppliedTold (after_command system command c a)
-        (after_birth_command system command d b)
+        → AreAppliedTold (after_command system command c a) (after_birth_command system command d b)
     command-told (Spawn h items) d a b is before =
         subst (λ d. AreAppliedTold (after_command system command (Spawn h items) a)
         (after_birth_command system command d b)) (sym is.1)
@@ -339,8 +329,7 @@ module _ (start : EntityMap) (name : Handle → Birth) (distinct : AreDistinct n
   -- the commands of a queue
   commands-told : (system command : ℕ) (q : List Command) (r : List BirthCommand) (a : Applied)
       (b : AppliedAlone) → AllZip (IsNamedBy name start) q r → AreAppliedTold a b
-      → AreAppliedTold (after_commands system command q a)
-      (after_birth_commands system command r b)
+      → AreAppliedTold (after_commands system command q a) (after_birth_commands system command r b)
   commands-told system command [] [] a b are before = before
   commands-told system command [] (d ∷ r) a b are before = absurd are
   commands-told system command (c ∷ q) [] a b are before = absurd are
@@ -358,8 +347,7 @@ module _ (start : EntityMap) (name : Handle → Birth) (distinct : AreDistinct n
   queues-told system (q ∷ queues) [] a b are before = absurd are
   queues-told system (q ∷ queues) (r ∷ births) a b are before =
       queues-told (system + 1) queues births (after_commands system 0 q a)
-      (after_birth_commands system 0 r b) are.1
-      (commands-told system 0 q r a b are.0 before)
+      (after_birth_commands system 0 r b) are.1 (commands-told system 0 q r a b are.0 before)
 
 -- ---- from what is named, and back
 
@@ -384,15 +372,13 @@ entity_with m h birth is = by (finite.get m h) refl
 -- an entity that is there, by its name
 pub birth_by_name : (name : Handle → Birth) (m : EntityMap) (h : Handle) → AreNames name m
     → IsThere m h → birth_of m h ≡ Some (name h)
-birth_by_name name m h names there =
-    grind (arith, common_steps)
+birth_by_name name m h names there = grind (arith, common_steps)
 
 -- the names of entities with births of their own are distinct
 pub names_apart : (name : Handle → Birth) (m : EntityMap) (births : BirthMap) → AreNamed m births
     → AreNames name m → AreDistinct name m
 names_apart name m births named names g h g_there h_there same =
-    named.apart g h (name h)
-    (birth_by_name name m g names g_there ∙ ap Some same)
+    named.apart g h (name h) (birth_by_name name m g names g_there ∙ ap Some same)
     (birth_by_name name m h names h_there)
 
 told_at_start : (name : Handle → Birth) (m : EntityMap) (births : BirthMap) → AreNamed m births
@@ -403,23 +389,20 @@ named_at_end : (start : EntityMap) (name : Handle → Birth) (m : EntityMap) (bi
     → AreDistinct name start → AreTold start name m births → AreNamed m births
 named_at_end start name m births distinct after = record {
   rising = after.rising;
-  there = λ h e is.
-      ap (λ b. find birth_cmp b births) (sym (after.named h e is))
+  there = λ h e is. ap (λ b. find birth_cmp b births) (sym (after.named h e is))
       ∙ after.there h (after.lived h (ap is_some is))
       ∙ ap told is;
   apart = λ g h birth g_is h_is.
       let one = entity_with m g birth g_is in
       let other = entity_with m h birth h_is in
       distinct g h (after.lived g (ap is_some one.1.0)) (after.lived h (ap is_some other.1.0))
-      (after.named g one.0 one.1.0 ∙ one.1.1
-      ∙ sym (after.named h other.0 other.1.0 ∙ other.1.1));
+      (after.named g one.0 one.1.0 ∙ one.1.1 ∙ sym (after.named h other.0 other.1.0 ∙ other.1.1));
   only = λ birth items is.
       let owner = after.only birth (ap is_some is) in
       let there : told (finite.get m owner.0) ≡ Some items =
       sym (after.there owner.0 owner.1.0)
       ∙ ap (λ b. find birth_cmp b births) owner.1.1 ∙ is in
-      let here : IsThere m owner.0 =
-      sym (told_some (finite.get m owner.0)) ∙ ap is_some there in
+      let here : IsThere m owner.0 = sym (told_some (finite.get m owner.0)) ∙ ap is_some there in
       (owner.0, birth_by_name name m owner.0 after.named here ∙ ap Some owner.1.1);
 }
 
@@ -453,5 +436,4 @@ pub sync-named : (name : Handle → Birth) (queues : List (List Command))
     → AreNamedBy name (after_births queues w).entities queues births
     → AreNamedAfter name (sync queues w)
     (after_birth_queues 0 births (record { entities = m; faults = [] }))
-sync-named name queues births w m named names are =
-    search (rules, queues-named)
+sync-named name queues births w m named names are = search (rules, queues-named)

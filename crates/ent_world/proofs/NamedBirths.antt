@@ -33,8 +33,7 @@ nested true true x y = refl
 nested true false x y = refl
 nested false b x y = refl
 
-find-entered : (b : Birth) (bs : List Birth) (m : BirthMap)
-    → find birth_cmp b (entered_alone bs m)
+find-entered : (b : Birth) (bs : List Birth) (m : BirthMap) → find birth_cmp b (entered_alone bs m)
     ≡ cond (list_any (eq_by_cmp birth_cmp b) bs) (Some []) (find birth_cmp b m)
 find-entered b [] m = refl
 find-entered b (c ∷ bs) m =
@@ -47,8 +46,7 @@ rising-entered : (bs : List Birth) (m : BirthMap) → T (is_sorted birth_cmp m)
     → T (is_sorted birth_cmp (entered_alone bs m))
 rising-entered [] m rising = rising
 rising-entered (b ∷ bs) m rising =
-    rising-entered bs (put birth_cmp b [] m)
-    (is_sorted-put birth_cmp birth_cmp_total b [] m rising)
+    rising-entered bs (put birth_cmp b [] m) (is_sorted-put birth_cmp birth_cmp_total b [] m rising)
 
 pub get-entered : (birth : Handle → Birth) (hs : List Handle) (m : EntityMap) (q : Handle)
     → finite.get (with_born m birth hs) q
@@ -169,8 +167,7 @@ module _ (birth : Handle → Birth) (born listed : List Handle) (m : EntityMap) 
       by false none is = inr is
 
   -- births that were there are not among the new ones
-  not_among : (b : Birth) (items : Bundle) → find birth_cmp b births ≡ Some items
-      → among b ≡ false
+  not_among : (b : Birth) (items : Bundle) → find birth_cmp b births ≡ Some items → among b ≡ false
   not_among b items is = by (among b) refl
     where
       by : (t : Bool) → among b ≡ t → t ≡ false

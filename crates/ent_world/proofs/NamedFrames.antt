@@ -107,8 +107,7 @@ some_position t i (h ∷ hs) = by (t h) (some_position t (i + 1) hs)
 -- ---- the births of what queues list
 
 listed_some : (phase system : ℕ) (queues : List (List Command)) (h : Handle)
-    → is_some (listed_birth phase system queues h)
-    ≡ stands_in (flat_map handles_listed queues) h
+    → is_some (listed_birth phase system queues h) ≡ stands_in (flat_map handles_listed queues) h
 listed_some phase system [] h = refl
 listed_some phase system (q ∷ queues) h =
     by (ordinal_among (handles_listed q) h)

@@ -151,8 +151,7 @@ module _ (name : Handle → Birth) (m : EntityMap) (births : BirthMap) (named : 
   sorted-names [] rising all = tt
   sorted-names (h ∷ hs) rising all =
       both _ _ (below-names h (All-head (IsThere m) h hs all) hs
-      (AllPairs-head (λ g h. birth_order m g h ≡ Less) h hs rising)
-      (All-tail (IsThere m) h hs all))
+      (AllPairs-head (λ g h. birth_order m g h ≡ Less) h hs rising) (All-tail (IsThere m) h hs all))
       (sorted-names hs (AllPairs-tail (λ g h. birth_order m g h ≡ Less) h hs rising)
       (All-tail (IsThere m) h hs all))
 
@@ -278,5 +277,4 @@ module _ (name : Handle → Birth) (m : EntityMap) (births : BirthMap) (named : 
         (sorted-names handles lists.rising all_there)
         (sorted-passing birth_cmp_total birth_cmp-IsAntisymmetric test births named.rising)
         (λ q. found_alike q
-        ∙ sym (find-passing birth_cmp_total birth_cmp-IsAntisymmetric test q births
-        named.rising))
+        ∙ sym (find-passing birth_cmp_total birth_cmp-IsAntisymmetric test q births named.rising))

@@ -33,8 +33,7 @@ pub distinct : (hs : List Handle) → AllPairs AreApart hs → AreDistinct hs
 distinct [] apart = tt
 distinct (h ∷ hs) apart = (
   no_other h hs (AllPairs-head AreApart h hs apart),
-  distinct hs
-      (AllPairs-tail AreApart h hs apart),
+  distinct hs (AllPairs-tail AreApart h hs apart),
 )
 
 -- two tests that agree at each of the handles keep the same
@@ -138,8 +137,7 @@ module _ (phase : ℕ) where
 
   -- the next one has this index
   pub get-numbered : (index : ℕ) (hs : List Handle) (m : EntityMap) (q : Handle) → AreDistinct hs
-      → map.get (numbered (birth_at phase no_system index) hs m) q
-      ≡ or_numbered (map.get m q)
+      → map.get (numbered (birth_at phase no_system index) hs m) q ≡ or_numbered (map.get m q)
       (birth_by_index phase no_system (position_from (eq_by_cmp handle_cmp q) index (waiting m hs)))
   get-numbered index [] m q apart = sym (or_numbered-none (map.get m q))
   get-numbered index (h ∷ hs) m q apart =

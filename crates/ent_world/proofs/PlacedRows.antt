@@ -86,8 +86,7 @@ module _ (rows : Rows) (places : List Handle) (m : EntityMap) (h : Handle) (e : 
       λ is. has_row g place is (same_or_apart total same g h),
       λ is. stands g place is (cases_lt place (length places)),
     );
-    each = λ g.
-        ap is_some (map.get-insert total rows h (length places) g)
+    each = λ g. ap is_some (map.get-insert total rows h (length places) g)
         ∙ some_more (eq_by_cmp handle_cmp g h) (length places) (map.get rows g)
         ∙ ap (λ b. eq_by_cmp handle_cmp g h || b) (are.each g)
         ∙ sym (some_more (eq_by_cmp handle_cmp g h) e (map.get m g))
@@ -108,8 +107,7 @@ rows-born birth (h ∷ hs) rows places m are new =
     let next : length (places ++ h ∷ []) ≡ length places + 1 = length-append places (h ∷ []) in
     subst (λ (p : ℕ × List Handle). AreRows
     (with_rows (map.insert rows h (length places)) p.0 hs) p.1
-    (with_born (map.insert m h e) birth hs))
-    (λ i. (next i, append_assoc places (h ∷ []) hs i)) rest
+    (with_born (map.insert m h e) birth hs)) (λ i. (next i, append_assoc places (h ∷ []) hs i)) rest
 
 -- an entity is taken out, and the last one moves into its place
 module _ (rows : Rows) (places left : List Handle) (m : EntityMap) (h : Handle) (place : ℕ)
@@ -119,8 +117,7 @@ module _ (rows : Rows) (places left : List Handle) (m : EntityMap) (h : Handle) 
   gone = map.remove rows h
 
   once : (g : Handle) (j k : ℕ) → slice_get places j ≡ Some g → slice_get places k ≡ Some g → j ≡ k
-  once g j k first second =
-      same_Some _ _ (sym ((are.at g j).1 first) ∙ (are.at g k).1 second)
+  once g j k first second = same_Some _ _ (sym ((are.at g j).1 first) ∙ (are.at g k).1 second)
 
   -- a handle at another place is another
   other_handle : (g : Handle) (k : ℕ) → slice_get places k ≡ Some g → k ≢ place → g ≢ h
@@ -312,8 +309,7 @@ rows-count s rows places m are living =
 
 -- no more live than there are slots
 few_live : (s : Allocator) → IsSound s → set.len s.live < 2 ^ 32
-few_live s sound =
-    search (rules, retired-rest)
+few_live s sound = search (rules, retired-rest)
 
 -- and there will be no more once all that is reserved is born
 pub born-fit : (s : Allocator) (rows : Rows) (places : List Handle) (m : EntityMap) → IsSound s

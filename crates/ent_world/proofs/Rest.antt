@@ -35,8 +35,7 @@ parts_split : (system command done : ℕ) (cs : List Command) (a : Applied)
     (after_commands system command (first_part done cs) a)
 parts_split system command done [] a = refl
 parts_split system command done (Spawn h items ∷ cs) a = refl
-parts_split system command done (SpawnMany hs items ∷ cs) a =
-    search (rules, each_split)
+parts_split system command done (SpawnMany hs items ∷ cs) a = search (rules, each_split)
 parts_split system command done (Insert h items ∷ cs) a = refl
 parts_split system command done (Remove h id ∷ cs) a = refl
 parts_split system command done (Despawn h ∷ cs) a = refl
@@ -47,8 +46,7 @@ commands_split : (system from command done : ℕ) (q : List Command) (a : Applie
     → after_commands system from q a
     ≡ after_commands system (from + command) (left_commands command done q)
     (after_commands system from (cut_commands command done q) a)
-commands_split system from zero done q a =
-    search (rules, parts_split)
+commands_split system from zero done q a = search (rules, parts_split)
 commands_split system from (suc command) done [] a = refl
 commands_split system from (suc command) done (c ∷ q) a =
     search (rules, commands_split system (from + 1) command done q (after_command system from c a))
@@ -56,17 +54,14 @@ commands_split system from (suc command) done (c ∷ q) a =
 commands_whole : (system command done : ℕ) (q : List Command) (a : Applied)
     → after_commands system 0 q a ≡ after_commands system command (left_commands command done q)
     (after_commands system 0 (cut_commands command done q) a)
-commands_whole system command done q a =
-    search (rules, commands_split)
+commands_whole system command done q a = search (rules, commands_split)
 
 -- from the queue of a number on, if the first of these has that number
 queues_split : (from system command done : ℕ) (qs : List (List Command)) (a : Applied)
-    → after_queues from qs a
-    ≡ after_left_queues (from + system) command done (drop system qs)
+    → after_queues from qs a ≡ after_left_queues (from + system) command done (drop system qs)
     (after_queues from (cut system command done qs) a)
 queues_split from zero command done [] a = refl
-queues_split from zero command done (q ∷ qs) a =
-    search (rules, commands_whole)
+queues_split from zero command done (q ∷ qs) a = search (rules, commands_whole)
 queues_split from (suc system) command done [] a = refl
 queues_split from (suc system) command done (q ∷ qs) a =
     search (rules, queues_split (from + 1) system command done qs (after_commands from 0 q a))
@@ -162,8 +157,7 @@ entity_by earlier system command change h a false =
     fault_after earlier system command (kind.NotAlive h) a
 
 entity_after : (earlier : List Fault) (system command : ℕ) (change : Handle → World → World)
-    (h : Handle) (a : Applied)
-    → on_entity system command change h (with_faults_before earlier a)
+    (h : Handle) (a : Applied) → on_entity system command change h (with_faults_before earlier a)
     ≡ with_faults_before earlier (on_entity system command change h a)
 entity_after earlier system command change h a =
     entity_by earlier system command change h a (lives_in a.world h)
@@ -210,8 +204,7 @@ queues_after earlier system (q ∷ qs) a =
     ∙ queues_after earlier (system + 1) qs (after_commands system 0 q a)
 
 left_queues_after : (earlier : List Fault) (system command done : ℕ) (qs : List (List Command))
-    (a : Applied)
-    → after_left_queues system command done qs (with_faults_before earlier a)
+    (a : Applied) → after_left_queues system command done qs (with_faults_before earlier a)
     ≡ with_faults_before earlier (after_left_queues system command done qs a)
 left_queues_after earlier system command done [] a = refl
 left_queues_after earlier system command done (q ∷ qs) a =
@@ -222,8 +215,7 @@ left_queues_after earlier system command done (q ∷ qs) a =
 
 -- What is left does the same whatever faults there were.
 pub left_after : (earlier : List Fault) (system command done : ℕ) (queues : List (List Command))
-    (a : Applied)
-    → after_left system command done queues (with_faults_before earlier a)
+    (a : Applied) → after_left system command done queues (with_faults_before earlier a)
     ≡ with_faults_before earlier (after_left system command done queues a)
 left_after earlier system command done queues a =
     left_queues_after earlier system command done (drop system queues) a
@@ -234,8 +226,7 @@ applied_as : (earlier : List Fault) (w : World) (a : Applied) → w ≡ a.world 
     → with_faults_before earlier (applied w []) ≡ a
 applied_as earlier w a world faults = (λ i. record {
   world = world i;
-  faults = (append-nil earlier
-      ∙ faults) i;
+  faults = (append-nil earlier ∙ faults) i;
 })
 
 -- Who stopped there, and goes on, has applied what the whole sync applies.

@@ -55,8 +55,7 @@ is_present Absent = false
 pub has_entered : {X : Type 0} (before after : Store) (h : Handle) (birth : Birth)
     (r : Result X StorageFault) → map.contains_key before.entities h ≡ false
     → OnOk r (after.entities ≡ map.insert before.entities h (newborn birth))
-    → OnOk r (after.spare + 1 ≡ before.spare)
-    → OnOk r (after.places ≡ before.places ++ h ∷ [])
+    → OnOk r (after.spare + 1 ≡ before.spare) → OnOk r (after.places ≡ before.places ++ h ∷ [])
     → (IsErrOf r Present ↔ IsTrue (map.contains_key before.entities h))
     → IfErr r (λ fault. fault ≡ Present) → HasEntered before after h birth
 has_entered before after h birth (Ok x) new ok less places present only =
@@ -85,8 +84,7 @@ slice_get-drop : (places : List Handle) (n i : ℕ) → slice_get (drop n places
     ≡ slice_get places (n + i)
 slice_get-drop places zero i = let same : i ≡ 0 + i = omega arith in ap (slice_get places) same
 slice_get-drop [] (suc n) i = refl
-slice_get-drop (x ∷ places) (suc n) i =
-    search (rules, slice_get-drop places n i)
+slice_get-drop (x ∷ places) (suc n) i = search (rules, slice_get-drop places n i)
 
 some_one : (x h : Handle) → Some x ≡ Some h → eq_by_cmp handle_cmp h x ≡ true
 some_one x h is = ap (λ y. eq_by_cmp handle_cmp h y) (same_Some x h is) ∙ itself h
@@ -123,9 +121,3 @@ stands_before places n i h once before = search (rules, place_of, same_Some, sli
 pub stands_nowhere : (places : List Handle) (n : ℕ) (h : Handle)
     → ((k : ℕ) → slice_get places k ≢ Some h) → stands_in (drop n places) h ≡ false
 stands_nowhere places n h nowhere = search (rules, place_of, slice_get-drop)
-
--- whose state is alive lives
-pub alive_by_state : (s : Allocator) (h : Handle) → state_of s h ≡ Alive → set.contains s.live h
-    ≡ true
-alive_by_state s h is =
-    search (rules)

@@ -44,8 +44,7 @@ none_waits : (s : Allocator) (h : Handle) (rest waiting : List Handle) → avail
     → available s ≡ waiting ++ fresh s.made (s.limits.slots - s.made)
     → All (λ x. is_old s.made x ≡ true) waiting → is_old s.made h ≡ false → length waiting ≡ 0
 none_waits s h rest [] at order old new = refl
-none_waits s h rest (x ∷ waiting) at order old new =
-    search (rules, All-head)
+none_waits s h rest (x ∷ waiting) at order old new = search (rules, All-head)
 
 -- the one that is given is the last that waited, or none did
 pub top-after_alloc : (s : Allocator) (h : Handle) (rest : List Handle) → IsSound s → s.asked ≡ 0
@@ -114,16 +113,10 @@ room_again waiting (suc spare) less left room one more =
 -- no more than one waits more
 pub room-after_free : (s : Allocator) (h : Handle) (spare left : ℕ) → IsSound s → s.asked ≡ 0
     → set.contains s.live h ≡ true → top s ≤ spare → left ≡ spare + 1 → top (after_free s h) ≤ left
-room-after_free s h spare left sound flushed lived room more =
-    grind (arith, common_steps)
+room-after_free s h spare left sound flushed lived room more = grind (arith, common_steps)
 
 -- reservations change nothing of it
 pub top-after_history : (s : Allocator) (history : List Call) → IsSound s
     → top (after_history s history) ≡ top s
 top-after_history s history sound =
     ap top (after_history-takes s history) ∙ top-after_takes s (requests_of history) sound
-
-pub top-after_loss : (s : Allocator) (asked : ℕ) → IsSound s → s.asked ≡ 0
-    → top (after_loss s asked) ≡ top s
-top-after_loss s asked sound flushed =
-    grind (arith, common_steps)

@@ -25,8 +25,7 @@ at_left xs rest k x left =
 -- there are components to be given
 some_items : (w : World) (items : Bundle) (h : Handle) → 0 < length items
     → insert_takes_memory w items h ≡ true
-some_items w items h some =
-    search (rules, nat_tests)
+some_items w items h some = search (rules, nat_tests)
 
 at_takes_memory : (w : World) (items : Bundle) (hs : List Handle) (k : ℕ) → k < length hs
     → 0 < length items → one_takes_memory w items (slice_get hs k) ≡ true
@@ -50,12 +49,10 @@ next_takes_memory w items hs rest k h left takes = search (rules, at_left)
 -- at this command of a queue
 pub takes_memory_in : (w : World) (q rest : List Command) (k done : ℕ) (c : Command) → drop k q ≡ c
     ∷ rest → command_takes_memory w done c ≡ true → TakesMemoryIn w k done q
-takes_memory_in w q rest k done c left takes =
-    search (rules, at_left)
+takes_memory_in w q rest k done c left takes = search (rules, at_left)
 
 -- in this queue
 pub takes_memory_at : (w : World) (qs : List (List Command)) (k command done : ℕ) (q : List Command)
     → k < length qs → q ≡ get_or qs k q → TakesMemoryIn w command done q
     → TakesMemoryAt w k command done qs
-takes_memory_at w qs k command done q lt is takes =
-    search (rules, slice_get-get_or)
+takes_memory_at w qs k command done q lt is takes = search (rules, slice_get-get_or)

@@ -67,12 +67,3 @@ commands-world queues a b is before flushed =
 pub after_history-world : (history : List Call) (w : World) → IsWorld w
     → IsWorld (record w { allocator = after_history w.allocator history })
 after_history-world history w is = search (rules, history-sound, living-history)
-
--- reservations of which some are lost
-loss-sound : (s : Allocator) (asked : ℕ) → IsSound s → s.asked ≡ 0 → IsSound (after_loss s asked)
-loss-sound s asked sound flushed =
-    search (rules, take-append-drop)
-
-pub after_loss-world : (asked : ℕ) (w : World) → IsWorld w → w.allocator.asked ≡ 0
-    → IsWorld (record w { allocator = after_loss w.allocator asked })
-after_loss-world asked w is flushed = search (rules, loss-sound)

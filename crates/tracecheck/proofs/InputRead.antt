@@ -12,8 +12,7 @@ use Rattle.tracecheck.specs.declared.checking.End.{End}
 
 -- the whole input was read
 pub ended_at_end : (limits : Limits) (old new : Option (List ℕ)) (text pending : List ℕ)
-    (c : Checking) (end : End) → Consumes old new text → IsAtEnd new
-    → HasRead limits text c pending
+    (c : Checking) (end : End) → Consumes old new text → IsAtEnd new → HasRead limits text c pending
     → ((all : List ℕ) → HasRead limits all c pending → MayEnd limits (lines_of all) end)
     → IfSome old (λ all. MayEnd limits (lines_of all) end)
 ended_at_end limits None new text pending c end taken last read ends = tt

@@ -27,8 +27,7 @@ one_more number l front (Ok calls) = refl
 one_more number l front (Err refused) = refl
 
 step : (number : ℕ) (r : Result (Option Line) Cause) (others all rest : Result (List Line) Refused)
-    (calls : List Line)
-    → ((front : List Line) → others ≡ Ok front → all ≡ with_front front rest)
+    (calls : List Line) → ((front : List Line) → others ≡ Ok front → all ≡ with_front front rest)
     → goes_on number r others ≡ Ok calls → goes_on number r all ≡ with_front calls rest
 step number (Err c) others all rest calls later e = absurd cc
 step number (Ok None) others all rest calls later e = later calls e
@@ -56,9 +55,6 @@ calls_from-append number (text ∷ texts) more calls e =
     ∙ ap (λ n. with_front front (calls_from n more)) later) e
 
 -- ---- one more call
-
-pub AllFollow-none : (c : Checked) → AllFollow c [] c
-AllFollow-none c = record { sound = λ rest h. h; complete = λ rest h. h }
 
 pub AllFollow-call : (old middle new : Checked) (calls : List Line) (l : Line)
     → AllFollow old calls middle → Follows middle l new → AllFollow old (calls ++ l ∷ []) new

@@ -62,12 +62,6 @@ program-free = refl
 pub is_free : (app : App) → app ≡ program → is_simple_and_free app ≡ true
 is_free app is = ap is_simple_and_free is ∙ program-free
 
--- the limits of the matches are those of the words
-pub AsksFor-matches : (app : App) (words : List Text) (m : ArgMatches) (limits : Limits)
-    → app ≡ program → HasMatchesOf app words m → AreGiven (given m) limits → AsksFor words limits
-AsksFor-matches app words m limits is matches in_matches =
-    grind (arith, common_steps)
-
 -- ---- the faults
 
 -- an error of words that are admitted is want of memory

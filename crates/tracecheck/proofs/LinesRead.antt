@@ -71,8 +71,7 @@ HasRead-line limits text old new pending bytes all h taken = record {
   texts = h.texts ++ without_return (pending ++ bytes) ∷ [];
   taken = taken;
   unended = λ k d lt. absurd (omega (arith, lt));
-  lines = λ more.
-      ap lines_of (append_assoc (text ++ bytes) (10 ∷ []) more)
+  lines = λ more. ap lines_of (append_assoc (text ++ bytes) (10 ∷ []) more)
       ∙ cut_line limits text old pending bytes all h more
       ∙ sym (append_assoc h.texts (without_return (pending ++ bytes) ∷ []) (lines_of more));
 }
@@ -84,15 +83,9 @@ HasRead-bytes limits text old pending bytes all h = record {
   texts = h.texts;
   taken = h.taken;
   unended = All-append (λ byte. byte ≢ 10) pending bytes h.unended all;
-  lines = λ more.
-      ap lines_of (append_assoc text bytes more) ∙ h.lines (bytes ++ more)
+  lines = λ more. ap lines_of (append_assoc text bytes more) ∙ h.lines (bytes ++ more)
       ∙ ap (λ (bs : List ℕ). h.texts ++ lines_of bs) (sym (append_assoc pending bytes more));
 }
-
--- nothing was read yet
-pub HasRead-none : (limits : Limits) (c : Checking) → HasTaken limits [] c
-    → HasRead limits [] c []
-HasRead-none limits c taken = search (rules)
 
 -- all lines of the text, if nothing comes any more
 pub lines_now : (limits : Limits) (text : List ℕ) (old : Checking) (pending : List ℕ)
@@ -105,17 +98,14 @@ lines_now limits text old pending h =
 -- one more line of the piece is taken
 pub piece_front : (piece front rest line others : List ℕ) → piece ≡ front ++ rest
     → rest ≡ line ++ 10 ∷ others → piece ≡ (front ++ line ++ 10 ∷ []) ++ others
-piece_front piece front rest line others whole parts =
-    grind (arith, common_steps)
+piece_front piece front rest line others whole parts = grind (arith, common_steps)
 
 pub text_front : (text front line : List ℕ)
     → text ++ (front ++ line ++ 10 ∷ []) ≡ text ++ front ++ line ++ 10 ∷ []
-text_front text front line =
-    grind (arith, common_steps)
+text_front text front line = grind (arith, common_steps)
 
 -- what comes after a line of a piece
 pub piece_rest : (text piece front rest line others more : List ℕ) → piece ≡ front ++ rest
     → rest ≡ line ++ 10 ∷ others
     → text ++ piece ++ more ≡ text ++ front ++ line ++ 10 ∷ (others ++ more)
-piece_rest text piece front rest line others more whole parts =
-    grind (arith, common_steps)
+piece_rest text piece front rest line others more whole parts = grind (arith, common_steps)

@@ -188,8 +188,7 @@ number-given : (cmd : Command) (m : ArgMatches) → app_of cmd ≡ program → I
     → (k : ℕ) (option : Text) (most : ℕ) (default : Text) → k < 2
     → ((e : Rule) → slice_index_or program.top.rules k e ≡ number_option option most default)
     → Alone k option → (option ≡ [] → ⊥)
-    → ((option ≡ codes "help") ⊎ (option ≡ codes "version") → ⊥)
-    → HasNumber option most (given m)
+    → ((option ≡ codes "help") ⊎ (option ≡ codes "version") → ⊥) → HasNumber option most (given m)
 number-given cmd m is p k option most default below at alone named own =
     let rules : map rule_of (args_of cmd) ≡ program.top.rules = ap (λ (a : App). a.top.rules) is in
     let count : length (args_of cmd) ≡ 2 = sym (rule_count (args_of cmd)) ∙ ap length rules in

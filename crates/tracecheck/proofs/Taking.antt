@@ -139,11 +139,9 @@ differs_at_end limits texts old d shows none h = differs_in_all d (record {
 -- what a stop at a call says
 pub ends_at : (limits : Limits) (texts after : List (List ℕ)) (text : List ℕ) (l : Line)
     (old : Checking) (number : ℕ) (s : Stop) → number ≡ old.lines + 1
-    → line_of number (words_of text) ≡ Ok (Some l)
-    → OnDiffers s (Shows old.checker number (l ∷ []))
+    → line_of number (words_of text) ≡ Ok (Some l) → OnDiffers s (Shows old.checker number (l ∷ []))
     → OnDiffers s (λ d. NoneFollows old.checker l) → OnTooMany s (IsTooMany old.checker l)
-    → HasTaken limits texts old
-    → MayEnd limits (texts ++ text ∷ after) (end_of number s)
+    → HasTaken limits texts old → MayEnd limits (texts ++ text ∷ after) (end_of number s)
 ends_at limits texts after text l old number (stop.Differs d) next named shows none many h =
     differs_here limits texts after text l old number d next named shows none h
 ends_at limits texts after text l old number stop.TooMany next named shows none many h =

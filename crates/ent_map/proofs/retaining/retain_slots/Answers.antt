@@ -3,8 +3,7 @@ use Rattle.ent_map.proofs.Kept.{counts_one, counted-slot, retained-more, retaine
 use Rattle.ent_map.proofs.retaining.retain_slots.Goals as goal
 
 pub retain_slot-keep-requires-clause-counted : goal.retain_slot-keep-requires-clause-counted
-retain_slot-keep-requires-clause-counted g c =
-    search (rules, counts_one)
+retain_slot-keep-requires-clause-counted g c = search (rules, counts_one)
 
 pub loop-index-preserved : goal.loop-index-preserved
 loop-index-preserved g c =

@@ -31,8 +31,7 @@ refused c =
     (begins_kinds c.args.bytes.now c.requires).refused last
 
 pub read_handle-handle-requires : goal.read_handle-handle-requires
-read_handle-handle-requires c =
-    search (rules, spawn)
+read_handle-handle-requires c = search (rules, spawn)
 
 pub read-bundle-requires : goal.read-bundle-requires
 read-bundle-requires c =
@@ -47,8 +46,7 @@ returns-in-0-clause-rest c =
     f.bundle.rest_is
 
 pub read_u32-count-requires : goal.read_u32-count-requires
-read_u32-count-requires c =
-    search (rules, spawn_many)
+read_u32-count-requires c = search (rules, spawn_many)
 
 pub read-handles-requires : goal.read-handles-requires
 read-handles-requires c =
@@ -64,8 +62,7 @@ read-bundle-requires-in-1 c =
       c.read_u32-count.ensures.value,
       c.read_u32-count.ensures.rest,
       c.read_u8-kind.ensures.rest,
-    )
-    (record { header = f.bundle.header; items = f.bundle.items; is = f.bundle.is })
+    ) (record { header = f.bundle.header; items = f.bundle.items; is = f.bundle.is })
 
 pub returns-in-1-clause-rest : goal.returns-in-1-clause-rest
 returns-in-1-clause-rest c =
@@ -79,8 +76,7 @@ returns-in-1-clause-rest c =
     ) f.bundle.rest_is
 
 pub read_handle-handle-requires-in-2 : goal.read_handle-handle-requires-in-2
-read_handle-handle-requires-in-2 c =
-    search (rules, insert)
+read_handle-handle-requires-in-2 c = search (rules, insert)
 
 pub read-bundle-requires-in-2 : goal.read-bundle-requires-in-2
 read-bundle-requires-in-2 c =
@@ -95,8 +91,7 @@ returns-in-2-clause-rest c =
     ∙ rw (c.read_handle-handle-in-2.ensures.rest, c.read_u8-kind.ensures.rest) f.bundle.rest_is
 
 pub read_handle-handle-requires-in-3 : goal.read_handle-handle-requires-in-3
-read_handle-handle-requires-in-3 c =
-    search (rules, remove)
+read_handle-handle-requires-in-3 c = search (rules, remove)
 
 pub read_u8-id-requires : goal.read_u8-id-requires
 read_u8-id-requires c =
@@ -110,8 +105,7 @@ returns-in-3-clause-rest c =
     ∙ rw (c.read_handle-handle-in-3.ensures.rest, c.read_u8-kind.ensures.rest) f.rest_is
 
 pub read_handle-handle-requires-in-4 : goal.read_handle-handle-requires-in-4
-read_handle-handle-requires-in-4 c =
-    search (rules, despawn)
+read_handle-handle-requires-in-4 c = search (rules, despawn)
 
 pub returns-in-4-clause-rest : goal.returns-in-4-clause-rest
 returns-in-4-clause-rest c =
@@ -119,8 +113,7 @@ returns-in-4-clause-rest c =
     c.read_handle-handle-in-4.ensures.rest ∙ rw c.read_u8-kind.ensures.rest f.rest_is
 
 pub read_u32-wanted-requires : goal.read_u32-wanted-requires
-read_u32-wanted-requires c =
-    search (rules, refused)
+read_u32-wanted-requires c = search (rules, refused)
 
 pub read_reason-why-requires : goal.read_reason-why-requires
 read_reason-why-requires c =

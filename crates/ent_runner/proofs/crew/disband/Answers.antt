@@ -7,8 +7,7 @@ use Rattle.ent_runner.proofs.crew.disband.Goals as goal
 
 pub put_all-requires : goal.put_all-requires
 put_all-requires c = inside_first c.loop-worker.worker-iterator.rest.items
-    c.next.new.self.rest.items
-    c.in-Some.worker c.loop-worker.by_system c.in-Some.ensures.steps.0
+    c.next.new.self.rest.items c.in-Some.worker c.loop-worker.by_system c.in-Some.ensures.steps.0
     c.loop-worker.invariant.inside
 
 pub loop-worker-preserved : goal.loop-worker-preserved

@@ -3,8 +3,7 @@ use Rattle.std.proofs.Common.{arith, sym}
 use Rattle.ent_runner.proofs.crew.some_stopped.Goals as goal
 
 pub loop-worker-preserved : goal.loop-worker-preserved
-loop-worker-preserved c =
-    grind (arith, common_steps)
+loop-worker-preserved c = grind (arith, common_steps)
 
 pub returns-then-worker-clause-some : goal.returns-then-worker-clause-some
 returns-then-worker-clause-some c = λ _. (

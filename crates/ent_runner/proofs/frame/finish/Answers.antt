@@ -33,8 +33,7 @@ records_is c = ap records_of c.disband.ensures.reservers ∙ records_are c.args.
 -- so what is known of the history of the reservers is known of that of the workers
 closed : (c : After-close-world) → c.close-world.result
     ≡ reserved_by (history_of (all_records c.args.workers.items)) (world_at_start c.args.opened)
-closed c =
-    search (rules, closed_by, records_is)
+closed c = search (rules, closed_by, records_is)
 
 legal : (c : After-close-world)
     → IsLegal c.args.opened.shared.start (history_of (all_records c.args.workers.items))
@@ -69,8 +68,7 @@ returns-clause-once c = once_closed c.args.opened.shared c.args.claims c.args.wo
     c.disband.ensures.claimers c.close.ensures.once
 
 pub returns-clause-queues : goal.returns-clause-queues
-returns-clause-queues c =
-    grind (arith, common_steps)
+returns-clause-queues c = grind (arith, common_steps)
 
 pub returns-then-stopped-clause-world : goal.returns-then-stopped-clause-world
 returns-then-stopped-clause-world c =

@@ -9,8 +9,7 @@ use Rattle.ent_runner.proofs.frame.run_frame.Goals as goal
 -- the world that was opened is the one before
 same : (g : given.Over) (c : goal.In-Ok-open g) → world_at_start c.in-Ok-open.made.0
     ≡ c.args.world.now
-same g c =
-    search (rules, same_world)
+same g c = search (rules, same_world)
 
 pub returns-in-Ok-apply-clause-alone : goal.returns-in-Ok-apply-clause-alone
 returns-in-Ok-apply-clause-alone g c one =
@@ -33,5 +32,4 @@ returns-in_default-queues-clause-still g c lost =
     c.run_open-closed.ensures.closed c.in-Ok-open.ensures.sound c.requires.flushed
 
 pub returns-in_default-queues-clause-lost : goal.returns-in_default-queues-clause-lost
-returns-in_default-queues-clause-lost g c lost =
-    search (rules, broken_again, same)
+returns-in_default-queues-clause-lost g c lost = search (rules, broken_again, same)

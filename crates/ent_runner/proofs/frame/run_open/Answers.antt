@@ -33,5 +33,4 @@ returns-clause-closed g c =
     )
 
 pub returns-clause-lost : goal.returns-clause-lost
-returns-clause-lost g c =
-    search (rules, none_weaker, some_systems)
+returns-clause-lost g c = search (rules, none_weaker, some_systems)

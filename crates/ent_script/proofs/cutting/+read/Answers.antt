@@ -17,8 +17,7 @@ use Rattle.ent_script.specs.Cut.{cut, cut_members}
 use Rattle.ent_script.proofs.cutting.+read.Goals as goal
 
 pub read_cut-returns-in_err-token-clause-json : goal.read_cut-returns-in_err-token-clause-json
-read_cut-returns-in_err-token-clause-json t c refused =
-    search (rules, value_is)
+read_cut-returns-in_err-token-clause-json t c refused = search (rules, value_is)
 
 pub read_cut-returns-then-depth-eq0-clause-json : goal.read_cut-returns-then-depth-eq0-clause-json
 unfolding value
@@ -42,8 +41,7 @@ read_cut-returns-in_ok-from_str-in-String-clause-ok t c =
     let seen : view (String c.in_ok-from_str-in-String.field-0) ≡ string c.in-String.text.now =
     search (rules, the_lemmas) in (
       string c.in-String.text.now,
-      ap (converted of_json)
-          (ap (value c.args.depth) is ∙ value_is c.args.depth _),
+      ap (converted of_json) (ap (value c.args.depth) is ∙ value_is c.args.depth _),
       seen,
     )
 
@@ -54,8 +52,7 @@ read_cut-returns-in-Bool-clause-ok t c =
     in
     let seen : view (Bool c.in-Bool.b) ≡ boolean c.in-Bool.b = search (rules, the_lemmas) in (
       boolean c.in-Bool.b,
-      ap (converted of_json)
-          (ap (value c.args.depth) is ∙ value_is c.args.depth _),
+      ap (converted of_json) (ap (value c.args.depth) is ∙ value_is c.args.depth _),
       seen,
     )
 
@@ -80,12 +77,10 @@ read_cut-returns-in-Some-clause-ok t c =
     )
 
 pub read_cut-returns-in-None-clause-json : goal.read_cut-returns-in-None-clause-json
-read_cut-returns-in-None-clause-json t c refused =
-    search (rules, value_is)
+read_cut-returns-in-None-clause-json t c refused = search (rules, value_is)
 
 pub read_cut-returns-in-EndObject-clause-json : goal.read_cut-returns-in-EndObject-clause-json
-read_cut-returns-in-EndObject-clause-json t c refused =
-    search (rules, value_is)
+read_cut-returns-in-EndObject-clause-json t c refused = search (rules, value_is)
 
 pub read_cut-returns-in_ok-cut_members-in-BeginObject-clause-ok :
     goal.read_cut-returns-in_ok-cut_members-in-BeginObject-clause-ok
@@ -108,23 +103,16 @@ pub cut_members-members-init : goal.cut_members-members-init
 cut_members-members-init t c = (
   length c.args.reader.now,
   omega arith,
-  (
-    no_members,
-    refl,
-    ap members_view
-        c.new-found.ensures.empty,
-  ),
+  (no_members, refl, ap members_view c.new-found.ensures.empty),
   omega arith,
 )
 
 pub cut_members-returns-in_err-name-clause-json : goal.cut_members-returns-in_err-name-clause-json
-cut_members-returns-in_err-name-clause-json t c refused =
-    search (rules, key_refused)
+cut_members-returns-in_err-name-clause-json t c refused = search (rules, key_refused)
 
 pub cut_members-returns-in_err-member-clause-json :
     goal.cut_members-returns-in_err-member-clause-json
-cut_members-returns-in_err-member-clause-json t c refused =
-    search (rules, member_refused)
+cut_members-returns-in_err-member-clause-json t c refused = search (rules, member_refused)
 
 pub cut_members-members-preserved : goal.cut_members-members-preserved
 cut_members-members-preserved t c =
@@ -162,8 +150,7 @@ cut_members-members-preserved t c =
     )
 
 pub cut_members-returns-clause-ok : goal.cut_members-returns-clause-ok
-cut_members-returns-clause-ok t c =
-    search (rules, members_over)
+cut_members-returns-clause-ok t c = search (rules, members_over)
 
 pub read_cut-returns-then-levels-eq0-clause-ok : goal.read_cut-returns-then-levels-eq0-clause-ok
 read_cut-returns-then-levels-eq0-clause-ok t c =

@@ -17,8 +17,7 @@ returns-then-not-branch-clause-value c d rest e =
       ap
           (λ (o : Option Items). ok_or (option_and_then
           (λ ds. cond (nat_le (length ds) 256) (Some ds) None) (option_map list_of o))
-          (fault.Frame c.args.number)
-          >>= λ ds.
+          (fault.Frame c.args.number) >>= λ ds.
           numbered (system_of c.args.format c.args.components.now c.args.number) 0 ds) is.0,
       is.1,
     )

@@ -66,8 +66,7 @@ frames-preserved c =
           λ n ds rest e. subst (λ done. At p (frame_of c.args.format c.args.components.now) done
           (l.number + 1) left ds rest) (sym pushed)
           (at_next p (frame_of c.args.format c.args.components.now) l.frames.items l.number
-          l.reader left c.in-Ok.frame ds rest
-          (l.invariant.at n ds rest e) going.0
+          l.reader left c.in-Ok.frame ds rest (l.invariant.at n ds rest e) going.0
           (λ d r is. c.in-Ok.ensures.value d r (ap (λ ts. converted of_json (p ts)) going.1 ∙ is)));
       few = omega (arith, l.invariant.few);
       shorter = omega (arith, less, l.invariant.shorter);

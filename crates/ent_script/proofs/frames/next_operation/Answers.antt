@@ -5,17 +5,14 @@ use Rattle.ent_script.proofs.Operations.{cut_read, operation_read, bound_read}
 use Rattle.ent_script.proofs.frames.next_operation.Goals as goal
 
 pub returns-in_err-value-clause-value : goal.returns-in_err-value-clause-value
-returns-in_err-value-clause-value c d rest e =
-    grind (arith, common_steps)
+returns-in_err-value-clause-value c d rest e = grind (arith, common_steps)
 
 pub returns-in_err-operation-clause-value : goal.returns-in_err-operation-clause-value
 returns-in_err-operation-clause-value c d rest e =
     search (rules, cut_read, operation_read, read_and_left)
 
 pub returns-clause-value : goal.returns-clause-value
-returns-clause-value c d rest e =
-    search (rules, cut_read, operation_read)
+returns-clause-value c d rest e = search (rules, cut_read, operation_read)
 
 pub returns-clause-binds : goal.returns-clause-binds
-returns-clause-binds c d rest e =
-    search (rules, cut_read, bound_read)
+returns-clause-binds c d rest e = search (rules, cut_read, bound_read)

@@ -30,8 +30,7 @@ returns-then-number-eq10000-clause-value c n ds rest e =
     fault_streams c.fault_of_array.result c.fault_of_array.new.reader _ rest
     (λ other.
     let is = at_most_many p (g (list_of ds)) 10000 limit
-    c.fault_of_array.result l.operations.items l.number l.reader c.fault_of_array.new.reader ds
-    rest
+    c.fault_of_array.result l.operations.items l.number l.reader c.fault_of_array.new.reader ds rest
     (at.0, at.1, at.2, at.3, at.4) going.0 full
     (λ m later r is. c.fault_of_array.ensures.value (λ same. cc same) m later r
     (ap (λ ts. converted of_items (items p m ts)) going.1 ∙ is)) in
@@ -56,8 +55,7 @@ returns-in-Err-clause-value c n ds rest e =
     (c.fault_of_array-in-Err.ensures.memory same) in
     let is = at_fault p (g (list_of ds)) 10000 limit
     c.in-Err.fault found l.operations.items l.number l.reader c.next_operation.new.reader
-    c.fault_of_array-in-Err.new.reader ds rest
-    (at.0, at.1, at.2, at.3, at.4) going.0 room known
+    c.fault_of_array-in-Err.new.reader ds rest (at.0, at.1, at.2, at.3, at.4) going.0 room known
     (λ d r is. subst (λ (names : List (List ℕ)). Streams {A = Operation} (Err c.in-Err.fault)
     c.next_operation.new.reader (at_operation c.args.frame c.args.system l.number
     (operation_of c.args.components.now names (births_before c.args.format c.args.frame) d)) r)

@@ -17,9 +17,7 @@ returns-then-not-branch-clause-value c d rest e =
       ap
           (λ (o : Option Items). ok_or (option_and_then
           (λ ds. cond (nat_le (length ds) 10000) (Some ds) None) (option_map list_of o))
-          (fault.System c.args.frame c.args.number)
-          >>= λ ds.
-          numbered
+          (fault.System c.args.frame c.args.number) >>= λ ds. numbered
           (operation_at c.args.format c.args.components.now c.args.frame c.args.number ds) 0 ds)
           is.0,
       is.1,

@@ -25,8 +25,7 @@ returns-then-number-eq256-clause-value c n ds rest e =
     let full : l.number ≡ 256 = omega arith in
     fault_streams c.fault_of_array.result c.fault_of_array.new.reader _ rest
     (λ other. at_most_many p (system_of c.args.format c.args.components.now c.args.frame) 256 limit
-    c.fault_of_array.result l.systems.items l.number l.reader c.fault_of_array.new.reader ds
-    rest
+    c.fault_of_array.result l.systems.items l.number l.reader c.fault_of_array.new.reader ds rest
     (l.invariant.at n ds rest e) going.0 full
     (λ m later r is. c.fault_of_array.ensures.value (λ same. cc same) m later r
     (ap (λ ts. converted of_items (items p m ts)) going.1 ∙ is)))
@@ -48,8 +47,7 @@ returns-in-Err-clause-value c n ds rest e =
     (c.fault_of_array-in-Err.ensures.memory same) in
     at_fault p (system_of c.args.format c.args.components.now c.args.frame) 256 limit
     c.in-Err.fault found l.systems.items l.number l.reader c.system.new.reader c.fault_of_array-in-Err.new.reader ds
-    rest
-    (l.invariant.at n ds rest e) going.0 room known
+    rest (l.invariant.at n ds rest e) going.0 room known
     (λ d r is. c.in-Err.ensures.value d r (ap (λ ts. converted of_json (p ts)) going.1 ∙ is))
     (λ m later r is. subst (λ k. FaultOfArray k c.in-Err.fault limit found
     c.fault_of_array-in-Err.new.reader later r) (sym less)
@@ -70,8 +68,7 @@ systems-preserved c =
           λ n ds rest e. subst (λ done. At p
           (system_of c.args.format c.args.components.now c.args.frame) done (l.number + 1) left ds rest) (sym pushed)
           (at_next p (system_of c.args.format c.args.components.now c.args.frame) l.systems.items
-          l.number l.reader left c.in-Ok.system ds rest
-          (l.invariant.at n ds rest e) going.0
+          l.number l.reader left c.in-Ok.system ds rest (l.invariant.at n ds rest e) going.0
           (λ d r is. c.in-Ok.ensures.value d r (ap (λ ts. converted of_json (p ts)) going.1 ∙ is)));
       few = omega (arith, l.invariant.few);
       shorter = omega (arith, less, l.invariant.shorter);

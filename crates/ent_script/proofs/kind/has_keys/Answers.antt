@@ -9,8 +9,7 @@ pub returns-then-has_all : goal.returns-then-has_all
 returns-then-has_all c =
     sym (ap (λ (b : Bool). b && c.are_keys_among.result) c.if-has_all.true)
     ∙ both c.args.required.now c.args.allowed.now (view c.args.value.now) _ c.has_all.result
-    c.are_keys_among.result
-    c.has_all.ensures c.in-Some.ensures c.are_keys_among.ensures
+    c.are_keys_among.result c.has_all.ensures c.in-Some.ensures c.are_keys_among.ensures
 
 pub returns-else-has_all : goal.returns-else-has_all
 returns-else-has_all c =

@@ -29,12 +29,10 @@ pass_items-loop-reader-preserved t c =
 
 pub pass_items-returns-in_err-pass_value-clause-value :
     goal.pass_items-returns-in_err-pass_value-clause-value
-pass_items-returns-in_err-pass_value-clause-value t c =
-    search (rules, item_stuck)
+pass_items-returns-in_err-pass_value-clause-value t c = search (rules, item_stuck)
 
 pub pass_items-returns-clause-value : goal.pass_items-returns-clause-value
-pass_items-returns-clause-value t c =
-    search (rules, items_over)
+pass_items-returns-clause-value t c = search (rules, items_over)
 
 pub pass_members-loop-reader-init : goal.pass_members-loop-reader-init
 pass_members-loop-reader-init t c = (
@@ -46,8 +44,7 @@ pass_members-loop-reader-init t c = (
 
 pub pass_members-returns-in_err-next_key-clause-value :
     goal.pass_members-returns-in_err-next_key-clause-value
-pass_members-returns-in_err-next_key-clause-value t c =
-    search (rules, key_refused)
+pass_members-returns-in_err-next_key-clause-value t c = search (rules, key_refused)
 
 pub pass_members-loop-reader-preserved : goal.pass_members-loop-reader-preserved
 pass_members-loop-reader-preserved t c =
@@ -69,12 +66,10 @@ pass_members-loop-reader-preserved t c =
 
 pub pass_members-returns-in_err-pass_value-clause-value :
     goal.pass_members-returns-in_err-pass_value-clause-value
-pass_members-returns-in_err-pass_value-clause-value t c =
-    search (rules, member_stuck)
+pass_members-returns-in_err-pass_value-clause-value t c = search (rules, member_stuck)
 
 pub pass_members-returns-clause-value : goal.pass_members-returns-clause-value
-pass_members-returns-clause-value t c =
-    search (rules, members_over)
+pass_members-returns-clause-value t c = search (rules, members_over)
 
 pub pass_rest-returns-then-depth-eq0-clause-value :
     goal.pass_rest-returns-then-depth-eq0-clause-value
@@ -95,15 +90,12 @@ pass_rest-returns-in-String-clause-value t c =
     rw (value_is c.args.depth (token_of c.args.token ∷ c.args.reader.now)) (grind arith)
 
 pub pass_rest-returns-in-Some-clause-value : goal.pass_rest-returns-in-Some-clause-value
-pass_rest-returns-in-Some-clause-value t c =
-    search (rules, value_is)
+pass_rest-returns-in-Some-clause-value t c = search (rules, value_is)
 
 pub pass_rest-returns-in-None-clause-value : goal.pass_rest-returns-in-None-clause-value
-pass_rest-returns-in-None-clause-value t c =
-    search (rules, value_is)
+pass_rest-returns-in-None-clause-value t c = search (rules, value_is)
 
-pub pass_rest-returns-in-EndObject-clause-value :
-    goal.pass_rest-returns-in-EndObject-clause-value
+pub pass_rest-returns-in-EndObject-clause-value : goal.pass_rest-returns-in-EndObject-clause-value
 pass_rest-returns-in-EndObject-clause-value t c =
     rw (value_is c.args.depth (token_of c.args.token ∷ c.args.reader.now)) (grind arith)
 
@@ -117,7 +109,5 @@ pub pass_rest-returns-else-depth-eq0-2-clause-value :
 pass_rest-returns-else-depth-eq0-2-clause-value t c =
     search (rules, value-begin_object, converted-object, left-parse_map)
 
-pub pass_value-returns-in_err-token-clause-value :
-    goal.pass_value-returns-in_err-token-clause-value
-pass_value-returns-in_err-token-clause-value t c =
-    search (rules, value_is)
+pub pass_value-returns-in_err-token-clause-value : goal.pass_value-returns-in_err-token-clause-value
+pass_value-returns-in_err-token-clause-value t c = search (rules, value_is)

@@ -7,8 +7,7 @@ use Rattle.ent_script.proofs.Openings.{text_object, text_no_object}
 use Rattle.ent_script.proofs.reading.components_in.Goals as goal
 
 pub returns-then-not-opens-clause-found : goal.returns-then-not-opens-clause-found
-returns-then-not-opens-clause-found c d e =
-    search (rules, text_no_object)
+returns-then-not-opens-clause-found c d e = search (rules, text_no_object)
 
 pub returns-clause-found : goal.returns-clause-found
 returns-clause-found c d e =

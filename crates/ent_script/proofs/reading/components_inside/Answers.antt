@@ -24,8 +24,7 @@ returns-in_err-key-clause-found c n ms rest e =
     no_key p at.0 l.reader rest at.1 ms c.in_err-key.ensures.value at.2
 
 pub returns-in_err-found-clause-found : goal.returns-in_err-found-clause-found
-returns-in_err-found-clause-found c n ms rest e =
-    search (rules, next_member)
+returns-in_err-found-clause-found c n ms rest e = search (rules, next_member)
 
 pub members-preserved-then-eq : goal.members-preserved-then-eq
 members-preserved-then-eq c = record {
@@ -41,8 +40,7 @@ members-preserved-then-eq c = record {
       let read = c.in_ok-found.ensures.value next.0 next.1 next.2 in (
         at.0 - 1,
         put k next.0 at.1,
-        ap
-            (λ ts. converted (λ ms. of_members ms (put k next.0 at.1)) (members p (at.0 - 1) ts))
+        ap (λ ts. converted (λ ms. of_members ms (put k next.0 at.1)) (members p (at.0 - 1) ts))
             read.1 ∙ next.3,
         read.0 ∙ sym (ap Seen (found_here (codes "components") k next.0 at.1 same)),
       );
@@ -77,5 +75,4 @@ returns-in_err-pass_value-clause-found c n ms rest e =
     at.1 ms named at.2 c.in_err-pass_value.ensures.value
 
 pub returns-clause-found : goal.returns-clause-found
-returns-clause-found c n ms rest e =
-    search (rules, last_member)
+returns-clause-found c n ms rest e = search (rules, last_member)

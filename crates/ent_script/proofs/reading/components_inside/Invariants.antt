@@ -15,10 +15,8 @@ abbrev pub invariant-members : goal.invariant-members
 invariant-members l = record {
   found : (n : ℕ) (ms : Members) (rest : List Token)
       → converted (λ ms. of_members ms no_members) (members (value l.depth) n l.initial.reader)
-      ≡ Some (ms, rest)
-      → (m : ℕ) × (old : Members)
-      × (converted (λ ms. of_members ms old) (members (value l.depth) m l.reader)
-      ≡ Some (ms, rest))
+      ≡ Some (ms, rest) → (m : ℕ) × (old : Members)
+      × (converted (λ ms. of_members ms old) (members (value l.depth) m l.reader) ≡ Some (ms, rest))
       × (option_map (λ vs. map view vs.items) l.found ≡ option_map (map (cut 0))
       (option_and_then (at_most 256) (get_member (codes "components") old)));
   few : IfSome l.found (λ vs. length vs.items ≤ 256);

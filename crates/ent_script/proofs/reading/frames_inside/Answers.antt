@@ -38,8 +38,7 @@ members-preserved-else-ran_out c n ms rest e =
     in (
       at.0 - 1,
       put k next.0 at.1,
-      ap
-          (λ ts. converted (λ ms. of_members ms (put k next.0 at.1)) (members p (at.0 - 1) ts))
+      ap (λ ts. converted (λ ms. of_members ms (put k next.0 at.1)) (members p (at.0 - 1) ts))
           read.1 ∙ next.3,
       subst
           (λ (o : Option Data). ReadsList c.frames-found.result

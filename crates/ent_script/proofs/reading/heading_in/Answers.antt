@@ -18,12 +18,10 @@ use Rattle.ent_script.proofs.Headings.{headed, whole}
 use Rattle.ent_script.proofs.reading.heading_in.Goals as goal
 
 pub returns-in_err-value : goal.returns-in_err-value
-returns-in_err-value c =
-    grind (arith, common_steps)
+returns-in_err-value c = grind (arith, common_steps)
 
 pub returns-then-is_some : goal.returns-then-is_some
-returns-then-is_some c =
-    grind (arith, common_steps)
+returns-then-is_some c = grind (arith, common_steps)
 
 meant : (text : List ℕ) (was : Data) (v : Value) → read text ≡ Some was → view v ≡ cut 1 was
     → headed (read text) ≡ in_script (heading_of (view v))

@@ -7,17 +7,14 @@ use Rattle.ent_script.proofs.Texts.{json_none}
 use Rattle.ent_script.proofs.reading.read_script.Goals as goal
 
 pub returns-in_default-clause-exact : goal.returns-in_default-clause-exact
-returns-in_default-clause-exact c =
-    search (rules, json_none)
+returns-in_default-clause-exact c = search (rules, json_none)
 
 pub returns-in_err-heading-clause-exact : goal.returns-in_err-heading-clause-exact
 returns-in_err-heading-clause-exact c =
     grind (arith, common_steps, json_is, returned, passes_on, headed, stops)
 
 pub returns-clause-exact : goal.returns-clause-exact
-returns-clause-exact c =
-    search (rules, json_is, found)
+returns-clause-exact c = search (rules, json_is, found)
 
 pub returns-clause-ranges : goal.returns-clause-ranges
-returns-clause-ranges c =
-    search (rules, found, returned_in)
+returns-clause-ranges c = search (rules, found, returned_in)

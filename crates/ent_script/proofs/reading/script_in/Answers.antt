@@ -32,23 +32,18 @@ meant : (d : Data) (vs lent : List Value) → lent ≡ vs → Some (map view vs)
     (map (cut 0)) (option_and_then (at_most 256) (Part d))
     → in_script (numbered (component_at (map view lent)) 0 (map view lent)) ≡ in_script
     (component_names (Part d))
-meant d vs lent same seen =
-    search (rules, names_meant)
+meant d vs lent same seen = search (rules, names_meant)
 
 -- the names are those that the text means
 same_names : (c : After-deref) (d : Data) → read c.args.text.now ≡ Some d
     → in_script (numbered (component_at (map view c.deref.result.now)) 0
     (map view c.deref.result.now)) ≡ in_script (component_names (Part d))
-same_names c d e =
-    search (rules, meant)
+same_names c d e = search (rules, meant)
 
 pub returns-in_err-values : goal.returns-in_err-values
 returns-in_err-values c d e said =
     let none : None ≡ option_map (map (cut 0)) (option_and_then (at_most 256) (Part d)) =
-    sym
-    (ap
-    (option_map
-    (λ (vs : Vec Value). map view vs.items)) c.in_err-values.ensures.ok_part) ∙
+    sym (ap (option_map (λ (vs : Vec Value). map view vs.items)) c.in_err-values.ensures.ok_part) ∙
     c.in_ok-components_in.ensures.found d e in
     let is : c.from_residual-in_err-values.result ≡ Err (Script Components) = search rules in
     subst (λ (r : Result Whole ReadFault). ReadsAs r (script_of d)) (sym is)
@@ -73,8 +68,7 @@ returns-in_err-frames c d e said =
     returned fault c.from_residual-in_err-frames.result (script_of d) is
     (passes_from_list fault (frames_of c.args.heading.format names (get (codes "frames") d))
     (script_of d) (c.in_err-frames.ensures d e)
-    (λ means. script_is d c.args.heading names said
-    (sym same ∙ c.in_ok-components.ensures.names)
+    (λ means. script_is d c.args.heading names said (sym same ∙ c.in_ok-components.ensures.names)
     ∙ ap
     (λ (r : Result (List (List (List Operation))) ReadFault). r >>= λ frames. all_of
     c.args.heading names frames) means))

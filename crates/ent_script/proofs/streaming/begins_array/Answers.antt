@@ -30,12 +30,10 @@ returns-in_err-token-clause-value c d rest e =
     (sym (ap (λ ts. converted of_json (value c.args.depth ts)) empty) ∙ e)
 
 pub returns-then-depth-eq0-clause-value : goal.returns-then-depth-eq0-clause-value
-returns-then-depth-eq0-clause-value c d rest e =
-    search (rules, opened_array)
+returns-then-depth-eq0-clause-value c d rest e = search (rules, opened_array)
 
 pub returns-in-BeginArray-clause-value : goal.returns-in-BeginArray-clause-value
-returns-in-BeginArray-clause-value c d rest e =
-    search (rules, opened_array)
+returns-in-BeginArray-clause-value c d rest e = search (rules, opened_array)
 
 pub returns : goal.returns
 returns c = search (rules, other_token, no_array, passed)

@@ -22,8 +22,7 @@ use Rattle.ent_script.proofs.streaming.elements_cut.Goals as goal
 lengths : (levels : ℕ) (all later : List Data) (front : List Value)
     → map (cut levels) all ≡ map view front ++ map (cut levels) later
     → length all ≡ length front + length later
-lengths levels all later front e =
-    grind (arith, common_steps)
+lengths levels all later front e = grind (arith, common_steps)
 
 passed_over : (b : Bool) (left : List Token) (ds : Items) (rest : List Token) → PassesAtMost 0
     (Ok b) left ds rest → left ≡ rest
@@ -50,8 +49,7 @@ returns-then-len-most-clause-value c n ds rest e =
     c.args.most (omega (arith, some, full, all)) in
     let now : converted of_items (items p at.0 c.take_end_array.new.self) ≡ Some (at.1, rest) = ap
     (λ ts. converted of_items (items p at.0 ts)) going.1 ∙ at.2 in (
-      ap
-          (λ (b : Bool). option_map (map (cut c.args.levels)) (cond b (Some (list_of ds)) None))
+      ap (λ (b : Bool). option_map (map (cut c.args.levels)) (cond b (Some (list_of ds)) None))
           (sym test),
       passed_over _ _ at.1 rest (c.in_ok-passes_at_most.ensures.value at.0 at.1 rest now),
     )

@@ -10,14 +10,12 @@ use Rattle.ent_script.proofs.PassedOver.{item_over}
 use Rattle.ent_script.proofs.streaming.passes_at_most.Goals as goal
 
 few : (fits : Bool) (all room most later : ℕ) → room ≡ 0 → 0 < later →
-    (fits ≡ true → all + room ≡ most + later)
-    → (fits ≡ false → most < all) → most < all
+    (fits ≡ true → all + room ≡ most + later) → (fits ≡ false → most < all) → most < all
 few true all room most later none some fitting full = omega (arith, none, some, fitting refl)
 few false all room most later none some fitting full = full refl
 
 verdict : (fits : Bool) (most room later : ℕ) (left : List Token) (ds : Items) (rest : List Token) →
-    later ≡ 0
-    → (fits ≡ true → length (list_of ds) + room ≡ most + later) →
+    later ≡ 0 → (fits ≡ true → length (list_of ds) + room ≡ most + later) →
     (fits ≡ false → most < length (list_of ds)) → left ≡ rest
     → PassesAtMost most (Ok fits) left ds rest
 verdict true most room later left ds rest none fitting full same =
@@ -25,17 +23,13 @@ verdict true most room later left ds rest none fitting full same =
 verdict false most room later left ds rest none fitting full same = (full refl, same)
 
 pub loop-reader-preserved-then-room-eq0 : goal.loop-reader-preserved-then-room-eq0
-loop-reader-preserved-then-room-eq0 c =
-    search (rules, item_over, few)
+loop-reader-preserved-then-room-eq0 c = search (rules, item_over, few)
 
 pub loop-reader-preserved : goal.loop-reader-preserved
-loop-reader-preserved c =
-    search (rules, item_over)
+loop-reader-preserved c = search (rules, item_over)
 
 pub returns-in_err-pass_value-clause-value : goal.returns-in_err-pass_value-clause-value
-returns-in_err-pass_value-clause-value c n ds rest e =
-    search (rules, next_item, not_passed)
+returns-in_err-pass_value-clause-value c n ds rest e = search (rules, next_item, not_passed)
 
 pub returns-clause-value : goal.returns-clause-value
-returns-clause-value c n ds rest e =
-    search (rules, last_item, verdict)
+returns-clause-value c n ds rest e = search (rules, last_item, verdict)

@@ -25,5 +25,4 @@ returns-clause-value c d rest e =
     (c.in_ok-begins_array.ensures.value d rest e) (grind arith) in
     subst
     (λ (x : Data). ReadsElements c.args.levels c.args.most c.elements_cut.result
-    c.elements_cut.new.reader x rest)
-    (sym is.1) (c.elements_cut.ensures.value _ is.0 rest is.2)
+    c.elements_cut.new.reader x rest) (sym is.1) (c.elements_cut.ensures.value _ is.0 rest is.2)

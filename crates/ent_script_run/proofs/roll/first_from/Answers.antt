@@ -8,5 +8,4 @@ pub returns : goal.returns
 returns c =
     IsPartitionPoint-from_clause (is_before c.args.view.now c.args.birth) _ _
     c.partition_point.ensures.partitioned
-    (parted c.args.view.now c.args.birth c.args.handles.now c.requires)
-    (λ a r q k. search rules)
+    (parted c.args.view.now c.args.birth c.args.handles.now c.requires) (λ a r q k. search rules)

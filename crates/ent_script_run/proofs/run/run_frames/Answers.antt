@@ -21,8 +21,7 @@ loop-number-preserved g c =
       flushed = c.in_ok-report.ensures.flushed;
       run =
           subst (λ (text : List ℕ). HaveGone (take (i + 1) frames) c.args.workers c.args.show
-          c.args.world.now c.run.new.world text)
-          (sym c.in_ok-write_frame.ensures.ok)
+          c.args.world.now c.run.new.world text) (sym c.in_ok-write_frame.ensures.ok)
           (has_run c.args.workers c.args.show c.args.world.now c.loop-number.world c.run.new.world
           frames i systems c.loop-number.text.items went.0
           report.born.items report.faults.items c.loop-number-test.true c.index-frames-number.is

@@ -15,8 +15,7 @@ returns-clause-only g c alone =
     (subst (λ (n : ℕ). IsReport c.args.script.now n c.args.show other) alone also)) c.report-report.ensures
 
 pub returns-clause-given_once : goal.returns-clause-given_once
-returns-clause-given_once g c =
-    search (rules, IfOk-weaker, given_once)
+returns-clause-given_once g c = search (rules, IfOk-weaker, given_once)
 
 pub returns-clause-same : goal.returns-clause-same
 returns-clause-same g c births free =

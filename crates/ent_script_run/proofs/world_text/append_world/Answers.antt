@@ -20,11 +20,8 @@ long names s m handles text lists is =
     ++ alive_line (finite.len m)) text (record { handles = handles; lists = lists; is = refl })
     is)) ∙ length-append (flat_map (line_in names s m) handles) (alive_line (finite.len m))
 
-pub returns-in_err-append_entities-clause-full :
-    goal.returns-in_err-append_entities-clause-full
-returns-in_err-append_entities-clause-full c text is =
-    search (rules, long, err_from_is_err_and)
+pub returns-in_err-append_entities-clause-full : goal.returns-in_err-append_entities-clause-full
+returns-in_err-append_entities-clause-full c text is = search (rules, long, err_from_is_err_and)
 
 pub returns-clause-full : goal.returns-clause-full
-returns-clause-full c text is =
-    search (rules, long, length-append, on_err_weaker)
+returns-clause-full c text is = search (rules, long, length-append, on_err_weaker)

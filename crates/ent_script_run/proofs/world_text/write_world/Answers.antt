@@ -8,5 +8,4 @@ returns-else-is_err-clause-only c =
     on_ok_weaker c.append_world-written.result
     (λ p text is. p.2 ∙ ap (λ (t : List ℕ). c.args.out.now.items ++ t)
     (one_text (map string_bytes c.args.names.now) c.args.show c.args.world.now.entities p.0 text
-    p.1 is))
-    c.append_world-written.ensures.ok
+    p.1 is)) c.append_world-written.ensures.ok

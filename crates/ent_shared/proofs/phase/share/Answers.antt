@@ -35,8 +35,7 @@ loop-number-preserved c = record {
       (c.new.ensures
       ∙ (λ i. record {
         word = c.split_first.ensures.first.0 i;
-        own =
-            own_of c.split_first.result.views;
+        own = own_of c.split_first.result.views;
       })) _ c.push_reserved.ensures.items;
   count = (let was = c.loop-number.invariant.count in let now = c.push_reserved.ensures.len in
       omega arith);
@@ -48,8 +47,7 @@ loop-number-preserved c = record {
 made : (c : goal.After-drop-all) → AreShared c.args.entities.allocator c.args.n c.args.n
     c.in-Ok-open.word.shared.table_id c.loop-number.reservers.items c.loop-number.all.table_id
     c.loop-number.all.me
-made c =
-    search (rules, AreShared)
+made c = search (rules, AreShared)
 
 pub returns-clause-reservers : goal.returns-clause-reservers
 returns-clause-reservers c = all_shared c.args.entities.allocator c.args.n _ _ _ _ (made c)

@@ -18,8 +18,7 @@ merge-requires-clause-word c =
     let i = c.loop-reserver.invariant in
     let own = item_is (λ (r : Reserver). r.word ≡ c.args.word.shared.table_id)
     c.args.reservers.items c.loop-reserver.yielded c.loop-reserver.reserver-iterator.rest.items
-    c.next.new.self.rest.items c.in-Some.reserver i.all c.in-Some.ensures.steps.0 c.requires.own
-    in
+    c.next.new.self.rest.items c.in-Some.reserver i.all c.in-Some.ensures.steps.0 c.requires.own in
     (c.requires.word.0, i.seat, ap (λ (r : Reserver). r.word) c.reserver.view_is ∙ own, i.bare)
 
 pub loop-reserver-preserved : goal.loop-reserver-preserved
@@ -46,8 +45,7 @@ loop-reserver-preserved c =
           omega (arith, ints) in
           floor_on (to_z w64 (of_z w64 c.args.top)) (to_z w64 c.loop-reserver.floor-bits)
           (to_z w64 (of_z w64 c.min-floor.result)) (to_z w64 (of_z w64 c.reserver.inside.floor))
-          c.loop-reserver.yielded c.in-Some.reserver i.floor
-          (after ∙ c.min-floor.ensures.value)
+          c.loop-reserver.yielded c.in-Some.reserver i.floor (after ∙ c.min-floor.ensures.value)
           (own ∙ (view.floor_is ∙ ap (λ (r : Reserver). r.own.floor) c.reserver.view_is));
     }
 
@@ -57,13 +55,10 @@ close-requires c =
 
 -- all that were handed in were taken in
 all_in : (c : goal.After-close) → c.loop-reserver.yielded ≡ c.args.reservers.items
-all_in c =
-    search (rules, items_all)
+all_in c = search (rules, items_all)
 
 pub returns-clause-cursor : goal.returns-clause-cursor
-returns-clause-cursor c =
-    grind (arith, common_steps)
+returns-clause-cursor c = grind (arith, common_steps)
 
 pub returns-clause-floor : goal.returns-clause-floor
-returns-clause-floor c =
-    grind (arith, common_steps)
+returns-clause-floor c = grind (arith, common_steps)

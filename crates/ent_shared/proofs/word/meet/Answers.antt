@@ -4,12 +4,10 @@ use Rattle.ent_shared.proofs.Steps.{meets_at, splits_others}
 use Rattle.ent_shared.proofs.word.meet.Goals as goal
 
 first : (c : goal.After-seat-1) → c.into_seat-seat.result.me.0 ≡ own_of c.args.a.now.views ∷ []
-first c =
-    search (rules)
+first c = search (rules)
 
 second : (c : goal.After-seat-1) → c.into_seat-other.result.me.0 ≡ own_of c.args.b.now.views ∷ []
-second c =
-    search (rules)
+second c = search (rules)
 
 pub join_seat-requires : goal.join_seat-requires
 join_seat-requires c = (

@@ -5,5 +5,4 @@ use Rattle.ent_shared.proofs.Ends.{begins}
 use Rattle.ent_shared.proofs.word.open.Goals as goal
 
 pub of_words-requires : goal.of_words-requires
-of_words-requires c =
-    search (rules, ints, begins, word_is)
+of_words-requires c = search (rules, ints, begins, word_is)

@@ -7,8 +7,7 @@ use Rattle.ent_shared.proofs.word.reserve.Goals as goal
 
 -- the seat has the badge's record alone
 seat : (c : goal.After-into) → c.into_seat-seat.result.me.0 ≡ own_of c.args.badge.now.views ∷ []
-seat c =
-    search (rules)
+seat c = search (rules)
 
 pub fetch_sub-found-requires : goal.fetch_sub-found-requires
 fetch_sub-found-requires c = (
@@ -38,8 +37,7 @@ pub overflow_sub-result : goal.overflow_sub-result
 overflow_sub-result c = cursor_fits c.fetch_sub-found.result (told c).least (told c).greatest
 
 pub returns-clause-gains : goal.returns-clause-gains
-returns-clause-gains c =
-    search (rules, told, cursor_is)
+returns-clause-gains c = search (rules, told, cursor_is)
 
 pub returns-clause-mark : goal.returns-clause-mark
 returns-clause-mark c =
@@ -55,5 +53,4 @@ returns-clause-least c =
     rw is (least_cursor c.fetch_sub-found.result least)
 
 pub returns-clause-greatest : goal.returns-clause-greatest
-returns-clause-greatest c =
-    search (rules, told, cursor_is)
+returns-clause-greatest c = search (rules, told, cursor_is)

@@ -23,5 +23,4 @@ returns-else-number-columns-clause-here c =
     (taken_none c.args.columns.now c.args.place c.args.id (omega arith)).1
 
 pub returns-then-number-columns-clause-rest : goal.returns-then-number-columns-clause-rest
-returns-then-number-columns-clause-rest c n none =
-    search (rules, removed_rest)
+returns-then-number-columns-clause-rest c n none = search (rules, removed_rest)

@@ -11,8 +11,7 @@ module _ (c : goal.After-push_reserved) where
   gap : IsGapFor handle_cmp c.args.pairs.now.items c.args.pair.0 c.len-end.result
   gap = rw (c.deref.ensures.value, c.handle.ensures) at c.is_gap.ensures c.if-is_gap.true
 
-  end : insert c.args.pairs.now.items c.len-end.result c.args.pair
-      ≡ c.push_reserved.new.self.items
+  end : insert c.args.pairs.now.items c.len-end.result c.args.pair ≡ c.push_reserved.new.self.items
   end =
       let position : c.len-end.result ≡ length c.args.pairs.now.items =
       omega (arith, c.len-end.ensures, c.args.pairs.now.ok.0) in

@@ -20,8 +20,7 @@ free : (c : In-Some) → IsFree c.args.living.now.entities c.args.pairs.now.item
 free c = rw c.deref.ensures.value at c.in-Some.ensures.free
 
 beside : (c : In-Some) → IsBeside c.args.pairs.now.items c.args.pair.0 c.in-Some.other
-beside c =
-    search (rules, free)
+beside c = search (rules, free)
 
 pub returns-in-Some-clause-sorted : goal.returns-in-Some-clause-sorted
 returns-in-Some-clause-sorted c =
@@ -36,14 +35,12 @@ returns-in-Some-clause-placed c =
     c.args.pair.1 c.in-Some.other at.inside at.below at.above
 
 pub returns-in-Some-clause-kept : goal.returns-in-Some-clause-kept
-returns-in-Some-clause-kept c =
-    grind (arith, common_steps, beside, over_kept, free)
+returns-in-Some-clause-kept c = grind (arith, common_steps, beside, over_kept, free)
 
 -- at the end
 end : (c : goal.After-push_reserved) → insert c.args.pairs.now.items c.args.position c.args.pair
     ≡ c.push_reserved.new.self.items
-end c =
-    search (rules, insert_end)
+end c = search (rules, insert_end)
 
 pub returns-in-None-clause-sorted : goal.returns-in-None-clause-sorted
 returns-in-None-clause-sorted c =

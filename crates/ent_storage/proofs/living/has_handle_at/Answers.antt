@@ -21,5 +21,4 @@ returns-in-Some c =
     c.living.view_is
 
 pub returns-in-None : goal.returns-in-None
-returns-in-None c =
-    search (rules, test_past)
+returns-in-None c = search (rules, test_past)

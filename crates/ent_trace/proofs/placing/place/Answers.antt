@@ -14,9 +14,7 @@ front_at-requires-clause-least c =
     omega (arith, ints)
 
 pub front_at-requires-clause-passed : goal.front_at-requires-clause-passed
-front_at-requires-clause-passed c =
-    search (rules, top_before, ints)
+front_at-requires-clause-passed c = search (rules, top_before, ints)
 
 pub returns-clause-differs : goal.returns-clause-differs
-returns-clause-differs c =
-    search (rules, ints, front_before)
+returns-clause-differs c = search (rules, ints, front_before)

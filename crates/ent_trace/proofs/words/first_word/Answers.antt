@@ -4,9 +4,7 @@ use Rattle.ent_trace.proofs.WordParts.{first_word_none, first_word_found, is_lon
 use Rattle.ent_trace.proofs.words.first_word.Goals as goal
 
 pub returns-then-is_empty-clause-none : goal.returns-then-is_empty-clause-none
-returns-then-is_empty-clause-none c =
-    search (rules, first_word_none, eqb-true)
+returns-then-is_empty-clause-none c = search (rules, first_word_none, eqb-true)
 
 pub returns-clause-found : goal.returns-clause-found
-returns-clause-found c =
-    search (rules, first_word_found, is_long)
+returns-clause-found c = search (rules, first_word_found, is_long)

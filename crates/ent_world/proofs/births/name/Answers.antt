@@ -34,5 +34,4 @@ returns-else-before-place-clause-named c =
 
 -- it has no place
 pub returns-in_default-clause-named : goal.returns-in_default-clause-named
-returns-in_default-clause-named c =
-    search (rules, named_before, stands_nowhere)
+returns-in_default-clause-named c = search (rules, named_before, stands_nowhere)

@@ -5,5 +5,4 @@ use Rattle.ent_world.proofs.births.name_queue.Goals as goal
 
 -- the next command's handles are named
 pub loop-entry-preserved : goal.loop-entry-preserved
-loop-entry-preserved c =
-    search (rules, named-append, flat_map-cons)
+loop-entry-preserved c = search (rules, named-append, flat_map-cons)

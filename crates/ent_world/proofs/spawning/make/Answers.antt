@@ -10,16 +10,13 @@ use Rattle.ent_world.proofs.spawning.make.Goals as goal
 
 -- the entity without its components goes again
 pub returns-then-is_err-2-clause-err : goal.returns-then-is_err-2-clause-err
-returns-then-is_err-2-clause-err c =
-    search (rules, on_ok, on_err, taken_back)
+returns-then-is_err-2-clause-err c = search (rules, on_ok, on_err, taken_back)
 
 pub returns-then-is_err-2-clause-unplaced : goal.returns-then-is_err-2-clause-unplaced
-returns-then-is_err-2-clause-unplaced c =
-    search (rules, on_ok, end_taken_back)
+returns-then-is_err-2-clause-unplaced c = search (rules, on_ok, end_taken_back)
 
 pub returns-then-is_err-2-clause-no_less : goal.returns-then-is_err-2-clause-no_less
-returns-then-is_err-2-clause-no_less c =
-    grind (arith, common_steps)
+returns-then-is_err-2-clause-no_less c = grind (arith, common_steps)
 
 pub returns-then-is_err-2-clause-memory : goal.returns-then-is_err-2-clause-memory
 returns-then-is_err-2-clause-memory c =
@@ -31,12 +28,10 @@ returns-then-is_err-2-clause-memory c =
 
 -- no room was there
 pub returns-then-is_err-clause-memory : goal.returns-then-is_err-clause-memory
-returns-then-is_err-clause-memory c =
-    search (rules, no_room)
+returns-then-is_err-clause-memory c = search (rules, no_room)
 
 pub returns-clause-less : goal.returns-clause-less
-returns-clause-less c =
-    search (rules, on_ok)
+returns-clause-less c = search (rules, on_ok)
 
 pub returns-clause-ok : goal.returns-clause-ok
 returns-clause-ok c =

@@ -40,12 +40,10 @@ unreachable-requires c =
     (c.in_default-next.ensures.steps).0
 
 pub returns-clause-front : goal.returns-clause-front
-returns-clause-front c =
-    search (rules, replied, one_given)
+returns-clause-front c = search (rules, replied, one_given)
 
 pub returns-clause-new : goal.returns-clause-new
-returns-clause-new c =
-    search (rules, replied, given_new)
+returns-clause-new c = search (rules, replied, given_new)
 
 pub returns-clause-space : goal.returns-clause-space
 returns-clause-space c =

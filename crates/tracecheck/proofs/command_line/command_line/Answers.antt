@@ -14,8 +14,7 @@ returns-in_err-matches-clause-refused g c =
     (ap (λ (a : App). takes a words) c.in_ok-program.ensures ∙ yes))
 
 pub returns-in_err-matches-clause-fault : goal.returns-in_err-matches-clause-fault
-returns-in_err-matches-clause-fault g c =
-    grind (arith, common_steps)
+returns-in_err-matches-clause-fault g c = grind (arith, common_steps)
 
 pub limits_of-requires-clause-slots : goal.limits_of-requires-clause-slots
 limits_of-requires-clause-slots g c =
@@ -26,8 +25,7 @@ limits_of-requires-clause-generations g c =
     generations-given _ _ c.in_ok-program.ensures c.in_ok-matches.ensures.parsed
 
 pub returns-clause-asked : goal.returns-clause-asked
-returns-clause-asked g c =
-    grind (arith, common_steps)
+returns-clause-asked g c = grind (arith, common_steps)
 
 pub returns-clause-taken : goal.returns-clause-taken
 returns-clause-taken g c =

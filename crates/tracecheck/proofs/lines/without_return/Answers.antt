@@ -5,8 +5,7 @@ use Rattle.tracecheck.proofs.lines.without_return.Goals as goal
 
 cut : (line front : List ℕ) (last : ℕ) → line ≡ front ++ last ∷ [] → last ≡ 13
     → front ≡ without_return line
-cut line front last is return =
-    search (rules, without_return-return)
+cut line front last is return = search (rules, without_return-return)
 
 whole : (line front : List ℕ) (last : ℕ) → line ≡ front ++ last ∷ [] → (last ≡ 13 → ⊥)
     → line ≡ without_return line

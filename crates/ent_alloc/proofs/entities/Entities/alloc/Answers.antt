@@ -23,14 +23,12 @@ room_is : (r old : Roster) (room : ℕ) → old ≡ r → room ≡ old.limits.sl
 room_is r old room same is = is ∙ ap (λ (x : Roster). x.limits.slots - x.made) same
 
 some_room : (c : Then-room-gt0) → c.self.inside.slots.made < c.self.inside.slots.limits.slots
-some_room c =
-    search (rules, room_is)
+some_room c = search (rules, room_is)
 
 -- so some handle can be given
 none_left : (c : Then-room-gt0) → IsAtRest c.self.inside.slots c.self.inside.requests
     c.args.self.now.allocator → c.args.self.now.allocator.pool ≡ [] → ⊥
-none_left c rest none =
-    search (rules, some_room, length_pool, rest)
+none_left c rest none = search (rules, some_room, length_pool, rest)
 
 -- the slot that waits last gives its next handle
 reused : (c : In-Some) → IsAtRest c.self.inside.slots c.self.inside.requests
@@ -42,8 +40,7 @@ reused c rest = reused_given c.self.inside.slots c.self.inside.requests c.args.s
 
 -- no slot waits, and one is made
 made : (c : In_ok-make_one) → IsAtRest c.self.inside.slots c.self.inside.requests
-    c.args.self.now.allocator
-    → c.self.inside.slots.made < c.self.inside.slots.limits.slots
+    c.args.self.now.allocator → c.self.inside.slots.made < c.self.inside.slots.limits.slots
     → IsGiven c.self.inside.requests c.args.self.now.allocator c.in_ok-make_one.field-0
     c.make_one.new.self
 made c rest room =
@@ -72,8 +69,7 @@ invariant_of-self-then-room-gt0 c =
     (made at.In_ok-make_one (rest at.Else-needs_flush) (some_room at.Then-room-gt0)).stands.reserved
 
 pub returns-in-Some-clause-front : goal.returns-in-Some-clause-front
-returns-in-Some-clause-front c =
-    search (rules, reused, rest)
+returns-in-Some-clause-front c = search (rules, reused, rest)
 
 pub returns-in-Some-clause-ok : goal.returns-in-Some-clause-ok
 returns-in-Some-clause-ok c =
@@ -81,8 +77,7 @@ returns-in-Some-clause-ok c =
     (reused at.In-Some (rest at.Else-needs_flush)).stands.view
 
 pub returns-in_ok-make_one-clause-front : goal.returns-in_ok-make_one-clause-front
-returns-in_ok-make_one-clause-front c =
-    search (rules, made, rest, some_room)
+returns-in_ok-make_one-clause-front c = search (rules, made, rest, some_room)
 
 pub returns-in_ok-make_one-clause-ok : goal.returns-in_ok-make_one-clause-ok
 returns-in_ok-make_one-clause-ok c =
@@ -90,20 +85,16 @@ returns-in_ok-make_one-clause-ok c =
     (made at.In_ok-make_one (rest at.Else-needs_flush) (some_room at.Then-room-gt0)).stands.view
 
 pub returns-in_ok-make_one-clause-space : goal.returns-in_ok-make_one-clause-space
-returns-in_ok-make_one-clause-space c =
-    search (rules, none_left, rest)
+returns-in_ok-make_one-clause-space c = search (rules, none_left, rest)
 
 pub returns-in_err-make_one-clause-space : goal.returns-in_err-make_one-clause-space
-returns-in_err-make_one-clause-space c =
-    search (rules, not_space, none_left, rest)
+returns-in_err-make_one-clause-space c = search (rules, not_space, none_left, rest)
 
 pub returns-in_err-make_one-clause-memory : goal.returns-in_err-make_one-clause-memory
-returns-in_err-make_one-clause-memory c =
-    search (rules, top_view, allocator_is)
+returns-in_err-make_one-clause-memory c = search (rules, top_view, allocator_is)
 
 pub returns-else-room-gt0-clause-space : goal.returns-else-room-gt0-clause-space
-returns-else-room-gt0-clause-space c =
-    search (rules, room_is, length_pool, nil_from_length)
+returns-else-room-gt0-clause-space c = search (rules, room_is, length_pool, nil_from_length)
 
 pub returns-in-Some-clause-no_row : goal.returns-in-Some-clause-no_row
 returns-in-Some-clause-no_row c =
@@ -116,11 +107,9 @@ returns-in-Some-clause-rows_of_living c =
     (reused at.In-Some (rest at.Else-needs_flush)).stands.reserved.rows
 
 pub returns-in_ok-make_one-clause-no_row : goal.returns-in_ok-make_one-clause-no_row
-returns-in_ok-make_one-clause-no_row c =
-    search (rules, made, rest, some_room)
+returns-in_ok-make_one-clause-no_row c = search (rules, made, rest, some_room)
 
-pub returns-in_ok-make_one-clause-rows_of_living :
-    goal.returns-in_ok-make_one-clause-rows_of_living
+pub returns-in_ok-make_one-clause-rows_of_living : goal.returns-in_ok-make_one-clause-rows_of_living
 returns-in_ok-make_one-clause-rows_of_living c =
     let at = goal.at.returns-in_ok-make_one-clause-rows_of_living c in
     let given = made at.In_ok-make_one (rest at.Else-needs_flush) (some_room at.Then-room-gt0) in

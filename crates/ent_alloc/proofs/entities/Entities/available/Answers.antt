@@ -4,9 +4,7 @@ use Rattle.ent_alloc.proofs.Meaning.{allocator_is, available_is, length-idle}
 use Rattle.ent_alloc.proofs.entities.Entities.available.Goals as goal
 
 pub returns-clause-value : goal.returns-clause-value
-returns-clause-value c =
-    search (rules, allocator_is, available_is, length-idle)
+returns-clause-value c = search (rules, allocator_is, available_is, length-idle)
 
 pub returns-clause-fits : goal.returns-clause-fits
-returns-clause-fits c =
-    grind (arith, common_steps)
+returns-clause-fits c = grind (arith, common_steps)

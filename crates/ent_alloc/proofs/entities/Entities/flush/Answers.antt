@@ -28,8 +28,7 @@ record AreCounted (waiting given kept news : ℕ) : Type 0 where
 
 counted : (c : After-fresh-fresh) → AreCounted (length c.self.inside.slots.pending)
     c.self.inside.requests.served c.kept-kept.result c.fresh-fresh.result
-counted c =
-    search (rules)
+counted c = search (rules)
 
 -- the roster that a flush leaves stands for the flushed allocator
 left : (c : After-none-self-inside) → AreCounted (length c.self.inside.slots.pending)
@@ -46,8 +45,7 @@ left c counts =
     closed c.bring_to_life.new.self (flushed_roster r kept news)
     c.none-self-inside.result (after_flush s)
     (c.in_ok-bring_to_life.ensures.ok
-    ∙ (λ i. flushed_roster r (counts.kept_is i) (counts.news_is i)))
-    c.none-self-inside.ensures
+    ∙ (λ i. flushed_roster r (counts.kept_is i) (counts.news_is i))) c.none-self-inside.ensures
     (flush_is r c.self.inside.requests.asked c.self.inside.requests.served inv.given_least
     inv.given_in inv.sound ∙ ap after_flush view)
     (after_flush-sound s (subst IsSound view inv.sound))
@@ -64,12 +62,10 @@ invariant_of-self-2 c =
     (left at.After-none-self-inside (counted at.After-fresh-fresh)).reserved
 
 pub returns-clause-ok : goal.returns-clause-ok
-returns-clause-ok c =
-    search (rules, left, counted)
+returns-clause-ok c = search (rules, left, counted)
 
 pub returns-clause-born : goal.returns-clause-born
-returns-clause-born c =
-    search (rules, counted, born_is_listed, allocator_is)
+returns-clause-born c = search (rules, counted, born_is_listed, allocator_is)
 
 pub returns-clause-no_rows : goal.returns-clause-no_rows
 returns-clause-no_rows c k d below =

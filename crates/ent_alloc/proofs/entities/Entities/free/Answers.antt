@@ -37,12 +37,10 @@ not_last c last = search (rules)
 
 -- the handle lives
 lives : (c : Else-not-is_alive) → sets.contains c.args.self.now.allocator.live c.args.handle ≡ true
-lives c =
-    grind (arith, common_steps)
+lives c = grind (arith, common_steps)
 
 -- the row goes with it
-removed : (c : Else-needs_flush)
-    → AreOf (sets.remove c.self.inside.slots.live c.args.handle)
+removed : (c : Else-needs_flush) → AreOf (sets.remove c.self.inside.slots.live c.args.handle)
     (maps.remove c.self.inside.slots.rows c.args.handle)
 removed c = search (rules, rows-removed)
 
@@ -52,26 +50,20 @@ left : (c : Else-not-is_alive) (new after : Roster)
     → allocator_of after 0 0 ≡ after_free c.args.self.now.allocator c.args.handle
     → HasRowsOfLiving (entities_of after 0 0)
     → StandFor new c.self.inside.requests (after_free c.args.self.now.allocator c.args.handle)
-left c new after rest same is rows =
-    search (rules, closed, after_free-sound, lives)
+left c new after rest same is rows = search (rules, closed, after_free-sound, lives)
 
 pub invariant_of-self : goal.invariant_of-self
-invariant_of-self c =
-    search (rules, left, rest, retired_is, removed)
+invariant_of-self c = search (rules, left, rest, retired_is, removed)
 
 pub invariant_of-self-2 : goal.invariant_of-self-2
-invariant_of-self-2 c =
-    search (rules, not_last, left, rest, freed_is, removed)
+invariant_of-self-2 c = search (rules, not_last, left, rest, freed_is, removed)
 
 pub returns-clause-ok : goal.returns-clause-ok
-returns-clause-ok c =
-    grind (arith, common_steps)
+returns-clause-ok c = grind (arith, common_steps)
 
 pub returns-then-generation-generations-clause-rows_of_living :
     goal.returns-then-generation-generations-clause-rows_of_living
-returns-then-generation-generations-clause-rows_of_living c =
-    search (rules, AreOf, removed)
+returns-then-generation-generations-clause-rows_of_living c = search (rules, AreOf, removed)
 
 pub returns-clause-rows_of_living : goal.returns-clause-rows_of_living
-returns-clause-rows_of_living c =
-    search (rules, AreOf, removed)
+returns-clause-rows_of_living c = search (rules, AreOf, removed)

@@ -23,8 +23,7 @@ many : (c : After-available-available) → IsCounted c.self.inside.slots c.self.
 many c = search (rules, allocator_is, length_available)
 
 pub new-span-requires-clause-greatest : goal.new-span-requires-clause-greatest
-new-span-requires-clause-greatest c =
-    grind (arith, common_steps)
+new-span-requires-clause-greatest c = grind (arith, common_steps)
 
 pub invariant_of-self : goal.invariant_of-self
 invariant_of-self c =
@@ -46,8 +45,7 @@ invariant_of-self c =
     ]
 
 pub returns-clause-step : goal.returns-clause-step
-returns-clause-step c =
-    search (rules, allocator_is, many, cases_lt, refused_view, served_view)
+returns-clause-step c = search (rules, allocator_is, many, cases_lt, refused_view, served_view)
 
 pub returns-clause-valid : goal.returns-clause-valid
 returns-clause-valid c =

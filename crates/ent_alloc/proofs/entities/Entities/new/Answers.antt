@@ -7,8 +7,7 @@ use Rattle.ent_alloc.proofs.RowsOfLiving.{no_rows}
 use Rattle.ent_alloc.proofs.entities.Entities.new.Goals as goal
 
 pub invariant_of-result : goal.invariant_of-result
-invariant_of-result c =
-    search (rules, AreReserved-flushed, opening_is, opening-sound, no_rows)
+invariant_of-result c = search (rules, AreReserved-flushed, opening_is, opening-sound, no_rows)
 
 pub returns-clause-rows_of_living : goal.returns-clause-rows_of_living
 returns-clause-rows_of_living c = (invariant_of-result c).rows

@@ -17,8 +17,7 @@ nowhere : (r : Roster) (asked given : ℕ) (s : Allocator) (h : Handle) → AreR
     → allocator_of r asked given ≡ s → stands_in (drop 0 r.pending) h ≡ false
     → stands_in (fresh r.made (r.limits.slots - r.made)) h ≡ false
     → stands_in (available s) h ≡ false
-nowhere r asked given s h inv view waits fresh_is =
-    search (rules, available_view, stands_idle)
+nowhere r asked given s h inv view waits fresh_is = search (rules, available_view, stands_idle)
 
 -- where it waits
 waiting : (r : Roster) (h : Handle) (position : ℕ)
@@ -92,16 +91,14 @@ returns-in-None-clause-none c =
     let e = c.self.inside in
     let made : c.args.handle.index < e.slots.made = c.is_made.ensures.0 c.if-is_made.true in
     nowhere e.slots e.requests.asked e.requests.served c.args.self.now.allocator c.args.handle
-    c.self.invariant (allocator_is c.self.view_is)
-    (c.in-None.ensures.waits 0)
+    c.self.invariant (allocator_is c.self.view_is) (c.in-None.ensures.waits 0)
     (fresh_no c.args.handle e.slots.made (e.slots.limits.slots - e.slots.made)
     (λ _ after _. absurd (omega arith)))
 
 -- how many slots can still be made
 room_is : (r : Roster) (asked given : ℕ) (s : Allocator) (room : ℕ) → allocator_of r asked given ≡ s
     → room ≡ s.limits.slots - s.made → r.limits.slots - r.made ≡ room
-room_is r asked given s room view is =
-    ap (λ (t : Allocator). t.limits.slots - t.made) view ∙ sym is
+room_is r asked given s room view is = ap (λ (t : Allocator). t.limits.slots - t.made) view ∙ sym is
 
 pub returns-in-None-2-clause-found : goal.returns-in-None-2-clause-found
 returns-in-None-2-clause-found c =
@@ -115,7 +112,6 @@ returns-in-None-3-clause-none c =
     let count = room_is r e.requests.asked e.requests.served c.args.self.now.allocator
     c.room.result view c.room.ensures in
     nowhere r e.requests.asked e.requests.served c.args.self.now.allocator c.args.handle
-    c.self.invariant view
-    (c.in-None-3.ensures.waits 0)
+    c.self.invariant view (c.in-None-3.ensures.waits 0)
     (ap (λ n. stands_in (fresh r.made n) c.args.handle) count
     ∙ sym c.is_next.ensures ∙ c.if-is_next.false)

@@ -29,8 +29,7 @@ lists : (c : After-self) (n position end index index_end : ℕ)
 lists c = search (rules, several, allocator_is)
 
 pub returns-then-low-high : goal.returns-then-low-high
-returns-then-low-high c =
-    search (rules, lies, ints, fresh-none, reply_none, replied, allocator_is)
+returns-then-low-high c = search (rules, lies, ints, fresh-none, reply_none, replied, allocator_is)
 
 pub new-requires-then-low-ge0 : goal.new-requires-then-low-ge0
 new-requires-then-low-ge0 c =
@@ -43,8 +42,7 @@ pub returns-then-low-ge0 : goal.returns-then-low-ge0
 returns-then-low-ge0 c =
     let start = (goal.at.returns-then-low-ge0 c).After-self in
     let at = lies start in
-    λ n requested.
-    ap Ok c.new-then-low-ge0.ensures
+    λ n requested. ap Ok c.new-then-low-ge0.ensures
     ∙ lists start n _ _ _ _
     (served _ _ _ _ _ _ _ (omega (arith, ints)) (omega (arith, ints)) (omega (arith, ints))
     (omega (arith, ints)) (omega (arith, ints)))
@@ -76,8 +74,7 @@ returns-then-high-gt0 c =
     let start = (goal.at.returns-then-high-gt0 c).After-self in
     let at = lies start in
     let slots = slots_is (goal.at.returns-then-high-gt0 c).After-slots in
-    λ n requested.
-    ap Ok c.new-then-high-gt0.ensures
+    λ n requested. ap Ok c.new-then-high-gt0.ensures
     ∙ lists start n _ _ _ _
     (served _ _ _ _ _ _ _ (omega (arith, ints)) (omega (arith, ints)) (omega (arith, ints))
     (omega (arith, ints)) (omega (arith, ints)))
@@ -95,8 +92,7 @@ returns c =
     let start = (goal.at.returns c).After-self in
     let at = lies start in
     let slots = slots_is (goal.at.returns c).After-slots in
-    λ n requested.
-    ap Ok c.new-2.ensures
+    λ n requested. ap Ok c.new-2.ensures
     ∙ lists start n 0 0
     (c.made-made.result + nat_abs
     (to_z w64 (of_z w64 (pos 0 -ℤ to_z w64 (of_z w64 c.args.span.high)))))

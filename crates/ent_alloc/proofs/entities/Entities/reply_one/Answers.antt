@@ -17,8 +17,7 @@ slots_is : (c : After-slots) → c.slots.result ≡ c.self.inside.slots.limits.s
 slots_is c = c.slots.ensures ∙ ap (λ (l : Limits). l.slots) c.limits.ensures
 
 pub returns-then-high-gt0 : goal.returns-then-high-gt0
-returns-then-high-gt0 c =
-    search (rules, lies, one_pending, allocator_is, ints)
+returns-then-high-gt0 c = search (rules, lies, one_pending, allocator_is, ints)
 
 pub returns-then-index-from : goal.returns-then-index-from
 returns-then-index-from c =

@@ -11,8 +11,7 @@ use Rattle.ent_alloc.proofs.entities.Entities.retired.Goals as goal
 counted : (c : After-waiting) → let s = c.args.self.now.allocator in
     (c.live.result ≡ set.len s.live) × (c.waiting.result ≡ top s) × (c.total.result ≡ s.made)
     × (retired s + (set.len s.live + top s) ≡ s.made)
-counted c =
-    search (rules, allocator_is, top_view, retired-rest)
+counted c = search (rules, allocator_is, top_view, retired-rest)
 
 pub overflow_sub-result : goal.overflow_sub-result
 overflow_sub-result c =
@@ -25,13 +24,10 @@ overflow_sub-result c =
     omega arith
 
 pub overflow_sub-result-2 : goal.overflow_sub-result-2
-overflow_sub-result-2 c =
-    search (rules, counted)
+overflow_sub-result-2 c = search (rules, counted)
 
 pub returns-clause-value : goal.returns-clause-value
-returns-clause-value c =
-    search (rules, counted)
+returns-clause-value c = search (rules, counted)
 
 pub returns-clause-rest : goal.returns-clause-rest
-returns-clause-rest c =
-    search (rules, counted)
+returns-clause-rest c = search (rules, counted)

@@ -21,12 +21,10 @@ record AreAsked (top : ℕ) (cursor floor : ℤ) (asked given : ℕ) : Type 0 wh
 asked : (c : After-distance-2) → top c.args.self.now.allocator ≡ length c.self.inside.slots.pending
     → AreAsked (top c.args.self.now.allocator) c.args.cursor c.args.floor c.distance.result
     c.distance-2.result
-asked c tops =
-    search (rules, ints, tops)
+asked c tops = search (rules, ints, tops)
 
 pub distance-requires-2-clause-passed : goal.distance-requires-2-clause-passed
-distance-requires-2-clause-passed c =
-    grind (arith, common_steps)
+distance-requires-2-clause-passed c = grind (arith, common_steps)
 
 pub invariant_of-self : goal.invariant_of-self
 invariant_of-self c =
@@ -68,6 +66,5 @@ returns-clause-requests c =
     let long = length-all s sound c.requires.flushed in
     (returns-clause-settled c)
     ∙ settled-requests s sound c.requires.flushed (asked_at (top s) c.args.floor)
-    (asked_at (top s) c.args.cursor)
-    (omega (arith, ints)) (omega (arith, ints))
+    (asked_at (top s) c.args.cursor) (omega (arith, ints)) (omega (arith, ints))
     (λ within. ap (asked_at (top s)) (c.requires.all_given (omega (arith, ints))))

@@ -18,14 +18,12 @@ told : (s : Allocator) (r : Roster) (asked given : ℕ) (h : Handle) → AreRese
     → reserved ≡ (stands_in (drop (length r.pending - given) r.pending) h || stands_in
     (fresh r.made (given - length r.pending)) h)
     → {b : Bool} → reserved ≡ b → cond b Reserved Gone ≡ state_of s h
-told s r asked given h inv view reserved dead is test =
-    search (rules, stands_in_taken)
+told s r asked given h inv view reserved dead is test = search (rules, stands_in_taken)
 
 -- the test of the code, whichever branch made it
 told_by : (c : Joined-occupancy_of) → {b : Bool} → c.match-occupancy_of.reserved ≡ b
     → cond b Reserved Gone ≡ state_of c.args.self.now.allocator c.args.handle
-told_by c {b} test =
-    search (rules, told, allocator_is, fresh_no, or-false)
+told_by c {b} test = search (rules, told, allocator_is, fresh_no, or-false)
 
 pub returns-then-reserved : goal.returns-then-reserved
 returns-then-reserved c =

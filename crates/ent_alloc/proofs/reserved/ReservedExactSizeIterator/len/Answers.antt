@@ -3,5 +3,4 @@ use Rattle.ent_alloc.proofs.Listing.{length-reserved_handles}
 use Rattle.ent_alloc.proofs.reserved.ReservedExactSizeIterator.len.Goals as goal
 
 pub returns-clause-value : goal.returns-clause-value
-returns-clause-value c =
-    search (rules, length-reserved_handles)
+returns-clause-value c = search (rules, length-reserved_handles)

@@ -16,15 +16,13 @@ use Rattle.ent_alloc.proofs.slots.Slots.bring_to_life.Goals as goal
 written : (lent records new : List SlotRecord) (slots pending : List ℕ) (kept : ℕ) → lent ≡ records
     → slots ≡ pending → new ≡ reused lent (take (length slots - kept) (drop kept slots)) → new
     ≡ reused records (drop kept pending)
-written lent records new slots pending kept same same_pending is =
-    search (rules, take_rest)
+written lent records new slots pending kept same same_pending is = search (rules, take_rest)
 
 -- the handles that waited are those of the pending slots
 waited : (lent records : List SlotRecord) (slots pending : List ℕ) (kept : ℕ) → lent ≡ records
     → slots ≡ pending → map (handle_at lent) (take (length slots - kept) (drop kept slots))
     ≡ drop kept (map (handle_at records) pending)
-waited lent records slots pending kept same same_pending =
-    (search (rules, take_rest, drop-map))
+waited lent records slots pending kept same same_pending = (search (rules, take_rest, drop-map))
 
 -- what the two loops leave in the records
 record AreWritten (records : List SlotRecord) (pending : List ℕ) (fresh kept slots : ℕ)
@@ -38,8 +36,7 @@ record AreWritten (records : List SlotRecord) (pending : List ℕ) (fresh kept s
 all_written : (c : After-reuse_all) → AreWritten c.self.inside.records.items
     c.self.inside.pending.items c.args.fresh c.args.kept c.self.inside.limits.slots
     c.make_all.new.records.items c.reuse_all.new.records c.make_all.new.records.len
-all_written c =
-    grind (arith, common_steps)
+all_written c = grind (arith, common_steps)
 
 -- the records with the new slots are linked, and stand for the roster with their first occupants
 linked : (c : After-reuse_all) → AreLinked c.self.inside.limits (c.self.inside.records.items
@@ -64,8 +61,7 @@ grown_roster c =
     }) c.self.view_is
 
 pub reuse_all-requires-clause-room : goal.reuse_all-requires-clause-room
-reuse_all-requires-clause-room c =
-    grind (arith, common_steps)
+reuse_all-requires-clause-room c = grind (arith, common_steps)
 
 pub invariant_of-self-2 : goal.invariant_of-self-2
 invariant_of-self-2 c =
@@ -100,8 +96,7 @@ returns-clause-ok c =
     ∙ (λ i. let r : Roster = grown_roster at i in
     record r {
       live = sets.union r.live (sets.from_list (drop kept r.pending));
-      pending =
-          take kept r.pending;
+      pending = take kept r.pending;
     })
 
 pub returns-clause-born : goal.returns-clause-born

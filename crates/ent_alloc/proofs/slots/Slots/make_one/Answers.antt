@@ -44,6 +44,5 @@ returns-clause-ok c =
     }) c.self.view_is
     ∙ ap (λ (hs : List Handle). record r {
       live = sets.union r.live (sets.from_list hs);
-      made =
-          r.made + 1;
+      made = r.made + 1;
     }) one

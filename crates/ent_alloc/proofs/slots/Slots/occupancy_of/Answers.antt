@@ -18,12 +18,10 @@ found : (c : After-occupancy_of) → c.occupancy_of.result
 found c = search (rules)
 
 pub returns-clause-lives : goal.returns-clause-lives
-returns-clause-lives c =
-    search (rules, contains_occupants, is_occupant-occupancy, found)
+returns-clause-lives c = search (rules, contains_occupants, is_occupant-occupancy, found)
 
 pub returns-clause-row : goal.returns-clause-row
-returns-clause-row c =
-    search (rules, get_rows, row_at-occupancy, found)
+returns-clause-row c = search (rules, get_rows, row_at-occupancy, found)
 
 pub returns-clause-waits : goal.returns-clause-waits
 returns-clause-waits c from =
@@ -36,5 +34,4 @@ returns-clause-waits c from =
     ∙ sym (ap (λ o. waits_from o from) (found (goal.at.returns-clause-waits c).After-occupancy_of))
 
 pub returns-clause-made : goal.returns-clause-made
-returns-clause-made c =
-    grind (arith, common_steps)
+returns-clause-made c = grind (arith, common_steps)

@@ -34,8 +34,7 @@ overflow_sub-self c =
     c.args.handle c.self.invariant is
 
 pub from_parts-requires : goal.from_parts-requires
-from_parts-requires c =
-    search (rules, lives, not_last, occupant_generation, occupant_made)
+from_parts-requires c = search (rules, lives, not_last, occupant_generation, occupant_made)
 
 pub invariant_of-self-2 : goal.invariant_of-self-2
 invariant_of-self-2 c =
@@ -62,15 +61,12 @@ returns-clause-ok c =
     (λ i. roster_of c.self.inside.limits (set records (c.index-index.ensures i)
     (record {
       generation = c.generation-generation.ensures i + 1;
-      occupancy = Pending
-          (position_is i);
+      occupancy = Pending (position_is i);
     })) (pushed i))
     ∙ roster_of-release c.self.inside.limits records pending c.self.inside.live c.args.handle
     c.self.invariant is
     ∙ ap (λ (r : Roster). record r {
       live = sets.remove r.live c.args.handle;
-      rows =
-          maps.remove r.rows c.args.handle;
+      rows = maps.remove r.rows c.args.handle;
       pending = r.pending ++ following c.args.handle ∷ [];
-    })
-    c.self.view_is
+    }) c.self.view_is

@@ -14,8 +14,7 @@ use Rattle.ent_alloc.proofs.slots.Slots.reuse_last.Goals as goal
 -- the record that is lent is that of the last pending slot
 read : (c : After-index_mut-record) → c.index_mut-record.result.now
     ≡ record_at c.self.inside.records.items c.in_ok-index.index
-read c =
-    search (rules, get_or_read, last_made)
+read c = search (rules, get_or_read, last_made)
 
 pub invariant_of-self-2 : goal.invariant_of-self-2
 invariant_of-self-2 c =
@@ -56,6 +55,5 @@ returns-clause-some c =
     ∙ (λ i. let r : Roster = c.self.view_is i in
     record r {
       live = sets.union r.live (sets.from_list (sym h i ∷ []));
-      pending =
-          take (length r.pending - 1) r.pending;
+      pending = take (length r.pending - 1) r.pending;
     })

@@ -4,5 +4,4 @@ use Rattle.ent_map.proofs.Entries.{get_map}
 use Rattle.ent_map.proofs.handle_map.HandleMap.get.Goals as goal
 
 pub returns : goal.returns
-returns g c =
-    search (rules, get_map)
+returns g c = search (rules, get_map)

@@ -23,12 +23,10 @@ returns-then-generation-standing-clause-later g c =
     )
 
 pub returns-in_default-clause-later : goal.returns-in_default-clause-later
-returns-in_default-clause-later g c =
-    grind (arith, common_steps, no_later)
+returns-in_default-clause-later g c = grind (arith, common_steps, no_later)
 
 pub overflow_add-self : goal.overflow_add-self
-overflow_add-self g c =
-    search (rules, few_values)
+overflow_add-self g c = search (rules, few_values)
 
 pub invariant_of-self-2 : goal.invariant_of-self-2
 invariant_of-self-2 g c =
@@ -42,8 +40,7 @@ invariant_of-self-2 g c =
     c.self.invariant c.index_of-index.ensures.in_range c.lacking.ensures
 
 pub returns-clause-ok : goal.returns-clause-ok
-returns-clause-ok g c =
-    search (rules, put-map)
+returns-clause-ok g c = search (rules, put-map)
 
 pub returns-clause-before : goal.returns-clause-before
 returns-clause-before g c =

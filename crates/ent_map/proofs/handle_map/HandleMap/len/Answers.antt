@@ -4,5 +4,4 @@ use Rattle.ent_map.proofs.Entries.{len_map}
 use Rattle.ent_map.proofs.handle_map.HandleMap.len.Goals as goal
 
 pub returns : goal.returns
-returns g c =
-    search (rules, len_map)
+returns g c = search (rules, len_map)

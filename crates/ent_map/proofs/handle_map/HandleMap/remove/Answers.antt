@@ -7,8 +7,7 @@ use Rattle.ent_map.proofs.Found.{remove_absent, found, made, had, counted-take, 
 use Rattle.ent_map.proofs.handle_map.HandleMap.remove.Goals as goal
 
 pub returns-then-not-contains-clause-map : goal.returns-then-not-contains-clause-map
-returns-then-not-contains-clause-map g c =
-    search (rules, remove_absent)
+returns-then-not-contains-clause-map g c = search (rules, remove_absent)
 
 pub overflow_sub-self : goal.overflow_sub-self
 overflow_sub-self g c =
@@ -19,17 +18,13 @@ overflow_sub-self g c =
     (counted-take slots h f.0 c.self.inside.len f.1 c.self.invariant).0
 
 pub index_mut-requires : goal.index_mut-requires
-index_mut-requires g c =
-    grind (arith, common_steps, found, made)
+index_mut-requires g c = grind (arith, common_steps, found, made)
 
 pub invariant_of-self : goal.invariant_of-self
-invariant_of-self g c =
-    grind (arith, common_steps, found, counted-take)
+invariant_of-self g c = grind (arith, common_steps, found, counted-take)
 
 pub returns-clause-value : goal.returns-clause-value
-returns-clause-value g c =
-    grind (arith, common_steps, found, read_of, had)
+returns-clause-value g c = grind (arith, common_steps, found, read_of, had)
 
 pub returns-clause-map : goal.returns-clause-map
-returns-clause-map g c =
-    grind (arith, common_steps, found, map-take, made)
+returns-clause-map g c = grind (arith, common_steps, found, map-take, made)

@@ -4,5 +4,4 @@ use Rattle.ent_map.proofs.Entries.{entries_map}
 use Rattle.ent_map.proofs.handle_map.HandleMap.retain.Goals as goal
 
 pub returns-clause-retained : goal.returns-clause-retained
-returns-clause-retained g c =
-    search (rules, entries_map)
+returns-clause-retained g c = search (rules, entries_map)

@@ -7,12 +7,10 @@ use Rattle.ent_map.proofs.Found.{found, made, got, counted-write, read_of}
 use Rattle.ent_map.proofs.handle_map.HandleMap.value_mut.Goals as goal
 
 pub index_mut-requires : goal.index_mut-requires
-index_mut-requires g c =
-    grind (arith, common_steps, found, made)
+index_mut-requires g c = grind (arith, common_steps, found, made)
 
 pub value_mut-requires : goal.value_mut-requires
-value_mut-requires g c =
-    search (rules, found, read_of)
+value_mut-requires g c = search (rules, found, read_of)
 
 pub invariant_of-self-lent : goal.invariant_of-self-lent
 invariant_of-self-lent g c w =
@@ -25,5 +23,4 @@ invariant_of-self-lent g c w =
     rw (c.index.ensures, is) (counted-write slots h f.0 w c.self.inside.len f.1 c.self.invariant)
 
 pub returns : goal.returns
-returns g c =
-    grind (arith, common_steps, found, read_of, map-write, made, got)
+returns g c = grind (arith, common_steps, found, read_of, map-write, made, got)

@@ -6,8 +6,7 @@ use Rattle.ent_queue.proofs.Queues.{others_are_packed}
 use Rattle.ent_queue.proofs.entries.EntriesIterator.next.Goals as goal
 
 pub returns-then-self-eq0-clause-steps : goal.returns-then-self-eq0-clause-steps
-returns-then-self-eq0-clause-steps c =
-    search (rules, no_commands)
+returns-then-self-eq0-clause-steps c = search (rules, no_commands)
 
 pub read_entry-entry-requires : goal.read_entry-entry-requires
 read_entry-entry-requires c =
@@ -19,8 +18,7 @@ read_entry-entry-requires c =
     )
 
 pub invariant_of-self : goal.invariant_of-self
-invariant_of-self c =
-    search (rules, others_are_packed)
+invariant_of-self c = search (rules, others_are_packed)
 
 -- the commands before and after
 abbrev Steps : goal.After-rest-2-1 → Type 0
@@ -28,12 +26,10 @@ Steps c = c.args.self.now ≡ command_of c.read_entry-entry.result.0
     ∷ unpacked_commands (c.self.inside.left - 1) c.read_entry-entry.result.1.now
 
 steps : (c : goal.After-rest-2-1) → Steps c
-steps c =
-    search (rules, first_of_commands)
+steps c = search (rules, first_of_commands)
 
 pub returns-clause-steps : goal.returns-clause-steps
 returns-clause-steps c = steps c
 
 pub returns-clause-goes : goal.returns-clause-goes
-returns-clause-goes c =
-    search (rules, steps)
+returns-clause-goes c = search (rules, steps)

@@ -50,8 +50,7 @@ refused c =
     c.args.n
     (Err c.in-Err.why) = record {
       quota = c.in-Err.ensures.quota;
-      nothing =
-          c.in-Err.ensures.nothing;
+      nothing = c.in-Err.ensures.nothing;
       gains = c.in-Err.ensures.gains;
     } in
     let is = is_refusal c.args.shared.now c.args.reserver.now c.reserve_many.new.reserver c.args.n
@@ -83,8 +82,7 @@ returns-in-Ok-clause-replies c reply e =
     (Ok hs) = record {
       quota = c.in-Ok.ensures.quota;
       nothing = c.in-Ok.ensures.nothing;
-      gains =
-          c.in-Ok.ensures.gains;
+      gains = c.in-Ok.ensures.gains;
     } in
     subst (IsReturned c.args.shared.now c.args.reserver.now c.reserve_many.new.reserver c.args.n)
     listed given

@@ -6,5 +6,4 @@ use Rattle.ent_replay.proofs.by_caller.ByCaller.replace.Goals as goal
 use Rattle.ent_replay.proofs.by_caller.ByCaller.replace.Goals.{in-Some, in_default}
 
 pub returns : goal.returns
-returns g c =
-    search (rules, get-of_tree, from_entries-set, no_test)
+returns g c = search (rules, get-of_tree, from_entries-set, no_test)

@@ -13,8 +13,7 @@ use Rattle.ent_replay.proofs.machine.Machine.alloc.Goals.{in-Ok, in-Err-NeedsFlu
 use Rattle.ent_replay.proofs.machine.Machine.alloc.Goals.{in-Err-Memory}
 
 pub returns-then-not-is_empty : goal.returns-then-not-is_empty
-returns-then-not-is_empty c =
-    search (rules, faulty, busy-alloc, no_test)
+returns-then-not-is_empty c = search (rules, faulty, busy-alloc, no_test)
 
 pub invariant_of-self : goal.invariant_of-self
 invariant_of-self c =

@@ -17,12 +17,10 @@ use Rattle.ent_replay.proofs.machine.Machine.answer.Goals.{After-reply, After-re
 use Rattle.ent_replay.proofs.machine.Machine.answer.Goals.{in-Ok+in-Ok-listed, in-Err}
 
 pub returns-in_default : goal.returns-in_default
-returns-in_default c =
-    search (rules, faulty, answer-not_open)
+returns-in_default c = search (rules, faulty, answer-not_open)
 
 pub returns-in_default-span : goal.returns-in_default-span
-returns-in_default-span c =
-    search (rules, faulty, answer-not_stepped)
+returns-in_default-span c = search (rules, faulty, answer-not_stepped)
 
 pub reply-requires : goal.reply-requires
 reply-requires c =
@@ -35,8 +33,7 @@ reply-requires c =
       least = passed.least;
       passed = passed.high;
       short = omega (arith, ints);
-      ordered =
-          omega (arith, ints);
+      ordered = omega (arith, ints);
     }
 
 -- the reply is what the positions tell that the call passed
@@ -84,8 +81,7 @@ invariant_of-self c =
     let at = (goal.at.invariant_of-self c).After-remove in
     let same = unchanged at in
     subst (λ m. AreConsistent c.match-reply.self-inside.entities.allocator
-    c.match-reply.self-inside.spent m)
-    (sym (calls_are at same))
+    c.match-reply.self-inside.spent m) (sym (calls_are at same))
     (subst (λ (x : Inside). AreConsistent x.entities.allocator x.spent
     (finite.remove e.calls c.args.caller)) (sym same)
     (answer-consistent s e.spent e.calls c.args.caller (omega arith) c.in-Some.call
@@ -111,5 +107,4 @@ returns c =
     (machine_state c.match-reply.self-inside.entities.allocator c.match-reply.self-inside.spent
     c.remove.new.self)
     _ (λ i. machine_state (same i).entities.allocator (same i).spent
-    (calls_are at.After-remove same i))
-    (reports at.After-reply)
+    (calls_are at.After-remove same i)) (reports at.After-reply)

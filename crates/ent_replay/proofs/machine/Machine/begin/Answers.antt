@@ -14,8 +14,7 @@ use Rattle.ent_replay.proofs.machine.Machine.begin.Goals.{After-remove, Else-is_
 use Rattle.ent_replay.proofs.machine.Machine.begin.Goals as goal
 
 pub returns-then-is_some : goal.returns-then-is_some
-returns-then-is_some c =
-    search (rules, some_of, faulty, begin-open)
+returns-then-is_some c = search (rules, some_of, faulty, begin-open)
 
 -- the caller has no open call
 none : (c : Else-is_some) → finite.get c.self.inside.calls c.args.caller ≡ None
@@ -59,8 +58,7 @@ returns-then-is_err c =
     let calls : c.insert.new.self ≡ e.calls = on_err c.insert.result c.if-is_err.ensures.value
     c.insert.ensures.err in
     refused (λ v. on_begin v c.args.caller c.args.n) before c.args.self.now c.self.view_is
-    (Err fault.Memory) refl
-    (machine_state s e.spent c.insert.new.self)
+    (Err fault.Memory) refl (machine_state s e.spent c.insert.new.self)
     (ap (λ m. machine_state s e.spent m) calls)
     (ap (λ p. event_takes_memory before p.0) (begin-begun s e.spent e.calls c.args.caller
     (omega arith) c.args.n (none (goal.at.returns-then-is_err c).Else-is_some) (omega arith)))
@@ -72,12 +70,10 @@ kept c = on_err c.insert-2.result c.if-is_err-2.ensures.value c.insert-2.ensures
 -- and so are the calls
 undone : (c : After-remove) → finite.get c.self.inside.calls c.args.caller ≡ None
     → c.remove.new.self ≡ c.self.inside.calls
-undone c none =
-    search (rules, on_ok, insert-remove, none)
+undone c none = search (rules, on_ok, insert-remove, none)
 
 pub invariant_of-self-then-is_err-2 : goal.invariant_of-self-then-is_err-2
-invariant_of-self-then-is_err-2 c =
-    search (rules, kept, undone, none)
+invariant_of-self-then-is_err-2 c = search (rules, kept, undone, none)
 
 pub returns-then-is_err-2 : goal.returns-then-is_err-2
 unfolding credit

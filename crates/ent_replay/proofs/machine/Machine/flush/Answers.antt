@@ -11,8 +11,7 @@ use Rattle.ent_replay.proofs.ExclusiveEvents.{flush-consistent}
 use Rattle.ent_replay.proofs.machine.Machine.flush.Goals as goal
 
 pub returns-then-not-is_empty : goal.returns-then-not-is_empty
-returns-then-not-is_empty c =
-    search (rules, faulty, busy-flush, no_test)
+returns-then-not-is_empty c = search (rules, faulty, busy-flush, no_test)
 
 -- what has an element that passes has an element
 some_of_filter : {X : Type 0} (p : X → Bool) (xs : List X) → 0 < length (filter p xs) → 0
@@ -25,9 +24,7 @@ returns-then-is_err c =
     search (rules, allocator_is, on_err, some_of_filter, refused, flush-takes_memory)
 
 pub invariant_of-self-2 : goal.invariant_of-self-2
-invariant_of-self-2 c =
-    search (rules, on_ok, flush-consistent)
+invariant_of-self-2 c = search (rules, on_ok, flush-consistent)
 
 pub returns : goal.returns
-returns c =
-    search (rules, on_ok, done, flush-flushed)
+returns c = search (rules, on_ok, done, flush-flushed)

@@ -13,8 +13,7 @@ use Rattle.ent_replay.proofs.machine.Machine.free.Goals.{in-Ok, in-Err-NeedsFlus
 use Rattle.ent_replay.proofs.machine.Machine.free.Goals.{in-Err-Memory}
 
 pub returns-then-not-is_empty : goal.returns-then-not-is_empty
-returns-then-not-is_empty c =
-    search (rules, faulty, busy-free, no_test)
+returns-then-not-is_empty c = search (rules, faulty, busy-free, no_test)
 
 pub invariant_of-self : goal.invariant_of-self
 invariant_of-self c =

@@ -24,8 +24,7 @@ all_outcomes : (s : MachineState) (outcomes : List (Result Outcome ReplayFault))
 all_outcomes s outcomes events done seen is = is ∙ ap (outcomes_of s) (take_all done events seen)
 
 pub returns-clause-history : goal.returns-clause-history
-returns-clause-history c =
-    grind (arith, common_steps, all_outcomes, linear)
+returns-clause-history c = grind (arith, common_steps, all_outcomes, linear)
 
 pub returns-clause-given_once : goal.returns-clause-given_once
 returns-clause-given_once c =

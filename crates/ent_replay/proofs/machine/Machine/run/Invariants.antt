@@ -6,5 +6,4 @@ abbrev pub invariant-loop-done : goal.invariant-loop-done
 invariant-loop-done l =
     (l.self ≡ after_events l.fn.self (take l.done l.events))
     × (l.outcomes.items ≡ outcomes_of l.fn.self (take l.done l.events))
-    × (vec_len l.outcomes ≡ l.done)
-    × (length l.events ≤ vec_capacity l.outcomes)
+    × (vec_len l.outcomes ≡ l.done) × (length l.events ≤ vec_capacity l.outcomes)

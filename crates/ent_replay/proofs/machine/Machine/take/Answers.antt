@@ -12,12 +12,10 @@ use Rattle.ent_replay.proofs.machine.Machine.take.Goals.{After-replace}
 use Rattle.ent_replay.proofs.machine.Machine.take.Goals as goal
 
 pub returns-in_default : goal.returns-in_default
-returns-in_default c =
-    search (rules, faulty, step-not_open)
+returns-in_default c = search (rules, faulty, step-not_open)
 
 pub returns-then-is_some : goal.returns-then-is_some
-returns-then-is_some c =
-    search (rules, some_of, faulty, step-stepped)
+returns-then-is_some c = search (rules, some_of, faulty, step-stepped)
 
 pub lower-span-requires : goal.lower-span-requires
 lower-span-requires c =
@@ -43,9 +41,7 @@ stepped : (c : After-replace) → c.replace.new.self ≡ finite.insert c.self.in
 stepped c = search (rules)
 
 pub invariant_of-self : goal.invariant_of-self
-invariant_of-self c =
-    search (rules, none_of, stepped, step-consistent)
+invariant_of-self c = search (rules, none_of, stepped, step-consistent)
 
 pub returns : goal.returns
-returns c =
-    search (rules, none_of, stepped, ints, done, step-taken)
+returns c = search (rules, none_of, stepped, ints, done, step-taken)

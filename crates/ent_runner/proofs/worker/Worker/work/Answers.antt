@@ -10,8 +10,7 @@ loop-system-preserved g c =
     let i = c.loop-system.invariant in
     let room = c.in_ok-reserve.ensures.ok in
     let claimed = c.in-Some.ensures.claims in
-    let issued = ◌∙◌ {A = List SystemQueue} c.reserve.ensures.items
-    c.push_reserved.ensures.items in
+    let issued = ◌∙◌ {A = List SystemQueue} c.reserve.ensures.items c.push_reserved.ensures.items in
     let below : c.in-Some.system < length c.args.stage.now.systems.now =
     subst (λ n. c.in-Some.system < n) c.requires.systems c.in-Some.ensures.below in
     record {
@@ -43,22 +42,19 @@ returns-in_err-ran-clause-ran_some g c =
     (of_err (SystemMayIssue g.S.System.may_leave c.args.stage.now.systems.now
     c.args.stage.now.view c.in-Some.system c.issue-queue.result.0) _ _ c.in_err-ran.was
     c.issue-queue.ensures.leaves) (claims_more c.loop-system.self.claimer.own
-    c.next.new.claimer.own c.in-Some.system c.in-Some.ensures.claims)
-    c.push_reserved.ensures.items
+    c.next.new.claimer.own c.in-Some.system c.in-Some.ensures.claims) c.push_reserved.ensures.items
 
 pub returns-in_err-reserve-clause-ran_some : goal.returns-in_err-reserve-clause-ran_some
 returns-in_err-reserve-clause-ran_some g c =
     let i = c.loop-system.invariant in
-    let issued = ◌∙◌ {A = List SystemQueue} c.reserve.ensures.items
-    c.push_reserved.ensures.items in
+    let issued = ◌∙◌ {A = List SystemQueue} c.reserve.ensures.items c.push_reserved.ensures.items in
     ran_some g.S.System.may_issue c.args.stage.now.systems.now c.args.stage.now.view
     g.S.System.may_leave c.args.self.now.reserver.own c.issue-queue.new.reserver.own
     c.next.new.claimer.own.claims c.reserve.new.self.items
     (ran_more g.S.System.may_issue c.args.stage.now.systems.now c.args.stage.now.view
     c.args.self.now.reserver.own c.loop-system.self.reserver.own c.issue-queue.new.reserver.own
     c.loop-system.self.claimer.own.claims c.next.new.claimer.own.claims
-    c.loop-system.self.issued.items c.reserve.new.self.items _ i.ran
-    c.issue-queue.ensures.gains
+    c.loop-system.self.issued.items c.reserve.new.self.items _ i.ran c.issue-queue.ensures.gains
     (of_ok (SystemMayIssue g.S.System.may_issue c.args.stage.now.systems.now
     c.args.stage.now.view c.in-Some.system c.issue-queue.result.0) _ _ c.in_ok-ran.was
     c.issue-queue.ensures.may) (claims_more c.loop-system.self.claimer.own

@@ -8,5 +8,4 @@ abbrev items_of : Vec Handle Global → List Handle
 items_of list = list.items
 
 pub returns : goal.returns
-returns c =
-    search (rules, map-set, names_set)
+returns c = search (rules, map-set, names_set)

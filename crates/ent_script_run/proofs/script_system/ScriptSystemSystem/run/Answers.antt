@@ -15,8 +15,7 @@ pub loop-operation-preserved : goal.loop-operation-preserved
 loop-operation-preserved c = search (rules, extends_then, has_gone_on)
 
 pub returns-in_err-issue-clause-leaves : goal.returns-in_err-issue-clause-leaves
-returns-in_err-issue-clause-leaves c empty =
-    grind (arith, common_steps)
+returns-in_err-issue-clause-leaves c empty = grind (arith, common_steps)
 
 pub returns-clause-may : goal.returns-clause-may
 returns-clause-may c empty =
@@ -24,6 +23,5 @@ returns-clause-may c empty =
     let none : drop c.loop-operation.operation-index ops
     ≡ [] = drop_all _ _ c.loop-operation-test.false in
     subst (λ (os : List Operation). MayIssue os c.args.view.now
-    (queue_of c.loop-operation.commands))
-    (c.operations-operation-items.ensures ∙ c.self.view_is)
+    (queue_of c.loop-operation.commands)) (c.operations-operation-items.ensures ∙ c.self.view_is)
     (has_ended _ ops _ _ _ _ none c.loop-operation.invariant.run empty)

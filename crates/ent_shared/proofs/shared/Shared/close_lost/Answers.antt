@@ -27,8 +27,7 @@ known c =
     c.max.ensures.value
 
 pub settle-requires-clause-least : goal.settle-requires-clause-least
-settle-requires-clause-least c =
-    (known (goal.at.settle-requires-clause-least c).After-max).least
+settle-requires-clause-least c = (known (goal.at.settle-requires-clause-least c).After-max).least
 
 pub settle-requires-clause-greatest : goal.settle-requires-clause-greatest
 settle-requires-clause-greatest c =

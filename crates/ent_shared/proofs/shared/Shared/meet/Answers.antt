@@ -18,5 +18,4 @@ returns-clause-first c =
     })
 
 pub returns-clause-given : goal.returns-clause-given
-returns-clause-given c =
-    search (rules, given-after_meeting)
+returns-clause-given c = search (rules, given-after_meeting)

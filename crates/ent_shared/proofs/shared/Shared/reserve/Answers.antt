@@ -18,8 +18,7 @@ started c = c.requires.start ∙ sym (ap (λ (s : Shared). s.start) c.self.view_
 replied : (c : After-reply_one) → (k : ℕ) → c.reserve-high.result -ℤ pos 1 ≡ c.reserve-high.result
     -ℤ pos k → listed_alone c.reply_one.result ≡ reply_from c.self.inside.entities.allocator.made
     (pool_at c.self.inside.entities.allocator c.reserve-high.result) k
-replied c =
-    search (rules, one_reply, ints)
+replied c = search (rules, one_reply, ints)
 
 -- what the reserver was given by then
 given : (c : After-reply_one) → handles_given (own_of c.reserve-high.new.badge.views)
@@ -43,8 +42,7 @@ invariant_of-reserver c =
     c.reserver.invariant c.reserve-high.ensures.gains c.reserve-high.ensures.mark (omega arith)
     (c.reserver.invariant.floor_is ∙ refused_floor (own_of c.reserver.inside.badge.views)
     c.self.inside.entities.allocator high 1 (record { high = high; low = high -ℤ pos 1 }) _
-    (listed_alone c.reply_one.result) start refl (replied at)
-    (ap listed_alone c.in_err-handle.was))
+    (listed_alone c.reply_one.result) start refl (replied at) (ap listed_alone c.in_err-handle.was))
 
 pub returns-in_err-handle-clause-stays : goal.returns-in_err-handle-clause-stays
 returns-in_err-handle-clause-stays c =
@@ -54,8 +52,7 @@ returns-in_err-handle-clause-stays c =
     c.reserve-high.ensures.gains
 
 pub returns-in_err-handle-clause-refused : goal.returns-in_err-handle-clause-refused
-returns-in_err-handle-clause-refused c =
-    search (rules, on_err, given, append-nil)
+returns-in_err-handle-clause-refused c = search (rules, on_err, given, append-nil)
 
 pub invariant_of-reserver-2 : goal.invariant_of-reserver-2
 invariant_of-reserver-2 c =
@@ -82,5 +79,4 @@ returns-clause-stays c =
     c.reserve-high.ensures.gains
 
 pub returns-clause-given : goal.returns-clause-given
-returns-clause-given c =
-    search (rules, given)
+returns-clause-given c = search (rules, given)

@@ -18,16 +18,14 @@ unreachable-requires c =
     no_space c.reply.result c.in_default.field-0
     (c.reply.ensures 0 (low_of c.new.result _ 0 c.new.ensures.value)
     ∙ reply-none c.self.inside.entities.allocator.made
-    (pool_at c.self.inside.entities.allocator c.new.result.high))
-    c.in_default.is
+    (pool_at c.self.inside.entities.allocator c.new.result.high)) c.in_default.is
 
 pub returns-then-n-eq0-clause-nothing : goal.returns-then-n-eq0-clause-nothing
 returns-then-n-eq0-clause-nothing c = λ n.
     let is : c.reply.result
     ≡ Ok [] = c.reply.ensures 0 (low_of c.new.result _ 0 c.new.ensures.value)
     ∙ reply-none c.self.inside.entities.allocator.made
-    (pool_at c.self.inside.entities.allocator c.new.result.high)
-    in
+    (pool_at c.self.inside.entities.allocator c.new.result.high) in
     let found = c.in-Ok.is in
     let same : c.in-Ok.nothing ≡ [] = cc in
     (ap Ok same, refl)
@@ -52,8 +50,7 @@ started c = c.requires.start ∙ sym (ap (λ (s : Shared). s.start) c.self.view_
 -- the span is the request's, at the cursor that the step found
 spanned : (c : After-reply-2) → c.new-span.result
     ≡ record { high = c.reserve.result; low = c.reserve.result -ℤ pos c.args.n }
-spanned c =
-    search (rules, span_at, ints)
+spanned c = search (rules, span_at, ints)
 
 -- what the reserver was given by then
 given : (c : After-reply-2) → handles_given (own_of c.reserve.new.badge.views)
@@ -76,8 +73,7 @@ invariant_of-reserver-2 c =
     let start : (own_of c.reserver.inside.badge.views).start ≡ c.self.inside.entities.allocator =
     ap (λ (r : Reserver). r.own.start) c.reserver.view_is ∙ started at in
     subst (λ (k : ℕ). IsSeated c.reserve.new.badge.views c.reserver.inside.number
-    (c.reserver.inside.left - k) (to_z w64 (of_z w64 c.new-span.result.low)))
-    (sym c.from-2.ensures)
+    (c.reserver.inside.left - k) (to_z w64 (of_z w64 c.new-span.result.low))) (sym c.from-2.ensures)
     (seated_reservation c.reserver.inside.badge.views c.reserve.new.badge.views
     c.reserver.inside.number c.reserver.inside.left c.args.n c.reserver.inside.floor
     c.reserve.result (to_z w64 (of_z w64 c.new-span.result.low))
@@ -116,8 +112,7 @@ returns-clause-stays c =
     c.reserver.invariant c.requires (omega arith) c.reserve.ensures.same c.reserve.ensures.gains
 
 pub returns-clause-length : goal.returns-clause-length
-returns-clause-length c =
-    search (rules, length-served, low_of)
+returns-clause-length c = search (rules, length-served, low_of)
 
 pub returns-in_err-handles-clause-stays : goal.returns-in_err-handles-clause-stays
 returns-in_err-handles-clause-stays c =
@@ -130,18 +125,14 @@ returns-then-n-eq0-clause-given c =
     let is : c.reply.result
     ≡ Ok [] = c.reply.ensures 0 (low_of c.new.result _ 0 c.new.ensures.value)
     ∙ reply-none c.self.inside.entities.allocator.made
-    (pool_at c.self.inside.entities.allocator c.new.result.high)
-    in
+    (pool_at c.self.inside.entities.allocator c.new.result.high) in
     let found = c.in-Ok.is in
     let none : c.in-Ok.nothing ≡ [] = cc in
     sym (append-nil (handles_given c.args.reserver.now.own))
-    ∙ ap (λ (handles : List Handle). handles_given c.args.reserver.now.own ++ handles)
-    (sym none)
+    ∙ ap (λ (handles : List Handle). handles_given c.args.reserver.now.own ++ handles) (sym none)
 
 pub returns-clause-given : goal.returns-clause-given
-returns-clause-given c =
-    search (rules, given)
+returns-clause-given c = search (rules, given)
 
 pub returns-in_err-handles-clause-refused : goal.returns-in_err-handles-clause-refused
-returns-in_err-handles-clause-refused c =
-    search (rules, on_err, given, append-nil)
+returns-in_err-handles-clause-refused c = search (rules, on_err, given, append-nil)

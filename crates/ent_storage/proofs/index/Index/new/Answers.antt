@@ -5,5 +5,4 @@ use Rattle.ent_storage.proofs.SamePlaces.{same_places}
 use Rattle.ent_storage.proofs.index.Index.new.Goals as goal
 
 pub returns : goal.returns
-returns c =
-    search (rules, from_sorted-nil, same_places)
+returns c = search (rules, from_sorted-nil, same_places)

@@ -8,5 +8,4 @@ invariant_of-result c =
     c.count_of.ensures ∙ count_items c.args.used.now c.args.columns.now c.args.place
 
 pub returns : goal.returns
-returns c =
-    search (rules, items_in_use, entries_components)
+returns c = search (rules, items_in_use, entries_components)

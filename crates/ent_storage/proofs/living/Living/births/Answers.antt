@@ -19,5 +19,4 @@ returns-clause-ok c =
 
 -- there are as many entities as residents
 pub returns-clause-memory : goal.returns-clause-memory
-returns-clause-memory c =
-    search (rules, length_from, on_err_weaker)
+returns-clause-memory c = search (rules, length_from, on_err_weaker)

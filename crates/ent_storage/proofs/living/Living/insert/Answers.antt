@@ -12,8 +12,7 @@ use Rattle.ent_storage.proofs.Missing.{on_err}
 use Rattle.ent_storage.proofs.living.Living.insert.Goals as goal
 
 pub returns-in_err-reserve_all-clause-err : goal.returns-in_err-reserve_all-clause-err
-returns-in_err-reserve_all-clause-err c =
-    search (rules, on_err, same_from)
+returns-in_err-reserve_all-clause-err c = search (rules, on_err, same_from)
 
 pub returns-in_err-reserve_all-clause-growing : goal.returns-in_err-reserve_all-clause-growing
 returns-in_err-reserve_all-clause-growing c =

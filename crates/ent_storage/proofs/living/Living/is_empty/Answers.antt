@@ -3,5 +3,4 @@ use Rattle.ent_storage.proofs.EntitiesOfResidents.{length_from}
 use Rattle.ent_storage.proofs.living.Living.is_empty.Goals as goal
 
 pub returns : goal.returns
-returns c =
-    search (rules, length_from)
+returns c = search (rules, length_from)

@@ -13,13 +13,11 @@ use Rattle.ent_storage.proofs.living.Living.pairs.Goals as goal
 is_value : (residents : List Resident) (columns : List Column) (room : ℕ) (living : Living)
     (place : ℕ) (id : ComponentId) → record {
       entities = entities_from 0 residents columns;
-      room =
-          room;
+      room = room;
     } ≡ living → AreColumnsOf (length residents) columns
     → option_and_then (λ (e : LivingEntity). finite.get e.components id)
     (slice_get living.entities place) ≡ value_at columns place id
-is_value residents columns room living place id is within =
-    search (rules, value_from)
+is_value residents columns room living place id is within = search (rules, value_from)
 
 pub returns-in-Some-clause-has : goal.returns-in-Some-clause-has
 returns-in-Some-clause-has c place v at =
@@ -38,8 +36,7 @@ returns-in-Some-clause-all c place v is =
     place c.args.id c.self.view_is c.self.invariant.0) ∙ is)
 
 pub returns-in-Some-clause-once : goal.returns-in-Some-clause-once
-returns-in-Some-clause-once c i j d l k e =
-    search (rules, slice_get-get_or)
+returns-in-Some-clause-once c i j d l k e = search (rules, slice_get-get_or)
 
 pub returns-in-None-clause-all : goal.returns-in-None-clause-all
 returns-in-None-clause-all c place v is =

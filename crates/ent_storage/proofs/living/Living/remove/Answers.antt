@@ -19,8 +19,7 @@ invariant_of-self c =
     remove_len c.self.inside.columns.ok.0) (
       changed_within (length c.self.inside.residents.items) c.args.place
           c.self.inside.columns.items c.remove.new.columns inside
-          (omega (arith, remove_len, c.self.invariant.0.numbered)) remove_others
-          c.self.invariant.0,
+          (omega (arith, remove_len, c.self.invariant.0.numbered)) remove_others c.self.invariant.0,
       in_use_changed c.self.inside.used.items c.self.inside.columns.items c.remove.new.columns
           (omega (arith, remove_len)) (λ n none. inr (remove_rest n none)) c.self.invariant.1,
     )
@@ -36,5 +35,4 @@ returns-clause-value c d =
     c.args.place c.self.view_is c.requires resident d))
 
 pub returns-clause-entities : goal.returns-clause-entities
-returns-clause-entities c =
-    search (rules, written_back, changed_from)
+returns-clause-entities c = search (rules, written_back, changed_from)

@@ -4,13 +4,10 @@ use Rattle.ent_storage.proofs.EntitiesOfResidents.{length_from}
 use Rattle.ent_storage.proofs.living.Living.reserve.Goals as goal
 
 pub returns-clause-ok : goal.returns-clause-ok
-returns-clause-ok c =
-    search (rules, length_from, on_ok_weaker)
+returns-clause-ok c = search (rules, length_from, on_ok_weaker)
 
 pub returns-clause-succeeds : goal.returns-clause-succeeds
-returns-clause-succeeds c room =
-    search (rules, length_from)
+returns-clause-succeeds c room = search (rules, length_from)
 
 pub returns-clause-full : goal.returns-clause-full
-returns-clause-full c =
-    search (rules, on_err_weaker, length_from)
+returns-clause-full c = search (rules, on_err_weaker, length_from)

@@ -53,7 +53,5 @@ returns-clause-entities c =
     rw (
       written_back c.swap_remove.new.columns c.self.inside.columns.items c.self.inside.columns.len
           as_many c.self.inside.columns.ok.0,
-      ← ap (λ (l : Living). l.entities)
-          c.self.view_is,
-    )
-    (after (goal.at.returns-clause-entities c).After-swap_remove-2 inside as_many).0
+      ← ap (λ (l : Living). l.entities) c.self.view_is,
+    ) (after (goal.at.returns-clause-entities c).After-swap_remove-2 inside as_many).0

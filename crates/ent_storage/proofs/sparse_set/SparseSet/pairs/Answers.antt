@@ -21,8 +21,7 @@ returns-clause-all c p v found =
     rw c.deref.ensures.value (
       k.0,
       slice_get_within D k.0 (p, v) k.1,
-      get_or_from_slice_get D k.0
-          (p, v) (p, v) k.1,
+      get_or_from_slice_get D k.0 (p, v) (p, v) k.1,
     )
 
 pub returns-clause-once : goal.returns-clause-once

@@ -12,15 +12,13 @@ use Rattle.ent_storage.proofs.sparse_set.SparseSet.remove.Goals.{After-index, El
 use Rattle.ent_storage.proofs.sparse_set.SparseSet.remove.Goals as goal
 
 pub returns-in_err-position-clause-after : goal.returns-in_err-position-clause-after
-returns-in_err-position-clause-after c =
-    search (rules, removed_none)
+returns-in_err-position-clause-after c = search (rules, removed_none)
 
 -- a pair of this place stood at the position
 here : (c : After-swap_remove-value) → slice_get c.self.inside.dense.items c.in_ok-position.position
     ≡ Some (
       c.args.place,
-      (get_or c.self.inside.dense.items c.in_ok-position.position
-          c.swap_remove-value.result).1,
+      (get_or c.self.inside.dense.items c.in_ok-position.position c.swap_remove-value.result).1,
     )
 here c =
     let at = rw c.deref.ensures.value at c.in_ok-position.ensures.found in
@@ -56,8 +54,7 @@ without c sparse dense =
 -- the pair that now stands there
 read : (c : After-index) → slice_get c.swap_remove-value.new.self.items c.in_ok-position.position
     ≡ Some c.index.result.now
-read c =
-    search (rules, slice_get-get_or)
+read c = search (rules, slice_get-get_or)
 
 -- the pair was the last
 last : (c : Else-position-len) → length c.swap_remove-value.new.self.items
@@ -89,24 +86,20 @@ invariant_of-self-else-position-len c =
     let at = goal.at.invariant_of-self-else-position-len c in
     popped_dense c.self.inside.dense.items c.self.inside.sparse.items c.self.invariant
     c.in_ok-position.position c.args.place _ (here at.After-swap_remove-value)
-    c.swap_remove-value.new.self.items
-    (rest at.After-swap_remove-value) (last at.Else-position-len)
+    c.swap_remove-value.new.self.items (rest at.After-swap_remove-value) (last at.Else-position-len)
 
 pub returns-then-position-len-clause-value : goal.returns-then-position-len-clause-value
-returns-then-position-len-clause-value c =
-    search (rules, to_z-of_z, value)
+returns-then-position-len-clause-value c = search (rules, to_z-of_z, value)
 
 pub returns-else-position-len-clause-value : goal.returns-else-position-len-clause-value
-returns-else-position-len-clause-value c =
-    search (rules, to_z-of_z, value)
+returns-else-position-len-clause-value c = search (rules, to_z-of_z, value)
 
 pub returns-then-position-len-clause-after : goal.returns-then-position-len-clause-after
 returns-then-position-len-clause-after c =
     let at = (goal.at.returns-then-position-len-clause-after c).After-swap_remove-value in
     without at _ (refilled_dense c.self.inside.dense.items c.self.inside.sparse.items
     c.self.invariant c.in_ok-position.position c.args.place _ (here at)
-    c.swap_remove-value.new.self.items (rest at)
-    c.index.result.now.0 c.index.result.now.1
+    c.swap_remove-value.new.self.items (rest at) c.index.result.now.0 c.index.result.now.1
     (read (goal.at.returns-then-position-len-clause-after c).After-index))
 
 pub returns-else-position-len-clause-after : goal.returns-else-position-len-clause-after

@@ -24,12 +24,10 @@ none_there : (c : goal.After-push_reserved)
 none_there c = rw c.deref.ensures.value at (c.in-None.ensures.absent refl)
 
 in_sparse : (c : goal.After-push_reserved) → c.args.place < length c.self.inside.sparse.items
-in_sparse c =
-    search (rules, none_there)
+in_sparse c = search (rules, none_there)
 
 pub invariant_of-self-in-None : goal.invariant_of-self-in-None
-invariant_of-self-in-None c =
-    search (rules, to_z-of_z, pushed_dense, none_there, in_sparse)
+invariant_of-self-in-None c = search (rules, to_z-of_z, pushed_dense, none_there, in_sparse)
 
 pub returns-in-None : goal.returns-in-None
 returns-in-None c =

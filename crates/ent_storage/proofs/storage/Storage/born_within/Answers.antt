@@ -25,8 +25,7 @@ invariant_of-self c =
     let entity : LivingEntity = record {
       handle = c.args.handle;
       birth = c.args.birth;
-      components =
-          map.empty;
+      components = map.empty;
     } in
     let room = ap (λ (s : Store). s.spare) c.self.view_is in
     let fits : length c.self.inside.living.entities < min c.self.inside.living.room
@@ -38,14 +37,11 @@ invariant_of-self c =
     c.put.new.self.by_handle new fits (c.put.ensures.placed c.if-put.true) keeps)
 
 pub returns-then-put-clause-ok : goal.returns-then-put-clause-ok
-returns-then-put-clause-ok c =
-    search (rules, none_from_test, entities_push)
+returns-then-put-clause-ok c = search (rules, none_from_test, entities_push)
 
 -- the handle is there exactly if the index has a place of it that counts
 pub returns-then-put-clause-present : goal.returns-then-put-clause-present
-returns-then-put-clause-present c =
-    search (rules, none_from_test, placed_known, false≢true)
+returns-then-put-clause-present c = search (rules, none_from_test, placed_known, false≢true)
 
 pub returns-else-put-clause-present : goal.returns-else-put-clause-present
-returns-else-put-clause-present c =
-    search (rules, placed_known, some_from_test)
+returns-else-put-clause-present c = search (rules, placed_known, some_from_test)

@@ -33,10 +33,8 @@ not_empty living index indexed m view some none =
     absurd (omega (arith, len_living living index indexed, len, same, some))
 
 pub returns-in_err-births-clause-memory : goal.returns-in_err-births-clause-memory
-returns-in_err-births-clause-memory c =
-    search (rules, on_err, not_empty)
+returns-in_err-births-clause-memory c = search (rules, on_err, not_empty)
 
 pub returns-in_err-handles_in_order-clause-memory :
     goal.returns-in_err-handles_in_order-clause-memory
-returns-in_err-handles_in_order-clause-memory c =
-    search (rules, length-map, on_err, not_empty)
+returns-in_err-handles_in_order-clause-memory c = search (rules, length-map, on_err, not_empty)

@@ -36,8 +36,7 @@ record IsMoved (left : List LivingEntity) (h moved : Handle) (place : ℕ) : Typ
 
 moved : (c : After-handle-moved) → IsMoved c.swap_remove.new.self.entities c.args.handle
     c.handle-moved.result c.args.place
-moved c =
-    grind (arith, common_steps)
+moved c = grind (arith, common_steps)
 
 -- or the one that is gone was
 last : (c : Else-place-len) → length c.swap_remove.new.self.entities ≤ c.args.place
@@ -98,8 +97,7 @@ invariant_of-self-else-place-len c =
     c.args.place (placed at.After-self) _ c.swap_remove.ensures.entities (last at.Else-place-len))
 
 pub returns-else-place-len-clause-entities : goal.returns-else-place-len-clause-entities
-returns-else-place-len-clause-entities c =
-    search (rules, entities_popped, placed, last)
+returns-else-place-len-clause-entities c = search (rules, entities_popped, placed, last)
 
 pub returns-else-place-len-clause-places : goal.returns-else-place-len-clause-places
 returns-else-place-len-clause-places c =
@@ -110,13 +108,10 @@ returns-else-place-len-clause-places c =
     c.swap_remove.ensures.entities)
 
 pub returns-else-place-len-clause-moved : goal.returns-else-place-len-clause-moved
-returns-else-place-len-clause-moved c =
-    search (rules, last, slice_get_past, length-map)
+returns-else-place-len-clause-moved c = search (rules, last, slice_get_past, length-map)
 
 pub returns-then-place-len-clause-spare : goal.returns-then-place-len-clause-spare
-returns-then-place-len-clause-spare c =
-    search (rules)
+returns-then-place-len-clause-spare c = search (rules)
 
 pub returns-else-place-len-clause-spare : goal.returns-else-place-len-clause-spare
-returns-else-place-len-clause-spare c =
-    search (rules)
+returns-else-place-len-clause-spare c = search (rules)

@@ -36,8 +36,7 @@ returns-clause-entities c =
     ∙ ap (λ (s : Store). with_birth s.entities c.args.handle c.args.birth) c.self.view_is
 
 pub returns-clause-spare : goal.returns-clause-spare
-returns-clause-spare c =
-    search (rules, length_reborn)
+returns-clause-spare c = search (rules, length_reborn)
 
 -- no handle is changed
 pub returns-clause-places : goal.returns-clause-places

@@ -35,7 +35,6 @@ invariant_of-result c =
     in
     subst (λ m. IsChecking s (e.wanted + c.from.result) c.push.new.self.items m)
     (sym c.in_ok-insert.ensures.ok)
-    (subst (λ ps. IsChecking s (e.wanted + c.from.result) ps now)
-    (sym c.in_ok-push.ensures.items)
+    (subst (λ ps. IsChecking s (e.wanted + c.from.result) ps now) (sym c.in_ok-push.ensures.items)
     (subst (λ n. IsChecking s (e.wanted + n) (e.run.items ++ p ∷ []) now)
     (sym c.from.ensures) base))

@@ -6,8 +6,7 @@ use Rattle.ent_trace.proofs.Keys.{IsChecking-called}
 use Rattle.ent_trace.proofs.checker.Checker.call.Goals as goal
 
 pub returns-in-Some-clause-differs : goal.returns-in-Some-clause-differs
-returns-in-Some-clause-differs c =
-    search (rules, ints, front_here)
+returns-in-Some-clause-differs c = search (rules, ints, front_here)
 
 pub invariant_of-result : goal.invariant_of-result
 invariant_of-result c =

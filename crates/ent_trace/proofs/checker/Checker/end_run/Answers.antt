@@ -22,8 +22,7 @@ returns-in_err-settle c =
           c.in_err-settle.ensures.differs);
       none = rw (p.1, p.2) (on_differs c.in_err-settle.field-0.0
           (λ d. HasNoOrder self) (λ d. NoneFollows self l)
-          (λ d none. settled-None self l c.requires none)
-          c.in_err-settle.ensures.none);
+          (λ d none. settled-None self l c.requires none) c.in_err-settle.ensures.none);
       counted = rw (p.1, p.2) c.in_err-settle.ensures.counted;
     }
 
@@ -44,11 +43,9 @@ returns c =
           c.call.ensures.fits c.call.ensures.next;
       differs = on_err c.call.result (λ stop. OnDiffers stop (Differs at c.args.number l))
           (λ stop. OnDiffers stop (Shows self c.args.number (l ∷ [])))
-          (λ stop. on_differs stop (Differs at c.args.number l)
-          (Shows self c.args.number (l ∷ []))
+          (λ stop. on_differs stop (Differs at c.args.number l) (Shows self c.args.number (l ∷ []))
           (λ d differs. called-Shows self l at c.args.number d c.in_ok-settle.ensures.settled
-          differs))
-          c.call.ensures.differs;
+          differs)) c.call.ensures.differs;
       none = on_err c.call.result (λ stop. OnDiffers stop (Differs at c.args.number l))
           (λ stop. OnDiffers stop (λ d. NoneFollows self l))
           (λ stop. on_differs stop (Differs at c.args.number l) (λ d. NoneFollows self l)

@@ -5,13 +5,10 @@ use Rattle.ent_trace.proofs.Stops.{on_differs, on_err}
 use Rattle.ent_trace.proofs.checker.Checker.finish.Goals as goal
 
 pub returns-clause-agrees : goal.returns-clause-agrees
-returns-clause-agrees c =
-    grind (arith, common_steps)
+returns-clause-agrees c = grind (arith, common_steps)
 
 pub returns-clause-differs : goal.returns-clause-differs
-returns-clause-differs c =
-    search (rules, on_err, on_differs)
+returns-clause-differs c = search (rules, on_err, on_differs)
 
 pub returns-clause-none : goal.returns-clause-none
-returns-clause-none c =
-    search (rules, on_err, on_differs, finished-None)
+returns-clause-none c = search (rules, on_err, on_differs, finished-None)

@@ -17,8 +17,7 @@ use Rattle.ent_trace.proofs.checker.Checker.settle.Goals as goal
 -- the sorted run requests as much
 requests : (c : After-deref) → requested_in (reservations_of c.deref.result.now)
     ≡ requested_in (reservations_of c.self.inside.run.items)
-requests c =
-    search (rules, requested-sorted)
+requests c = search (rules, requested-sorted)
 
 -- it is an order of the run
 ordered : (c : After-deref) → IsOrderOf (lines c.self.inside.run.items) (lines c.deref.result.now)
@@ -33,8 +32,7 @@ ordered c =
     (sorted-IsOrderOf sorted run up alike c.self.invariant.steady)
 
 -- if any order of the run is answered so, this one is, and leaves the same state
-best : (c : After-deref) (other : List Line)
-    → IsOrderOf (lines c.self.inside.run.items) other
+best : (c : After-deref) (other : List Line) → IsOrderOf (lines c.self.inside.run.items) other
     → AreAnswered c.self.inside.entities.allocator other
     → AreAnswered c.self.inside.entities.allocator (lines c.deref.result.now)
     × (after_lines c.self.inside.entities.allocator other
@@ -53,8 +51,7 @@ best c other is all =
     (requested-sorted run sorted c.in_ok-sort_by_cached_key.ensures.permutation) is all)
 
 pub place_all-requires : goal.place_all-requires
-place_all-requires c =
-    search (rules, requests)
+place_all-requires c = search (rules, requests)
 
 pub returns-in_err-place_all-clause-differs : goal.returns-in_err-place_all-clause-differs
 returns-in_err-place_all-clause-differs c =
@@ -80,16 +77,13 @@ returns-in_err-place_all-clause-none c =
     let p = err_from_is_err_and c.from_residual-in_err-place_all.result
     c.from_residual-in_err-place_all.ensures.1 in
     rw (p.1, p.2) (on_differs c.in_err-place_all.field-0.0
-    (λ d. (n : ℕ) → Fails s n (lines c.deref.result.now) d)
-    (λ d. HasNoOrder c.args.self)
+    (λ d. (n : ℕ) → Fails s n (lines c.deref.result.now) d) (λ d. HasNoOrder c.args.self)
     (λ d fails. subst HasNoOrder c.self.view_is
     (λ other is all. fails_none s 0 (lines c.deref.result.now) d (fails 0)
-    (best at other is all).0))
-    c.in_err-place_all.ensures.differs)
+    (best at other is all).0)) c.in_err-place_all.ensures.differs)
 
 pub invariant_of-result : goal.invariant_of-result
-invariant_of-result c =
-    search (rules, requests, asked-lines, IsChecking-none, empty_keeps)
+invariant_of-result c = search (rules, requests, asked-lines, IsChecking-none, empty_keeps)
 
 pub returns-clause-settled : goal.returns-clause-settled
 returns-clause-settled c =

@@ -4,9 +4,7 @@ use Rattle.ent_trace.proofs.Stops.{on_ok}
 use Rattle.ent_trace.proofs.checker.Checker.take.Goals as goal
 
 pub returns-in-Reserve-clause-follows : goal.returns-in-Reserve-clause-follows
-returns-in-Reserve-clause-follows c =
-    search (rules, on_ok, added-Follows)
+returns-in-Reserve-clause-follows c = search (rules, on_ok, added-Follows)
 
 pub returns-in-Reserve-clause-reaches : goal.returns-in-Reserve-clause-reaches
-returns-in-Reserve-clause-reaches c =
-    search (rules, on_ok)
+returns-in-Reserve-clause-reaches c = search (rules, on_ok)

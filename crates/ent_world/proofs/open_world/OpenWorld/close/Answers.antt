@@ -29,8 +29,7 @@ invariant_of-result c = record {
     c.close.ensures.after,
     top-after_history c.self.inside.shared.start
         (history_of (records_of c.args.reservers.items)) c.self.invariant.world.world.sound,
-  )
-      c.self.invariant.room;
+  ) c.self.invariant.room;
 }
 
 pub returns-clause-world : goal.returns-clause-world

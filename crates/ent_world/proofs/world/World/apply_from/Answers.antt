@@ -28,8 +28,7 @@ pub returns-in-Ok-clause-whole_faults : goal.returns-in-Ok-clause-whole_faults
 returns-in-Ok-clause-whole_faults c before earlier stopped =
     let a = c.args in
     ap
-    (λ (b : Applied). b.faults) (all_done a.system a.command a.done a.queues.now before
-    a.self.now
+    (λ (b : Applied). b.faults) (all_done a.system a.command a.done a.queues.now before a.self.now
     earlier c.new-applying.result.faults.items (applied c.apply_queues-applied.new.self
     c.apply_queues-applied.new.applying.faults.items) c.new-applying.ensures c.in-Ok.ensures.ok
     stopped)

@@ -34,19 +34,15 @@ returns-in_err-apply_queue-clause-err c =
     (λ is. let same = c.in_queue.ensures.first is in
     (ap (λ (s : Stop). s.at.command) same, ap (λ (s : Stop). s.done) same))
     (λ lt. let same = c.in_queue.ensures.later lt in (
-      ap
-          (λ (s : Stop). s.at.command) same,
+      ap (λ (s : Stop). s.at.command) same,
       ap (λ (s : Stop). s.done) same,
-    )) stop.at.command
-    stop.done)
+    )) stop.at.command stop.done)
     ∙ ap (λ n. after_left from.at.system from.at.command from.done
-    (cut n stop.at.command stop.done qs) start)
-    (sym (c.in_err-apply_queue.ensures.at ∙ number))
+    (cut n stop.at.command stop.done qs) start) (sym (c.in_err-apply_queue.ensures.at ∙ number))
     )
 
 pub returns-in_err-apply_queue-clause-memory : goal.returns-in_err-apply_queue-clause-memory
-returns-in_err-apply_queue-clause-memory c =
-    search (rules, err_from_is_err_and, takes_memory_at)
+returns-in_err-apply_queue-clause-memory c = search (rules, err_from_is_err_and, takes_memory_at)
 
 -- one queue more
 pub loop-system-preserved : goal.loop-system-preserved
@@ -65,8 +61,7 @@ loop-system-preserved c =
       flushed = c.apply_queue.ensures.flushed;
       so_far = c.in_ok-apply_queue.ensures.ok
           ∙ ap (after_commands here.at.system here.at.command
-          (left_commands here.at.command here.done
-          q)) c.loop-system.invariant.so_far
+          (left_commands here.at.command here.done q)) c.loop-system.invariant.so_far
           ∙ sym (queues_left-step from.at.system from.at.command from.done qs (drop (k + 1) qs) k q
           start left here.at.system here.at.command here.done number (omega (arith, le))
           (λ is. let same = c.in_queue.ensures.first is in

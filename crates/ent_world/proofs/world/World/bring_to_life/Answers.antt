@@ -24,16 +24,13 @@ are_born : (c : After-deref) → c.deref.result.now ≡ born c.self.inside.entit
 are_born c = search (rules)
 
 pub enter_all-requires-clause-new : goal.enter_all-requires-clause-new
-enter_all-requires-clause-new c =
-    search (rules, are_born, born-new)
+enter_all-requires-clause-new c = search (rules, are_born, born-new)
 
 pub enter_all-requires-clause-room : goal.enter_all-requires-clause-room
-enter_all-requires-clause-room c =
-    search (rules, length_permutation, born-IsPermutation, are_born)
+enter_all-requires-clause-room c = search (rules, length_permutation, born-IsPermutation, are_born)
 
 pub set_rows-requires-clause-living : goal.set_rows-requires-clause-living
-set_rows-requires-clause-living c =
-    search (rules, are_born, born-lives)
+set_rows-requires-clause-living c = search (rules, are_born, born-lives)
 
 pub set_rows-requires-clause-fits : goal.set_rows-requires-clause-fits
 set_rows-requires-clause-fits c =
@@ -82,8 +79,7 @@ stand c =
     c.deref.result.now (next ∙ ap length (sym c.reserve.ensures.places)) c.enter_all.ensures.places
 
 pub number_others-requires : goal.number_others-requires
-number_others-requires c =
-    search (rules, stand)
+number_others-requires c = search (rules, stand)
 
 -- all that are born have their births
 entered : (c : After-number_others) → drop c.len-first.result c.enter_all.new.storage.places
@@ -104,8 +100,7 @@ entered c stand_there =
     c.enter_all.ensures.entered c.name_listed.ensures.named c.number_others.ensures.numbered
 
 -- the map after all entered has those that live
-risen : (c : After-number_others) → (phase : ℕ)
-    → c.number_others.new.storage.entities
+risen : (c : After-number_others) → (phase : ℕ) → c.number_others.new.storage.entities
     ≡ with_born c.self.inside.storage.entities
     (birth_in c.self.inside.phase c.args.queues.now (born c.self.inside.entities.allocator))
     (born c.self.inside.entities.allocator) → IsWorld (record {
@@ -166,5 +161,4 @@ returns-clause-ok c =
     ∙ ap (after_births c.args.queues.now) c.self.view_is
 
 pub returns-clause-world : goal.returns-clause-world
-returns-clause-world c =
-    search (rules, risen, entered, stand)
+returns-clause-world c = search (rules, risen, entered, stand)

@@ -57,8 +57,7 @@ moved_placed c moved is = subst (λ (o : Option Handle). AreRows
 
 -- the slot that waits now has the place of the entity that is gone
 left_room : (c : After-despawn_at) → top c.free.new.self.allocator ≤ c.despawn_at.new.self.spare
-left_room c =
-    search (rules, room-after_free)
+left_room c = search (rules, room-after_free)
 
 pub set_row-requires : goal.set_row-requires
 set_row-requires c =

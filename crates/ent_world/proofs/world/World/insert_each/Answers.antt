@@ -6,25 +6,20 @@ use Rattle.ent_world.proofs.TakesMemory.{stop_takes_memory, next_takes_memory}
 use Rattle.ent_world.proofs.world.World.insert_each.Goals as goal
 
 pub unreachable-requires : goal.unreachable-requires
-unreachable-requires c =
-    search (rules, some_left)
+unreachable-requires c = search (rules, some_left)
 
 -- one that is done already
 pub loop-done-preserved-then-done-from : goal.loop-done-preserved-then-done-from
-loop-done-preserved-then-done-from c =
-    search (rules, next_left, each_left-skip)
+loop-done-preserved-then-done-from c = search (rules, next_left, each_left-skip)
 
 -- the next one has its components
 pub loop-done-preserved : goal.loop-done-preserved
-loop-done-preserved c =
-    search (rules, on_ok, next_left, each_left-next)
+loop-done-preserved c = search (rules, on_ok, next_left, each_left-next)
 
 -- no room for the components
 pub returns-then-is_err-clause-memory : goal.returns-then-is_err-clause-memory
-returns-then-is_err-clause-memory c =
-    search (rules, on_err, stop_takes_memory)
+returns-then-is_err-clause-memory c = search (rules, on_err, stop_takes_memory)
 
 -- it stopped at this handle
 pub returns-then-is_err-2-clause-memory : goal.returns-then-is_err-2-clause-memory
-returns-then-is_err-2-clause-memory c =
-    search (rules, on_err, next_takes_memory)
+returns-then-is_err-2-clause-memory c = search (rules, on_err, next_takes_memory)

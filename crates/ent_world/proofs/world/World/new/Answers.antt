@@ -14,8 +14,7 @@ begun : (c : After-new) → IsWorld (record {
 })
 begun c = record {
   sound = c.cursor.ensures.sound;
-  living =
-      rw (c.new-entities.ensures.allocator, c.new.ensures.entities) keys-empty;
+  living = rw (c.new-entities.ensures.allocator, c.new.ensures.entities) keys-empty;
 }
 
 pub invariant_of-result : goal.invariant_of-result

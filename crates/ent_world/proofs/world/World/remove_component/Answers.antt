@@ -5,5 +5,4 @@ use Rattle.ent_world.proofs.Worlds.{components-world}
 use Rattle.ent_world.proofs.world.World.remove_component.Goals as goal
 
 pub invariant_of-self : goal.invariant_of-self
-invariant_of-self c =
-    search (rules, components-world, rows-components)
+invariant_of-self c = search (rules, components-world, rows-components)

@@ -26,13 +26,11 @@ pub make-requires-clause-next : goal.make-requires-clause-next
 make-requires-clause-next c = next_place (goal.at.make-requires-clause-next c).After-items
 
 pub despawn_at-requires : goal.despawn_at-requires
-despawn_at-requires c =
-    grind (arith, common_steps, next_place, at_pushed)
+despawn_at-requires c = grind (arith, common_steps, next_place, at_pushed)
 
 -- the entity that was made is taken back
 back : (c : After-despawn_at) → c.despawn_at.new.self.entities ≡ c.self.inside.storage.entities
-back c =
-    search (rules, no_entity, taken_back)
+back c = search (rules, no_entity, taken_back)
 
 place_back : (c : After-despawn_at) → c.despawn_at.new.self.places ≡ c.self.inside.storage.places
 place_back c =
