@@ -91,6 +91,11 @@ value-decimal n small = (decimal_is_IsNumeral n small).1
 
 -- ---- reading
 
+pub is_decimal_unless_zero : (ds : List ℕ) → 0 < length ds → (get_or ds 0 0 ≡ 48 → ⊥)
+    → is_decimal ds ≡ list_all is_ascii_digit ds
+is_decimal_unless_zero [] long other = absurd (omega arith)
+is_decimal_unless_zero (c ∷ cs) long other = cond-false (eqb c 48) _ _ (ne_eqb c 48 other)
+
 pub number_in_range : (ds : List ℕ) → IsDecimal ds → digits_value 10 ds < 2 ^ 32 → number_of ds
     ≡ Ok (digits_value 10 ds)
 number_in_range ds h small = rw (h, lt-ltb _ _ small) refl
