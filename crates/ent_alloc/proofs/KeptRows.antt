@@ -90,7 +90,7 @@ pub rows_from-set : (from : ℕ) (records : List SlotRecord) (index : ℕ) (r : 
     → row_of r.occupancy ≡ None → row_of (record_at records index).occupancy ≡ None
     → rows_from from (set records index r) ≡ rows_from from records
 rows_from-set from [] index r new old = refl
-rows_from-set from (x ∷ records) zero r new old = (search (rules))
+rows_from-set from (x ∷ records) zero r new old = search (rules)
 rows_from-set from (x ∷ records) (suc index) r new old =
     search (rules, rows_from-set (from + 1) records index r new old)
 

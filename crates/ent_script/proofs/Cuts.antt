@@ -53,12 +53,12 @@ rest_of r (Some p) = p.1
 pub array_read : (o : Option (Items × List Token)) (d : Data) (r : List Token) → parse_map array o ≡
     Some (d, r) → (ds : Items) × (d ≡ array ds) × (o ≡ Some (ds, r))
 array_read None d r e = absurd (cc)
-array_read (Some p) d r e = (search (rules))
+array_read (Some p) d r e = search (rules)
 
 pub object_read : (o : Option (Members × List Token)) (d : Data) (r : List Token) → parse_map object
     o ≡ Some (d, r) → (ms : Members) × (d ≡ object ms) × (o ≡ Some (ms, r))
 object_read None d r e = absurd (cc)
-object_read (Some p) d r e = (search (rules))
+object_read (Some p) d r e = search (rules)
 
 pub opened_array : (depth : ℕ) (ts r : List Token) (d : Data) → converted of_json
     (value depth (Token.begin_array ∷ ts)) ≡ Some (d, r)

@@ -30,7 +30,7 @@ second_of r (Some p) = p.1
 pub mapped : {A B : Type 0} (f : A → B) (o : Option (A × List Token)) (b : B) (r : List Token) →
     parse_map f o ≡ Some (b, r) → (a : A) × (b ≡ f a) × (o ≡ Some (a, r))
 mapped f None b r e = impossible (b, r) e
-mapped {A} {B} f (Some p) b r e = (search (rules))
+mapped {A} {B} f (Some p) b r e = search (rules)
 
 module _ (p : Parse json.Json) where
   next_by : (o : Option (Data × List Token)) (n : ℕ) (ts rest : List Token) (ds : Items) → converted

@@ -99,7 +99,7 @@ none_of (Some n) b e h = absurd (true≢false (sym e ∙ h))
 new_by : (found : Option ℕ) (name t : List ℕ) (names : List (List ℕ)) → number_among name names
     ≡ found → cond (is_some found) None (Some name) ≡ Some t → (Some name ≡ Some t)
     × (number_among t names ≡ None)
-new_by None name t names e h = (search (rules))
+new_by None name t names e h = search (rules)
 new_by (Some n) name t names e h = absurd (cc h)
 
 found_by : (o : Option (List ℕ)) (t : List ℕ) (names : List (List ℕ))

@@ -110,4 +110,4 @@ pub has_ended : (workers : ℕ) (show : Show) (script : Script) (now : World) (t
     → HaveGone script.frames workers show (first_world script.limits) now text
     → IsWorldText script.components show now.entities added
     → IsReport script workers show (text ++ added)
-has_ended workers show script now text added run world = (search (rules))
+has_ended workers show script now text added run world = search (rules)

@@ -87,7 +87,7 @@ reservations_within : (start : Allocator) (high : ℤ) (cs : List Reservation) (
     → high ≤ℤ pos (top start) → pos (top start) ≡ end +ℤ pos asked → Follow high cs end
     → All (λ (c : Reservation). asked_at (top start) c.high + c.requested ≤ asked) cs
     × (end ≤ℤ high)
-reservations_within start high [] end asked up is f = (grind (arith, common_steps))
+reservations_within start high [] end asked up is f = grind (arith, common_steps)
 reservations_within start high (c ∷ cs) end asked up is f =
     grind (
       arith,

@@ -69,7 +69,7 @@ all_own P (Met cs ∷ es) all = all_own P es (All-right P cs (known_reservations
 pub order-made : (es : List RecordEntry) (c : Reservation) → InOrder es
     → All (λ (d : Reservation). c.high ≤ℤ low d) (known_reservations es)
     → InOrder (es ++ Own c ∷ [])
-order-made [] c order below = (search (rules, All-nil))
+order-made [] c order below = search (rules, All-nil)
 order-made (e ∷ es) c order below =
     let P : Reservation → Type 0 = λ (d : Reservation). c.high ≤ℤ low d in
     let Q : Reservation → Type 0 = λ (later : Reservation).
@@ -81,8 +81,8 @@ order-made (e ∷ es) c order below =
 
 pub order-met : (es : List RecordEntry) (cs : List Reservation) → InOrder es
     → InOrder (es ++ Met cs ∷ [])
-order-met [] cs order = (search (rules, All-nil))
-order-met (e ∷ es) cs order = (search (rules, own-met, order-met es cs order.1))
+order-met [] cs order = search (rules, All-nil)
+order-met (e ∷ es) cs order = search (rules, own-met, order-met es cs order.1)
 
 -- the least of a reservation that is lower than all others
 lower_first : (a b c : ℤ) (served : Bool) → b ≤ℤ a → int_min a (cond served b c)

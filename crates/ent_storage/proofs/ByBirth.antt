@@ -52,7 +52,7 @@ same_entity a b e = ap (λ (o : Option Entity). unwrap_or o a) e
 
 contains_map : {X Y : Type 0} (f : X → Y) (xs : List X) (x : X) → Contains xs x
     → Contains (map f xs) (f x)
-contains_map f xs x h = (grind (arith, common_steps))
+contains_map f xs x h = grind (arith, common_steps)
 
 later : {X : Type 0} (xs : List X) (y x : X) → Contains xs x → Contains (y ∷ xs) x
 later xs y x h = (suc h.0, omega (arith, h.1), h.2)

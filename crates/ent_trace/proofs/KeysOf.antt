@@ -146,7 +146,7 @@ pub record HasKey (given : List Handle) (p : Placed) : Type 0 where
 pub has_keys : (given : List Handle) (f : ℕ → ℕ) (run : List Placed) → AreKeyed given f run
     → AllByRecursion (HasKey given) run
 has_keys given f [] keyed = tt
-has_keys given f (p ∷ run) keyed = (search (rules, has_keys given (raised f p) run keyed.1))
+has_keys given f (p ∷ run) keyed = search (rules, has_keys given (raised f p) run keyed.1)
 
 -- what comes later in a legal order has no lesser key than what was asked for
 pub later_keys : (given : List Handle) (run : List Placed) (s : Allocator) (k : ℕ) → IsSound s

@@ -8,13 +8,13 @@ use Rattle.ent_queue.proofs.entries.read_entry.Goals as goal
 
 -- what may be read after the byte for each kind
 spawn : (c : In-0) → HandleAndBundle (drop 1 c.args.bytes.now) (after_first c.args.bytes.now)
-spawn c = (grind (arith, common_steps, begins_kinds))
+spawn c = grind (arith, common_steps, begins_kinds)
 
 spawn_many : (c : In-1) → HandlesAndBundle (drop 1 c.args.bytes.now) (after_first c.args.bytes.now)
-spawn_many c = (grind (arith, common_steps, begins_kinds))
+spawn_many c = grind (arith, common_steps, begins_kinds)
 
 insert : (c : In-2) → HandleAndBundle (drop 1 c.args.bytes.now) (after_first c.args.bytes.now)
-insert c = (grind (arith, common_steps, begins_kinds))
+insert c = grind (arith, common_steps, begins_kinds)
 
 remove : (c : In-3) → HandleAndComponent (drop 1 c.args.bytes.now) (after_first c.args.bytes.now)
 remove c = (begins_kinds c.args.bytes.now c.requires).remove (sym c.read_u8-kind.ensures.value

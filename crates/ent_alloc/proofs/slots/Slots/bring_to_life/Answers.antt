@@ -22,7 +22,7 @@ written lent records new slots pending kept same same_pending is = search (rules
 waited : (lent records : List SlotRecord) (slots pending : List ℕ) (kept : ℕ) → lent ≡ records
     → slots ≡ pending → map (handle_at lent) (take (length slots - kept) (drop kept slots))
     ≡ drop kept (map (handle_at records) pending)
-waited lent records slots pending kept same same_pending = (search (rules, take_rest, drop-map))
+waited lent records slots pending kept same same_pending = search (rules, take_rest, drop-map)
 
 -- what the two loops leave in the records
 record AreWritten (records : List SlotRecord) (pending : List ℕ) (fresh kept slots : ℕ)

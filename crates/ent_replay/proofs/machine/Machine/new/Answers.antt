@@ -7,4 +7,4 @@ pub invariant_of-result : goal.invariant_of-result
 invariant_of-result c = search (rules, starting-consistent)
 
 pub returns : goal.returns
-returns c = (search (rules, starting_is))
+returns c = search (rules, starting_is)
