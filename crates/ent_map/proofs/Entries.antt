@@ -69,17 +69,14 @@ module _ {X : Type 0} where
   above h index [] l = tt
   above h index (Vacant ∷ slots) l = above h (index + 1) slots (omega arith)
   above h index (Occupied generation value ∷ slots) l =
-      both _ _ (less_by_index h (record { index = index; generation = generation }) l)
-      (above h (index + 1) slots (omega arith))
+      search (rules, both, less_by_index, above h (index + 1) slots (omega arith))
 
   pub rising : (index : ℕ) (slots : List (Slot X))
       → T (is_sorted handle_cmp (entries_from index slots))
   rising index [] = tt
   rising index (Vacant ∷ slots) = rising (index + 1) slots
   rising index (Occupied generation value ∷ slots) =
-      both _ _
-      (above (record { index = index; generation = generation }) (index + 1) slots (omega arith))
-      (rising (index + 1) slots)
+      search (rules, both, above, rising (index + 1) slots)
 
   -- ---- what a handle finds
 
@@ -88,54 +85,39 @@ module _ {X : Type 0} where
   find_before q index [] l = refl
   find_before q index (Vacant ∷ slots) l = find_before q (index + 1) slots (omega arith)
   find_before q index (Occupied generation value ∷ slots) l =
-      ap (λ b. cond b (Some value) (find handle_cmp q (entries_from (index + 1) slots)))
-      (ties_apart q (record { index = index; generation = generation }) (λ e. omega (arith, e)))
-      ∙ find_before q (index + 1) slots (omega arith)
+      search (rules, find_before q (index + 1) slots (omega arith))
 
   vacant_past : (at wanted : ℕ) → value_under (slot_at {T = X} [] at) wanted ≡ None
-  vacant_past at wanted =
-      ap (λ (s : Slot X). value_under s wanted) (get_or_past [] at Vacant (omega arith))
+  vacant_past at wanted = search (rules, get_or_past)
 
   -- the first of the slots is not the one that is looked for
   later : (slot : Slot X) (slots : List (Slot X)) (q : Handle) (index : ℕ) → index < q.index
       → value_under (get_or slots (q.index - (index + 1)) Vacant) q.generation
       ≡ value_under (get_or (slot ∷ slots) (q.index - index) Vacant) q.generation
-  later slot slots q index l =
-      let off : suc (q.index - (index + 1)) ≡ q.index - index = omega arith in
-      ap (λ n. value_under (get_or (slot ∷ slots) n Vacant) q.generation) off
+  later slot slots q index l = search rules
 
   -- it is
   first_one : (slot : Slot X) (slots : List (Slot X)) (q : Handle) (index : ℕ) → q.index ≡ index
       → value_under slot q.generation
       ≡ value_under (get_or (slot ∷ slots) (q.index - index) Vacant) q.generation
-  first_one slot slots q index e =
-      let off : 0 ≡ q.index - index = omega (arith, e) in
-      ap (λ n. value_under (get_or (slot ∷ slots) n Vacant) q.generation) off
+  first_one slot slots q index e = search rules
 
   find_from : (q : Handle) (index : ℕ) (slots : List (Slot X)) → index ≤ q.index
       → find handle_cmp q (entries_from index slots)
       ≡ value_under (get_or slots (q.index - index) Vacant) q.generation
   find_from q index [] l = sym (vacant_past (q.index - index) q.generation)
-  find_from q index (Vacant ∷ slots) l =
-      elim (cases_eq q.index index) [
-        | inl e ↦ find_before q (index + 1) slots (omega (arith, e))
-            ∙ first_one Vacant slots q index e
-        | inr ne ↦ find_from q (index + 1) slots (omega (arith, ne))
-            ∙ later Vacant slots q index (omega (arith, ne))
-      ]
+  find_from q index (Vacant ∷ slots) l = elim (cases_eq q.index index) [
+    | inl e ↦ find_before q (index + 1) slots (omega (arith, e))
+        ∙ first_one Vacant slots q index e
+    | inr ne ↦ find_from q (index + 1) slots (omega (arith, ne))
+        ∙ later Vacant slots q index (omega (arith, ne))
+  ]
   find_from q index (Occupied generation value ∷ slots) l =
       let here : Handle = record { index = index; generation = generation } in
       elim (cases_eq q.index index) [
-        | inl e ↦
-            (λ i. cond (ties_here q here e i) (Some value)
-            (find_before q (index + 1) slots (omega (arith, e)) i))
-            ∙ ap (λ b. cond b (Some value) None) (eqb_sym q.generation generation)
-            ∙ first_one (Occupied generation value) slots q index e
+        | inl e ↦ search (rules, ties_here, here, find_before, eqb_sym, first_one)
         | inr ne ↦
-            ap (λ b. cond b (Some value) (find handle_cmp q (entries_from (index + 1) slots)))
-            (ties_apart q here ne)
-            ∙ find_from q (index + 1) slots (omega (arith, ne))
-            ∙ later (Occupied generation value) slots q index (omega (arith, ne))
+            search (rules, ties_apart, here, later, find_from q (index + 1) slots (omega (arith, ne)))
       ]
 
   -- what the map has at a handle
@@ -162,18 +144,13 @@ module _ {X : Type 0} where
   slot-set : (slots : List (Slot X)) (index : ℕ) (slot : Slot X) (at : ℕ) → index < length slots
       → (at ≡ index → slot_at (set slots index slot) at ≡ slot)
       × (at ≢ index → slot_at (set slots index slot) at ≡ slot_at slots at)
-  slot-set slots index slot at within = (
-    λ e. ap (λ n. slot_at (set slots index slot) n) e
-        ∙ get_or-set_same slots index slot Vacant within,
-    λ ne. get_or-set_other slots index at slot Vacant ne,
-  )
+  slot-set slots index slot at within = search (rules, get_or-set_same, get_or-set_other)
 
   -- a slot that has nothing of the slot's handles but the value of one
   here_alone : (h q : Handle) (value : X) → q.index ≡ h.index
       → value_under (Occupied h.generation value) q.generation
       ≡ cond (eq_by_cmp handle_cmp q h) (Some value) None
-  here_alone h q value e =
-      ap (λ b. cond b (Some value) None) (eqb_sym h.generation q.generation ∙ sym (ties_here q h e))
+  here_alone h q value e = search (rules, eqb_sym, ties_here)
 
   get-without : (m : HandleValues X) (h q : Handle) → map.get (without_slot m h.index) q
       ≡ cond (not (eqb q.index h.index)) (map.get m q) None
@@ -213,10 +190,7 @@ module _ {X : Type 0} where
 
   other_generation : (slots : List (Slot X)) (h q : Handle) (value : X) → HasValue slots h value
       → q.index ≡ h.index → value_in slots q ≡ cond (eq_by_cmp handle_cmp q h) (Some value) None
-  other_generation slots h q value has e =
-      ap (λ n. value_under (slot_at slots n) q.generation) e
-      ∙ ap (λ s. value_under s q.generation) has
-      ∙ here_alone h q value e
+  other_generation slots h q value has e = search (rules, here_alone)
 
   -- the value of a handle is written
   pub map-write : (slots : List (Slot X)) (h : Handle) (old value : X) → h.index < length slots
@@ -284,15 +258,9 @@ module _ {X : Type 0} where
       → at < length slots → length (entries_from index (set slots at slot)) + count_at (slot_at slots at)
       ≡ length (entries_from index slots) + count_at slot
   length-set_slot index [] at slot within = absurd (omega arith)
-  length-set_slot index (x ∷ slots) zero slot within =
-      omega (arith, one_more index x slots, one_more index slot slots)
+  length-set_slot index (x ∷ slots) zero slot within = search (rules, one_more)
   length-set_slot index (x ∷ slots) (suc at) slot within =
-      omega (
-        arith,
-        one_more index x slots,
-        one_more index x (set slots at slot),
-        length-set_slot (index + 1) slots at slot (omega arith),
-      )
+      search (rules, one_more, length-set_slot (index + 1) slots)
 
   -- ---- vacant slots behind
 
@@ -305,8 +273,7 @@ module _ {X : Type 0} where
   entries_more index [] count = entries_vacant index count
   entries_more index (Vacant ∷ slots) count = entries_more (index + 1) slots count
   entries_more index (Occupied generation value ∷ slots) count =
-      ap (λ es. (record { index = index; generation = generation }, value) ∷ es)
-      (entries_more (index + 1) slots count)
+      search (rules, entries_more (index + 1) slots count)
 
   pub entries_padded : (slots : List (Slot X)) (count : ℕ)
       → entries_from 0 (padded slots count) ≡ entries_from 0 slots
@@ -336,7 +303,4 @@ module _ {X : Type 0} where
   pairs_rising index [] = λ i j d l m. absurd (omega (arith, m))
   pairs_rising index (Vacant ∷ slots) = pairs_rising (index + 1) slots
   pairs_rising index (Occupied generation value ∷ slots) =
-      AllPairs-cons (λ (a b : Handle × X). a.0.index < b.0.index)
-      (record { index = index; generation = generation }, value) (entries_from (index + 1) slots)
-      (λ k d l. omega (arith, entries_after (index + 1) (index + 1) slots (omega arith) k d l))
-      (pairs_rising (index + 1) slots)
+      search (rules, AllPairs-cons, entries_after, pairs_rising (index + 1) slots)

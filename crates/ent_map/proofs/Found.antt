@@ -1,6 +1,6 @@
 -- The slot of a handle that has a value.
-use Rattle.std.proofs.Common.{◌≡◌, ℕ, zero, suc, ◌+◌, ◌-◌, ◌<◌, ◌≤◌, ◌^◌, Bool, true, false, cond}
-use Rattle.std.proofs.Common.{inl, inr, eqb, List, [], ◌∷◌, replicate, length, get_or, set, Option, None, Some}
+use Rattle.std.proofs.Common.{rules, ◌≡◌, ℕ, zero, suc, ◌+◌, ◌-◌, ◌<◌, ◌≤◌, ◌^◌, Bool, true, false}
+use Rattle.std.proofs.Common.{cond, eqb, List, [], ◌∷◌, length, get_or, set, Option, None, Some}
 use Rattle.std.proofs.Common.{is_some, refl, sym, ap, ◌∙◌, arith, true≢false, length-set, eqb-true}
 use Rattle.std.proofs.lemmas.Bool.{cases_lt, eq-eqb}
 use Rattle.std.proofs.lemmas.List.{get_or_past, length-append, length-replicate}
@@ -10,7 +10,7 @@ use Rattle.std.specs.Cmp.{Equal-is}
 use Rattle.ent_handle.specs.Handle.{Handle, handle_cmp, handle_cmp_total}
 use Rattle.ent_handle.specs.Handle.{handle_cmp-IsAntisymmetric}
 use Rattle.ent_map.specs.HandleMap.{HandleValues, without_slot, HasLater}
-use Rattle.ent_map.specs.Slots.{value_under, any_value, slot_at, entries_from, map_of_slots, count_at}
+use Rattle.ent_map.specs.Slots.{value_under, slot_at, entries_from, map_of_slots, count_at}
 use Rattle.ent_map.specs.Slots.{AreCounted, padded, generation_of}
 use Rattle.ent_map.specs.declared.slot.Slot.{Slot}
 use Rattle.ent_map.specs.declared.slot.Slot.TheVariants.{Vacant, Occupied}
@@ -49,19 +49,12 @@ module _ {X : Type 0} where
   -- the slot of a handle that the map has
   pub found : (slots : List (Slot X)) (values : HandleValues X) (h : Handle) → map_of_slots slots ≡ values
       → is_some (map.get values h) ≡ true → (value : X) × HasValue slots h value
-  found slots values h is some =
-      occupied (slot_at slots h.index) h.generation
-      (sym (ap is_some (get_map slots h)) ∙ ap (λ m. is_some (map.get m h)) is ∙ some)
+  found slots values h is some = search (rules, get_map slots h)
 
   -- it was made
   pub made : (slots : List (Slot X)) (h : Handle) (value : X) → HasValue slots h value
       → h.index < length slots
-  made slots h value has =
-      elim (cases_lt h.index (length slots)) [
-        | inl within ↦ within
-        | inr past ↦ absurd (true≢false ((ap (λ (s : Slot X). is_some (any_value s))
-            (sym has ∙ get_or_past slots h.index Vacant past))))
-      ]
+  made slots h value has = search (rules, cases_lt, true≢false, get_or_past)
 
   -- what the map has at the handle
   pub had : (slots : List (Slot X)) (values : HandleValues X) (h : Handle) (value : X)
@@ -75,29 +68,13 @@ module _ {X : Type 0} where
       → (1 ≤ count) × AreCounted 0 (set slots h.index Vacant) (count - 1)
   counted-take slots h value count has are =
       let within = made slots h value has in
-      let was : count_at (slot_at slots h.index) ≡ 1 = ap count_at has in
-      let step = length-set_slot 0 slots h.index Vacant within in
-      let counted = are.counted in (
-        omega arith,
-        record {
-          few = omega (arith, are.few, length-set slots h.index Vacant);
-          counted = omega arith;
-        },
-      )
+      search (rules, length-set_slot 0 slots h.index Vacant within, within)
 
   -- as many
   pub counted-write : (slots : List (Slot X)) (h : Handle) (old value : X) (count : ℕ)
       → HasValue slots h old → AreCounted 0 slots count
       → AreCounted 0 (set slots h.index (Occupied h.generation value)) count
-  counted-write slots h old value count has are =
-      let within = made slots h old has in
-      let was : count_at (slot_at slots h.index) ≡ 1 = ap count_at has in
-      let step = length-set_slot 0 slots h.index (Occupied h.generation value) within in
-      let counted = are.counted in
-      record {
-        few = omega (arith, are.few, length-set slots h.index (Occupied h.generation value));
-        counted = omega arith;
-      }
+  counted-write slots h old value count has are = search (rules, made, length-set_slot, length-set)
 
   -- what an index of the vector reads
   pub read : (slots : List (Slot X)) (at : ℕ) (x : Slot X) → at < length slots → x ≡ get_or slots at x
@@ -109,16 +86,12 @@ module _ {X : Type 0} where
   pub read_of : (slots : List (Slot X)) (h : Handle) (value : X) (at : ℕ) (x : Slot X)
       → HasValue slots h value → at ≡ h.index → x ≡ get_or slots at x
       → x ≡ Occupied h.generation value
-  read_of slots h value at x has is e =
-      read slots at x (let within = made slots h value has in omega (arith, is)) e
-      ∙ ap (slot_at slots) is ∙ has
+  read_of slots h value at x has is e = search (rules, read, made)
 
   -- the map has the value
   pub got : (slots : List (Slot X)) (values : HandleValues X) (h : Handle) (value : X)
       → map_of_slots slots ≡ values → HasValue slots h value → map.get values h ≡ Some value
-  got slots values h value is has =
-      sym (had slots values h value is has) ∙ ap (λ s. value_under s h.generation) has
-      ∙ ap (λ b. cond b (Some value) None) (eq-eqb h.generation h.generation refl)
+  got slots values h value is has = search (rules, had, eq-eqb)
 
   -- ---- a later occupant of the slot
 
@@ -135,11 +108,7 @@ module _ {X : Type 0} where
 
   pub no_later : (slots : List (Slot X)) (values : HandleValues X) (h : Handle) → map_of_slots slots ≡ values
       → generation_of (slot_at slots h.index) ≤ h.generation → HasLater values h → ⊥
-  no_later slots values h is least (g, above, some) =
-      let q : Handle = record { index = h.index; generation = g } in
-      let there = found slots values q is some in
-      let stands : generation_of (slot_at slots h.index) ≡ g = ap generation_of there.1 in
-      omega arith
+  no_later slots values h is least (g, above, some) = search (rules, found)
 
   -- ---- a value is put into the slot of a handle
 
@@ -147,16 +116,14 @@ module _ {X : Type 0} where
       → length (entries_from index slots) ≤ length slots
   length-entries_le index [] = omega arith
   length-entries_le index (Vacant ∷ slots) = omega (arith, length-entries_le (index + 1) slots)
-  length-entries_le index (Occupied g value ∷ slots) =
-      omega (arith, length-entries_le (index + 1) slots)
+  length-entries_le index (Occupied g value ∷ slots) = search (rules, length-entries_le (index + 1) slots)
 
   pub few_values : (slots : List (Slot X)) (count : ℕ) → AreCounted 0 slots count → count < 2 ^ 32
   few_values slots count are = omega (arith, are.few, are.counted, length-entries_le 0 slots)
 
   length-padded : (slots : List (Slot X)) (count : ℕ)
       → length (padded slots count) ≡ length slots + (count - length slots)
-  length-padded slots count = length-append slots (replicate (count - length slots) Vacant)
-      ∙ ap (λ n. length slots + n) (length-replicate (count - length slots) Vacant)
+  length-padded slots count = search (rules, length-append, length-replicate)
 
   module _ (slots all : List (Slot X)) (h : Handle) (index : ℕ) (before after : Slot X) (value : X)
       (at : index ≡ h.index) (is : all ≡ padded slots (index + 1))
@@ -178,34 +145,13 @@ module _ {X : Type 0} where
 
     pub put-map : (values : HandleValues X) → map_of_slots slots ≡ values → map_of_slots (set all index after)
         ≡ map.insert (without_slot values h.index) h value
-    put-map values stands =
-        ap map_of_slots entered ∙ map-put all h value (omega (arith, reaches, at))
-        ∙ ap (λ m. map.insert (without_slot m h.index) h value) (same ∙ stands)
+    put-map values stands = search (rules, map_of_slots, entered, map-put, reaches, same)
 
     pub put-before : (values : HandleValues X) → map_of_slots slots ≡ values → value_under before h.generation
         ≡ map.get values h
-    put-before values stands =
-        ap (λ s. value_under s h.generation) stood ∙ sym (get_map all h)
-        ∙ ap (λ m. map.get m h) (same ∙ stands)
+    put-before values stands = search (rules, stood, get_map, same)
 
     pub put-counted : (count lacking : ℕ) → AreCounted 0 slots count → index < 2 ^ 32 - 1
         → lacking + count_at before ≡ 1 → AreCounted 0 (set all index after) (count + lacking)
     put-counted count lacking are fits one =
-        let step = length-set_slot 0 all index after reaches in
-        let new : count_at after ≡ 1 = ap count_at written in
-        let old : count_at before ≡ count_at (slot_at all index) =
-        ap count_at (read all index before reaches was) in
-        let entries : length (entries_from 0 all) ≡ length (entries_from 0 slots) =
-        ap (λ (xs : List (Slot X)). length (entries_from 0 xs)) is
-        ∙ ap length (entries_padded slots (index + 1)) in
-        let counted = are.counted in
-        record {
-          few = omega (
-            arith,
-            are.few,
-            ap length is,
-            length-padded slots (index + 1),
-            length-set all index after,
-          );
-          counted = omega arith;
-        }
+        search (rules, length-set_slot, reaches, read, entries_padded, length-padded, length-set)

@@ -1,13 +1,13 @@
 -- How a walk over the slots keeps some of their values.
-use Rattle.std.proofs.Common.{◌≡◌, ℕ, suc, ◌+◌, ◌<◌, ◌≤◌, Bool, true, false, cond, MutBor}
-use Rattle.std.proofs.Common.{List, [], ◌∷◌, ◌++◌, length, get_or, set, take, drop, Some}
-use Rattle.std.proofs.Common.{refl, sym, ap, subst, ◌∙◌, arith, length-set, is_some, true≢false}
+use Rattle.std.proofs.Common.{rules, ◌≡◌, ℕ, ◌+◌, ◌<◌, ◌≤◌, Bool, true, false, cond, MutBor, List}
+use Rattle.std.proofs.Common.{[], ◌∷◌, ◌++◌, length, get_or, set, take, drop, Some, refl, sym, ap}
+use Rattle.std.proofs.Common.{subst, ◌∙◌, arith, length-set, is_some, true≢false}
 use Rattle.std.proofs.lemmas.List.{append-nil, append_assoc, take_all, take_more_set, drop_all}
 use Rattle.std.proofs.lemmas.List.{drop_more, drop-set-lt, length-take-le}
 use Rattle.ent_handle.specs.Handle.{Handle}
 use Rattle.ent_map.specs.Retained.{CalledAt, Retains, RetainsSlot}
 use Rattle.ent_map.specs.Slots.{entries_from, count_at, handle_in, any_value, generation_of}
-use Rattle.ent_map.specs.Slots.{slot_at, AreCounted}
+use Rattle.ent_map.specs.Slots.{AreCounted}
 use Rattle.ent_map.proofs.Entries.{length-set_slot}
 use Rattle.ent_map.proofs.Found.{read}
 use Rattle.ent_map.specs.declared.slot.Slot.{Slot}
@@ -18,28 +18,17 @@ module _ {X : Type 0} where
 
   pub entries-append : (index : ℕ) (front back : List (Slot X)) → entries_from index (front ++ back)
       ≡ entries_from index front ++ entries_from (index + length front) back
-  entries-append index [] back =
-      let same : index ≡ index + 0 = omega arith in ap (λ n. entries_from n back) same
-  entries-append index (Vacant ∷ front) back =
-      let shift : index + 1 + length front ≡ index + suc (length front) = omega arith in
-      entries-append (index + 1) front back
-      ∙ ap (λ n. entries_from (index + 1) front ++ entries_from n back) shift
+  entries-append index [] back = search rules
+  entries-append index (Vacant ∷ front) back = search (rules, entries-append (index + 1) front back)
   entries-append index (Occupied generation value ∷ front) back =
-      let shift : index + 1 + length front ≡ index + suc (length front) = omega arith in
-      ap (λ es. (record { index = index; generation = generation }, value) ∷ es)
-      (entries-append (index + 1) front back
-      ∙ ap (λ n. entries_from (index + 1) front ++ entries_from n back) shift)
+      search (rules, entries-append (index + 1) front back)
 
   -- the entries up to a slot that was just set
   pub entries-upto : (slots : List (Slot X)) (index : ℕ) (slot : Slot X) → index < length slots
       → entries_from 0 (take (index + 1) (set slots index slot))
       ≡ entries_from 0 (take index slots) ++ entries_from index (slot ∷ [])
   entries-upto slots index slot within =
-      let at : 0 + length (take index slots) ≡ index =
-      omega (arith, length-take-le index slots (omega arith)) in
-      ap (entries_from 0) (take_more_set slots index slot within)
-      ∙ entries-append 0 (take index slots) (slot ∷ [])
-      ∙ ap (λ n. entries_from 0 (take index slots) ++ entries_from n (slot ∷ [])) at
+      search (rules, length-take-le, take_more_set, entries-append)
 
   -- ---- how many there are
 
@@ -47,22 +36,14 @@ module _ {X : Type 0} where
       → AreCounted 0 slots count → index < length slots → slot ≡ get_or slots index slot
       → count_at slot ≤ count
   counts_one slots count index slot are within e =
-      let step = length-set_slot 0 slots index Vacant within in
-      let counted = are.counted in
-      let was : count_at slot ≡ count_at (slot_at slots index) =
-      ap count_at (read slots index slot within e) in
-      omega arith
+      search (rules, length-set_slot 0 slots index Vacant within, read slots index slot within e)
 
   -- after a slot was set
   pub counted-slot : (slots : List (Slot X)) (count left index : ℕ) (slot new : Slot X)
       → AreCounted 0 slots count → index < length slots → slot ≡ get_or slots index slot
       → left + count_at slot ≡ count + count_at new → AreCounted 0 (set slots index new) left
   counted-slot slots count left index slot new are within e moved =
-      let step = length-set_slot 0 slots index new within in
-      let counted = are.counted in
-      let was : count_at slot ≡ count_at (slot_at slots index) =
-      ap count_at (read slots index slot within e) in
-      record { few = omega (arith, are.few, length-set slots index new); counted = omega arith }
+      search (rules, length-set_slot, read, length-set)
 
   -- ---- one slot
 
@@ -83,8 +64,7 @@ module _ {X : Type 0} where
 module _ {X F : Type 0} (step : F → Handle → MutBor X → Bool → MutBor X → F → Type 0) where
   pub called_at : (f : F) (h : Handle) (shown : MutBor X) (keep : Bool) (left : MutBor X) (next : F)
       → step f h shown keep left next → CalledAt step f h shown.now keep left.now next
-  called_at f h shown keep left next called =
-      record { shown = shown; shows = refl; left = left; called = called; leaves = refl }
+  called_at f h shown keep left next called = search rules
 
   -- f was called at the value of a slot, and kept it
   pub kept_slot : (f next : F) (index : ℕ) (slot : Slot X) (h : Handle) (shown left : MutBor X)
@@ -92,29 +72,14 @@ module _ {X F : Type 0} (step : F → Handle → MutBor X → Bool → MutBor X 
       → step f h shown keep left next → keep ≡ true
       → RetainsSlot step f index slot (Occupied (generation_of slot) left.now) next
   kept_slot f next index slot h shown left keep has value called is =
-      let there = slot_is slot index h shown.now has value in
-      subst (λ (s : Slot X). RetainsSlot step f index s (Occupied (generation_of s) left.now) next)
-      (sym there.0) (
-        keep,
-        left.now,
-        subst (λ (q : Handle). CalledAt step f q shown.now keep left.now next)
-            (sym there.1) (called_at f h shown keep left next called),
-        sym (ap (λ b. cond b (Occupied h.generation left.now) Vacant) is),
-      )
+      search (rules, called_at f h shown keep left next called)
 
   -- it didn't
   pub gone_slot : (f next : F) (index : ℕ) (slot : Slot X) (h : Handle) (shown left : MutBor X)
       (keep : Bool) → handle_in slot index ≡ Some h → any_value slot ≡ Some shown.now
       → step f h shown keep left next → keep ≡ false → RetainsSlot step f index slot Vacant next
   gone_slot f next index slot h shown left keep has value called is =
-      let there = slot_is slot index h shown.now has value in
-      subst (λ (s : Slot X). RetainsSlot step f index s Vacant next) (sym there.0) (
-        keep,
-        left.now,
-        subst (λ (q : Handle). CalledAt step f q shown.now keep left.now next)
-            (sym there.1) (called_at f h shown keep left next called),
-        sym (ap (λ b. cond b (Occupied h.generation left.now) Vacant) is),
-      )
+      search (rules, called_at f h shown keep left next called)
 
   -- a slot in front of the others
   in_front : (f next : F) (index : ℕ) (slot new : Slot X) (slots : List (Slot X))
@@ -160,27 +125,9 @@ module _ {X F : Type 0} (step : F → Handle → MutBor X → Bool → MutBor X 
       → RetainsSlot step f index slot new next → RetainedBelow first old f now index
       → RetainedBelow first old next (set now index new) (index + 1)
   retained-more first old now f next index slot new within read kept below =
-      let head : drop index now ≡ slot ∷ drop (index + 1) now = drop_more now index slot within
-      ∙ ap (λ (x : Slot X). x ∷ drop (index + 1) now) (sym read) in
+      let head : drop index now ≡ slot ∷ drop (index + 1) now = search (rules, drop_more, read) in
       let other = drop_more old index slot (omega (arith, below.long)) in
-      let both = sym head ∙ below.rest ∙ other in
-      let tails : drop (index + 1) now ≡ drop (index + 1) old = cc in
-      let rest : drop index old ≡ slot ∷ drop (index + 1) old =
-      sym below.rest ∙ head ∙ ap (λ (xs : List (Slot X)). slot ∷ xs) tails in
-      record {
-        long = length-set now index new ∙ below.long;
-        rest = drop-set-lt (index + 1) now index new (omega arith) ∙ tails;
-        done = λ later more.
-            subst (λ (es : List (Handle × X)). Retains step first (entries_from 0 old) es)
-            (sym (append_assoc (entries_from 0 (take index now)) (entries_from index (new ∷ []))
-            later)
-            ∙ ap (λ (es : List (Handle × X)). es ++ later)
-            (sym (entries-upto now index new within)))
-            (below.done (entries_from index (new ∷ []) ++ later)
-            (subst (λ (xs : List (Slot X)). Retains step f (entries_from index xs)
-            (entries_from index (new ∷ []) ++ later)) (sym rest)
-            (in_front f next index slot new (drop (index + 1) old) later kept more)));
-      }
+      search (rules, length-set, drop-set-lt, append_assoc, entries-upto, in_front)
 
   pub retained-done : (first : F) (old now : List (Slot X)) (f : F) (index : ℕ) → length old ≤ index
       → RetainedBelow first old f now index
@@ -189,5 +136,4 @@ module _ {X F : Type 0} (step : F → Handle → MutBor X → Bool → MutBor X 
       subst (λ (es : List (Handle × X)). Retains step first (entries_from 0 old) es)
       (append-nil (entries_from 0 (take index now))
       ∙ ap (entries_from 0) (take_all index now (omega (arith, below.long))))
-      (below.done [] (subst (λ (xs : List (Slot X)). Retains step f (entries_from index xs) [])
-      (sym (drop_all index old past)) refl))
+      (search (rules, drop_all))

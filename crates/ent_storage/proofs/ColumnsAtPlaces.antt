@@ -1,7 +1,7 @@
 -- What columns have at a place, and after each change.
 use Rattle.std.proofs.Common.{rules, ◌≡◌, ◌≢◌, ℕ, ℤ, zero, suc, ◌+◌, ◌<◌, ◌≤◌, Bool, true, false}
-use Rattle.std.proofs.Common.{cond, T, ◌⊎◌, inl, inr, List, [], ◌∷◌, ◌++◌, length, get_or, set}
-use Rattle.std.proofs.Common.{Option, ◌&&◌, Some, None, refl, sym, ap, subst, ◌∙◌, arith}
+use Rattle.std.proofs.Common.{cond, T, ◌⊎◌, inl, inr, List, [], ◌∷◌, length, get_or, set, Option}
+use Rattle.std.proofs.Common.{◌&&◌, Some, None, refl, sym, ap, subst, ◌∙◌, arith}
 use Rattle.std.proofs.lemmas.Grind.{common_steps}
 use Rattle.std.proofs.lemmas.Option.{none-some}
 use Rattle.std.proofs.lemmas.List.{get_or_past, get_or-set_same, get_or-set_other}
@@ -99,9 +99,7 @@ entries_components columns place = map.entries-from_sorted component_cmp _
 
 pub same_components : (old new : List Column) (p q : ℕ) → ((id : ComponentId) → value_at new q id
     ≡ value_at old p id) → components_at new q ≡ components_at old p
-same_components old new p q are =
-    map.same_map total same _ _ (λ id. get_components new q id ∙ are id
-    ∙ sym (get_components old p id))
+same_components old new p q are = map.same_map total same _ _ (search (rules, get_components))
 
 pub no_components : (columns : List Column) (place : ℕ)
     → ((id : ComponentId) → value_at columns place id ≡ None) → components_at columns place
@@ -153,17 +151,11 @@ module _ (old new : List Column) (place : ℕ) (id : ComponentId) (others : (n :
 
     pub components_insert : components_at new place ≡ map.insert (components_at old place) id v
     components_insert =
-        map.same_map total same _ _ (λ q. get_components new place q
-        ∙ value_set q (same_or_apart total same q id))
+        map.same_map total same _ _ (search (rules, get_components, value_set, same_or_apart))
 
     value_elsewhere : (p : ℕ) → p ≢ place → (q : ComponentId) → (q ≡ id) ⊎ (q ≢ id)
         → value_at new p q ≡ value_at old p q
-    value_elsewhere p far q (inl e) =
-        ap (λ (c : ComponentId). value_at new p c) e
-        ∙ ap (λ (m : Values). map.get m p) set_to
-        ∙ get-insert_other nat_cmp_total map.nat_cmp-IsAntisymmetric (column_at old id.0).values
-        place v p far
-        ∙ ap (λ (c : ComponentId). value_at old p c) (sym e)
+    value_elsewhere p far q (inl e) = search (rules, get-insert_other, nat_cmp_total)
     value_elsewhere p far q (inr n) = value_apart p q n
 
     pub insert_others : (p : ℕ) (q : ComponentId) → p ≢ place → value_at new p q ≡ value_at old p q
@@ -171,15 +163,7 @@ module _ (old new : List Column) (place : ℕ) (id : ComponentId) (others : (n :
 
     room_by : (n : ℕ) → (n ≡ id.0) ⊎ (n ≢ id.0) → HasRoomAt (column_at old n) place
         → HasRoomAt (column_at new n) place
-    room_by n (inl e) room =
-        let there : map.get (column_at new n).values place
-        ≡ Some v = ap (λ (k : ℕ). map.get (column_at new k).values place) e
-        ∙ ap (λ (m : Values). map.get m place) set_to ∙ get-insert_same nat_cmp_total
-        map.nat_cmp-IsAntisymmetric (column_at old id.0).values place v place refl in
-        record {
-          spare = λ none. absurd (none-some v (sym none ∙ there));
-          in_range = λ none. absurd (none-some v (sym none ∙ there));
-        }
+    room_by n (inl e) room = search (rules, get-insert_same, nat_cmp_total, none-some)
     room_by n (inr far) room = subst (λ c. HasRoomAt c place) (sym (others n far)) room
 
     pub insert_room : (n : ℕ) → HasRoomAt (column_at old n) place → HasRoomAt (column_at new n)

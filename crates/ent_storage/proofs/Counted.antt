@@ -62,9 +62,7 @@ module _ (living : List LivingEntity) (index : FinMap handle_cmp ℕ) where
 
   pub counted_has : (q : Handle) (i : ℕ) → finite.get index q ≡ Some i
       → has_handle_at living q (Some i) ≡ true → finite.get (counted living index) q ≡ Some i
-  counted_has q i at is =
-      get_counted q ∙ ap (λ o. cond (has_handle_at living q o) o None) at
-      ∙ ap (λ b. cond b (Some i) None) is
+  counted_has q i at is = search (rules, get_counted)
 
   pub counted_none : (q : Handle) → finite.get index q ≡ None → finite.get (counted living index) q
       ≡ None
@@ -72,9 +70,7 @@ module _ (living : List LivingEntity) (index : FinMap handle_cmp ℕ) where
 
   pub counted_not : (q : Handle) (i : ℕ) → finite.get index q ≡ Some i
       → has_handle_at living q (Some i) ≡ false → finite.get (counted living index) q ≡ None
-  counted_not q i at is =
-      get_counted q ∙ ap (λ o. cond (has_handle_at living q o) o None) at
-      ∙ ap (λ b. cond b (Some i) None) is
+  counted_not q i at is = search (rules, get_counted)
 
   -- residents with an exact index are indexed by each index that has those places too
   pub indexed_counted : (exact : FinMap handle_cmp ℕ) → IsIndexed living exact
@@ -135,11 +131,7 @@ swept_has living index q i at =
 -- ---- the residents and their index, after each change
 
 pub kept_none : (index : FinMap handle_cmp ℕ) (room : ℕ) → IsKeptIndex [] index room
-kept_none index room = record {
-  indexed = indexed_counted [] index finite.empty indexed_none
-      (λ q i at. absurd (some_not_none i _ at (finite.get-empty handle_cmp q)));
-  fits = omega arith;
-}
+kept_none index room = search (rules, indexed_counted, indexed_none, some_not_none)
 
 module _ (living : List LivingEntity) (index : FinMap handle_cmp ℕ) (room : ℕ)
     (kept : IsKeptIndex living index room) where
@@ -180,8 +172,7 @@ module _ (living : List LivingEntity) (index : FinMap handle_cmp ℕ) (room : �
           → IsKeptIndex left (finite.insert index entity.handle i) room
       kept_moved inside entity read = record {
         indexed = indexed_counted left (finite.insert index entity.handle i) _
-            (indexed_moved living (counted living index) kept.indexed h i placed left rest inside
-            entity read) (moved_has living index h entity.handle i);
+            (search (rules, indexed_moved)) (moved_has living index h entity.handle i);
         fits = omega (arith, rest.one_less, kept.fits);
       }
 
@@ -261,11 +252,7 @@ module _ (living : List LivingEntity) (pairs : List (Handle × ℕ))
   place_below : (q : ℕ) → Contains (map (λ e. e.1) left) q → q < length living
   place_below q at =
       let unused : Handle × ℕ = (record { index = 0; generation = 0 }, q) in
-      let inside : at.0 < length left = omega (
-        arith,
-        length-map left (λ (e : Handle × ℕ). e.1),
-        at.1,
-      ) in
+      let inside : at.0 < length left = search (rules, length-map) in
       let resident = stands living _ _ (filter_passes (counts living) pairs at.0 unused inside) in
       omega (
         arith,
@@ -304,17 +291,8 @@ module _ (living : List LivingEntity) (pairs : List (Handle × ℕ))
       other_key q i at is f e =
           let here : (g : Handle × ℕ) → get_or pairs p g ≡ get_or pairs p f = λ g.
           get_or_default pairs p g f inside in
-          let found = get_at total same pairs rising q p f
-          (record {
-            in_range = inside;
-            has_key = λ g. ap (λ (x : Handle × ℕ). handle_cmp x.0 q)
-                (here g) ∙ ap (λ h. handle_cmp h q) e ∙ tied_itself total q;
-          }) in
-          let places : Some i ≡ Some (get_or pairs p f).1 = sym at ∙ found in
-          let counted_too : counts living (get_or pairs p f)
-          ≡ true = ap (λ h. has_handle_at living h (Some (get_or pairs p f).1)) e
-          ∙ ap (has_handle_at living q) (sym places) ∙ is in
-          false≢true (sym is_gone ∙ ap (counts living) (here d) ∙ counted_too)
+          let found = get_at total same pairs rising q p f (search rules) in
+          search (rules, false≢true)
 
       pub over_kept : Keeps k (counted living (finite.from_sorted pairs))
           (finite.from_sorted (set pairs p (k, v)))

@@ -1,6 +1,6 @@
 -- The dense and the sparse vector of a component: what they stand for, after each change.
-use Rattle.std.proofs.Common.{◌≡◌, ◌≢◌, ℕ, ℤ, ◌+◌, ◌-◌, ◌<◌, ◌≤◌, false, ◌⊎◌, inl, inr, List, []}
-use Rattle.std.proofs.Common.{◌∷◌, ◌++◌, length, set, get_or, Some, None, slice_get, refl, sym, ap}
+use Rattle.std.proofs.Common.{rules, ◌≡◌, ◌≢◌, ℕ, ℤ, ◌+◌, ◌-◌, ◌<◌, ◌≤◌, false, ◌⊎◌, inl, inr, List}
+use Rattle.std.proofs.Common.{[], ◌∷◌, ◌++◌, length, set, get_or, Some, None, slice_get, sym, ap}
 use Rattle.std.proofs.Common.{◌∙◌, arith, ltb, lt-ltb, pos}
 use Rattle.std.proofs.lemmas.Option.{same_Some, some_pair_parts, slice_get_within, none-some}
 use Rattle.std.proofs.lemmas.Option.{slice_get-get_or}
@@ -36,9 +36,7 @@ module _ (D : List (ℕ × ℤ)) (S : List ℕ) (dense : IsDense D S) where
   -- a place of which the sparse vector has no entry that counts has no value
   pub missing : (p : ℕ) → ((k : ℕ) (v : ℤ) → slice_get S p ≡ Some k → slice_get D k ≢ Some (p, v))
       → map.get (map.from_entries {R = nat_cmp} D) p ≡ None
-  missing p nowhere =
-      same_option _ None (λ v e. let h = at p v e in
-      absurd (nowhere h.0 v (dense.entry h.0 p v h.1) h.1)) (λ v e. absurd (none-some v e))
+  missing p nowhere = search (rules, same_option, at, none-some)
 
 -- two maps of numbers that have the same values are the same
 same_values : (m n : Values) → ((p : ℕ) (v : ℤ) → map.get m p ≡ Some v → map.get n p ≡ Some v)
@@ -76,12 +74,8 @@ module _ (D : List (ℕ × ℤ)) (S : List ℕ) (dense : IsDense D S) where
 
     over_dense_at : (k q : ℕ) (w : ℤ) → (k ≡ i) ⊎ (k ≢ i) → slice_get (set D i (p, v)) k
         ≡ Some (q, w) → slice_get S q ≡ Some k
-    over_dense_at k q w (inl e) found =
-        let is = some_pair_parts p q v w
-        (sym (ap (slice_get (set D i (p, v))) e ∙ at_set_same D i (p, v) inside) ∙ found) in
-        ap (slice_get S) (sym is.0) ∙ dense.entry i p u here ∙ ap Some (sym e)
-    over_dense_at k q w (inr n) found = dense.entry k q w (sym (at_set_other D i k (p, v) n)
-        ∙ found)
+    over_dense_at k q w (inl e) found = search (rules, some_pair_parts, at_set_same, inside)
+    over_dense_at k q w (inr n) found = search (rules, at_set_other)
 
     pub over_dense : IsDense (set D i (p, v)) S
     over_dense = record { entry = λ k q w. over_dense_at k q w (cases_eq k i) }
@@ -95,27 +89,20 @@ module _ (D : List (ℕ × ℤ)) (S : List ℕ) (dense : IsDense D S) where
         ∙ ap (map.get (map.from_entries {R = nat_cmp} (set D i (p, v)))) (sym e) ∙ found
     over_there q w (inr n) found =
         let h = at (set D i (p, v)) S over_dense q w found in
-        let other : h.0
-        ≢ i = λ e. n (sym
-        (some_pair_parts p q v w
-        (sym (ap (slice_get (set D i (p, v))) e ∙ at_set_same D i (p, v) inside) ∙ h.1)).0) in
+        let other : h.0 ≢ i = search (rules, at_set_same D i (p, v) inside, h) in
         get-insert_other total same (map.from_entries {R = nat_cmp} D) p v q n
         ∙ has D S dense h.0 q w (sym (at_set_other D i h.0 (p, v) other) ∙ h.1)
 
     over_back : (q : ℕ) (w : ℤ) → (q ≡ p) ⊎ (q ≢ p)
         → map.get (map.insert (map.from_entries {R = nat_cmp} D) p v) q ≡ Some w
         → map.get (map.from_entries {R = nat_cmp} (set D i (p, v))) q ≡ Some w
-    over_back q w (inl e) found =
-        ap (map.get (map.from_entries {R = nat_cmp} (set D i (p, v)))) e
+    over_back q w (inl e) found = ap (map.get (map.from_entries {R = nat_cmp} (set D i (p, v)))) e
         ∙ has (set D i (p, v)) S over_dense i p v (at_set_same D i (p, v) inside)
         ∙ sym (get-insert_same total same (map.from_entries {R = nat_cmp} D) p v q e) ∙ found
     over_back q w (inr n) found =
         let h = at D S dense q w
         (sym (get-insert_other total same (map.from_entries {R = nat_cmp} D) p v q n) ∙ found) in
-        let other : h.0
-        ≢ i = λ e. n (sym (some_pair_parts p q u w (sym here ∙ ap (slice_get D) (sym e)
-        ∙ h.1)).0) in
-        has (set D i (p, v)) S over_dense h.0 q w (at_set_other D i h.0 (p, v) other ∙ h.1)
+        search (rules, some_pair_parts, has, over_dense, at_set_other)
 
     pub over_values : map.from_entries {R = nat_cmp} (set D i (p, v))
         ≡ map.insert (map.from_entries {R = nat_cmp} D) p v
@@ -128,16 +115,8 @@ module _ (D : List (ℕ × ℤ)) (S : List ℕ) (dense : IsDense D S) where
       < length S) where
     pushed_at : (k q : ℕ) (w : ℤ) → (k < length D) ⊎ (length D ≤ k) → slice_get (D ++ (p, v) ∷ []) k
         ≡ Some (q, w) → slice_get (set S p (length D)) q ≡ Some k
-    pushed_at k q w (inl l) found =
-        let old = sym (at_push_before D (p, v) k l) ∙ found in
-        let other : q
-        ≢ p = λ e. none-some w (sym none ∙ ap (map.get (map.from_entries {R = nat_cmp} D))
-        (sym e) ∙ has D S dense k q w old) in
-        at_set_other S p q (length D) other ∙ dense.entry k q w old
-    pushed_at k q w (inr l) found =
-        let end = at_push_end D (p, v) k l (q, w) found in
-        ap (slice_get (set S p (length D))) (sym (ap (λ (x : ℕ × ℤ). x.0) end.1))
-        ∙ at_set_same S p (length D) room ∙ ap Some (sym end.0)
+    pushed_at k q w (inl l) found = search (rules, at_push_before, none-some, has, at_set_other)
+    pushed_at k q w (inr l) found = search (rules, at_push_end, at_set_same)
 
     pub pushed_dense : IsDense (D ++ (p, v) ∷ []) (set S p (length D))
     pushed_dense = record { entry = λ k q w. pushed_at k q w (cases_lt k (length D)) }
@@ -153,29 +132,14 @@ module _ (D : List (ℕ × ℤ)) (S : List ℕ) (dense : IsDense D S) where
     -- a pair that is left was there, and its place is another one
     left_was : (k q : ℕ) (w : ℤ) → (k ≡ i) ⊎ (k ≢ i) → slice_get L k ≡ Some (q, w) → (j : ℕ)
         × (slice_get D j ≡ Some (q, w)) × (j ≢ i)
-    left_was k q w (inl e) found =
-        let l = slice_get_within L k (q, w) found in (
-          length L,
-          sym (rest.moved (omega (arith, rest.one_less))) ∙ ap (slice_get L) (sym e)
-              ∙ found,
-          λ f. absurd (omega (arith, rest.one_less)),
-        )
-    left_was k q w (inr n) found = (
-      k,
-      sym (rest.others k n (slice_get_within L k (q, w) found))
-          ∙ found,
-      n,
-    )
+    left_was k q w (inl e) found = search (rules, slice_get_within)
+    left_was k q w (inr n) found = search (rules, slice_get_within)
 
     -- a pair of another place is left
     was_left : (k q : ℕ) (w : ℤ) → (k < length L) ⊎ (length L ≤ k) → k ≢ i → slice_get D k
         ≡ Some (q, w) → (j : ℕ) × (slice_get L j ≡ Some (q, w))
     was_left k q w (inl l) n found = (k, rest.others k n l ∙ found)
-    was_left k q w (inr g) n found =
-        let l = slice_get_within D k (q, w) found in
-        let l2 = slice_get_within D i (p, u) here in
-        let k_is : length L ≡ k = omega (arith, rest.one_less) in
-        (i, rest.moved (omega (arith, rest.one_less)) ∙ ap (slice_get D) k_is ∙ found)
+    was_left k q w (inr g) n found = search (rules, slice_get_within)
 
     module _ (S2 : List ℕ) (dense2 : IsDense L S2) where
       removed_there : (q : ℕ) (w : ℤ) → map.get (map.from_entries {R = nat_cmp} L) q ≡ Some w
@@ -191,17 +155,11 @@ module _ (D : List (ℕ × ℤ)) (S : List ℕ) (dense : IsDense D S) where
       removed_back : (q : ℕ) (w : ℤ) → (q ≡ p) ⊎ (q ≢ p)
           → map.get (map.remove (map.from_entries {R = nat_cmp} D) p) q ≡ Some w
           → map.get (map.from_entries {R = nat_cmp} L) q ≡ Some w
-      removed_back q w (inl e) found =
-          absurd (none-some w (sym (get-remove_same total same (map.from_entries {R = nat_cmp} D) p
-          q e) ∙ found))
+      removed_back q w (inl e) found = search (rules, none-some, get-remove_same)
       removed_back q w (inr n) found =
           let h = at D S dense q w
           (sym (get-remove_other total same (map.from_entries {R = nat_cmp} D) p q n) ∙ found) in
-          let other : h.0
-          ≢ i = λ e. n (sym (some_pair_parts p q u w (sym here ∙ ap (slice_get D) (sym e)
-          ∙ h.1)).0) in
-          let stays = was_left h.0 q w (cases_lt h.0 (length L)) other h.1 in
-          has L S2 dense2 stays.0 q w stays.1
+          search (rules, some_pair_parts, was_left, cases_lt, has)
 
       pub removed_values : map.from_entries {R = nat_cmp} L
           ≡ map.remove (map.from_entries {R = nat_cmp} D) p
@@ -210,12 +168,7 @@ module _ (D : List (ℕ × ℤ)) (S : List ℕ) (dense : IsDense D S) where
 
     -- the last pair itself
     pub popped_dense : length L ≤ i → IsDense L S
-    popped_dense g = record {
-      entry = λ k q w found.
-          let l = slice_get_within L k (q, w) found in
-          dense.entry k q w (sym (rest.others k (λ e. absurd (omega (arith, rest.one_less))) l)
-          ∙ found);
-    }
+    popped_dense g = search (rules, slice_get_within)
 
     -- another one: the sparse vector has the new position of the last
     module _ (m : ℕ) (x : ℤ) (read : slice_get L i ≡ Some (m, x)) where
@@ -227,15 +180,9 @@ module _ (D : List (ℕ × ℤ)) (S : List ℕ) (dense : IsDense D S) where
 
       refilled_at : (k q : ℕ) (w : ℤ) → (k ≡ i) ⊎ (k ≢ i) → slice_get L k ≡ Some (q, w)
           → slice_get (set S m i) q ≡ Some k
-      refilled_at k q w (inl e) found =
-          let is = some_pair_parts m q x w (sym read ∙ ap (slice_get L) (sym e) ∙ found) in
-          ap (slice_get (set S m i)) (sym is.0) ∙ at_set_same S m i in_sparse ∙ ap Some (sym e)
+      refilled_at k q w (inl e) found = search (rules, some_pair_parts, at_set_same, in_sparse)
       refilled_at k q w (inr n) found =
-          let l = slice_get_within L k (q, w) found in
-          let was = sym (rest.others k n l) ∙ found in
-          let other : q ≢ m = λ e. let k_is : k ≡ length L = once D S dense k (length L) m w x
-          (was ∙ (λ j. Some (e j, w))) last_was in omega (arith, rest.one_less) in
-          at_set_other S m q i other ∙ dense.entry k q w was
+          search (rules, slice_get_within, once, last_was, at_set_other)
 
       pub refilled_dense : IsDense L (set S m i)
       refilled_dense = record { entry = λ k q w. refilled_at k q w (cases_eq k i) }
@@ -249,17 +196,8 @@ module _ (D : List (ℕ × ℤ)) (S : List ℕ) (dense : IsDense D S) where
     renamed_at : (k q : ℕ) (w : ℤ) → (k ≡ i) ⊎ (k ≢ i) → slice_get (set D i (t, u)) k ≡ Some (q, w)
         → slice_get (set S t i) q ≡ Some k
     renamed_at k q w (inl e) found =
-        let is = some_pair_parts t q u w
-        (sym (ap (slice_get (set D i (t, u))) e
-        ∙ at_set_same D i (t, u) (slice_get_within D i (p, u) here)) ∙ found) in
-        let room = place_inside in
-        ap (slice_get (set S t i)) (sym is.0) ∙ at_set_same S t i (omega arith) ∙ ap Some (sym e)
-    renamed_at k q w (inr n) found =
-        let was = sym (at_set_other D i k (t, u) n) ∙ found in
-        let other : q
-        ≢ t = λ e. none-some w (sym free ∙ ap (map.get (map.from_entries {R = nat_cmp} D))
-        (sym e) ∙ has D S dense k q w was) in
-        at_set_other S t q i other ∙ dense.entry k q w was
+        search (rules, some_pair_parts, at_set_same, slice_get_within, place_inside)
+    renamed_at k q w (inr n) found = search (rules, at_set_other, none-some, has)
 
     pub renamed_dense : IsDense (set D i (t, u)) (set S t i)
     renamed_dense = record { entry = λ k q w. renamed_at k q w (cases_eq k i) }
@@ -269,25 +207,11 @@ module _ (D : List (ℕ × ℤ)) (S : List ℕ) (dense : IsDense D S) where
         → (map.get (map.from_entries {R = nat_cmp} D) q ≡ Some w) × (q ≢ p)
     renamed_there q w n found =
         let h = at (set D i (t, u)) (set S t i) renamed_dense q w found in
-        let other : h.0
-        ≢ i = λ e. n (sym
-        (some_pair_parts t q u w
-        (sym (ap (slice_get (set D i (t, u))) e
-        ∙ at_set_same D i (t, u) (slice_get_within D i (p, u) here)) ∙ h.1)).0) in
-        let was = sym (at_set_other D i h.0 (t, u) other) ∙ h.1 in (
-          has D S dense h.0 q w was,
-          λ e. other (once D S dense h.0 i p w u (was ∙ (λ j. Some (e j, w))) here),
-        )
+        search (rules, some_pair_parts, at_set_same, slice_get_within, at_set_other, has, once)
 
     renamed_back : (q : ℕ) (w : ℤ) → q ≢ p → map.get (map.from_entries {R = nat_cmp} D) q ≡ Some w
         → map.get (map.from_entries {R = nat_cmp} (set D i (t, u))) q ≡ Some w
-    renamed_back q w n found =
-        let h = at D S dense q w found in
-        let other : h.0
-        ≢ i = λ e. n (sym (some_pair_parts p q u w (sym here ∙ ap (slice_get D) (sym e)
-        ∙ h.1)).0) in
-        has (set D i (t, u)) (set S t i) renamed_dense h.0 q w (at_set_other D i h.0 (t, u) other
-        ∙ h.1)
+    renamed_back q w n found = search (rules, at, some_pair_parts, has, renamed_dense, at_set_other)
 
     pub renamed_values : IsMovedDown t p (map.from_entries {R = nat_cmp} D)
         (map.from_entries {R = nat_cmp} (set D i (t, u)))
@@ -295,11 +219,8 @@ module _ (D : List (ℕ × ℤ)) (S : List ℕ) (dense : IsDense D S) where
       moved = λ _. has (set D i (t, u)) (set S t i) renamed_dense i t u
           (at_set_same D i (t, u) (slice_get_within D i (p, u) here))
           ∙ sym (has D S dense i p u here);
-      left = same_option _ None
-          (λ v e. absurd ((renamed_there p v (λ f. absurd (omega arith)) e).1 refl))
-          (λ v e. absurd (none-some v e));
-      others = λ q n m. same_option _ _ (λ v e. (renamed_there q v n e).0)
-          (λ v e. renamed_back q v m e);
+      left = search (rules, same_option, renamed_there, none-some);
+      others = search (rules, same_option, renamed_there, renamed_back);
     }
 
 -- ---- what a read of a pair says

@@ -1,8 +1,7 @@
 -- The living entities that residents and columns stand for, after each change.
 use Rattle.std.proofs.Common.{rules, ◌≡◌, ◌≢◌, ℕ, zero, suc, ◌+◌, ◌-◌, ◌<◌, ◌≤◌, false, ◌⊎◌, inl}
 use Rattle.std.proofs.Common.{inr, List, [], ◌∷◌, ◌++◌, map, length, get_or, Option, Some, None}
-use Rattle.std.proofs.Common.{slice_get, option_and_then, take, drop, refl, sym, ap, subst, ◌∙◌}
-use Rattle.std.proofs.Common.{arith}
+use Rattle.std.proofs.Common.{slice_get, option_and_then, take, drop, refl, sym, ap, ◌∙◌, arith}
 use Rattle.std.proofs.lemmas.Grind.{common_steps}
 use Rattle.std.proofs.lemmas.Option.{none-some, same_Some, slice_get_past}
 use Rattle.std.proofs.lemmas.Bool.{cases_lt, cases_eq}
@@ -40,28 +39,20 @@ pub at_from : (n : ℕ) (residents : List Resident) (columns : List Column) (i :
     → get_or (entities_from n residents columns) i d
     ≡ entity_at columns (n + i) (get_or residents i resident)
 at_from n [] columns i resident d l = absurd (omega arith)
-at_from n (r ∷ residents) columns zero resident d l = ap (λ (p : ℕ). entity_at columns p r)
-    (omega arith)
+at_from n (r ∷ residents) columns zero resident d l = search rules
 at_from n (r ∷ residents) columns (suc i) resident d l =
-    let next : suc n + i ≡ n + suc i = omega arith in
-    at_from (suc n) residents columns i resident d (omega arith)
-    ∙ ap (λ (p : ℕ). entity_at columns p (get_or residents i resident)) next
+    search (rules, at_from (suc n) residents columns i resident d (omega arith))
 
 -- and that at a place of what contracts see
 module _ (residents : List Resident) (columns : List Column) (room : ℕ) (living : Living) (i : ℕ)
     (view : record { entities = entities_from 0 residents columns; room = room } ≡ living)
     (there : i < length living.entities) where
   pub inside_from : i < length residents
-  inside_from =
-      omega (arith, length_from 0 residents columns, ap (λ (x : Living). length x.entities) view)
+  inside_from = search (rules, length_from)
 
   pub read_from : (resident : Resident) (d : LivingEntity) → get_or living.entities i d
       ≡ entity_at columns i (get_or residents i resident)
-  read_from resident d =
-      let at_i : 0 + i ≡ i = omega arith in
-      ap (λ (l : Living). get_or l.entities i d) (sym view)
-      ∙ at_from 0 residents columns i resident d inside_from
-      ∙ ap (λ (p : ℕ). entity_at columns p (get_or residents i resident)) at_i
+  read_from resident d = search (rules, at_from, inside_from)
 
 -- ---- the columns are changed
 
@@ -70,10 +61,13 @@ pub same_from : (n : ℕ) (residents : List Resident) (old new : List Column)
     ≡ value_at old p id) → entities_from n residents new ≡ entities_from n residents old
 same_from n [] old new are = refl
 same_from n (resident ∷ residents) old new are =
-    let here = same_components old new n n (λ id. are n id (omega arith) (omega arith)) in
-    let rest = same_from (suc n) residents old new (λ p id l g. are p id (omega arith)
-    (omega arith)) in
-    λ i. record { handle = resident.handle; birth = resident.birth; components = here i } ∷ rest i
+    grind (
+      arith,
+      common_steps,
+      same_components,
+      same_from (suc n) residents old new
+          (grind (arith, common_steps)),
+    )
 
 pub changed_from : (n : ℕ) (residents : List Resident) (old new : List Column) (i p : ℕ)
     (change : Components → Components) → n + i ≡ p → components_at new p
@@ -82,16 +76,10 @@ pub changed_from : (n : ℕ) (residents : List Resident) (old new : List Column)
     i change
 changed_from n [] old new i p change e here others = refl
 changed_from n (resident ∷ residents) old new zero p change e here others =
-    let is : p ≡ n = omega arith in
-    let first : components_at new n ≡ change (components_at old n) =
-    subst (λ (m : ℕ). components_at new m ≡ change (components_at old m)) is here in
-    let rest = same_from (suc n) residents old new
-    (λ q id l g. others q id (λ f. absurd (omega arith))) in
-    λ j. record { handle = resident.handle; birth = resident.birth; components = first j } ∷ rest j
+    search (rules, same_from)
 changed_from n (resident ∷ residents) old new (suc i) p change e here others =
     let first = same_components old new n n (λ id. others n id (λ f. absurd (omega arith))) in
-    let rest = changed_from (suc n) residents old new i p change (omega arith) here others in
-    λ j. record { handle = resident.handle; birth = resident.birth; components = first j } ∷ rest j
+    search (rules, changed_from (suc n) residents old new i p change (omega arith) here others)
 
 -- ---- an entity is added
 
@@ -99,17 +87,12 @@ pub pushed_from : (n : ℕ) (residents : List Resident) (columns : List Column) 
     → ((id : ComponentId) → value_at columns (n + length residents) id ≡ None)
     → entities_from n (residents ++ resident ∷ []) columns ≡ entities_from n residents columns
     ++ record { handle = resident.handle; birth = resident.birth; components = finite.empty } ∷ []
-pushed_from n [] columns resident none =
-    let at_n : n + 0 ≡ n = omega arith in
-    let bare = no_components columns n (λ id. ap (λ (p : ℕ). value_at columns p id) (sym at_n)
-    ∙ none id) in
-    λ i. record { handle = resident.handle; birth = resident.birth; components = bare i } ∷ []
+pushed_from n [] columns resident none = search (rules, no_components)
 pushed_from n (r ∷ residents) columns resident none =
     let next : suc n + length residents ≡ n + suc (length residents) = omega arith in
     let rest = pushed_from (suc n) residents columns resident
     (λ id. ap (λ (p : ℕ). value_at columns p id) next ∙ none id) in
-    λ i. record { handle = r.handle; birth = r.birth; components = components_at columns n }
-    ∷ rest i
+    search rules
 
 -- ---- an entity is taken out, and the last one moves to its place
 
@@ -121,22 +104,17 @@ module _ (residents left : List Resident) (i n m : ℕ) (whole : n ≡ length re
     → IsMovedDown i (n - 1) (column_at old number).values (column_at new number).values) where
   at_old : (k : ℕ) (resident : Resident) (d : LivingEntity) → k < n
       → get_or (entities_from 0 residents old) k d ≡ entity_at old k (get_or residents k resident)
-  at_old k resident d l =
-      at_from 0 residents old k resident d (omega arith)
-      ∙ ap (λ (p : ℕ). entity_at old p (get_or residents k resident)) (omega arith)
+  at_old k resident d l = search (rules, at_from)
 
   at_new : (k : ℕ) (resident : Resident) (d : LivingEntity) → k < m
       → get_or (entities_from 0 left new) k d ≡ entity_at new k (get_or left k resident)
-  at_new k resident d l =
-      at_from 0 left new k resident d (omega arith)
-      ∙ ap (λ (p : ℕ). entity_at new p (get_or left k resident)) (omega arith)
+  at_new k resident d l = search (rules, at_from)
 
   components_moved : i + 1 < n → components_at new i ≡ components_at old (n - 1)
   components_moved room = same_components old new (n - 1) i (λ id. (down id.0).moved (omega arith))
 
   components_others : (k : ℕ) → k ≢ i → k + 1 < n → components_at new k ≡ components_at old k
-  components_others k far room =
-      same_components old new k k (λ id. (down id.0).others k far (λ e. absurd (omega arith)))
+  components_others k far room = search (rules, same_components)
 
   moved_from : IsMovedInto (entities_from 0 residents old) i (entities_from 0 left new)
   moved_from = record {
@@ -232,13 +210,8 @@ pub value_from : (residents : List Resident) (columns : List Column) (i : ℕ) (
     → AreColumnsOf (length residents) columns
     → option_and_then (λ (e : LivingEntity). finite.get e.components id)
     (slice_get (entities_from 0 residents columns) i) ≡ value_at columns i id
-value_from residents columns i id within = search (
-  rules,
-  cases_lt,
-  value_get,
-  slice_get_past,
-  length_from,
-)
+value_from residents columns i id within =
+    search (rules, cases_lt, value_get, slice_get_past, length_from)
 
 -- a test of the handle at a place
 test_some : (o : Option LivingEntity) (h q : Handle) → option_map (λ (e : LivingEntity). e.handle) o

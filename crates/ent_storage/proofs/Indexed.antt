@@ -1,4 +1,5 @@
 -- The living entities and their index: what the map has at a handle, and after each change.
+use Rattle.std.proofs.lemmas.Grind.{common_steps}
 use Rattle.std.proofs.Common.{rules, ◌≡◌, ◌≢◌, ℕ, zero, suc, ◌+◌, ◌<◌, cond, ◌⊎◌, inl, inr, List}
 use Rattle.std.proofs.Common.{[], ◌∷◌, ◌++◌, map, length, get_or, set, Option, Some, None, is_some}
 use Rattle.std.proofs.Common.{refl, sym, ap, ◌∙◌, arith}
@@ -7,7 +8,6 @@ use Rattle.std.proofs.lemmas.List.{get_or-set_other, length-set, length_push, ma
 use Rattle.std.proofs.lemmas.Bool.{false≢true, cases_lt, cases_eq}
 use Rattle.std.specs.FinMap as finite
 use Rattle.std.specs.FinMap.{FinMap, find}
-use Rattle.std.specs.Option.{option_map_or}
 use Rattle.ent_handle.specs.Handle.{Handle, handle_cmp, handle_cmp_total as total}
 use Rattle.ent_handle.specs.Handle.{handle_cmp-IsAntisymmetric as same}
 use Rattle.ent_storage.specs.Living.{LivingEntity}
@@ -66,17 +66,11 @@ module _ (living : List LivingEntity) (index : FinMap handle_cmp ℕ)
   get_placed q i d placed =
       let at = indexed.each_place q i placed in
       finite.get-from_entries total _ q
-      ∙ find_entity living q i d at.0 (at.1 d) (λ j e l is.
-      let other = indexed.each_entity j (omega (arith, at.0)) e in
-      let twice : j ≡ i = same_place j i (sym other ∙ ap (finite.get index) is ∙ placed) in
-      absurd (omega arith))
+      ∙ find_entity living q i d at.0 (at.1 d) (search (rules, at))
 
   -- and at one that has none
   pub get_unplaced : (q : Handle) → finite.get index q ≡ None → finite.get (map_of living) q ≡ None
-  get_unplaced q none =
-      finite.get-from_entries total _ q
-      ∙ find_missing living q (λ i d l is. some_not_none i _ (ap (finite.get index) (sym is)
-      ∙ indexed.each_entity i l d) none)
+  get_unplaced q none = finite.get-from_entries total _ q ∙ find_missing living q (search rules)
 
   -- an entity that is in the map has a place
   pub placed_from_get : (q : Handle) (e : Entity) → finite.get (map_of living) q ≡ Some e
@@ -90,9 +84,7 @@ module _ (living : List LivingEntity) (index : FinMap handle_cmp ℕ)
   -- no two places have the same handle
   pub distinct : (i j : ℕ) (d : LivingEntity) → i < length living → j < length living
       → (get_or living i d).handle ≡ (get_or living j d).handle → i ≡ j
-  distinct i j d l k e =
-      same_place i j (sym (indexed.each_entity i l d) ∙ ap (finite.get index) e
-      ∙ indexed.each_entity j k d)
+  distinct i j d l k e = search (rules, same_place)
 
 module _ (living : List LivingEntity) (index : FinMap handle_cmp ℕ)
     (indexed : IsIndexed living index) where
@@ -128,15 +120,13 @@ module _ (living : List LivingEntity) (index : FinMap handle_cmp ℕ)
         let old = indexed.each_place q i
         (sym (get-insert_other total same index entity.handle (length living) q n) ∙ at) in (
           omega (arith, length_push living entity, old.0),
-          λ d. ap (λ (r : LivingEntity). r.handle)
-              (get_or_append_left living (entity ∷ []) d i old.0) ∙ old.1 d,
+          grind (arith, common_steps),
         )
 
     pub indexed_push : IsIndexed (living ++ entity ∷ []) (finite.insert index entity.handle
         (length living))
     indexed_push = record {
-      each_entity = λ i l d. each_entity_pushed i d
-          (below_or_at i (length living) (omega (arith, length_push living entity)));
+      each_entity = search (rules, each_entity_pushed, below_or_at, length_push);
       each_place = λ q i at. each_place_pushed q i (same_or_apart total same q entity.handle) at;
     }
 
@@ -156,35 +146,16 @@ module _ (living : List LivingEntity) (index : FinMap handle_cmp ℕ)
 
     each_entity_set : (j : ℕ) (d : LivingEntity) → j < length living → (j ≡ i) ⊎ (j ≢ i)
         → finite.get index (get_or (set living i entity) j d).handle ≡ Some j
-    each_entity_set j d l (inl e) =
-        ap (λ (k : ℕ). finite.get index (get_or (set living i entity) k d).handle) e
-        ∙ ap (λ (r : LivingEntity). finite.get index r.handle) (get_or-set_same living i entity d
-        here) ∙ placed ∙ ap Some (sym e)
-    each_entity_set j d l (inr n) =
-        ap (λ (r : LivingEntity). finite.get index r.handle) (get_or-set_other living i j entity d
-        n) ∙ indexed.each_entity j l d
+    each_entity_set j d l (inl e) = search (rules, get_or-set_same, here)
+    each_entity_set j d l (inr n) = search (rules, get_or-set_other)
 
     each_place_set : (q : Handle) (j : ℕ) → finite.get index q ≡ Some j → (j ≡ i) ⊎ (j ≢ i)
         → (d : LivingEntity) → (get_or (set living i entity) j d).handle ≡ q
-    each_place_set q j at (inl e) d =
-        ap (λ (k : ℕ). (get_or (set living i entity) k d).handle) e
-        ∙ ap (λ (r : LivingEntity). r.handle) (get_or-set_same living i entity d here)
-        ∙ sym ((indexed.each_place entity.handle i placed).1 d)
-        ∙ ap (λ (k : ℕ). (get_or living k d).handle) (sym e)
-        ∙ (indexed.each_place q j at).1 d
-    each_place_set q j at (inr n) d =
-        ap (λ (r : LivingEntity). r.handle) (get_or-set_other living i j entity d n)
-        ∙ (indexed.each_place q j at).1 d
+    each_place_set q j at (inl e) d = search (rules, get_or-set_same, here)
+    each_place_set q j at (inr n) d = search (rules, get_or-set_other)
 
     pub indexed_set : IsIndexed (set living i entity) index
-    indexed_set = record {
-      each_entity = λ j l d. each_entity_set j d (omega (arith, length-set living i entity))
-          (same_number j i);
-      each_place = λ q j at. (
-        omega (arith, length-set living i entity, (indexed.each_place q j at).0),
-        each_place_set q j at (same_number j i),
-      );
-    }
+    indexed_set = search (rules, length-set living i entity)
 
     -- the map is changed at that handle alone
     get_set : (q : Handle) → (q ≡ entity.handle) ⊎ (q ≢ entity.handle) → (o : Option ℕ)
@@ -196,10 +167,7 @@ module _ (living : List LivingEntity) (index : FinMap handle_cmp ℕ)
         ∙ ap (λ (r : LivingEntity). Some (entity_of r)) (get_or-set_same living i entity entity
         here)
         ∙ sym (get-insert_same total same (map_of living) entity.handle (entity_of entity) q e)
-    get_set q (inr n) None at =
-        get_unplaced (set living i entity) index indexed_set q at
-        ∙ sym (get-insert_other total same (map_of living) entity.handle (entity_of entity) q n
-        ∙ get_unplaced living index indexed q at)
+    get_set q (inr n) None at = search (rules, get_unplaced, indexed_set, get-insert_other)
     get_set q (inr n) (Some j) at =
         let apart : j ≢ i = λ e. n (sym ((indexed.each_place q j at).1 entity)
         ∙ ap (λ (k : ℕ). (get_or living k entity).handle) e
@@ -223,24 +191,14 @@ module _ (living : List LivingEntity) (index : FinMap handle_cmp ℕ)
   read_handle = ap (λ (r : LivingEntity). r.handle) read ∙ (indexed.each_place h i placed).1 entity
 
   pub get_read : finite.get (map_of living) h ≡ Some (entity_of entity)
-  get_read = get_placed living index indexed h i entity placed
-      ∙ ap (λ (r : LivingEntity). Some (entity_of r)) (sym read)
+  get_read = search (rules, get_placed)
 
   module _ (held : Components) where
     pub entities_changed : (change : Components → Components) → held ≡ change entity.components
         → map_of
         (set living i (record { handle = entity.handle; birth = entity.birth; components = held }))
         ≡ with_components (map_of living) h change
-    entities_changed change is =
-        entities_set living index indexed i
-        (record { handle = entity.handle; birth = entity.birth; components = held })
-        (ap (finite.get index) read_handle ∙ placed)
-        ∙ ap (λ (q : Handle). finite.insert (map_of living) q
-        (record { birth = entity.birth; components = held })) read_handle
-        ∙ ap (λ (cs : Components). finite.insert (map_of living) h
-        (record { birth = entity.birth; components = cs })) is
-        ∙ sym (ap (λ (o : Option Entity). option_map_or (λ e. finite.insert (map_of living) h
-        (record e { components = change e.components })) o (map_of living)) get_read)
+    entities_changed change is = search (rules, entities_set, read_handle, get_read)
 
 -- ---- how many there are
 

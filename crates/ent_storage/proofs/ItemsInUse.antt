@@ -1,8 +1,8 @@
 -- The items of the columns in use are all items at a place.
+use Rattle.std.proofs.Common.{rules, ◌≡◌, ◌≢◌, ℕ, ℤ, zero, suc, ◌+◌, ◌<◌, ◌≤◌, ◌⊎◌, inl, inr, List}
+use Rattle.std.proofs.Common.{[], ◌∷◌, length, Contains, Option, None, is_some, refl, sym, ap, ◌∙◌}
+use Rattle.std.proofs.Common.{arith}
 use Rattle.std.proofs.lemmas.Grind.{common_steps}
-use Rattle.std.proofs.Common.{◌≡◌, ◌≢◌, ℕ, ℤ, zero, suc, ◌+◌, ◌<◌, ◌≤◌, ◌⊎◌, inl, inr, cond, List}
-use Rattle.std.proofs.Common.{[], ◌∷◌, length, Contains, Option, None, Some, is_some, refl, sym, ap}
-use Rattle.std.proofs.Common.{◌∙◌, arith}
 use Rattle.std.proofs.lemmas.Bool.{cases_eq}
 use Rattle.std.specs.List.{All, AllPairs, count_by}
 use Rattle.std.specs.Ordering.{nat_cmp}
@@ -133,9 +133,4 @@ module _ (columns : List Column) (place : ℕ) where
   -- the law
   pub items_in_use : (used : List ℕ) → AreInUse used columns → items_of used columns place
       ≡ items_from 0 columns place
-  items_in_use used in_use = items_left columns 0 used (record {
-    same = λ k. let k_is : k ≡ 0 + k = omega arith in ap (column_at columns) k_is;
-    within = λ k d l. (omega arith, omega (arith, in_use.inside k d l));
-    rising = in_use.rising;
-    rest = λ number _. in_use.rest number;
-  })
+  items_in_use used in_use = search (rules, items_left)

@@ -1,4 +1,5 @@
 -- The least handle of a birth, among pairs and in the map.
+use Rattle.std.proofs.lemmas.Grind.{common_steps}
 use Rattle.std.proofs.Common.{rules, ◌≡◌, ◌≢◌, ◌⊎◌, inl, inr, List, [], ◌∷◌, ◌++◌, map, length}
 use Rattle.std.proofs.Common.{Option, Some, None, IfSome, IfNone, IsSomeAnd, Contains, true, ℕ}
 use Rattle.std.proofs.Common.{false, ◌<◌, refl, sym, ap, subst, ◌∙◌, arith}
@@ -7,10 +8,9 @@ use Rattle.std.specs.declared.cmp.Ordering.TheVariants.{Less, Equal, Greater}
 use Rattle.std.specs.Ordering.{is_eq, eq_by_cmp}
 use Rattle.std.specs.Option.{option_map}
 use Rattle.std.proofs.lemmas.Bool.{false≢true}
-use Rattle.std.proofs.lemmas.Option.{IfSome_then, same_Some, none-some}
+use Rattle.std.proofs.lemmas.Option.{same_Some, none-some}
 use Rattle.std.proofs.lemmas.List.{get_or-map, length-map}
 use Rattle.std.proofs.lemmas.List.Elements.{Contains-push, Contains-push_cases}
-use Rattle.std.proofs.lemmas.List.Elements.{Contains-append_left}
 use Rattle.std.specs.FinMap as finite
 use Rattle.std.specs.FinMap.{FinMap}
 use Rattle.ent_handle.specs.declared.birth.Birth.{Birth}
@@ -64,24 +64,13 @@ from_least (Some l) k q below at = not_after k l q below at
 module _ (birth : Birth) (pairs : List (Birth × Handle)) (o : Option Handle)
     (is : IsLeastOf birth pairs o) where
   pub least_other : (p : Birth × Handle) → p.0 ≢ birth → IsLeastOf birth (pairs ++ p ∷ []) o
-  least_other p n = record {
-    listed = IfSome_then o is.listed (λ h at. Contains-append_left pairs (p ∷ []) (birth, h) at);
-    before = λ h at. elim (Contains-push_cases pairs p (birth, h) at) [
-      | inl old ↦ is.before h old
-      | inr e ↦ absurd (n (ap (λ (p : Birth × Handle). p.0) e))
-    ];
-  }
+  least_other p n = grind (arith, common_steps)
 
   pub least_this : (h k : Handle) → (k ≡ h) ⊎ (o ≡ Some k) → handle_cmp k h ≢ Greater
       → IfSome o (λ l. handle_cmp k l ≢ Greater)
       → IsLeastOf birth (pairs ++ (birth, h) ∷ []) (Some k)
   least_this h k one here below = record {
-    listed = elim one [
-      | inl e ↦ subst (λ q. Contains (pairs ++ (birth, h) ∷ []) (birth, q)) (sym e)
-          (Contains-push pairs (birth, h))
-      | inr e ↦ Contains-append_left pairs ((birth, h) ∷ []) (birth, k)
-          (subst (λ o. IfSome o (λ l. Contains pairs (birth, l))) e is.listed)
-    ];
+    listed = grind (arith, common_steps, Contains-push pairs (birth, h));
     before = λ q at. elim (Contains-push_cases pairs (birth, h) (birth, q) at) [
       | inl old ↦ from_least o k q below (is.before q old)
       | inr e ↦ subst (λ x. handle_cmp k x ≢ Greater) (ap (λ (p : Birth × Handle). p.1) e) here
@@ -98,11 +87,7 @@ module _ (living : List LivingEntity) (index : FinMap handle_cmp ℕ)
       let r : LivingEntity = some_entity h in
       let below : at.0 < length living =
       omega (arith, length-map {B = Birth × Handle} living born_of, at.1) in
-      let pair = sym (get_or-map born_of living at.0 r (birth, h) below) ∙ at.2 in
-      let placed = ap (finite.get index) (sym (ap (λ (p : Birth × Handle). p.1) pair))
-      ∙ indexed.each_entity at.0 below r in
-      ap (option_map (λ (e : Entity). e.birth)) (get_placed living index indexed h at.0 r placed)
-      ∙ ap Some (ap (λ (p : Birth × Handle). p.0) pair)
+      search (rules, get_or-map born_of living at.0 r (birth, h) below, get_placed, r, below)
 
   found : (h : Handle) (o : Option Entity) → finite.get (map_of living) h ≡ o
       → option_map (λ e. e.birth) o ≡ Some birth → Contains (map born_of living) (birth, h)
@@ -110,15 +95,10 @@ module _ (living : List LivingEntity) (index : FinMap handle_cmp ℕ)
   found h (Some e) at is =
       let r : LivingEntity = some_entity h in
       let place = placed_from_get living index indexed h e at in
-      let there = indexed.each_place h place.0 place.1 in
       let born = same_Some _ _ (sym (ap (option_map (λ (e : Entity). e.birth))
       (get_placed living index indexed h place.0 r place.1))
       ∙ ap (option_map (λ (e : Entity). e.birth)) at ∙ is) in
-      let handle = there.1 r in (
-        place.0,
-        omega (arith, length-map {B = Birth × Handle} living born_of, there.0),
-        get_or-map born_of living place.0 r (birth, h) there.0 ∙ (λ j. (born j, handle j)),
-      )
+      search (rules, length-map, born_of, get_or-map)
 
   pub from_map : (h : Handle) → birth_of (map_of living) h ≡ Some birth
       → Contains (map born_of living) (birth, h)

@@ -26,8 +26,7 @@ module _ {X : Type 0} (R : X → X → Type 0) (asym : (a b : X) → R a b → �
 
   -- what is above the first one is among the others
   later : (x z : X) (ys : List X) → R x z → Contains (x ∷ ys) z → Contains ys z
-  later x z ys r (zero, l, e) =
-      absurd (asym x z r (subst (λ w. R w x) e (subst (λ w. R x w) (sym e) r)))
+  later x z ys r (zero, l, e) = search rules
   later x z ys r (suc k, l, e) = (k, omega (arith, l), e)
 
   above : (x z : X) (xs : List X) → AllPairs R (x ∷ xs) → Contains xs z → R x z

@@ -1,8 +1,7 @@
 -- Pairs whose keys strictly rise, after one of them was overwritten or after a test dropped some.
-use Rattle.std.proofs.Common.{◌≡◌, ◌≢◌, ℕ, zero, suc, ◌<◌, Bool, true, false, cond, ◌&&◌, T}
+use Rattle.std.proofs.Common.{rules, ◌≡◌, ◌≢◌, ℕ, zero, suc, ◌<◌, Bool, true, false, cond, ◌&&◌, T}
 use Rattle.std.proofs.Common.{List, [], ◌∷◌, length, get_or, set, filter, ◌+◌, Option, Some, None}
-use Rattle.std.proofs.Common.{Ordering}
-use Rattle.std.proofs.Common.{refl, sym, ap, subst, ◌∙◌, arith}
+use Rattle.std.proofs.Common.{Ordering, refl, sym, ap, subst, ◌∙◌, arith}
 use Rattle.std.specs.declared.cmp.Ordering.TheVariants.{Less, Equal, Greater}
 use Rattle.std.specs.Ordering.{is_lt, is_eq, eq_by_cmp}
 use Rattle.std.specs.Cmp.{IsTotalOrder}
@@ -54,8 +53,7 @@ module _ {K X : Type 0} {R : K → K → Ordering} (o : IsTotalOrder R) (same : 
     pub find-set_same : (es : List (K × X)) (p : ℕ) → p < length es
         → AllWithin (λ e. R e.0 k ≡ Less) es 0 p → find R k (set es p (k, v)) ≡ Some v
     find-set_same [] p l below = absurd (omega arith)
-    find-set_same (e ∷ es) zero l below = ap (λ t. cond t (Some v) (find R k es))
-        (tied o same k k refl)
+    find-set_same (e ∷ es) zero l below = search (rules, tied)
     find-set_same (e ∷ es) (suc p) l below =
         ap (λ r. cond (is_eq r) (Some e.1) (find R k (set es p (k, v))))
         (turn o _ _ Less (below zero e (omega arith) (omega arith)))
@@ -70,8 +68,7 @@ module _ {K X : Type 0} {R : K → K → Ordering} (o : IsTotalOrder R) (same : 
     find-set_other (e ∷ es) zero q n m l =
         ap (λ t. cond t (Some v) (find R q es)) (apart o same q k n)
         ∙ sym (ap (λ t. cond t (Some e.1) (find R q es)) (apart o same q e.0 (λ is. m e (sym is))))
-    find-set_other (e ∷ es) (suc p) q n m l =
-        ap (cond (eq_by_cmp R q e.0) (Some e.1)) (find-set_other es p q n m (omega arith))
+    find-set_other (e ∷ es) (suc p) q n m l = search (rules, find-set_other es p q n m (omega arith))
 
   -- ---- a test drops some pairs
   module _ (t : K × X → Bool) where
@@ -117,26 +114,10 @@ module _ {K X : Type 0} {R : K → K → Ordering} (o : IsTotalOrder R) (same : 
       by : (b : Bool) → eq_by_cmp R q e.0 ≡ b → (c : Bool) → t e ≡ c
           → find R q (cond (t e) (e ∷ filter t es) (filter t es))
           ≡ passed q (cond (eq_by_cmp R q e.0) (Some e.1) (find R q es))
-      by true b true c =
-          ap (λ c. find R q (cond c (e ∷ filter t es) (filter t es))) c
-          ∙ ap (λ b. cond b (Some e.1) (find R q (filter t es))) b
-          ∙ sym (ap (λ b. passed q (cond b (Some e.1) (find R q es))) b
-          ∙ ap (λ x. cond (t (x, e.1)) (Some e.1) None) (same _ _ (tie q e.0 b))
-          ∙ ap (λ c. cond c (Some e.1) None) c)
-      by true b false c =
-          ap (λ c. find R q (cond c (e ∷ filter t es) (filter t es))) c
-          ∙ rest ∙ ap (passed q) (find_below e.0 q es (turn o _ _ Equal (tie q e.0 b))
-          (first _ _ h))
-          ∙ sym (ap (λ b. passed q (cond b (Some e.1) (find R q es))) b
-          ∙ ap (λ x. cond (t (x, e.1)) (Some e.1) None) (same _ _ (tie q e.0 b))
-          ∙ ap (λ c. cond c (Some e.1) None) c)
-      by false b true c =
-          ap (λ c. find R q (cond c (e ∷ filter t es) (filter t es))) c
-          ∙ ap (λ b. cond b (Some e.1) (find R q (filter t es))) b
-          ∙ rest ∙ sym (ap (λ b. passed q (cond b (Some e.1) (find R q es))) b)
-      by false b false c =
-          ap (λ c. find R q (cond c (e ∷ filter t es) (filter t es))) c
-          ∙ rest ∙ sym (ap (λ b. passed q (cond b (Some e.1) (find R q es))) b)
+      by true b true c = search (rules, tie)
+      by true b false c = search (rules, find_below, turn, tie, first)
+      by false b true c = search rules
+      by false b false c = search rules
 
     pub find-filter : (es : List (K × X)) (q : K) → T (is_sorted R es) → find R q (filter t es)
         ≡ passed q (find R q es)

@@ -57,15 +57,10 @@ module _ (living : List LivingEntity) (index : FinMap handle_cmp ℕ) (spare : �
       spare = spare;
     } ≡ s) (h : Handle) where
   pub entity_placed : (i : ℕ) → finite.get index h ≡ Some i → IsEntityAt living s h i
-  entity_placed i at = record {
-    inside = (indexed.each_place h i at).0;
-    found = ap (λ (s : Store). finite.get s.entities h) (sym view)
-        ∙ get_placed living index indexed h i (some_entity h) at;
-  }
+  entity_placed i at = search (rules, get_placed, some_entity)
 
   pub placed_at : (i : ℕ) → slice_get s.places i ≡ Some h → finite.get index h ≡ Some i
-  placed_at i at = placed_from_place living index indexed h i
-      (ap (λ (s : Store). slice_get s.places i) view ∙ at)
+  placed_at i at = search (rules, placed_from_place)
 
   pub entity_at : (i : ℕ) → slice_get s.places i ≡ Some h → IsEntityAt living s h i
   entity_at i at = entity_placed i (placed_at i at)

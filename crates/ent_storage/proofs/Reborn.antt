@@ -1,17 +1,16 @@
 -- The birth of the entity at a place is changed.
 use Rattle.std.proofs.Common.{rules, ◌≡◌, ℕ, zero, suc, ◌<◌, List, [], ◌∷◌, length, get_or, set}
-use Rattle.std.proofs.Common.{Some, Option, refl, sym, ap, subst, ◌∙◌, arith}
+use Rattle.std.proofs.Common.{Some, refl, ap, ◌∙◌, arith, sym, subst}
 use Rattle.std.proofs.lemmas.List.{get_or_default, length-set}
-use Rattle.std.specs.Option.{option_map_or}
 use Rattle.std.specs.FinMap as finite
 use Rattle.std.specs.FinMap.{FinMap}
 use Rattle.ent_handle.specs.declared.birth.Birth.{Birth}
 use Rattle.ent_handle.specs.Handle.{Handle, handle_cmp}
 use Rattle.ent_storage.specs.declared.living.Resident.{Resident}
-use Rattle.ent_storage.specs.EntityMap.{Entity, with_birth}
+use Rattle.ent_storage.specs.EntityMap.{with_birth}
 use Rattle.ent_storage.specs.SparseSet.{Column}
 use Rattle.ent_storage.specs.Living.{LivingEntity, entities_from, with_birth_at}
-use Rattle.ent_storage.specs.Indexed.{entity_of, map_of, handles_by_place, counted, IsKeptIndex}
+use Rattle.ent_storage.specs.Indexed.{map_of, handles_by_place, counted, IsKeptIndex}
 use Rattle.ent_storage.proofs.Indexed.{some_entity, entities_set, indexed_set, read_handle}
 use Rattle.ent_storage.proofs.Indexed.{get_read}
 use Rattle.ent_storage.proofs.Counted.{counted_gives, indexed_counted}
@@ -70,13 +69,7 @@ module _ (living : List LivingEntity) (index : FinMap handle_cmp ℕ) (room : �
   is_set = as_set living i (some_entity h) birth inside
 
   pub reborn_entities : map_of (with_birth_at living i birth) ≡ with_birth (map_of living) h birth
-  reborn_entities =
-      ap map_of is_set
-      ∙ entities_set living (counted living index) kept.indexed i changed at
-      ∙ ap (λ (q : Handle). finite.insert (map_of living) q (entity_of changed)) its_handle
-      ∙ sym (ap (λ (o : Option Entity). option_map_or (λ e. finite.insert (map_of living) h
-      (record e { birth = birth })) o (map_of living))
-      (get_read living (counted living index) kept.indexed h i placed was read))
+  reborn_entities = search (rules, is_set, entities_set, at, its_handle, get_read, read)
 
   pub reborn_handles : handles_by_place (with_birth_at living i birth) ≡ handles_by_place living
   reborn_handles = ap handles_by_place is_set

@@ -1,7 +1,8 @@
 -- Lists of pairs whose keys strictly rise, as maps: what an edit at a position leaves.
-use Rattle.std.proofs.Common.{◌≡◌, ℕ, zero, suc, ◌+◌, ◌-◌, ◌<◌, ◌≤◌, ◌⊎◌, inl, inr, Bool, true}
-use Rattle.std.proofs.Common.{false, cond, T, List, [], ◌∷◌, ◌++◌, length, get_or, set, Some, None}
-use Rattle.std.proofs.Common.{Ordering, refl, sym, ap, subst, ◌∙◌, arith}
+use Rattle.std.proofs.lemmas.Grind.{common_steps}
+use Rattle.std.proofs.Common.{rules, ◌≡◌, ℕ, zero, suc, ◌+◌, ◌-◌, ◌<◌, ◌≤◌, ◌⊎◌, inl, inr, Bool}
+use Rattle.std.proofs.Common.{true, false, cond, T, List, [], ◌∷◌, ◌++◌, length, get_or, set, Some}
+use Rattle.std.proofs.Common.{None, Ordering, refl, sym, ap, subst, ◌∙◌, arith}
 use Rattle.std.specs.declared.cmp.Ordering.TheVariants.{Less, Equal, Greater}
 use Rattle.std.specs.Ordering.{is_eq, eq_by_cmp}
 use Rattle.std.specs.Cmp.{IsTotalOrder}
@@ -27,16 +28,13 @@ insert_end (y ∷ xs) x = ap (λ zs. y ∷ zs) (insert_end xs x)
 module _ {K X : Type 0} {R : K → K → Ordering} (o : IsTotalOrder R) where
   above_head : (k : K) (e : K × X) (es : List (K × X)) (i : ℕ) (d : K × X)
       → T (is_sorted R (e ∷ es)) → i < length es → R (get_or es i d).0 k ≡ Equal → R k e.0 ≡ Greater
-  above_head k e es i d h l t =
-      o.congr k (get_or es i d).0 e.0 (turn o _ _ Equal t)
-      ∙ turn o _ _ Less (below_at o e.0 es i d (first _ _ h) l)
+  above_head k e es i d h l t = search (rules, turn, below_at, first)
 
   -- a key that ties at a position is found there
   pub find_at : (es : List (K × X)) (k : K) (i : ℕ) (d : K × X) → T (is_sorted R es) → i < length es
       → R (get_or es i d).0 k ≡ Equal → find R k es ≡ Some (get_or es i d).1
   find_at [] k i d h l t = absurd (omega arith)
-  find_at (e ∷ es) k zero d h l t = ap (λ r. cond (is_eq r) (Some e.1) (find R k es))
-      (turn o _ _ Equal t)
+  find_at (e ∷ es) k zero d h l t = grind (arith, common_steps, turn)
   find_at (e ∷ es) k (suc i) d h l t =
       ap (λ r. cond (is_eq r) (Some e.1) (find R k es)) (above_head k e es i d h (omega arith) t)
       ∙ find_at es k i d (second _ _ h) (omega arith) t
@@ -108,18 +106,14 @@ module _ {K X : Type 0} {R : K → K → Ordering} (o : IsTotalOrder R) (same : 
 
   pub map_insert : (v : X) → IsGapFor R es k i → map.from_sorted {R = R} (insert es i (k, v))
       ≡ map.insert (map.from_sorted es) k v
-  map_insert v gap = ap (λ fs. map.from_sorted {R = R} fs) (inserted o es k v i v gap refl)
-      ∙ from_sorted-put o es k v h
+  map_insert v gap = search (rules, inserted o es k v i v gap refl, from_sorted-put o es k v h)
 
   put_over : (v : X) → IsAt R es k i → put R k v es ≡ set es i (k, v)
-  put_over v at =
-      sym (written o es k v i (k, v) (get_or es i (k, v)) v h at refl refl)
-      ∙ ap (λ x. set es i (x, v)) (same _ _ (at.has_key (k, v)))
+  put_over v at = search (rules, written o es k v i (k, v) (get_or es i (k, v)) v h)
 
   pub rising_set : (v : X) → IsAt R es k i → T (is_sorted R (set es i (k, v)))
   rising_set v at = subst (λ fs. T (is_sorted R fs)) (put_over v at) (is_sorted-put R o k v es h)
 
   pub map_set : (v : X) → IsAt R es k i → map.from_sorted {R = R} (set es i (k, v))
       ≡ map.insert (map.from_sorted es) k v
-  map_set v at = ap (λ fs. map.from_sorted {R = R} fs) (sym (put_over v at))
-      ∙ from_sorted-put o es k v h
+  map_set v at = search (rules, put_over v, from_sorted-put o es k v h)

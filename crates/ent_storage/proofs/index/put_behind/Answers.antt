@@ -1,4 +1,4 @@
-use Rattle.std.proofs.Common.{◌≡◌, length, ap, sym, ◌∙◌, arith}
+use Rattle.std.proofs.Common.{rules, ◌≡◌, length, sym, arith}
 use Rattle.std.specs.List.{insert}
 use Rattle.ent_handle.specs.Handle.{handle_cmp, handle_cmp_total as total}
 use Rattle.ent_handle.specs.Handle.{handle_cmp-IsAntisymmetric as same}
@@ -15,8 +15,7 @@ module _ (c : goal.After-push_reserved) where
   end =
       let position : c.len-end.result ≡ length c.args.pairs.now.items =
       omega (arith, c.len-end.ensures, c.args.pairs.now.ok.0) in
-      ap (λ i. insert c.args.pairs.now.items i c.args.pair) position
-      ∙ insert_end c.args.pairs.now.items c.args.pair ∙ sym c.push_reserved.ensures.items
+      search (rules, c.args.pairs.now.items, c.args.pair, insert_end, c.push_reserved.ensures.items)
 
 pub returns-then-is_gap-clause-sorted : goal.returns-then-is_gap-clause-sorted
 returns-then-is_gap-clause-sorted c =

@@ -1,11 +1,11 @@
-use Rattle.std.proofs.Common.{◌≡◌, [], ◌∷◌, ◌++◌, map, take, Some, subst, sym, ◌∙◌, arith, rules}
+use Rattle.std.proofs.lemmas.Grind.{common_steps}
+use Rattle.std.proofs.Common.{◌≡◌, [], ◌∷◌, ◌++◌, map, take, sym, ◌∙◌, arith, rules}
 use Rattle.std.specs.Ordering.{eq_by_cmp}
 use Rattle.std.proofs.lemmas.List.{map_more}
 use Rattle.ent_handle.specs.declared.birth.Birth.{Birth}
 use Rattle.ent_handle.specs.Birth.{birth_cmp}
 use Rattle.ent_handle.specs.Handle.{Handle}
 use Rattle.ent_storage.specs.declared.living.Resident.{Resident}
-use Rattle.ent_storage.specs.BirthOrder.{IsLeastOf}
 use Rattle.ent_storage.proofs.OfBirth.{same_birth, other_birth, least_other, least_this}
 use Rattle.ent_storage.proofs.order.least_of_birth.Goals.{then-eq, else-eq}
 use Rattle.ent_storage.proofs.order.least_of_birth.Goals as goal
@@ -26,10 +26,7 @@ loop-resident-preserved c =
     elim c.if-eq.branch [
       | then-eq w ↦
           let same = same_birth resident.birth birth (sym tests ∙ w.if-eq.true) in
-          rw (w.least-is, more) (subst (λ b. IsLeastOf birth (before ++ (b, resident.handle) ∷ [])
-          (Some w.lesser.result)) (sym same) (least_this birth before c.loop-resident.least
-          c.loop-resident.invariant resident.handle w.lesser.result w.lesser.ensures.one
-          w.lesser.ensures.handle w.lesser.ensures.other))
+          grind (arith, common_steps, least_this, c.loop-resident.least, c.loop-resident.invariant)
       | else-eq w ↦ rw (w.least-is, more) (least_other birth before c.loop-resident.least
           c.loop-resident.invariant (pair_of resident) (other_birth resident.birth birth
           (sym tests ∙ w.if-eq.false)))

@@ -1,8 +1,7 @@
-use Rattle.std.proofs.Common.{rules, ◌≡◌, map, ap, ◌∙◌}
-use Rattle.std.proofs.lemmas.Result.{IfOk-weaker, on_err_weaker}
+use Rattle.std.proofs.Common.{rules, map, ap, ◌∙◌}
+use Rattle.std.proofs.lemmas.Result.{on_err_weaker}
 use Rattle.ent_handle.specs.declared.birth.Birth.{Birth}
 use Rattle.ent_handle.specs.Handle.{Handle}
-use Rattle.ent_storage.specs.declared.living.Resident.{Resident}
 use Rattle.ent_storage.specs.Living.{Living}
 use Rattle.ent_storage.proofs.EntitiesOfResidents.{births_from, length_from}
 use Rattle.ent_storage.proofs.living.Living.births.Goals as goal
@@ -12,10 +11,7 @@ returns-clause-ok c =
     let same = births_from 0 c.self.inside.residents.items c.self.inside.columns.items
     ∙ ap (λ (l : Living). map {B = Birth × Handle} (λ e. (e.birth, e.handle)) l.entities)
     c.self.view_is in
-    IfOk-weaker _ _ (λ births. births.items ≡ map {B = Birth × Handle} (λ e. (e.birth, e.handle))
-    c.args.self.now.entities) (λ births is. is
-    ∙ ap (map {B = Birth × Handle} (λ (resident : Resident). (resident.birth, resident.handle)))
-    c.deref.ensures.value ∙ same) c.births.ensures.ok
+    search (rules, c.args.self.now.entities, c.deref.ensures.value, c.births.ensures.ok, same)
 
 -- there are as many entities as residents
 pub returns-clause-memory : goal.returns-clause-memory

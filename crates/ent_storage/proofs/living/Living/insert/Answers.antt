@@ -1,4 +1,4 @@
-use Rattle.std.proofs.Common.{rules, ◌<◌, length, get_or, ap, sym, subst, ◌∙◌, inr, arith}
+use Rattle.std.proofs.Common.{rules, ◌<◌, length, get_or, ap, ◌∙◌, inr, arith}
 use Rattle.std.specs.FinMap as finite
 use Rattle.ent_storage.specs.Components.{Components, with_items, missing}
 use Rattle.ent_storage.specs.SparseSet.{Values}
@@ -15,15 +15,12 @@ pub returns-in_err-reserve_all-clause-err : goal.returns-in_err-reserve_all-clau
 returns-in_err-reserve_all-clause-err c = search (rules, on_err, same_from)
 
 pub returns-in_err-reserve_all-clause-growing : goal.returns-in_err-reserve_all-clause-growing
-returns-in_err-reserve_all-clause-growing c =
-    on_err {P = (d : LivingEntity) → 0
-    < missing (get_or c.args.self.now.entities c.args.place d).components c.args.items.now} _
-    (λ d.
+returns-in_err-reserve_all-clause-growing c = on_err {P = (d : LivingEntity) → 0
+    < missing (get_or c.args.self.now.entities c.args.place d).components c.args.items.now} _ (λ d.
     let resident : Resident = record { handle = d.handle; birth = d.birth } in
     let read = read_from c.self.inside.residents.items c.self.inside.columns.items _
     c.args.self.now c.args.place c.self.view_is c.requires resident d in
-    subst (λ (e : LivingEntity). 0 < missing e.components c.args.items.now) (sym read)
-    c.in_err-reserve_all.ensures.growing)
+    search (rules, c.args.items.now, c.in_err-reserve_all.ensures.growing))
 
 pub invariant_of-self-2 : goal.invariant_of-self-2
 invariant_of-self-2 c =
@@ -32,12 +29,10 @@ invariant_of-self-2 c =
     let set_all_rest = rw c.deref_mut.ensures.value at c.set_all.ensures.rest in
     let inside = inside_from c.self.inside.residents.items c.self.inside.columns.items _
     c.args.self.now c.args.place c.self.view_is c.requires in
-    let numbered = c.in_ok-reserve_all.ensures.numbered in
     rw (written_back c.set_all.new.columns c.reserve_all.new.columns.items
     c.reserve_all.new.columns.len set_all_len c.reserve_all.new.columns.ok.0) (
       changed_within (length c.self.inside.residents.items) c.args.place
-          c.self.inside.columns.items c.set_all.new.columns inside
-          (omega (arith, set_all_len, numbered))
+          c.self.inside.columns.items c.set_all.new.columns inside (omega (arith, set_all_len))
           (λ p id far. set_all_others p id far ∙ ap (λ (m : Values). finite.get m p)
           (c.in_ok-reserve_all.ensures.values id.0)) c.self.invariant.0,
       in_use_changed c.reserve_all.new.used.items c.reserve_all.new.columns.items
@@ -58,7 +53,6 @@ returns-clause-ok c =
     c.reserve_all.new.columns.len set_all_len c.reserve_all.new.columns.ok.0)
     (changed_from 0 c.self.inside.residents.items c.self.inside.columns.items c.set_all.new.columns
     c.args.place c.args.place (λ held. with_items held c.args.items.now) (omega arith) here
-    (λ p id far. set_all_others p id far ∙ ap (λ (m : Values). finite.get m p)
-    (c.in_ok-reserve_all.ensures.values id.0))
+    (search (rules, c.in_ok-reserve_all.ensures.values))
     ∙ ap (λ (l : Living). change_at l.entities c.args.place
     (λ held. with_items held c.args.items.now)) c.self.view_is)

@@ -26,9 +26,8 @@ invariant_of-self c =
 
 pub returns-clause-value : goal.returns-clause-value
 returns-clause-value c d =
-    let remove_value = rw c.deref_mut.ensures.value at c.remove.ensures.value in
     let resident : Resident = record { handle = d.handle; birth = d.birth } in
-    remove_value
+    (rw c.deref_mut.ensures.value at c.remove.ensures.value)
     ∙ sym (get_components c.self.inside.columns.items c.args.place c.args.id)
     ∙ sym (ap (λ (e : LivingEntity). finite.get e.components c.args.id)
     (read_from c.self.inside.residents.items c.self.inside.columns.items _ c.args.self.now

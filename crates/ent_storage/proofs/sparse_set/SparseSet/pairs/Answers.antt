@@ -1,4 +1,4 @@
-use Rattle.std.proofs.Common.{Some, ap, sym, ◌∙◌}
+use Rattle.std.proofs.Common.{rules, ap, sym, ◌∙◌}
 use Rattle.std.specs.FinMap as map
 use Rattle.ent_storage.specs.SparseSet.{Column}
 use Rattle.ent_storage.proofs.Dense.{has, at, once}
@@ -10,19 +10,14 @@ returns-clause-has c p v h =
     let D = c.self.inside.dense.items in
     let k = rw c.deref.ensures.value at h in
     ap (λ (m : Column). map.get m.values p) (sym c.self.view_is)
-    ∙ has D c.self.inside.sparse.items c.self.invariant k.0 p v (slice_get-get_or D k.0 (p, v) k.1
-    ∙ ap Some k.2)
+    ∙ has D c.self.inside.sparse.items c.self.invariant k.0 p v (search (rules, slice_get-get_or))
 
 pub returns-clause-all : goal.returns-clause-all
 returns-clause-all c p v found =
     let D = c.self.inside.dense.items in
     let k = at D c.self.inside.sparse.items c.self.invariant p v
     (ap (λ (m : Column). map.get m.values p) c.self.view_is ∙ found) in
-    rw c.deref.ensures.value (
-      k.0,
-      slice_get_within D k.0 (p, v) k.1,
-      get_or_from_slice_get D k.0 (p, v) (p, v) k.1,
-    )
+    search (rules, c.deref.ensures.value, slice_get_within, get_or_from_slice_get)
 
 pub returns-clause-once : goal.returns-clause-once
 returns-clause-once c j k p v w a b =

@@ -13,8 +13,7 @@ index_mut-requires-in-Some c =
     let free = ap (λ (m : Column). map.get m.values c.args.to) c.self.view_is ∙ c.requires.free in
     let room = place_inside D c.self.inside.sparse.items c.self.invariant c.in-Some.position
     c.args.from c.args.to _ here free c.requires.before in
-    let before = c.requires.before in
-    omega (arith, room, before, c.self.inside.sparse.ok.0)
+    omega (arith, room, c.self.inside.sparse.ok.0)
 
 -- the pair that is written has the value that was read
 pub invariant_of-self : goal.invariant_of-self

@@ -1,6 +1,4 @@
-use Rattle.std.proofs.Common.{Some, refl, ap, sym, ◌∙◌}
-use Rattle.std.specs.Option.{option_map}
-use Rattle.ent_storage.specs.EntityMap.{Entity}
+use Rattle.std.proofs.Common.{rules, refl}
 use Rattle.ent_storage.proofs.Indexed.{some_entity}
 use Rattle.ent_storage.proofs.Placed.{IsEntityAt, entity_at}
 use Rattle.ent_storage.proofs.storage.Storage.birth.Goals.{After-self}
@@ -16,7 +14,4 @@ pub birth-requires : goal.birth-requires
 birth-requires c = (at (goal.at.birth-requires c).After-self).inside
 
 pub returns : goal.returns
-returns c =
-    let at = at (goal.at.returns c).After-self in
-    ap Some (c.birth.ensures (some_entity c.args.handle))
-    ∙ sym (ap (option_map (λ (e : Entity). e.birth)) at.found)
+returns c = search (rules, at, c.birth.ensures, some_entity, c.args.handle)

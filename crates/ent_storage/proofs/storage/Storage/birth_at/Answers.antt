@@ -1,6 +1,4 @@
-use Rattle.std.proofs.Common.{rules, Some, ap, sym, ◌∙◌}
-use Rattle.std.specs.Option.{option_map}
-use Rattle.ent_storage.specs.EntityMap.{Entity}
+use Rattle.std.proofs.Common.{rules}
 use Rattle.ent_storage.proofs.Indexed.{some_entity}
 use Rattle.ent_storage.proofs.Placed.{IsEntityAt, entity_at}
 use Rattle.ent_storage.proofs.storage.Storage.birth_at.Goals.{After-self}
@@ -15,7 +13,4 @@ pub birth-requires : goal.birth-requires
 birth-requires c = (at (goal.at.birth-requires c).After-self).inside
 
 pub returns : goal.returns
-returns c =
-    let at = at (goal.at.returns c).After-self in
-    ap (option_map (λ (e : Entity). e.birth)) at.found
-    ∙ ap Some (sym (c.birth.ensures (some_entity c.args.handle)))
+returns c = search (rules, at, c.birth.ensures, some_entity, c.args.handle)

@@ -20,7 +20,6 @@ some_from_test (Some x) e = refl
 -- the handle is new, and there is room
 pub invariant_of-self : goal.invariant_of-self
 invariant_of-self c =
-    let are = ap (λ (s : Store). s.entities) c.self.view_is in
     let new = none_from_test _ (sym c.put.ensures.new ∙ c.if-put.true) in
     let entity : LivingEntity = record {
       handle = c.args.handle;

@@ -1,5 +1,5 @@
 use Rattle.std.proofs.Common.{rules, ◌≡◌, ◌≢◌, ◌<◌, ℕ, List, length, true, map as mapped, ap, sym}
-use Rattle.std.proofs.Common.{◌∙◌, arith}
+use Rattle.std.proofs.Common.{◌∙◌}
 use Rattle.std.proofs.lemmas.List.{length-map}
 use Rattle.std.specs.FinMap as map
 use Rattle.ent_handle.specs.Handle.{handle_cmp}
@@ -18,10 +18,9 @@ returns-clause-ok c =
     let births = c.in_ok-births.ensures.ok
     ∙ ap (mapped (λ (entity : LivingEntity). (entity.birth, entity.handle)))
     (sym (filter-all living)) in
-    let ordered = rw births at c.in_ok-handles_in_order.ensures.ok in
     let are = ap (λ (s : Store). s.entities) c.self.view_is in
     rw (← are) (lists living (counted c.self.inside.living.entities c.self.inside.index.by_handle)
-    c.self.invariant.indexed (λ _. true) _ ordered)
+    c.self.invariant.indexed (λ _. true) _ (rw births at c.in_ok-handles_in_order.ensures.ok))
 
 -- a map of somebody is not the empty one
 not_empty : (living : List LivingEntity) (index : map.FinMap handle_cmp ℕ)
@@ -29,8 +28,7 @@ not_empty : (living : List LivingEntity) (index : map.FinMap handle_cmp ℕ)
     ≢ map.empty
 not_empty living index indexed m view some none =
     let len : map.len m ≡ 0 = ap map.len none ∙ map.len-empty handle_cmp Entity in
-    let same = ap map.len view in
-    absurd (omega (arith, len_living living index indexed, len, same, some))
+    search (rules, len_living)
 
 pub returns-in_err-births-clause-memory : goal.returns-in_err-births-clause-memory
 returns-in_err-births-clause-memory c = search (rules, on_err, not_empty)

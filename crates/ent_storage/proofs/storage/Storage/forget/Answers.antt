@@ -1,4 +1,4 @@
-use Rattle.std.proofs.Common.{is_some, sym, ap, ◌∙◌}
+use Rattle.std.proofs.Common.{rules, is_some, ap, ◌∙◌}
 use Rattle.std.proofs.lemmas.Bool.{false≢true}
 use Rattle.std.specs.FinMap as map
 use Rattle.ent_storage.specs.EntityMap.{Store}
@@ -18,10 +18,7 @@ invariant_of-self c =
     ∙ gone in
     record {
       indexed = indexed_counted living c.forget.new.self.by_handle (counted living index)
-          c.self.invariant.indexed
-          (λ q i there. c.forget.ensures.kept q i
-          (λ is. absurd (false≢true (sym none
-          ∙ ap (λ h. is_some (map.get (counted living index) h)) (sym is) ∙ ap is_some there)))
-          (counted_gives living index q i there).0);
+          c.self.invariant.indexed (λ q i there. c.forget.ensures.kept q i
+          (search (rules, false≢true)) (counted_gives living index q i there).0);
       fits = rw c.forget.ensures.room c.self.invariant.fits;
     }

@@ -1,4 +1,5 @@
-use Rattle.std.proofs.Common.{◌≡◌, length, ap, sym, ◌∙◌, eqb-true, eq-eqb, arith}
+use Rattle.std.proofs.lemmas.Grind.{common_steps}
+use Rattle.std.proofs.Common.{ap, ◌∙◌, eq-eqb, arith}
 use Rattle.std.specs.FinMap as map
 use Rattle.ent_handle.specs.Handle.{handle_cmp}
 use Rattle.ent_storage.specs.EntityMap.{Entity, Store}
@@ -13,10 +14,7 @@ returns c =
     let counted = len_living living (counted c.self.inside.living.entities
     c.self.inside.index.by_handle) c.self.invariant.indexed in
     let view = ap (λ (s : Store). map.len s.entities) c.self.view_is in (
-      λ empty.
-          let none : length c.self.inside.living.entities ≡ 0 = eqb-true _ _ (sym c.is_empty.ensures
-          ∙ empty) in
-          map.empty_of_len _ (omega (arith, counted, view, none)),
+      grind (arith, common_steps, c.self.inside.living.entities, c.is_empty.ensures),
       λ empty.
           let none = ap map.len empty ∙ map.len-empty handle_cmp Entity in
           c.is_empty.ensures ∙ eq-eqb _ _ (omega (arith, counted, view, none)),

@@ -1,6 +1,5 @@
-use Rattle.std.proofs.Common.{rules, Option, min, option_and_then, ap, sym, ◌∙◌}
+use Rattle.std.proofs.Common.{rules, min}
 use Rattle.std.specs.FinMap as map
-use Rattle.ent_storage.specs.EntityMap.{Entity}
 use Rattle.ent_storage.proofs.Indexed.{some_entity}
 use Rattle.ent_storage.proofs.Placed.{IsEntityAt, entity_at, placed_at}
 use Rattle.ent_storage.proofs.Changed.{IsChanged, changed}
@@ -24,9 +23,7 @@ after c = search (rules, changed, placed_at)
 -- the component is that of the entity
 pub returns-clause-value : goal.returns-clause-value
 returns-clause-value c =
-    c.remove.ensures.value (some_entity c.args.handle)
-    ∙ sym (ap (λ (o : Option Entity). option_and_then (λ e. map.get e.components c.args.id) o)
-    (at (goal.at.returns-clause-value c).After-self).found)
+    search (rules, c.remove.ensures.value, some_entity, c.args.handle, c.args.id, at)
 
 pub returns-clause-entities : goal.returns-clause-entities
 returns-clause-entities c = (after (goal.at.returns-clause-entities c).After-remove).entities
