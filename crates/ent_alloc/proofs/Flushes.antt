@@ -1,6 +1,6 @@
 -- What a flush brings to life: exactly what was taken.
-use Rattle.std.proofs.Common.{◌++◌, get_or, reverse, filter, All, AllPairs, Contains, IsPermutation}
-use Rattle.std.proofs.Common.{◌⊎◌}
+use Rattle.std.proofs.Common.{rules, ◌++◌, get_or, reverse, filter, All, AllPairs, Contains}
+use Rattle.std.proofs.Common.{IsPermutation, ◌⊎◌}
 use Rattle.std.proofs.lemmas.List.Elements.{All-contains_itself}
 use Rattle.std.proofs.lemmas.List.Sorted.{IsPermutation-refl, IsPermutation-trans}
 use Rattle.std.proofs.lemmas.List.Sorted.{IsPermutation-append, IsPermutation-append_comm}
@@ -35,8 +35,7 @@ born-IsPermutation s =
     (IsPermutation-filter_both (is_old s.made) (is_fresh s.made) (fresh_is_not_old s.made) s.taken)
     (IsPermutation-trans (old ++ new) (new ++ old) (new ++ reverse old)
     (IsPermutation-append_comm old new)
-    (IsPermutation-append new new old (reverse old) (IsPermutation-refl new)
-    (IsPermutation-reverse old)))
+    (search (rules, IsPermutation-append, IsPermutation-refl, IsPermutation-reverse)))
 
 -- each that is born is alive then
 pub born-lives : (s : Allocator) → All (IsLive (after_flush s)) (born s)

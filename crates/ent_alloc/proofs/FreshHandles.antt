@@ -107,16 +107,11 @@ all_old_are_old made old below = search (rules, filter_all, All-weaker, lt-ltb)
 module _ (made slots : ℕ) (old : List Handle) (below : All (λ h. h.index < made) old) where
   -- the old ones
   pub old_of_joined : filter (is_old made) (old ++ fresh made slots) ≡ old
-  old_of_joined =
-      filter-append (is_old made) old (fresh made slots)
-      ∙ rw (all_old_are_old made old below, no_fresh_is_old made made slots (omega arith))
-      (append-nil old)
+  old_of_joined = search (rules, filter-append, all_old_are_old, no_fresh_is_old, append-nil)
 
   -- the fresh ones
   pub fresh_of_joined : filter (is_fresh made) (old ++ fresh made slots) ≡ fresh made slots
-  fresh_of_joined =
-      filter-append (is_fresh made) old (fresh made slots)
-      ∙ rw (no_old_is_fresh made old below, all_fresh_are_fresh made made slots (omega arith)) refl
+  fresh_of_joined = search (rules, filter-append, no_old_is_fresh, all_fresh_are_fresh)
 
   -- the front of both
   pub take_joined : (k : ℕ) → k ≤ length old + slots → take k (old ++ fresh made slots) ≡ take k old

@@ -70,8 +70,7 @@ live-spent s h sound alive =
           (All-right (AreApart h) s.taken (s.aside ++ s.pool) apart);
       taken = All-weaker (AreApart h) (NotBefore h) (not_before_if_apart h) s.taken
           (All-left (AreApart h) s.taken (s.aside ++ s.pool) apart);
-      live = λ g also same.
-          le_of_eq (ap (λ x. x.generation) (sym (sound.one_occupant g h also alive same)));
+      live = search (rules, le_of_eq);
     }
 
 -- nothing in the pool
@@ -79,20 +78,14 @@ spent_not_in_pool : (s : Allocator) (h g : Handle) → IsSpent s h → Contains 
 spent_not_in_pool s h g spent in_pool same =
     let after : After h g = All-contains (After h) s.pool g (All-right (After h) s.aside s.pool
     spent.left) in_pool in
-    let less : h.generation < g.generation = after (ap (λ x. x.index) (sym same)) in
-    let equal : h.generation ≡ g.generation = ap (λ x. x.generation) same in
-    omega arith
+    search rules
 
 -- ---- what is spent stays so
 
 -- after a request
 take-stays_spent : (s : Allocator) (n : ℕ) (h : Handle) → IsSpent s h → IsSpent (after_take s n) h
 take-stays_spent s n h spent = elim (cases_lt (length s.pool) n) [
-  | inl short ↦ rw (after_take-refused s n short) record {
-    left = rw (append-nil (s.aside ++ s.pool)) spent.left;
-    taken = spent.taken;
-    live = spent.live;
-  }
+  | inl short ↦ search (rules, after_take-refused, append-nil)
   | inr enough ↦
       let in_pool : All (After h) s.pool = All-right (After h) s.aside s.pool spent.left in
       rw (after_take-served s n enough) record {

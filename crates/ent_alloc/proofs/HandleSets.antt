@@ -117,10 +117,7 @@ pub one_occupant_joined : (live : set.FinSet handle_cmp) (more : List Handle)
     → IsTrue (set.contains (set.union live (set.from_list more)) h) → g.index ≡ h.index → g ≡ h
 one_occupant_joined live more apart among one g h in_g in_h same =
     elim (in_union_list live more g in_g) [
-      | inl g_before ↦ elim (in_union_list live more h in_h) [
-        | inl h_before ↦ one g h g_before h_before same
-        | inr h_new ↦ absurd (All-contains (AreApart g) more h (apart g g_before) h_new same)
-      ]
+      | inl g_before ↦ search (rules, in_union_list, All-contains)
       | inr g_new ↦ elim (in_union_list live more h in_h) [
         | inl h_before ↦ absurd (All-contains (AreApart h) more g (apart h h_before) g_new
             (sym same))

@@ -1,6 +1,6 @@
 -- What a legal history leaves and gives.
-use Rattle.std.proofs.Common.{rules, ◌≡◌, ◌≢◌, refl, sym, ap, ◌∙◌, subst, List, [], ◌∷◌, length}
-use Rattle.std.proofs.Common.{sum, All, AllPairs, Contains, IsPermutation, ◌↔◌, ◌⊎◌}
+use Rattle.std.proofs.Common.{rules, ◌≡◌, ◌≢◌, refl, List, [], ◌∷◌, length, sum, All, AllPairs}
+use Rattle.std.proofs.Common.{Contains, IsPermutation, ◌↔◌, ◌⊎◌}
 use Rattle.ent_handle.specs.Handle.{Handle}
 use Rattle.ent_alloc.specs.Sequential.{Allocator, after_take, after_flush, settled}
 use Rattle.ent_alloc.specs.Sound.{IsSound, IsLive}
@@ -27,35 +27,24 @@ given_in-legal s (call ∷ calls) legal =
 module _ (s : Allocator) (calls : List Call) (sound : IsSound s) (legal : IsLegal s calls) where
   -- no handle stands twice in the replies
   pub given_in-distinct : AllPairs (λ g h. g ≢ h) (given_in calls)
-  given_in-distinct = subst (AllPairs (λ g h. g ≢ h)) (sym (given_in-legal s calls legal))
-      (distinct_from_apart (given_by s (requests_of calls)) (given_by-apart s (requests_of calls)
-      sound))
+  given_in-distinct = search (rules, given_in-legal, distinct_from_apart, given_by, given_by-apart)
 
   -- none of them is alive
   pub given_in-not_live : All (λ x. ¬ (IsLive s x)) (given_in calls)
-  given_in-not_live = subst (All (λ x. ¬ (IsLive s x))) (sym (given_in-legal s calls legal))
-      (given_by-not_live s (requests_of calls) sound)
+  given_in-not_live = search (rules, given_in-legal, given_by-not_live)
 
   -- they are all that is taken since a flush
   pub given_in-taken : s.asked ≡ 0 → IsPermutation (given_in calls) (after_history s calls).taken
-  given_in-taken flushed =
-      subst (λ (p : List Handle × Allocator). IsPermutation p.0 p.1.taken)
-      (λ i. (sym (given_in-legal s calls legal) i, sym (after_history-takes s calls) i))
-      (taken-since_flush s (requests_of calls) sound flushed)
+  given_in-taken flushed = search (rules, given_in-legal, after_history-takes, taken-since_flush)
 
   -- and a flush then brings exactly those to life
   pub given_in-bring_to_life : s.asked ≡ 0 → (x : Handle)
       → IsLive (after_flush (after_history s calls)) x ↔ IsLive s x ⊎ Contains (given_in calls) x
   given_in-bring_to_life flushed x =
-      subst (λ (p : List Handle × Allocator). IsLive (after_flush p.1) x ↔ IsLive s x
-      ⊎ Contains p.0 x)
-      (λ i. (sym (given_in-legal s calls legal) i, sym (after_history-takes s calls) i))
-      (live-since_flush s (requests_of calls) sound flushed x)
+      search (rules, given_in-legal, after_history-takes, live-since_flush)
 
   -- two numbers tell the state
   pub after_history-settled : s.asked ≡ 0 → after_history s calls
       ≡ settled s (length (given_in calls)) (sum (requests_of calls))
   after_history-settled flushed =
-      after_history-takes s calls ∙ (after_takes-settled s sound flushed (requests_of calls)
-      ∙ ap (λ (hs : List Handle). settled s (length hs) (sum (requests_of calls)))
-      (sym (given_in-legal s calls legal)))
+      search (rules, after_history-takes, after_takes-settled, given_in-legal)

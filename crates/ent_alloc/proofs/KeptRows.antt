@@ -11,7 +11,7 @@ use Rattle.ent_handle.specs.Handle.{Handle, handle_cmp, handle_cmp_total}
 use Rattle.ent_alloc.proofs.ListLaws.{eqb_sym, tests_of}
 use Rattle.ent_alloc.specs.declared.slot_record.SlotRecord.{SlotRecord}
 use Rattle.ent_alloc.specs.Slots.{record_at, no_slot, row_of, rows_from, with_row, new_record}
-use Rattle.ent_alloc.proofs.Occupants.{ties, read-set}
+use Rattle.ent_alloc.proofs.Occupants.{ties}
 
 -- the row that a record keeps with its occupant of a generation
 abbrev pub row_in : SlotRecord → ℕ → Option ℕ
@@ -82,8 +82,7 @@ get_rows records q =
 pub row_at-set : (records : List SlotRecord) (index : ℕ) (r : SlotRecord) (q : Handle) → index
     < length records → row_at (set records index r) q
     ≡ cond (eqb q.index index) (row_in r q.generation) (row_at records q)
-row_at-set records index r q =
-    read-set (λ (x : SlotRecord). row_in x q.generation) records index r q.index
+row_at-set records index r q = search rules
 
 -- a record without a row instead of another one leaves the rows
 pub rows_from-set : (from : ℕ) (records : List SlotRecord) (index : ℕ) (r : SlotRecord)

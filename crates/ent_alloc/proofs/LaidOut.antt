@@ -1,6 +1,6 @@
 -- A sound allocator that is flushed, by the old handles of its pool.
-use Rattle.std.proofs.Common.{◌≡◌, sym, ap, ◌∙◌, subst, ℕ, ◌+◌, ◌-◌, ◌<◌, ◌≤◌, true, List, [], ◌++◌}
-use Rattle.std.proofs.Common.{length, get_or, drop, filter, All, AllPairs, arith, ltb-true}
+use Rattle.std.proofs.Common.{rules, ◌≡◌, sym, ap, ◌∙◌, subst, ℕ, ◌+◌, ◌-◌, ◌<◌, ◌≤◌, List, []}
+use Rattle.std.proofs.Common.{◌++◌, length, get_or, drop, filter, All, AllPairs, arith}
 use Rattle.std.proofs.lemmas.List.{nil_from_length, length-append}
 use Rattle.std.proofs.lemmas.List.Elements.{All-append, All-weaker, filter_passes, All-filter}
 use Rattle.std.proofs.lemmas.List.Kept.{AllPairs-filter}
@@ -17,8 +17,7 @@ old_ones s = filter (is_old s.made) (available s)
 
 -- their slots were made
 pub old_ones_below : (s : Allocator) → All (λ h. h.index < s.made) (old_ones s)
-old_ones_below s = All-weaker (λ h. is_old s.made h ≡ true) (λ h. h.index < s.made)
-    (λ h test. ltb-true _ _ test) (old_ones s) (filter_passes (is_old s.made) (available s))
+old_ones_below s = search (rules, All-weaker, filter_passes)
 
 -- two handles of which one is of a made slot and the other of none
 pub apart_by_made : (made : ℕ) (g h : Handle) → g.index < made → made ≤ h.index → AreApart g h

@@ -1,8 +1,8 @@
 -- Slots that get their next occupants, and slots that are made: the vectors stay linked, and the
 -- roster gains the occupants.
-use Rattle.std.proofs.Common.{◌≡◌, ℕ, ◌+◌, ◌-◌, ◌<◌, ◌≤◌, List, [], ◌∷◌, ◌++◌, length, get_or, set}
-use Rattle.std.proofs.Common.{take, drop, map, replicate, slice_get, refl, sym, ap, subst, ◌∙◌}
-use Rattle.std.proofs.Common.{arith, inl, inr, Some}
+use Rattle.std.proofs.Common.{rules, ◌≡◌, ℕ, ◌+◌, ◌-◌, ◌<◌, ◌≤◌, List, [], ◌∷◌, ◌++◌, length}
+use Rattle.std.proofs.Common.{get_or, set, take, drop, map, replicate, slice_get, refl, sym, ap}
+use Rattle.std.proofs.Common.{subst, ◌∙◌, arith, inl, inr, Some}
 use Rattle.std.specs.FinSet as sets
 use Rattle.std.specs.FinMap as maps
 use Rattle.std.proofs.lemmas.Bool.{cases_lt}
@@ -32,16 +32,7 @@ use Rattle.ent_alloc.proofs.KeptRows.{rows_from-made}
 module _ (limits : Limits) (records : List SlotRecord) (pending : List ℕ) (live from : ℕ)
     (linked : AreLinked limits records pending live) (within : from ≤ length pending) where
   pub Wait-drop : Wait records from (drop from pending)
-  Wait-drop = record {
-    made = λ k below.
-        let at : from + k < length pending = omega (arith, length-drop from pending) in
-        let h : get_or pending (from + k) 0 < length records = linked.made (from + k) at in
-        omega (arith, get_or-drop from pending k 0);
-    pending = λ k below.
-        let at : from + k < length pending = omega (arith, length-drop from pending) in
-        ap (λ n. (record_at records n).occupancy) (get_or-drop from pending k 0)
-        ∙ linked.forward (from + k) at;
-  }
+  Wait-drop = search (rules, length-drop, get_or-drop)
 
   abbrev alive : List SlotRecord
   alive = reused records (drop from pending)
@@ -115,18 +106,7 @@ module _ (limits : Limits) (records : List SlotRecord) (pending : List ℕ) (liv
       let live_is = live-reused records from (drop from pending) Wait-drop
       ∙ ap (λ (hs : List Handle). sets.union (sets.from_list (occupants 0 records))
       (sets.from_list hs)) (sym (drop-map (handle_at records) from pending)) in
-      let rows_is = ap maps.from_entries (rows_from-reused records from (drop from pending)
-      Wait-drop) in
-      let pending_is = same_map (take from pending)
-      ∙ sym (take-map (handle_at records) from pending) in
-      let made_is = length-reused records (drop from pending) in
-      λ i. record {
-        limits = limits;
-        live = live_is i;
-        rows = rows_is i;
-        pending = pending_is i;
-        made = made_is i;
-      }
+      search (rules, rows_from-reused, Wait-drop, same_map, take-map, length-reused)
 
 -- one slot, which waits last
 module _ (limits : Limits) (records : List SlotRecord) (pending rest : List ℕ) (live index : ℕ)
@@ -147,15 +127,7 @@ module _ (limits : Limits) (records : List SlotRecord) (pending rest : List ℕ)
   one_less = let more = long in omega arith
 
   pub last_made : index < length records
-  last_made =
-      let more = long in
-      let made : get_or pending (length rest) 0 < length records = linked.made (length rest)
-      (omega arith) in
-      omega (
-        arith,
-        ap (λ ps. get_or ps (length rest) 0) last
-            ∙ get_or_push rest index 0 (length rest) refl,
-      )
+  last_made = search (rules, long, get_or_push)
 
   pub reuse_last_keeps_links : AreLinked limits
       (set records index (reuse (record_at records index))) rest (live + 1)

@@ -19,8 +19,7 @@ length-reserved_handles r position end index index_end left range =
 -- a list from where it has an item
 pub drop_at : (hs : List Handle) (k : ℕ) (h : Handle) → k < length hs → slice_get hs k ≡ Some h
     → drop k hs ≡ h ∷ drop (k + 1) hs
-drop_at hs k h below at =
-    drop_more hs k h below ∙ ap (λ x. x ∷ drop (k + 1) hs) (get_or_from_slice_get hs k h h at)
+drop_at hs k h below at = search (rules, drop_more hs k h below, get_or_from_slice_get hs k h h)
 
 -- the handle that waits at the position comes first
 pub reserved_handles-pending : (r : Roster) (position end index index_end : ℕ) (h : Handle) → end

@@ -1,6 +1,6 @@
 -- What the record of a living occupant has.
-use Rattle.std.proofs.Common.{rules, ◌≡◌, ◌<◌, true, false, eqb, List, length, sym, ap, ◌∙◌, None}
-use Rattle.std.proofs.Common.{ℕ, get_or, set, arith}
+use Rattle.std.proofs.Common.{rules, ◌≡◌, ◌<◌, true, false, eqb, List, length, None, ℕ, get_or, set}
+use Rattle.std.proofs.Common.{arith}
 use Rattle.std.proofs.lemmas.Grind.{common_steps}
 use Rattle.std.specs.FinSet as sets
 use Rattle.std.proofs.lemmas.Bool.{and_parts}
@@ -17,8 +17,7 @@ use Rattle.ent_alloc.proofs.KeptRows.{row_at}
 pub lives_in : (limits : Limits) (records : List SlotRecord) (pending : List ℕ) (h : Handle)
     {old : Roster} → roster_of limits records pending ≡ old → sets.contains old.live h ≡ true
     → is_occupant records h ≡ true
-lives_in limits records pending h view lives =
-    sym (contains_occupants records h) ∙ ap (λ (r : Roster). sets.contains r.live h) view ∙ lives
+lives_in limits records pending h view lives = search (rules, contains_occupants)
 
 -- its slot was made, and its record is alive with this generation
 pub occupant_made : (records : List SlotRecord) (h : Handle) → is_occupant records h ≡ true

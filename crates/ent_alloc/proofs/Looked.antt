@@ -1,8 +1,9 @@
 -- What looking a handle up in the records tells of the pending list, of the fresh handles and of
 -- the rows.
+use Rattle.std.proofs.lemmas.Grind.{common_steps}
 use Rattle.std.proofs.Common.{rules, ◌≡◌, ◌≢◌, ℕ, ◌+◌, ◌-◌, ◌<◌, ◌≤◌, Bool, true, false, cond, ◌&&◌}
 use Rattle.std.proofs.Common.{eqb, ltb, List, length, get_or, set, drop, map, refl, sym, ap, ◌∙◌}
-use Rattle.std.proofs.Common.{arith, inl, inr, Option, None, Some}
+use Rattle.std.proofs.Common.{arith, Option, None, Some}
 use Rattle.std.specs.List.{Contains}
 use Rattle.std.specs.Option.{OnSome}
 use Rattle.std.specs.FinSet as sets
@@ -78,33 +79,21 @@ module _ (records : List SlotRecord) (h : Handle) where
   found_record = record_at records h.index
 
   absent : ltb h.index (length records) ≡ false → found_record ≡ no_slot
-  absent is = elim (cases_lt h.index (length records)) [
-    | inl made ↦ absurd (false≢true (sym is ∙ lt-ltb h.index (length records) made))
-    | inr past ↦ get_or_past records h.index no_slot past
-  ]
+  absent is = search (rules, cases_lt, false≢true, lt-ltb, get_or_past)
 
   pub is_occupant-occupancy : is_occupant records h ≡ lives (occupancy_of records h)
-  is_occupant-occupancy =
-      lives_if (ltb h.index (length records)) (eqb found_record.generation h.generation)
-      found_record.occupancy (λ is. ap (λ (r : SlotRecord). is_alive r.occupancy) (absent is))
+  is_occupant-occupancy = grind (arith, common_steps)
 
   -- what is found was made
   pub made-occupancy : OnSome (occupancy_of records h) (h.index < length records)
-  made-occupancy = elim (cases_lt h.index (length records)) [
-    | inl made ↦ anyhow (occupancy_of records h) (h.index < length records) made
-    | inr past ↦ rw (le-ltb h.index (length records) past) tt
-  ]
+  made-occupancy = search (rules, cases_lt, anyhow, le-ltb)
 
   pub row_at-occupancy : row_at records h ≡ row_kept (occupancy_of records h)
-  row_at-occupancy =
-      row_if (ltb h.index (length records)) (eqb found_record.generation h.generation)
-      found_record.occupancy (λ is. ap (λ (r : SlotRecord). row_of r.occupancy) (absent is))
+  row_at-occupancy = grind (arith, common_steps)
 
   pub waits_at-occupancy : (from : ℕ) → waits_at records h from
       ≡ waits_from (occupancy_of records h) from
-  waits_at-occupancy from =
-      waits_if (ltb h.index (length records)) (eqb found_record.generation h.generation)
-      found_record.occupancy from
+  waits_at-occupancy from = search (rules, waits_if)
 
 -- ---- who waits
 
@@ -127,27 +116,14 @@ module _ (limits : Limits) (records : List SlotRecord) (pending : List ℕ) (liv
   at_position : (from k : ℕ) (d : Handle) → from + k < length pending
       → get_or (drop from (map (handle_at records) pending)) k d
       ≡ handle_at records (get_or pending (from + k) 0)
-  at_position from k d within = get_or-drop from (map (handle_at records) pending) k d
-      ∙ get_or-map (handle_at records) pending (from + k) 0 d within
+  at_position from k d within = search (rules, get_or-drop, get_or-map)
 
   long : (from : ℕ) → length (drop from (map (handle_at records) pending)) ≡ length pending - from
-  long from = length-drop from (map (handle_at records) pending)
-      ∙ ap (λ n. n - from) (length-map pending (handle_at records))
+  long from = search (rules, length-drop, length-map)
 
   found : (h : Handle) (from : ℕ) → Contains (drop from (map (handle_at records) pending)) h
       → waits_at records h from ≡ true
-  found h from (k, within, is) =
-      let below : from + k < length pending = omega (arith, long from) in
-      let index = get_or pending (from + k) 0 in
-      let same : handle_at records index ≡ h = sym (at_position from k h below) ∙ is in
-      let at : index ≡ h.index = ap (λ (x : Handle). x.index) same in
-      let made = linked.made (from + k) below in
-      and_from (ltb h.index (length records)) _ (lt-ltb h.index (length records) (omega arith))
-      (and_from (is_pending_from (record_at records h.index).occupancy from) _
-      (ap (λ t. is_pending_from t from) (sym (ap (λ n. (record_at records n).occupancy) at)
-      ∙ linked.forward (from + k) below) ∙ le-leb from (from + k) (omega arith))
-      (eq-eqb _ _ (sym (ap (λ n. (record_at records n).generation) at)
-      ∙ ap (λ (x : Handle). x.generation) same)))
+  found h from (k, within, is) = search (rules, long, at_position, and_from, lt-ltb, le-leb, eq-eqb)
 
   waiting : (h : Handle) (from : ℕ) → waits_at records h from ≡ true
       → Contains (drop from (map (handle_at records) pending)) h
@@ -179,11 +155,7 @@ module _ (limits : Limits) (records : List SlotRecord) (pending : List ℕ) (liv
   pub stands_in-pending : (h : Handle) (from : ℕ) → waits_at records h from
       ≡ stands_in (drop from (map (handle_at records) pending)) h
   stands_in-pending h from =
-      same_test _ _
-      (λ is. stands_in-from_Contains (drop from (map (handle_at records) pending)) h
-      (waiting h from is))
-      (λ is. found h from (Contains-from_stands_in (drop from (map (handle_at records) pending)) h
-      is))
+      search (rules, same_test, stands_in-from_Contains, waiting, found, Contains-from_stands_in)
 
 -- ---- fresh handles
 
@@ -194,8 +166,7 @@ fresh_yes h made count first after within =
     stands_in-from_Contains (fresh made count) h (
       h.index - made,
       omega (arith, length-fresh made count),
-      get_or-fresh made count (h.index
-          - made) h within ∙ (λ i. record { index = at i; generation = sym first i }),
+      search (rules, get_or-fresh),
     )
 
 pub fresh_no : (h : Handle) (made count : ℕ) → (h.generation ≡ 1 → made ≤ h.index → h.index - made
@@ -234,60 +205,24 @@ module _ (limits : Limits) (records : List SlotRecord) (pending : List ℕ) (liv
   others at ne = get_or-set_other records h.index at labelled no_slot ne
 
   itself : (at : ℕ) → at ≡ h.index → record_at relabelled at ≡ labelled
-  itself at e = ap (record_at relabelled) e ∙ get_or-set_same records h.index labelled no_slot
-      slot_made
+  itself at e = search (rules, get_or-set_same, slot_made)
 
   generations : (at : ℕ) → (record_at relabelled at).generation ≡ (record_at records at).generation
-  generations at =
-      elim (cases_eq at h.index) [
-        | inl e ↦ ap (λ (r : SlotRecord). r.generation) (itself at e)
-            ∙ ap (λ n. (record_at records n).generation) (sym e)
-        | inr ne ↦ ap (λ (r : SlotRecord). r.generation) (others at ne)
-      ]
+  generations at = search (rules, cases_eq, itself, others)
 
   alive_there : (at position : ℕ) → (record_at records at).occupancy ≡ Pending position → at
       ≢ h.index
-  alive_there at position waits e =
-      false≢true (sym (ap is_alive (sym (ap (λ n. (record_at records n).occupancy) e) ∙ waits))
-      ∙ occupant_alive records h lives)
+  alive_there at position waits e = search (rules, false≢true, occupant_alive)
 
   waited : (at position : ℕ) → (record_at relabelled at).occupancy ≡ Pending position
       → (record_at records at).occupancy ≡ Pending position
-  waited at position is =
-      elim (cases_eq at h.index) [
-        | inl e ↦ absurd
-            (false≢true (sym (ap is_alive (sym (ap (λ (r : SlotRecord). r.occupancy) (itself at e))
-            ∙ is))))
-        | inr ne ↦ sym (ap (λ (r : SlotRecord). r.occupancy) (others at ne)) ∙ is
-      ]
+  waited at position is = search (rules, cases_eq, itself, others)
 
   pub set_row_keeps_links : AreLinked limits relabelled pending live
   set_row_keeps_links =
       let as_long : length relabelled ≡ length records = length-set records h.index labelled in
       let step = length-occupants-set 0 records h.index labelled slot_made in
-      let was : one (is_alive (record_at records h.index).occupancy)
-      ≡ 1 = ap one (occupant_alive records h lives) in
-      let counted = linked.counted in
-      let each = linked.each_once in
-      let few = linked.few in
-      record {
-        limited = linked.limited;
-        few = omega arith;
-        counted = omega arith;
-        each_once = omega arith;
-        least = λ index within. let b = linked.least index (omega arith) in
-            omega (arith, generations index);
-        greatest = λ index within. let b = linked.greatest index (omega arith) in
-            omega (arith, generations index);
-        made = λ position below. let b = linked.made position below in omega arith;
-        forward = λ position below. ap (λ (r : SlotRecord). r.occupancy)
-            (others (get_or pending position 0) (alive_there (get_or pending position 0) position
-            (linked.forward position below))) ∙ linked.forward position below;
-        listed = λ index position within is. linked.listed index position (omega arith)
-            (waited index position is);
-        back = λ index position within is. linked.back index position (omega arith)
-            (waited index position is);
-      }
+      search (rules, one, occupant_alive, generations, others, alive_there, waited)
 
   same_live : sets.from_list {R = handle_cmp} (occupants 0 relabelled)
       ≡ sets.from_list (occupants 0 records)
@@ -309,9 +244,7 @@ module _ (limits : Limits) (records : List SlotRecord) (pending : List ℕ) (liv
   new_rows =
       maps.same_map handle_cmp_total handle_cmp-IsAntisymmetric _ _ (λ q. get_rows relabelled q
       ∙ row_at-set records h.index labelled q slot_made
-      ∙ (λ i. cond (eqb q.index h.index)
-      (cond ((ap (λ n. eqb n q.generation) (occupant_generation records h lives)
-      ∙ eqb_sym h.generation q.generation) i) (Some row) None) (row_at records q))
+      ∙ (search (rules, occupant_generation, eqb_sym, row_at))
       ∙ new_row (eqb q.index h.index) (eqb q.generation h.generation) (Some row) (row_at records q)
       (row_at-same_slot records h q lives)
       ∙ (λ i. cond (sym (ties q h) i) (Some row) (sym (get_rows records q) i))
@@ -320,16 +253,4 @@ module _ (limits : Limits) (records : List SlotRecord) (pending : List ℕ) (liv
   pub roster_of-set_row : roster_of limits relabelled pending
       ≡ record (roster_of limits records pending)
       { rows = maps.insert (roster_of limits records pending).rows h row }
-  roster_of-set_row =
-      let pending_is = map_alike (handle_at relabelled) (handle_at records) pending
-      (λ k below i. record {
-        index = get_or pending k 0;
-        generation = generations (get_or pending k 0) i;
-      }) in
-      λ i. record {
-        limits = limits;
-        live = same_live i;
-        rows = new_rows i;
-        pending = pending_is i;
-        made = length-set records h.index labelled i;
-      }
+  roster_of-set_row = search (rules, map_alike, generations, same_live, new_rows, length-set)

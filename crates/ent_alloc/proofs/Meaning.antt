@@ -2,7 +2,7 @@
 -- begins and ends.
 use Rattle.std.proofs.Common.{rules, ◌≡◌, ℕ, ℤ, pos, negsuc, ◌-ℤ◌, ◌≤ℤ◌, ◌+◌, ◌-◌, ◌<◌, ◌≤◌, Bool}
 use Rattle.std.proofs.Common.{false, List, [], ◌∷◌, ◌++◌, length, take, drop, reverse, filter, refl}
-use Rattle.std.proofs.Common.{sym, ap, ◌∙◌, arith, suc, zero, subst, All, IsTrue, ◌↔◌}
+use Rattle.std.proofs.Common.{ap, ◌∙◌, arith, suc, zero, subst, All, IsTrue, ◌↔◌}
 use Rattle.std.proofs.lemmas.Grind.{common_steps}
 use Rattle.std.specs.FinSet as sets
 use Rattle.std.specs.FinMap as maps
@@ -13,7 +13,7 @@ use Rattle.ent_handle.specs.Handle.{Handle}
 use Rattle.ent_alloc.specs.Limits.{Limits}
 use Rattle.ent_alloc.specs.declared.requests.Requests.{Requests}
 use Rattle.ent_alloc.specs.Roster.{Roster}
-use Rattle.ent_alloc.specs.Sequential.{Allocator, opening, fresh, is_old, available, top, asked_at}
+use Rattle.ent_alloc.specs.Sequential.{Allocator, opening, is_old, available, top, asked_at}
 use Rattle.ent_alloc.specs.Sequential.{pool_at}
 use Rattle.ent_alloc.specs.Sound.{IsSound}
 use Rattle.ent_alloc.specs.Entities.{Entities, idle, allocator_of, entities_of, beneath}
@@ -55,22 +55,15 @@ module _ (r : Roster) (asked given : ℕ) (within : given ≤ asked)
     (sound : IsSound (allocator_of r asked given)) where
   -- the old handles are those that wait
   pub old_is : filter (is_old r.made) (idle r) ≡ reverse r.pending
-  old_is =
-      let same = available_is r asked given within in
-      append_cancel_right (filter (is_old r.made) (idle r)) (reverse r.pending)
-      (fresh r.made (r.limits.slots - r.made))
-      (ap (λ hs. filter (is_old r.made) hs ++ fresh r.made (r.limits.slots - r.made)) (sym same)
-      ∙ sym sound.order ∙ same)
+  old_is = search (rules, available_is, append_cancel_right)
 
   pub top_is : top (allocator_of r asked given) ≡ length r.pending
-  top_is = ap (λ hs. length (filter (is_old r.made) hs)) (available_is r asked given within)
-      ∙ ap length old_is ∙ length-reverse r.pending
+  top_is = search (rules, available_is, old_is, length-reverse)
 
 -- the top, by the vectors
 pub top_view : (r : Roster) (asked given : ℕ) (s : Allocator) → AreReserved r asked given
     → allocator_of r asked given ≡ s → top s ≡ length r.pending
-top_view r asked given s reserved view =
-    ap top (sym view) ∙ top_is r asked given reserved.given_least reserved.sound
+top_view r asked given s reserved view = search (rules, top_is)
 
 -- nothing is reserved
 pub flushed : (r : Roster) (asked given : ℕ) → asked ≡ 0 → given ≤ asked
@@ -112,16 +105,13 @@ pub pending_below : (r : Roster) (asked given : ℕ) → given ≤ asked
     → IsSound (allocator_of r asked given) → All (λ h. h.index < r.made) (reverse r.pending)
 pending_below r asked given within sound =
     subst (All (λ h. h.index < r.made)) (old_is r asked given within sound)
-    (subst (λ hs. All (λ h. h.index < r.made) (filter (is_old r.made) hs))
-    (available_is r asked given within) (old_ones_below (allocator_of r asked given)))
+    (search (rules, available_is r asked given within, old_ones_below (allocator_of r asked given)))
 
 -- the pool where the cursor was high
 pub pool_at_is : (r : Roster) (asked given : ℕ) (high : ℤ) → given ≤ asked
     → IsSound (allocator_of r asked given) → drop (beneath r high) (idle r)
     ≡ pool_at (allocator_of r asked given) high
-pool_at_is r asked given high within sound =
-    λ i. drop (asked_at (sym (top_is r asked given within sound) i) high)
-    (sym (available_is r asked given within) i)
+pool_at_is r asked given high within sound = search (rules, top_is, available_is)
 
 -- ---- where a call begins and ends
 
@@ -138,10 +128,7 @@ none = record { asked = 0; served = 0 }
 pub none_is : (r : Roster) (requests : Requests) (s : Allocator) → AreReserved r requests.asked
     requests.served → allocator_of r requests.asked requests.served ≡ s → s.asked ≡ 0 → requests
     ≡ none
-none_is r requests s reserved view rest =
-    let asked : requests.asked ≡ 0 = ap (λ (t : Allocator). t.asked) view ∙ rest in
-    let given : requests.served ≡ 0 = (let least = reserved.given_least in omega arith) in
-    λ i. record { asked = asked i; served = given i }
+none_is r requests s reserved view rest = search rules
 
 -- the vectors stand for this allocator, which reserves as it may
 pub record StandFor (r : Roster) (requests : Requests) (s : Allocator) : Type 0 where
@@ -151,13 +138,7 @@ pub record StandFor (r : Roster) (requests : Requests) (s : Allocator) : Type 0 
 pub closed : (r r' : Roster) (requests : Requests) (s : Allocator) → r ≡ r' → requests ≡ none
     → allocator_of r' 0 0 ≡ s → IsSound s → HasRowsOfLiving (entities_of r' 0 0)
     → StandFor r requests s
-closed r r' requests s same rest is sound rows = record {
-  view = (λ i. allocator_of (same i) (rest i).asked (rest i).served) ∙ is;
-  reserved = subst (λ (q : Requests). AreReserved r q.asked q.served) (sym rest)
-      (AreReserved-flushed r
-      (subst IsSound (sym (ap (λ (x : Roster). allocator_of x 0 0) same ∙ is)) sound)
-      (subst (λ (x : Roster). HasRowsOfLiving (entities_of x 0 0)) (sym same) rows));
-}
+closed r r' requests s same rest is sound rows = search rules
 
 -- a test that no request was made
 pub none_asked : (b : Bool) (n : ℕ) → (IsTrue b ↔ (0 < n)) → b ≡ false → n ≡ 0

@@ -1,7 +1,7 @@
 -- What `alloc` and `free` make of the roster is the allocator's step.
-use Rattle.std.proofs.Common.{rules, ◌≡◌, ◌≢◌, ◌+◌, ◌-◌, ◌<◌, true, false, cond, ◌||◌, List, []}
-use Rattle.std.proofs.Common.{◌∷◌, ◌++◌, length, take, drop, reverse, sym, ap, ◌∙◌, arith, suc}
-use Rattle.std.proofs.Common.{slice_get, Some, None, subst, All, refl}
+use Rattle.std.proofs.Common.{rules, ◌≡◌, ◌+◌, ◌-◌, ◌<◌, false, ◌||◌, List, [], ◌∷◌, ◌++◌, length}
+use Rattle.std.proofs.Common.{take, reverse, sym, ap, ◌∙◌, arith, suc, slice_get, Some, None, subst}
+use Rattle.std.proofs.Common.{All, refl}
 use Rattle.std.specs.Ordering.{eq_by_cmp}
 use Rattle.std.specs.FinSet as sets
 use Rattle.std.specs.FinMap as maps
@@ -14,15 +14,15 @@ use Rattle.ent_handle.specs.Handle.{Handle, handle_cmp, handle_cmp_total}
 use Rattle.ent_handle.specs.Handle.{handle_cmp-IsAntisymmetric}
 use Rattle.ent_alloc.specs.Roster.{Roster}
 use Rattle.ent_alloc.specs.declared.requests.Requests.{Requests}
-use Rattle.ent_alloc.specs.Sequential.{Allocator, fresh, is_old, after_alloc, after_free, next}
-use Rattle.ent_alloc.specs.Sequential.{following, in_front}
+use Rattle.ent_alloc.specs.Sequential.{Allocator, fresh, after_alloc, after_free, next, following}
+use Rattle.ent_alloc.specs.Sequential.{in_front}
 use Rattle.ent_alloc.specs.Sound.{IsSound}
 use Rattle.ent_alloc.specs.Entities.{idle, allocator_of, entities_of, HasRowsOfLiving}
 use Rattle.ent_alloc.proofs.FreshHandles.{fresh-next}
-use Rattle.ent_alloc.proofs.RowsOfLiving.{rows-joined, front-no_row}
+use Rattle.ent_alloc.proofs.RowsOfLiving.{rows-joined}
 use Rattle.ent_alloc.proofs.HandleSets.{contains-union_list}
-use Rattle.ent_alloc.proofs.Soundness.{after_alloc-sound, next-last, next-later}
-use Rattle.ent_alloc.proofs.Meaning.{pending_below, length-idle, IsAtRest, StandFor, closed}
+use Rattle.ent_alloc.proofs.Soundness.{after_alloc-sound}
+use Rattle.ent_alloc.proofs.Meaning.{pending_below, length-idle, IsAtRest, StandFor}
 
 -- one handle that comes to life
 pub union_one : (live : sets.FinSet handle_cmp) (h : Handle)
@@ -72,41 +72,19 @@ alloc_old_is r h sound some last =
     (reverse (take (length r.pending - 1) r.pending))
     (subst (All (λ x. x.index < r.made)) (last_first r.pending h some last)
     (pending_below r 0 0 (omega arith) sound)) in
-    let old : is_old r.made h ≡ true = lt-ltb h.index r.made below in
-    λ i. record {
-      limits = r.limits;
-      live = union_one r.live h i;
-      pool = sym (ap (drop 1) (alloc_old_front r h some last)) i;
-      taken = [];
-      aside = [];
-      made = cond (sym old i) r.made (r.made + 1);
-      asked = 0;
-    }
+    search (rules, lt-ltb, union_one, alloc_old_front)
 
 pub alloc_fresh_front : (r : Roster) → length r.pending ≡ 0 → r.made < r.limits.slots → idle r
     ≡ record { index = r.made; generation = 1 } ∷ fresh (r.made + 1) (r.limits.slots - (r.made + 1))
 alloc_fresh_front r none room =
     let more : r.limits.slots - r.made ≡ suc (r.limits.slots - (r.made + 1)) = omega arith in
-    ap (λ hs. reverse hs ++ fresh r.made (r.limits.slots - r.made)) (nil_from_length r.pending none)
-    ∙ ap (fresh r.made) more
-    ∙ fresh-next r.made (r.limits.slots - (r.made + 1))
+    search (rules, nil_from_length, fresh-next)
 
 pub alloc_fresh_is : (r : Roster) (h : Handle) → length r.pending ≡ 0 → r.made < r.limits.slots → h
     ≡ record { index = r.made; generation = 1 }
     → allocator_of (made_roster r h) 0 0 ≡ after_alloc (allocator_of r 0 0) h
 alloc_fresh_is r h none room first =
-    let new : is_old r.made h ≡ false = le-ltb h.index r.made (let at : h.index
-    ≡ r.made = ap (λ (x : Handle). x.index) first in omega arith) in
-    λ i. record {
-      limits = r.limits;
-      live = union_one r.live h i;
-      pool = (ap (λ hs. reverse hs ++ fresh (r.made + 1) (r.limits.slots - (r.made + 1)))
-          (nil_from_length r.pending none) ∙ sym (ap (drop 1) (alloc_fresh_front r none room))) i;
-      taken = [];
-      aside = [];
-      made = cond (sym new i) r.made (r.made + 1);
-      asked = 0;
-    }
+    search (rules, le-ltb, union_one, nil_from_length, alloc_fresh_front)
 
 -- a handle was given, and the vectors now stand for what the allocator is then
 pub record IsGiven (requests : Requests) (s : Allocator) (h : Handle) (new : Roster) : Type 0 where
@@ -126,14 +104,8 @@ module _ (r : Roster) (requests : Requests) (s : Allocator) (rest : IsAtRest r r
       → allocator_of left 0 0 ≡ after_alloc s h → left.rows ≡ r.rows
       → HasRowsOfLiving (entities_of left 0 0) → (new : Roster) → new ≡ left
       → IsGiven requests s h new
-  given h left others front is row rows new same = record {
-    front = ap (λ (hs : List Handle). slice_get hs 0) front;
-    stands = closed new left requests (after_alloc s h) same rest.requests_is is
-        (after_alloc-sound s h others rest.sound rest.asked front) rows;
-    no_row = ap (λ (x : Roster). maps.get x.rows h) same ∙ ap (λ rows. maps.get rows h) row
-        ∙ front-no_row (entities_of r 0 0) h rest.rows (subst IsSound (sym rest.view) rest.sound)
-        (ap (λ (hs : List Handle). slice_get hs 0) (pool_is ∙ front));
-  }
+  given h left others front is row rows new same =
+      search (rules, after_alloc-sound s h others rest.sound rest.asked front, pool_is)
 
   -- the slot that waits last gets its next occupant
   pub reused_given : (h : Handle) → slice_get r.pending (length r.pending - 1) ≡ Some h
@@ -142,8 +114,7 @@ module _ (r : Roster) (requests : Requests) (s : Allocator) (rest : IsAtRest r r
       let within = slice_get_within r.pending (length r.pending - 1) h last in
       let some : 0 < length r.pending = omega arith in
       given h (reused_roster r h) _ (sym pool_is ∙ alloc_old_front r h some last)
-      (alloc_old_is r h (subst IsSound (sym rest.view) rest.sound) some last
-      ∙ ap (λ t. after_alloc t h) rest.view) refl (rows-joined r.live (h ∷ []) r.rows rest.rows)
+      (search (rules, alloc_old_is)) refl (rows-joined r.live (h ∷ []) r.rows rest.rows)
 
   -- no slot waits, and one is made
   pub made_given : (h : Handle) → length r.pending ≡ 0 → r.made < r.limits.slots

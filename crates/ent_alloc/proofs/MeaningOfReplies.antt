@@ -1,6 +1,6 @@
 -- What `reply` lists of the vectors is the reply in the allocator's pool.
 use Rattle.std.proofs.Common.{rules, ◌≡◌, ℕ, ◌+◌, ◌-◌, ◌<◌, ◌≤◌, List, [], ◌++◌, length, take, drop}
-use Rattle.std.proofs.Common.{reverse, filter, sym, ap, ◌∙◌, arith, All, Ok, Err}
+use Rattle.std.proofs.Common.{reverse, filter, ap, ◌∙◌, arith, All, Ok, Err}
 use Rattle.std.proofs.lemmas.Grind.{common_steps}
 use Rattle.std.proofs.lemmas.Bool.{le-leb, lt-leb, cond-true, cond-false}
 use Rattle.std.proofs.lemmas.List.{append-nil, length-reverse, length-take-le, length-drop}
@@ -22,11 +22,7 @@ middle : (total asked n : ℕ) (hs : List Handle) → drop (total - asked - n) (
     ≡ take (total - asked - (total - (asked + n))) (drop (total - (asked + n)) hs)
 middle total asked n hs =
     let front = total - asked in
-    let start : total - (asked + n) ≡ front - n = omega arith in
-    let whole : front ≡ front - n + (front - (front - n)) = omega arith in
-    (λ i. drop (front - n) (take (whole i) hs))
-    ∙ drop-take (front - n) (front - (front - n)) hs
-    ∙ (λ i. take (front - sym start i) (drop (sym start i) hs))
+    search (rules, drop-take (front - n) (front - (front - n)) hs, front)
 
 -- what a served reply lists
 pub listed_is : (r : Roster) (asked n : ℕ) → All (λ h. h.index < r.made) (reverse r.pending) → asked
@@ -55,23 +51,13 @@ listed_is r asked n below enough =
     ap (filter (is_old r.made)) few
     ∙ filter-append (is_old r.made) (take n old) (fresh at (n - front))
     ∙ (λ i. all_old_are_old r.made (take n old) olds i ++ no_fresh_is_old r.made at (n - front)
-    (omega arith) i)
-    ∙ append-nil (take n old) in
+    (omega arith) i) ∙ append-nil (take n old) in
     let fresh_part : filter (is_fresh r.made) (take n (drop asked (idle r)))
-    ≡ fresh at (n - front) =
-    ap (filter (is_fresh r.made)) few
+    ≡ fresh at (n - front) = ap (filter (is_fresh r.made)) few
     ∙ filter-append (is_fresh r.made) (take n old) (fresh at (n - front))
     ∙ (λ i. no_old_is_fresh r.made (take n old) olds i ++ all_fresh_are_fresh r.made at (n - front)
     (omega arith) i) in
-    let turned : reverse (take n old) ≡ take (front - (length r.pending - (asked + n)))
-    (drop (length r.pending - (asked + n)) r.pending) =
-    ap (λ hs. reverse (take n hs)) old_is
-    ∙ ap reverse (take-reverse n (take front r.pending))
-    ∙ reverse-reverse (drop (length (take front r.pending) - n) (take front r.pending))
-    ∙ ap (λ k. drop (k - n) (take front r.pending)) (length-take-le front r.pending (omega arith))
-    ∙ middle (length r.pending) asked n r.pending in
-    let count : n - front ≡ r.made + (asked + n - length r.pending) - at = omega arith in
-    (λ i. reverse (old_part i) ++ fresh_part i) ∙ (λ i. turned i ++ fresh at (count i))
+    search (rules, take-reverse, reverse-reverse, length-take-le, middle)
 
 -- the reply where there is enough, and where there isn't
 pub reply_served : (r : Roster) (asked n : ℕ) → All (λ h. h.index < r.made) (reverse r.pending)

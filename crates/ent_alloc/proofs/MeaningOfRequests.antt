@@ -1,13 +1,11 @@
 -- What `lower` and `settle` leave is the allocator after those requests.
-use Rattle.std.proofs.Common.{rules, ◌≡◌, ℕ, ◌+◌, ◌-◌, ◌<◌, ◌≤◌, ◌^◌, length, take, drop, refl, sym}
-use Rattle.std.proofs.Common.{ap, ◌∙◌, arith, subst}
+use Rattle.std.proofs.Common.{rules, ◌≡◌, ℕ, ◌+◌, ◌-◌, ◌<◌, ◌≤◌, ◌^◌, length, take, drop, arith}
 use Rattle.std.proofs.lemmas.Grind.{common_steps}
 use Rattle.std.proofs.lemmas.Bool.{cases_lt, le-leb, cond-true}
 use Rattle.std.proofs.lemmas.List.{append-nil, length-take, take_all, drop_all, drop-drop}
 use Rattle.std.proofs.Math.Seq.{take-add}
 use Rattle.ent_alloc.specs.Roster.{Roster}
 use Rattle.ent_alloc.specs.Sequential.{Allocator, after_take, settled}
-use Rattle.ent_alloc.specs.Sound.{IsSound}
 use Rattle.ent_alloc.specs.Entities.{idle, allocator_of, AreReserved}
 use Rattle.ent_alloc.proofs.Soundness.{after_take-sound}
 use Rattle.ent_alloc.proofs.Settled.{settled-sound}
@@ -43,41 +41,19 @@ module _ (r : Roster) (asked given n : ℕ) (s : Allocator) (reserved : AreReser
     (view : allocator_of r asked given ≡ s) where
   pub served_view : asked + n ≤ length r.pending + (r.limits.slots - r.made)
       → allocator_of r (asked + n) (asked + n) ≡ after_take s n
-  served_view enough =
-      lower_served r asked given n (reserved.given_all (omega arith)) enough
-      ∙ ap (λ t. after_take t n) view
+  served_view enough = search (rules, lower_served)
 
   pub served_reserved : asked + n ≤ length r.pending + (r.limits.slots - r.made) → asked + n
       ≤ 2 ^ 50 → AreReserved r (asked + n) (asked + n)
-  served_reserved enough small = record {
-    sound = subst IsSound (sym (served_view enough))
-        (after_take-sound s n (subst IsSound view reserved.sound));
-    asked_in = small;
-    given_in = enough;
-    given_least = omega arith;
-    given_all = λ _. refl;
-    rows = reserved.rows;
-  }
+  served_reserved enough small = search (rules, served_view, after_take-sound)
 
   pub refused_view : length r.pending + (r.limits.slots - r.made) < asked + n
       → allocator_of r (asked + n) given ≡ after_take s n
-  refused_view past =
-      lower_refused r asked given n reserved.given_least past
-      ∙ ap (λ t. after_take t n) view
+  refused_view past = search (rules, lower_refused)
 
   pub refused_reserved : length r.pending + (r.limits.slots - r.made) < asked + n → asked + n
       ≤ 2 ^ 50 → AreReserved r (asked + n) given
-  refused_reserved past small =
-      let least = reserved.given_least in
-      record {
-        sound = subst IsSound (sym (refused_view past))
-            (after_take-sound s n (subst IsSound view reserved.sound));
-        asked_in = small;
-        given_in = reserved.given_in;
-        given_least = omega arith;
-        given_all = λ within. absurd (omega arith);
-        rows = reserved.rows;
-      }
+  refused_reserved past small = search (rules, refused_view, after_take-sound)
 
 -- ---- settle
 
@@ -89,25 +65,11 @@ settled_is r asked given = search (rules)
 module _ (r : Roster) (was_asked was_given : ℕ) (s : Allocator) (reserved : AreReserved r was_asked
     was_given) (view : allocator_of r was_asked was_given ≡ s) (idle : s.asked ≡ 0) where
   pub settled_view : (asked given : ℕ) → allocator_of r asked given ≡ settled s given asked
-  settled_view asked given =
-      settled_is r asked given ∙ ap (λ (t : Allocator). settled t given asked)
-      (rest_is r was_asked was_given s reserved view idle)
+  settled_view asked given = search (rules, settled_is, rest_is)
 
   pub settled_reserved : (asked given : ℕ) → asked ≤ 2 ^ 50 → given ≤ asked → given
       ≤ length r.pending + (r.limits.slots - r.made)
       → (asked ≤ length r.pending + (r.limits.slots - r.made) → given ≡ asked)
       → AreReserved r asked given
   settled_reserved asked given small ordered reachable all =
-      let long : length s.pool ≡ length r.pending + (r.limits.slots - r.made) =
-      sym (ap (λ (t : Allocator). length t.pool) (rest_is r was_asked was_given s reserved view
-      idle)) ∙ length-idle r in
-      record {
-        sound = subst IsSound (sym (settled_view asked given))
-            (settled-sound s (subst IsSound view reserved.sound) idle given asked ordered
-            (λ within. all (omega arith)));
-        asked_in = small;
-        given_in = reachable;
-        given_least = ordered;
-        given_all = all;
-        rows = reserved.rows;
-      }
+      search (rules, rest_is, length-idle, settled_view, settled-sound)

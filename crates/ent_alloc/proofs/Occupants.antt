@@ -9,7 +9,7 @@ use Rattle.std.specs.declared.cmp.Ordering.{Ordering}
 use Rattle.std.specs.declared.cmp.Ordering.TheVariants.{Less, Equal, Greater}
 use Rattle.std.specs.FinSet as sets
 use Rattle.std.proofs.lemmas.Bool.Decides.{nat_tests}
-use Rattle.std.proofs.lemmas.Bool.{lt-leb, le-leb}
+use Rattle.std.proofs.lemmas.Bool.{le-leb}
 use Rattle.std.proofs.Math.Bool.{or-false, and-false}
 use Rattle.std.proofs.lemmas.List.Folds.{list_any-append}
 use Rattle.ent_handle.specs.Handle.{Handle, handle_cmp, handle_cmp_total}
@@ -83,10 +83,7 @@ list_any-occupants index (r ∷ records) q =
     ∙ at_head index r records q
 
 from_zero : (records : List SlotRecord) (q : Handle) → at_from 0 records q ≡ is_occupant records q
-from_zero records q =
-    let all : leb 0 q.index ≡ true = le-leb 0 q.index (omega arith) in
-    let off : q.index - 0 ≡ q.index = omega arith in
-    λ i. all i && has_occupant (get_or records (off i) no_slot) q.generation
+from_zero records q = search (rules, le-leb)
 
 -- the set of the occupants holds just these
 pub contains_occupants : (records : List SlotRecord) (q : Handle) → sets.contains {R = handle_cmp}
@@ -101,8 +98,7 @@ absent_below index records generation =
     sets.contains-from_list handle_cmp_total (occupants (index + 1) records)
     (record { index = index; generation = generation })
     ∙ list_any-occupants (index + 1) records (record { index = index; generation = generation })
-    ∙ (λ i. lt-leb (index + 1) index (omega arith) i && has_occupant
-    (get_or records (index - (index + 1)) no_slot) generation)
+    ∙ (search rules)
 
 one_more : (alive : Bool) (h : Handle) (rest : List Handle) → sets.contains {R = handle_cmp}
     (sets.from_list rest) h ≡ false → sets.len {R = handle_cmp} (sets.from_list rest) ≡ length rest
@@ -127,8 +123,7 @@ len_occupants index (r ∷ records) =
 record-set : (records : List SlotRecord) (index : ℕ) (r : SlotRecord) (at : ℕ) → index
     < length records → record_at (set records index r) at
     ≡ cond (eqb at index) r (record_at records at)
-record-set records index r at within =
-    grind (arith, common_steps)
+record-set records index r at within = grind (arith, common_steps)
 
 -- ---- one record set
 
@@ -142,8 +137,7 @@ read-set f records index r at within = search (rules, record-set)
 pub is_occupant-set : (records : List SlotRecord) (index : ℕ) (r : SlotRecord) (q : Handle) → index
     < length records → is_occupant (set records index r) q
     ≡ cond (eqb q.index index) (has_occupant r q.generation) (is_occupant records q)
-is_occupant-set records index r q =
-    read-set (λ (x : SlotRecord). has_occupant x q.generation) records index r q.index
+is_occupant-set records index r q = search rules
 
 -- a test as a number
 abbrev pub one : Bool → ℕ
@@ -160,18 +154,9 @@ pub length-occupants-set : (from : ℕ) (records : List SlotRecord) (index : ℕ
     + one (is_alive (record_at records index).occupancy) ≡ length (occupants from records)
     + one (is_alive r.occupancy)
 length-occupants-set from [] index r within = absurd (omega arith)
-length-occupants-set from (x ∷ records) zero r within =
-    let new = length-one (is_alive r.occupancy) (record { index = from; generation = r.generation })
-    (occupants (from + 1) records) in
-    let old = length-one (is_alive x.occupancy) (record { index = from; generation = x.generation })
-    (occupants (from + 1) records) in
-    omega (arith, new, old)
+length-occupants-set from (x ∷ records) zero r within = search (rules, length-one)
 length-occupants-set from (x ∷ records) (suc index) r within =
-    let new = length-one (is_alive x.occupancy) (record { index = from; generation = x.generation })
-    (occupants (from + 1) (set records index r)) in
-    let old = length-one (is_alive x.occupancy) (record { index = from; generation = x.generation })
-    (occupants (from + 1) records) in
-    omega (arith, new, old, length-occupants-set (from + 1) records index r (omega arith))
+    search (rules, length-one, length-occupants-set (from + 1) records index r (omega arith))
 
 -- ---- records put at the end
 

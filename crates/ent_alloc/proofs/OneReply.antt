@@ -49,29 +49,19 @@ module _ (r : Roster) (asked given : ℕ) (high : ℤ) (s : Allocator)
   -- the reply in the words of what the vectors stand for
   pub replied : (n : ℕ) → reply_from r.made (drop (beneath r high) (idle r)) n
       ≡ reply_from s.made (pool_at s high) n
-  replied n =
-      (λ i. reply_from r.made (pool_at_is r asked given high reserved.given_least reserved.sound i)
-      n)
-      ∙ ap (λ (t : Allocator). reply_from t.made (pool_at t high) n) view
+  replied n = search (rules, pool_at_is)
 
   -- what a served reply lists
   pub several : (n position end index index_end : ℕ)
       → IsServed r high n position end index index_end
       → Ok (reserved_handles r position end index index_end) ≡ reply_from s.made (pool_at s high) n
   several n position end index index_end served =
-      (λ i. Ok (reserved_handles r (served.position_is i) (served.end_is i) (served.index_is i)
-      (served.index_end_is i)))
-      ∙ reply_served r (beneath r high) n (pending_below r asked given reserved.given_least
-      reserved.sound) served.enough
-      ∙ replied n
+      search (rules, reply_served, pending_below, replied)
 
   -- how many are left there
   pub left_is : length (pool_at s high) ≡ length r.pending + (r.limits.slots - r.made)
       - beneath r high
-  left_is =
-      ap length (sym (pool_at_is r asked given high reserved.given_least reserved.sound
-      ∙ ap (λ (t : Allocator). pool_at t high) view))
-      ∙ length_left r (beneath r high)
+  left_is = search (rules, pool_at_is, length_left)
 
   -- and a refused one
   pub short_of : (n wanted left : ℕ) → 0 < n → length r.pending + (r.limits.slots - r.made)
@@ -79,8 +69,7 @@ module _ (r : Roster) (asked given : ℕ) (high : ℤ) (s : Allocator)
       → left ≡ length r.pending + (r.limits.slots - r.made) - beneath r high
       → Err (record { wanted = wanted; left = left }) ≡ reply_from s.made (pool_at s high) n
   short_of n wanted left some past wanted_is left_is =
-      (λ i. Err (record { wanted = wanted_is i; left = left_is i }))
-      ∙ reply_refused r (beneath r high) n some past ∙ replied n
+      search (rules, reply_refused r (beneath r high) n some past, replied n)
 
   -- what one handle's reply lists
   listed_one : (h : Handle) → beneath r high + 1 ≤ length r.pending + (r.limits.slots - r.made)
@@ -88,47 +77,21 @@ module _ (r : Roster) (asked given : ℕ) (high : ℤ) (s : Allocator)
       - beneath r high) (r.made + (beneath r high - length r.pending)) (r.made
       + (beneath r high + 1 - length r.pending)) ≡ h ∷ []
       → Ok (h ∷ []) ≡ reply_from s.made (pool_at s high) 1
-  listed_one h enough lists =
-      ap Ok (sym lists) ∙ several 1 _ _ _ _ (record {
-        enough = enough;
-        position_is = refl;
-        end_is = refl;
-        index_is = refl;
-        index_end_is = refl;
-      })
+  listed_one h enough lists = ap Ok (sym lists) ∙ several 1 _ _ _ _ (search rules)
 
   -- above 0 it is the pending handle there
   pub one_pending : (h : Handle) (position : ℕ) → high ≡ pos (position + 1)
       → high ≤ℤ pos (length r.pending) → slice_get r.pending position ≡ Some h → Ok (h ∷ [])
       ≡ reply_from s.made (pool_at s high) 1
   one_pending h position is within waits =
-      let distance = asked_at-is (length r.pending) high within in
-      let below : beneath r high + (position + 1) ≡ length r.pending = omega (arith, ints) in
-      let here : position ≡ length r.pending - (beneath r high + 1) = omega arith in
-      listed_one h (omega arith)
-      (reserved_handles-pending r _ (length r.pending - beneath r high) (r.made
-      + (beneath r high - length r.pending)) (r.made + (beneath r high + 1 - length r.pending))
-      h (omega arith) (omega arith) (ap (slice_get r.pending) (sym here) ∙ waits)
-      ∙ ap (λ rest. h ∷ rest) (reserved_handles-none r _ (length r.pending - beneath r high) (r.made
-      + (beneath r high - length r.pending)) (r.made + (beneath r high + 1 - length r.pending))
-      (omega arith) (omega arith)))
+      search (rules, asked_at-is, ints, listed_one, reserved_handles-pending, reserved_handles-none)
 
   -- from 0 on it is the first occupant of a new slot
   pub one_fresh : (index : ℕ) → high ≤ℤ pos (length r.pending) → pos index ≡ pos r.made -ℤ high
       → r.made ≤ index → index < r.limits.slots → Ok (record { index = index; generation = 1 } ∷ [])
       ≡ reply_from s.made (pool_at s high) 1
   one_fresh index within is first below =
-      let distance = asked_at-is (length r.pending) high within in
-      let past : beneath r high + r.made ≡ length r.pending + index = omega (arith, ints) in
-      let here : index ≡ r.made + (beneath r high - length r.pending) = omega arith in
-      listed_one (record { index = index; generation = 1 }) (omega arith)
-      (reserved_handles-fresh r _ (length r.pending - beneath r high) (r.made
-      + (beneath r high - length r.pending)) (r.made + (beneath r high + 1 - length r.pending))
-      (omega arith) (omega arith)
-      ∙ (λ i. record { index = sym here i; generation = 1 }
-      ∷ reserved_handles-none r (length r.pending - (beneath r high + 1)) (length r.pending
-      - beneath r high) (r.made + (beneath r high - length r.pending) + 1) (r.made
-      + (beneath r high + 1 - length r.pending)) (omega arith) (omega arith) i))
+      search (rules, asked_at-is, ints, listed_one, reserved_handles-fresh, reserved_handles-none)
 
   -- past the last slot there is none
   pub one_refused : (index : ℕ) → high ≤ℤ pos (length r.pending) → pos index ≡ pos r.made -ℤ high

@@ -1,7 +1,6 @@
 -- Where a handle stands among those that there were to give at the last flush.
-use Rattle.std.proofs.Common.{rules, ◌≡◌, ℕ, ◌+◌, ◌-◌, ◌<◌, ◌≤◌, Bool, true, false, ◌||◌, List}
-use Rattle.std.proofs.Common.{length, get_or, drop, reverse, refl, sym, ap, ◌∙◌, arith, true≢false}
-use Rattle.std.proofs.Common.{slice_get, Some}
+use Rattle.std.proofs.Common.{rules, ◌≡◌, ℕ, ◌+◌, ◌-◌, ◌<◌, ◌≤◌, true, false, ◌||◌, List, length}
+use Rattle.std.proofs.Common.{get_or, drop, reverse, arith, slice_get, Some}
 use Rattle.std.proofs.lemmas.Grind.{common_steps}
 use Rattle.std.proofs.lemmas.List.{get_or-append-add, get_or_append_left, length-reverse}
 use Rattle.std.proofs.lemmas.List.{get_or-reverse}
@@ -19,8 +18,7 @@ use Rattle.ent_alloc.proofs.Reversed.{list_any-reverse}
 -- what there was to give, by the vectors
 pub available_view : (r : Roster) (asked given : ℕ) (s : Allocator) → AreReserved r asked given
     → allocator_of r asked given ≡ s → available s ≡ idle r
-available_view r asked given s reserved view =
-    ap available (sym view) ∙ available_is r asked given reserved.given_least
+available_view r asked given s reserved view = search (rules, available_is)
 
 -- it waits in the pending list, or it is a fresh one
 pub stands_idle : (r : Roster) (h : Handle) → stands_in (idle r) h ≡ (stands_in r.pending h
@@ -41,10 +39,7 @@ waiting_place r h n within is =
     let short : place < length (reverse r.pending) = omega arith in
     let inside : place < length (idle r) = omega (arith, length-idle r) in
     let back : length r.pending - 1 - place ≡ n = omega arith in
-    slice_get-get_or (idle r) place h inside
-    ∙ ap Some (get_or_append_left (reverse r.pending) (fresh r.made (r.limits.slots - r.made)) h
-    place short ∙ get_or-reverse r.pending place h (omega arith)
-    ∙ ap (λ k. get_or r.pending k h) back ∙ is)
+    search (rules, slice_get-get_or, get_or_append_left, get_or-reverse)
 
 -- a fresh one stands after all that wait
 pub fresh_place : (r : Roster) (h : Handle)

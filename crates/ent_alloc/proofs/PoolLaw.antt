@@ -93,8 +93,7 @@ after_takes-leave : {A : Type 0} (f : Allocator → A)
     → ((s : Allocator) (n : ℕ) → f (after_take s n) ≡ f s) → (s : Allocator) (requests : List ℕ)
     → f (after_takes s requests) ≡ f s
 after_takes-leave f each s [] = refl
-after_takes-leave f each s (n ∷ requests) =
-    after_takes-leave f each (after_take s n) requests ∙ each s n
+after_takes-leave f each s (n ∷ requests) = search (rules, after_takes-leave f each (after_take s n) requests)
 
 -- the limits stay
 pub limits-after_takes : (s : Allocator) (requests : List ℕ) → (after_takes s requests).limits
@@ -126,31 +125,25 @@ top-after_takes s (n ∷ requests) h = top-after_takes (after_take s n) requests
 -- the cursor falls by the sum of the requests
 pub cursor-after_takes : (s : Allocator) (requests : List ℕ) → IsSound s
     → cursor (after_takes s requests) ≡ cursor s -ℤ pos (sum requests)
-cursor-after_takes s requests h = rw (top-after_takes s requests h, asked-after_takes s requests)
-    (omega (arith, ints))
+cursor-after_takes s requests h = search (rules, top-after_takes, asked-after_takes, ints)
 
 -- the law of the pool
 pub pool-after_takes : (s : Allocator) (requests : List ℕ) → (after_takes s requests).pool
     ≡ drop (sum requests) s.pool
 pool-after_takes s [] = refl
 pool-after_takes s (n ∷ requests) =
-    let all : n + sum requests ≡ sum (n ∷ requests) = omega (arith, sum_by-cons (λ x. x) n requests)
-    in
-    pool-after_takes (after_take s n) requests ∙ ap (drop (sum requests)) (pool-after_take s n)
-    ∙ drop-drop (sum requests) n s.pool ∙ ap (λ k. drop k s.pool) all
+    search (rules, sum_by-cons, pool-after_take, drop-drop, pool-after_takes (after_take s n) requests)
 
 -- what was left of the pool at a cursor can be told after any requests that follow
 pub pool_at-later : (s : Allocator) (requests : List ℕ) → IsSound s
     → pool_at (after_takes s requests) (cursor s) ≡ s.pool
-pool_at-later s requests h = rw (top-after_takes s requests h, available-after_takes s requests h)
-    (pool_at-cursor s h)
+pool_at-later s requests h = search (rules, top-after_takes, available-after_takes, pool_at-cursor)
 
 -- and so the reply
 pub reply-later : (s : Allocator) (requests : List ℕ) (n : ℕ) → IsSound s
     → reply_from (after_takes s requests).made (pool_at (after_takes s requests) (cursor s)) n
     ≡ reply_to s n
-reply-later s requests n h = λ i. reply_from (made-after_takes s requests i)
-    (pool_at-later s requests h i) n
+reply-later s requests n h = search (rules, made-after_takes, pool_at-later)
 
 -- a request for nothing changes nothing
 pub after_take-none : (s : Allocator) → after_take s 0 ≡ s

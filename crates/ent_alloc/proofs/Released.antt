@@ -1,8 +1,8 @@
 -- A slot whose occupant is freed, and waits for the next one or is retired: the vectors stay
 -- linked, and the roster loses the occupant.
-use Rattle.std.proofs.Common.{◌≡◌, ◌≢◌, ℕ, ◌+◌, ◌-◌, ◌<◌, ◌≤◌, Bool, true, false, cond, not, ◌&&◌}
-use Rattle.std.proofs.Common.{eqb, List, [], ◌∷◌, ◌++◌, length, get_or, set, refl, sym, ap, ◌∙◌}
-use Rattle.std.proofs.Common.{arith, inl, inr, Option, None, subst, map}
+use Rattle.std.proofs.Common.{rules, ◌≡◌, ◌≢◌, ℕ, ◌+◌, ◌-◌, ◌<◌, ◌≤◌, Bool, true, false, cond, not}
+use Rattle.std.proofs.Common.{◌&&◌, eqb, List, [], ◌∷◌, ◌++◌, length, get_or, set, refl, sym, ap}
+use Rattle.std.proofs.Common.{◌∙◌, arith, inl, inr, Option, None, map}
 use Rattle.std.specs.FinSet as sets
 use Rattle.std.specs.FinMap as maps
 use Rattle.std.proofs.lemmas.Bool.{cases_lt, cases_eq, false≢true}
@@ -49,12 +49,7 @@ module _ (limits : Limits) (records : List SlotRecord) (pending : List ℕ) (liv
   made_slot = occupant_made records h lives
 
   apart : (position : ℕ) → position < length pending → get_or pending position 0 ≢ h.index
-  apart position below e =
-      let alive = occupant_alive records h lives in
-      let waits : is_alive (record_at records h.index).occupancy
-      ≡ false = ap (λ n. is_alive (record_at records n).occupancy) (sym e)
-      ∙ ap is_alive (linked.forward position below) in
-      false≢true (sym waits ∙ alive)
+  apart position below e = search (rules, occupant_alive, false≢true)
 
   -- its record has no occupant any more
   module _ (left : SlotRecord) (dead : is_alive left.occupancy ≡ false)
@@ -72,23 +67,12 @@ module _ (limits : Limits) (records : List SlotRecord) (pending : List ℕ) (liv
     same_at at e = ap (record_at changed) e ∙ same
 
     fewer : length (occupants 0 changed) + 1 ≡ length (occupants 0 records)
-    fewer =
-        let step = length-occupants-set 0 records h.index left made_slot in
-        let was : one (is_alive (record_at records h.index).occupancy)
-        ≡ 1 = ap one (occupant_alive records h lives) in
-        let is : one (is_alive left.occupancy) ≡ 0 = ap one dead in
-        omega (arith, step)
+    fewer = search (rules, length-occupants-set, made_slot, one, occupant_alive)
 
     generation_in : (P : ℕ → Type 0) → P left.generation
         → ((index : ℕ) → index < length records → P (record_at records index).generation)
         → (index : ℕ) → index < length changed → P (record_at changed index).generation
-    generation_in P here each index within =
-        let long : length changed ≡ length records = length-set records h.index left in
-        elim (cases_eq index h.index) [
-          | inl e ↦ subst (λ (r : SlotRecord). P r.generation) (sym (same_at index e)) here
-          | inr ne ↦ subst (λ (r : SlotRecord). P r.generation) (sym (other index ne))
-              (each index (omega arith))
-        ]
+    generation_in P here each index within = search (rules, length-set, cases_eq, same_at, other)
 
     live_is : sets.from_list {R = handle_cmp} (occupants 0 changed)
         ≡ sets.remove (sets.from_list (occupants 0 records)) h
@@ -109,22 +93,15 @@ module _ (limits : Limits) (records : List SlotRecord) (pending : List ℕ) (liv
 
     rows_is : maps.from_entries {R = handle_cmp} (rows_from 0 changed)
         ≡ maps.remove (maps.from_entries (rows_from 0 records)) h
-    rows_is =
-        maps.same_map handle_cmp_total handle_cmp-IsAntisymmetric _ _ (λ q. get_rows changed q
-        ∙ row_at-set records h.index left q made_slot
-        ∙ (λ i. cond (eqb q.index h.index) (never (eqb left.generation q.generation)
-        (row_of left.occupancy) bare i) (row_at records q))
+    rows_is = maps.same_map handle_cmp_total handle_cmp-IsAntisymmetric _ _ (λ q. get_rows changed q
+        ∙ row_at-set records h.index left q made_slot ∙ (search (rules, never, row_at))
         ∙ gone_row (eqb q.index h.index) (eqb q.generation h.generation) (row_at records q)
         (row_at-same_slot records h q lives)
         ∙ (λ i. cond (sym (ties q h) i) None (sym (get_rows records q) i))
         ∙ sym (maps.get-remove handle_cmp_total (maps.from_entries (rows_from 0 records)) h q))
 
     pending_is : map (handle_at changed) pending ≡ map (handle_at records) pending
-    pending_is = map_alike (handle_at changed) (handle_at records) pending
-        (λ k below i. record {
-          index = get_or pending k 0;
-          generation = (other (get_or pending k 0) (apart k below) i).generation;
-        })
+    pending_is = search (rules, map_alike, other, apart)
 
   -- ---- the slot waits for the next one
 
@@ -217,18 +194,7 @@ module _ (limits : Limits) (records : List SlotRecord) (pending : List ℕ) (liv
         rows = maps.remove (roster_of limits records pending).rows h;
         pending = (roster_of limits records pending).pending ++ following h ∷ [];
       }
-  roster_of-release =
-      let pending_is =
-      map_push (handle_at released) pending h.index
-      ∙ (λ i. pending_is vacant refl refl i
-      ++ record { index = h.index; generation = (same vacant refl refl i).generation } ∷ []) in
-      λ i. record {
-        limits = limits;
-        live = live_is vacant refl refl i;
-        rows = rows_is vacant refl refl i;
-        pending = pending_is i;
-        made = length-set records h.index vacant i;
-      }
+  roster_of-release = search (rules, pending_is, map_push, same, live_is, rows_is, length-set)
 
   -- ---- the slot is retired
 
@@ -241,49 +207,14 @@ module _ (limits : Limits) (records : List SlotRecord) (pending : List ℕ) (liv
   -- it waits nowhere
   waits_else : (index position : ℕ) → (record_at retired index).occupancy ≡ Pending position
       → (record_at records index).occupancy ≡ Pending position
-  waits_else index position is =
-      elim (cases_eq index h.index) [
-        | inl e ↦ absurd (Retired≢Pending
-            (sym (ap (λ (r : SlotRecord). r.occupancy) (same_at unused refl refl index e)) ∙ is))
-        | inr ne ↦ sym (ap (λ (r : SlotRecord). r.occupancy) (other unused refl refl index ne)) ∙ is
-      ]
+  waits_else index position is = search (rules, cases_eq, Retired≢Pending, same_at, other)
 
   pub retire_keeps_links : AreLinked limits retired pending (live - 1)
-  retire_keeps_links =
-      let long : length retired ≡ length records = length-set records h.index unused in
-      let counted = linked.counted in
-      let each = linked.each_once in
-      let few = linked.few in
-      let less = fewer unused refl refl in
-      record {
-        limited = linked.limited;
-        few = omega arith;
-        counted = omega arith;
-        each_once = omega arith;
-        least = generation_in unused refl refl (λ g. 1 ≤ g) (linked.least h.index made_slot)
-            linked.least;
-        greatest = generation_in unused refl refl (λ g. g ≤ limits.generations)
-            (linked.greatest h.index made_slot) linked.greatest;
-        made = λ position below. let b = linked.made position below in omega arith;
-        forward = λ position below. ap (λ (r : SlotRecord). r.occupancy)
-            (other unused refl refl (get_or pending position 0) (apart position below))
-            ∙ linked.forward position below;
-        listed = λ index position within is. linked.listed index position (omega arith)
-            (waits_else index position is);
-        back = λ index position within is. linked.back index position (omega arith)
-            (waits_else index position is);
-      }
+  retire_keeps_links = search (rules, fewer unused refl refl, made_slot)
 
   pub roster_of-retire : roster_of limits retired pending
       ≡ record (roster_of limits records pending) {
         live = sets.remove (roster_of limits records pending).live h;
         rows = maps.remove (roster_of limits records pending).rows h;
       }
-  roster_of-retire =
-      λ i. record {
-        limits = limits;
-        live = live_is unused refl refl i;
-        rows = rows_is unused refl refl i;
-        pending = pending_is unused refl refl i;
-        made = length-set records h.index unused i;
-      }
+  roster_of-retire = search (rules, live_is, rows_is, pending_is, length-set)

@@ -1,9 +1,9 @@
 -- What a served reply lists: handles of different slots, none of them alive, all of them taken, and
 -- none twice in two replies.
+use Rattle.std.proofs.Common.{rules, ◌≡◌, ◌≢◌, refl, sym, ap, subst, ℕ, ◌<◌, ◌≤◌, true, false, not}
+use Rattle.std.proofs.Common.{nat_le, List, ◌++◌, length, take, reverse, filter, All, AllPairs}
+use Rattle.std.proofs.Common.{Contains, IsPermutation, Ok, Err, arith, le-leb}
 use Rattle.std.proofs.lemmas.Grind.{common_steps}
-use Rattle.std.proofs.Common.{◌≡◌, ◌≢◌, refl, sym, ap, subst, ℕ, ◌<◌, ◌≤◌, true, false, not, nat_le}
-use Rattle.std.proofs.Common.{List, [], ◌∷◌, ◌++◌, length, get_or, take, reverse, filter, All}
-use Rattle.std.proofs.Common.{AllPairs, Contains, IsPermutation, Ok, Err, arith, le-leb}
 use Rattle.std.proofs.lemmas.Bool.{lt-leb}
 use Rattle.std.proofs.lemmas.Bool.Decides.{nat_tests}
 use Rattle.std.proofs.lemmas.List.Elements.{All-take, All-contains, Contains-append_right}
@@ -20,8 +20,6 @@ use Rattle.ent_alloc.specs.Sound.{IsSound, AreApart, IsLive}
 use Rattle.ent_alloc.proofs.ListLaws.{AllPairs-right, AllPairs-take, AllPairs-across}
 use Rattle.ent_alloc.proofs.ListLaws.{AllPairs-IsPermutation, All-right}
 use Rattle.ent_alloc.proofs.Taken.{after_take-served}
-use Rattle.ent_alloc.proofs.PoolLaw.{after_takes, after_takes-sound}
-use Rattle.ent_alloc.proofs.Soundness.{after_take-sound}
 
 -- a handle is fresh where it is not old
 pub fresh_is_not_old : (made : ℕ) (h : Handle) → is_fresh made h ≡ not (is_old made h)
@@ -35,8 +33,7 @@ listed-IsPermutation made given =
     let new = filter (is_fresh made) given in
     IsPermutation-trans given (old ++ new) (reverse old ++ new)
     (IsPermutation-filter_both (is_old made) (is_fresh made) (fresh_is_not_old made) given)
-    (IsPermutation-append old (reverse old) new new (IsPermutation-reverse old)
-    (IsPermutation-refl new))
+    (search (rules, IsPermutation-append, IsPermutation-reverse, IsPermutation-refl))
 
 -- a request for no more than the pool has
 pub reply-served : (s : Allocator) (n : ℕ) → n ≤ length s.pool → reply_to s n
@@ -81,8 +78,7 @@ taken_apart s g h in_taken =
 module _ (s : Allocator) (n : ℕ) (given : List Handle) (is : reply_to s n ≡ Ok given) where
   -- it lists the front of the pool in another order
   pub reply-IsPermutation : IsPermutation (take n s.pool) given
-  reply-IsPermutation = subst (IsPermutation (take n s.pool)) (sym (served_from s n given is).1)
-      (listed-IsPermutation s.made (take n s.pool))
+  reply-IsPermutation = search (rules, served_from, listed-IsPermutation)
 
   -- the front of the pool joins what is taken
   pub taken-after_served : (after_take s n).taken ≡ s.taken ++ take n s.pool
@@ -90,16 +86,14 @@ module _ (s : Allocator) (n : ℕ) (given : List Handle) (is : reply_to s n ≡ 
 
   -- what holds of the whole pool holds of the reply
   pub of_reply : (P : Handle → Type 0) → All P s.pool → All P given
-  of_reply P all = All-permutation P (take n s.pool) given reply-IsPermutation
-      (All-take P n s.pool all)
+  of_reply P all = search (rules, All-permutation, reply-IsPermutation, All-take)
 
   -- each is taken, and nothing else is that was not
   pub reply-taken : All (Contains (after_take s n).taken) given
   reply-taken = All-permutation (Contains (after_take s n).taken) (take n s.pool) given
       reply-IsPermutation
       (subst (λ taken. All (Contains taken) (take n s.pool)) (sym taken-after_served)
-      (λ k d lt. Contains-append_right s.taken (take n s.pool) _
-      (All-contains_itself (take n s.pool) k d lt)))
+      (search (rules, Contains-append_right, All-contains_itself)))
 
   -- so what is taken is what was taken and the reply
   pub taken-IsPermutation : IsPermutation (s.taken ++ given) (after_take s n).taken
@@ -125,8 +119,7 @@ module _ (s : Allocator) (n : ℕ) (given : List Handle) (is : reply_to s n ≡ 
 
   -- so none is alive
   pub reply-not_live : IsSound s → All (λ x. ¬ (IsLive s x)) given
-  reply-not_live h k d lt alive = not_apart (get_or given k d)
-      (reply-apart_from_live h (get_or given k d) alive k d lt)
+  reply-not_live h k d lt alive = search (rules, not_apart, reply-apart_from_live)
 
   -- none is of a slot from which something is taken
   pub reply-apart_from_taken : IsSound s → (x : Handle) → Contains s.taken x

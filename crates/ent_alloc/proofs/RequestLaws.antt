@@ -1,7 +1,7 @@
 -- All replies to requests in turn, taken together: no handle twice, none alive before, and a flush
 -- brings to life exactly those.
-use Rattle.std.proofs.Common.{get_or, IsTrue, ◌≡◌, refl, sym, subst, ℕ, List, [], ◌∷◌, ◌++◌, All}
-use Rattle.std.proofs.Common.{AllPairs, Contains, IsPermutation, Ok, Err, ◌⊎◌, ◌↔◌, append-nil}
+use Rattle.std.proofs.Common.{rules, get_or, IsTrue, ◌≡◌, refl, sym, subst, ℕ, List, [], ◌∷◌, ◌++◌}
+use Rattle.std.proofs.Common.{All, AllPairs, Contains, IsPermutation, Ok, Err, ◌⊎◌, ◌↔◌, append-nil}
 use Rattle.std.proofs.Common.{append_assoc, inl, inr}
 use Rattle.std.specs.FinSet as set
 use Rattle.std.proofs.lemmas.List.Sorted.{IsPermutation-refl, IsPermutation-sym}
@@ -29,12 +29,8 @@ given_by s (n ∷ requests) = handles_in (reply_to s n) ++ given_by (after_take 
 -- what is taken is what was taken, and the handles of the reply
 pub taken-after_take : (s : Allocator) (n : ℕ)
     → IsPermutation (s.taken ++ handles_in (reply_to s n)) (after_take s n).taken
-taken-after_take s n = elim (reply_to s n) as (λ r. reply_to s n ≡ r
-    → IsPermutation (s.taken ++ handles_in r) (after_take s n).taken) [
-      | Ok given ↦ λ is. taken-IsPermutation s n given is
-      | Err space ↦ λ is. rw (append-nil s.taken, taken-after_refused s n space is)
-          (IsPermutation-refl s.taken)
-    ] refl
+taken-after_take s n =
+    search (rules, taken-IsPermutation, append-nil, taken-after_refused, IsPermutation-refl)
 
 -- and the handles of all replies
 pub taken-after_takes : (s : Allocator) (requests : List ℕ)
@@ -58,8 +54,7 @@ module _ (s : Allocator) (requests : List ℕ) (h : IsSound s) where
       (after_takes-sound s requests h).apart in
       AllPairs-right AreApart s.taken (given_by s requests)
       (AllPairs-IsPermutation AreApart apart_both t.taken (s.taken ++ given_by s requests)
-      (IsPermutation-sym (s.taken ++ given_by s requests) t.taken
-      (taken-after_takes s requests)) taken)
+      (search (rules, IsPermutation-sym, taken-after_takes)) taken)
 
   -- none is alive
   pub given_by-not_live : All (λ x. ¬ (IsLive s x)) (given_by s requests)
@@ -82,9 +77,7 @@ module _ (s : Allocator) (requests : List ℕ) (h : IsSound s) where
   pub taken-since_flush : s.asked ≡ 0 → IsPermutation (given_by s requests)
       (after_takes s requests).taken
   taken-since_flush flushed =
-      let none : s.taken ≡ [] = (flushed-laid_out s h flushed).taken in
-      subst (λ taken. IsPermutation (taken ++ given_by s requests) (after_takes s requests).taken)
-      none (taken-after_takes s requests)
+      search (rules, flushed-laid_out s h flushed, taken-after_takes s requests)
 
   -- so then exactly those are alive, and who was
   pub live-since_flush : s.asked ≡ 0 → (x : Handle) → IsLive (after_flush (after_takes s requests))

@@ -58,12 +58,7 @@ count-parts p q from (suc n) apart =
     let here = one_part (p from) (q from) (apart from (omega arith) (omega arith)) in
     let rest = count-parts p q (from + 1) n (λ k least below. apart k (omega arith) (omega arith))
     in
-    omega (
-      arith,
-      count-next p from n,
-      count-next q from n,
-      count-next (λ i. not (p i || q i)) from n,
-    )
+    search (rules, count-next)
 
 count-none : (from n : ℕ) → count (λ _. false) from n ≡ 0
 count-none from zero = refl
@@ -81,14 +76,7 @@ count-one_more p k from (suc n) least below fails =
     let now = count-next (λ i. eqb k i || p i) from n in
     let before = count-next p from n in
     elim (cases_eq k from) [
-      | inl here ↦
-          let passes : weight (eqb k from || p from) ≡ 1 =
-          ap weight (either (eqb k from) (p from) (eq-eqb k from here)) in
-          let failed : weight (p from) ≡ 0 = ap (λ i. weight (p i)) (sym here) ∙ ap weight fails in
-          let rest : count (λ i. eqb k i || p i) (from + 1) n ≡ count p (from + 1) n =
-          count_alike (λ i. eqb k i || p i) p (from + 1) n
-          (λ i past _. ap (λ b. b || p i) (ne_eqb k i (λ e. absurd (omega arith)))) in
-          omega arith
+      | inl here ↦ search (rules, either, eq-eqb, count_alike, ne_eqb)
       | inr later ↦
           let same : weight (eqb k from || p from) ≡ weight (p from) =
           ap (λ b. weight (b || p from)) (ne_eqb k from later) in
@@ -122,8 +110,7 @@ has_slot-apart : (handles : List Handle) (h : Handle) → All (AreApart h) handl
     → has_slot handles h.index ≡ false
 has_slot-apart [] h apart = refl
 has_slot-apart (x ∷ handles) h apart =
-    let other : eqb x.index h.index ≡ false = ne_eqb x.index h.index
-    (λ e. All-head (AreApart h) x handles apart (sym e)) in
+    let other : eqb x.index h.index ≡ false = search (rules, ne_eqb, All-head) in
     ap (λ b. b || has_slot handles h.index) other
     ∙ has_slot-apart handles h (All-tail (AreApart h) x handles apart)
 

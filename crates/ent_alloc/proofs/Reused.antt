@@ -58,8 +58,7 @@ pub length-reused : (records : List SlotRecord) (indices : List ℕ) → length 
     ≡ length records
 length-reused records [] = refl
 length-reused records (index ∷ indices) =
-    length-reused (set records index (reuse (record_at records index))) indices
-    ∙ length-set records index (reuse (record_at records index))
+    search (rules, length-set, length-reused (set records index (reuse (record_at records index))) indices)
 
 -- the generations stay
 generation-reuse : (records : List SlotRecord) (index at : ℕ) → index < length records
@@ -84,10 +83,7 @@ waiting-reused records from [] at position wait is below = is
 waiting-reused records from (index ∷ indices) at position wait is below =
     let here : (record_at records index).occupancy ≡ Pending (from + 0) =
     wait.pending 0 (omega arith) in
-    let apart : at ≢ index =
-    λ e. let same : Pending position ≡ Pending (from + 0) = sym is
-    ∙ ap (λ n. (record_at records n).occupancy) e ∙ here in
-    let clash : position ≡ from + 0 = ap position_of same in absurd (omega arith) in
+    let apart : at ≢ index = search rules in
     waiting-reused (set records index (reuse (record_at records index))) (from + 1) indices at
     position (Wait-rest records from index indices wait)
     (ap (λ (r : SlotRecord). r.occupancy) (get_or-set_other records index at
@@ -142,8 +138,7 @@ length-occupants-reused records from (index ∷ indices) wait =
     (wait.made 0 (omega arith)) in
     let later = length-occupants-reused (set records index (reuse (record_at records index))) (from
     + 1) indices (Wait-rest records from index indices wait) in
-    let none : one (is_alive (record_at records index).occupancy) ≡ 0 = ap one slept in
-    omega (arith, step, later)
+    search (rules, one)
 
 -- the rows stay
 pub rows_from-reused : (records : List SlotRecord) (from : ℕ) (indices : List ℕ)

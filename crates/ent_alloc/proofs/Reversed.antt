@@ -1,6 +1,6 @@
 -- A list from its other end.
-use Rattle.std.proofs.Common.{◌≡◌, ℕ, ◌-◌, Bool, false, ◌||◌, List, [], ◌∷◌, ◌++◌, length, take}
-use Rattle.std.proofs.Common.{drop, reverse, refl, sym, ap, ◌∙◌, arith, inl, inr}
+use Rattle.std.proofs.Common.{rules, ◌≡◌, ℕ, ◌-◌, Bool, false, ◌||◌, List, [], ◌∷◌, ◌++◌, length}
+use Rattle.std.proofs.Common.{take, drop, reverse, refl, sym, ap, ◌∙◌}
 use Rattle.std.specs.List.{list_any}
 use Rattle.std.proofs.lemmas.Bool.{cases_lt}
 use Rattle.std.proofs.lemmas.List.{length-reverse, length-drop, take-append-drop, take_all}
@@ -22,28 +22,10 @@ module _ {X : Type 0} (n : ℕ) (xs : List X) where
   long = length-reverse (drop before xs) ∙ length-drop before xs
 
   pub drop-reverse : drop n (reverse xs) ≡ reverse (take before xs)
-  drop-reverse =
-      let last = long in
-      elim (cases_lt (length xs) n) [
-        | inl past ↦
-            (let none : before ≡ 0 = omega arith in
-            drop_all n (reverse xs) (omega (arith, length-reverse xs))
-            ∙ sym (ap (λ k. reverse (take k xs)) none))
-        | inr within ↦ ap (drop n) turned
-            ∙ drop_at (reverse (drop before xs)) (reverse (take before xs)) n (omega arith)
-      ]
+  drop-reverse = search (rules, long, cases_lt, drop_all, length-reverse, turned, drop_at)
 
   pub take-reverse : take n (reverse xs) ≡ reverse (drop before xs)
-  take-reverse =
-      let last = long in
-      elim (cases_lt (length xs) n) [
-        | inl past ↦
-            (let none : before ≡ 0 = omega arith in
-            take_all n (reverse xs) (omega (arith, length-reverse xs))
-            ∙ sym (ap (λ k. reverse (drop k xs)) none))
-        | inr within ↦ ap (take n) turned
-            ∙ take_at (reverse (drop before xs)) (reverse (take before xs)) n (omega arith)
-      ]
+  take-reverse = search (rules, long, cases_lt, take_all, length-reverse, turned, take_at)
 
 -- a test of the elements doesn't see their order
 pub list_any-reverse : (p : Handle → Bool) (hs : List Handle) → list_any p (reverse hs)

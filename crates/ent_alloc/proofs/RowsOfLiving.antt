@@ -1,16 +1,16 @@
 -- Rows are kept of the living alone, whatever a call does.
-use Rattle.std.proofs.Common.{◌≡◌, true, false, cond, not, ◌&&◌, ℕ, List, refl, ap, ◌∙◌}
-use Rattle.std.proofs.Common.{None, Some, IsTrue, All, get_or, slice_get, subst}
+use Rattle.std.proofs.Common.{rules, ◌≡◌, true, false, cond, not, ◌&&◌, ℕ, List, refl, ap, ◌∙◌}
+use Rattle.std.proofs.Common.{None, Some, IsTrue, All, slice_get, subst}
 use Rattle.std.specs.Ordering.{eq_by_cmp}
 use Rattle.std.proofs.lemmas.Option.{get_or_from_slice_get, slice_get_within}
 use Rattle.std.specs.FinSet as sets
 use Rattle.std.specs.FinMap as maps
 use Rattle.ent_handle.specs.Handle.{Handle, handle_cmp, handle_cmp_total}
-use Rattle.ent_alloc.specs.Sequential.{Allocator, available, born}
+use Rattle.ent_alloc.specs.Sequential.{Allocator, born}
 use Rattle.ent_alloc.specs.Sound.{IsSound, IsLive}
 use Rattle.ent_alloc.specs.Entities.{Entities, HasRowsOfLiving}
 use Rattle.ent_alloc.proofs.HandleSets.{union_list_keeps, same_handle}
-use Rattle.ent_alloc.proofs.Replies.{not_apart, of_pool}
+use Rattle.ent_alloc.proofs.Replies.{of_pool}
 use Rattle.ent_alloc.proofs.Flushes.{born-not_live}
 
 -- a set and rows of its handles alone
@@ -54,20 +54,16 @@ rows-inserted live x row rows lives kept h gone =
 
 -- what is in the pool is not alive
 pool-not_live : (s : Allocator) → IsSound s → All (λ x. ¬ (IsLive s x)) s.pool
-pool-not_live s h = of_pool (λ x. ¬ (IsLive s x)) s (λ k d lt alive. not_apart
-    (get_or (available s) k d) ((h.live (get_or (available s) k d) alive).apart k d lt))
+pool-not_live s h = of_pool (λ x. ¬ (IsLive s x)) s (search rules)
 
 -- so the front of the pool has no row
 pub front-no_row : (e : Entities) (h : Handle) → HasRowsOfLiving e → IsSound e.allocator
     → slice_get e.allocator.pool 0 ≡ Some h → maps.get e.rows h ≡ None
-front-no_row e h kept sound front =
-    let within = slice_get_within e.allocator.pool 0 h front in
-    kept h (subst (λ x. ¬ (IsLive e.allocator x))
+front-no_row e h kept sound front = kept h (subst (λ x. ¬ (IsLive e.allocator x))
     (get_or_from_slice_get e.allocator.pool 0 h h front)
-    (pool-not_live e.allocator sound 0 h within))
+    (pool-not_live e.allocator sound 0 h (slice_get_within e.allocator.pool 0 h front)))
 
 -- nor has what a flush brings to life
 pub born-no_row : (e : Entities) → HasRowsOfLiving e → IsSound e.allocator
     → All (λ h. maps.get e.rows h ≡ None) (born e.allocator)
-born-no_row e kept sound k d lt =
-    kept (get_or (born e.allocator) k d) (born-not_live e.allocator sound k d lt)
+born-no_row e kept sound k d lt = search (rules, born-not_live)

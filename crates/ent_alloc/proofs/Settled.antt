@@ -1,8 +1,9 @@
 -- Two numbers tell what requests leave of a flushed allocator: how many handles were given, and how
 -- many were asked for.
+use Rattle.std.proofs.Common.{rules, ◌≡◌, sym, ap, ◌∙◌, ℕ, ◌+◌, ◌-◌, ◌<◌, ◌≤◌, List, [], ◌++◌}
+use Rattle.std.proofs.Common.{length, take, drop, sum, Err, arith, append_assoc, append-nil, inl}
+use Rattle.std.proofs.Common.{inr}
 use Rattle.std.proofs.lemmas.Grind.{common_steps}
-use Rattle.std.proofs.Common.{◌≡◌, sym, ap, ◌∙◌, ℕ, ◌+◌, ◌-◌, ◌<◌, ◌≤◌, List, [], ◌++◌, length}
-use Rattle.std.proofs.Common.{take, drop, sum, Err, arith, append_assoc, append-nil, inl, inr}
 use Rattle.std.proofs.lemmas.Bool.{cases_lt}
 use Rattle.std.proofs.lemmas.List.{take-append-drop, take-take, take_all, drop_all, length-take}
 use Rattle.std.proofs.lemmas.List.{length-drop}
@@ -26,8 +27,7 @@ three_parts : (given asked : ℕ) (pool : List Handle) → given ≤ asked → t
 three_parts given asked pool le =
     let front : take given (take asked pool) ≡ take given pool = take-take given asked pool le in
     ap (λ xs. xs ++ (drop given (take asked pool) ++ drop asked pool)) (sym front)
-    ∙ sym (append_assoc (take given (take asked pool)) (drop given (take asked pool))
-    (drop asked pool))
+    ∙ sym (search (rules, append_assoc))
     ∙ ap (◌++ drop asked pool) (take-append-drop given (take asked pool))
     ∙ take-append-drop asked pool
 
@@ -52,10 +52,7 @@ module _ (s : Allocator) (h : IsSound s) (flushed : s.asked ≡ 0) where
       (drop asked s.pool) (s.asked + asked) h
       (rw (nothing_taken, nothing_aside) (three_parts given asked s.pool le))
       (rw (all_in_pool, flushed) (ap (λ n. drop n s.pool) (omega arith)))
-      (λ within.
-      let all : given ≡ asked = enough (omega (arith, ap length all_in_pool)) in
-      rw nothing_aside (drop_all given (take asked s.pool)
-      (omega (arith, length-take asked s.pool))))
+      (search (rules, all_in_pool, nothing_aside, drop_all, length-take))
 
   -- how many there are to give
   pub length-all : length s.pool ≡ top s + (s.limits.slots - s.made)
@@ -82,20 +79,7 @@ module _ (s : Allocator) (h : IsSound s) (flushed : s.asked ≡ 0) where
             let sum : s.asked + asked ≡ s.asked + given + (asked - given) = omega arith in
             (λ i. record t { aside = s.aside ++ drop given (all i); pool = none i; asked = sum i })
             ∙ sym (after_take-refused t (asked - given) (omega arith))
-        | inr within ↦
-            let same : given ≡ asked = whole within in
-            let nothing : asked - given ≡ 0 = omega arith in
-            let sum : s.asked + asked ≡ s.asked + given + 0 = omega arith in
-            let none : drop given (take asked s.pool) ≡ [] = drop_all given (take asked s.pool)
-            (omega (arith, length-take asked s.pool)) in
-            (λ i. record t {
-              taken = sym (append-nil (s.taken ++ take given s.pool)) i;
-              aside = (ap (s.aside ++◌) none ∙ append-nil s.aside) i;
-              pool = ap (λ n. drop n s.pool) (sym same) i;
-              asked = sum i;
-            })
-            ∙ sym (after_take-served t 0 (omega arith))
-            ∙ ap (after_take t) (sym nothing)
+        | inr within ↦ search (rules, drop_all, length-take, append-nil, after_take-served)
       ] in
       second ∙ ap (λ (a : Allocator). after_take a (asked - given)) (sym first)
 
@@ -114,10 +98,7 @@ module _ (s : Allocator) (h : IsSound s) (flushed : s.asked ≡ 0) where
       taken_is t ∙ (λ i. take (long i) (pool i))
       ∙ sym (ap (◌++ take (length (given_by s requests)) s.pool) nothing_taken) in
       let aside : t.aside ≡ s.aside ++ drop (length (given_by s requests))
-      (take (sum requests) s.pool) =
-      aside_is t sound ∙ (λ i. drop (long i) (take (asked i) (pool i)))
-      ∙ sym (ap (◌++ drop (length (given_by s requests)) (take (sum requests) s.pool))
-      nothing_aside) in
+      (take (sum requests) s.pool) = search (rules, aside_is, given_by, nothing_aside) in
       λ i. record {
         limits = limits-after_takes s requests i;
         live = live-after_takes s requests i;
@@ -137,8 +118,7 @@ all_given s requests h flushed some =
     let asked : t.asked ≡ s.asked + sum requests = asked-after_takes s requests in
     let long : length t.taken ≡ length (given_by s requests) = length_permutation
     (given_by s requests) t.taken (taken-since_flush s requests h flushed) in
-    let within : t.asked ≤ length (available t) = omega (arith, length-pool t sound) in
-    omega (arith, length-taken t sound within)
+    search (rules, length-pool, length-taken)
 
 -- after a refusal every request for something is refused, with nothing left
 pub shut : (s : Allocator) (n m : ℕ) → length s.pool < n → 0 < m → reply_to (after_take s n) m

@@ -61,14 +61,8 @@ IsSound-moved s taken aside pool asked h same rest enough = search (rules, enoug
 pub after_take-sound : (s : Allocator) (n : ℕ) → IsSound s → IsSound (after_take s n)
 after_take-sound s n h = elim (cases_lt (length s.pool) n) [
   | inl short ↦
-      let long = length-pool s h in
-      rw (after_take-refused s n short) (
-      IsSound-moved s s.taken (s.aside ++ s.pool) [] (s.asked + n) h
-      (ap (s.taken ++◌) (append-nil (s.aside ++ s.pool)))
-      (sym (drop_all (s.asked + n) (available s) (omega arith))) (λ enough. absurd (omega arith))
-      )
-  | inr enough ↦
-      rw (after_take-served s n enough) (
+      search (rules, length-pool, after_take-refused, IsSound-moved, append-nil, drop_all, enough)
+  | inr enough ↦ rw (after_take-served s n enough) (
       IsSound-moved s (s.taken ++ take n s.pool) s.aside (drop n s.pool) (s.asked + n) h
       (take_moves s.taken s.aside s.pool n (aside_or_pool s h))
       (ap (drop n) h.pool ∙ drop-drop n s.asked (available s)) (λ enough. h.aside (omega arith))
@@ -152,8 +146,7 @@ alloc_of_old s x old was = record {
   within = All-tail (IsWithin s.limits) x old was.within;
   below = All-tail (λ h. h.index < s.made) x old was.below;
   apart = AllPairs-tail AreApart x old was.apart;
-  live_within = of_inserted (IsWithin s.limits) s.live x (All-head (IsWithin s.limits) x old
-      was.within) was.live_within;
+  live_within = of_inserted (IsWithin s.limits) s.live x (search (rules, All-head)) was.live_within;
   live_below = of_inserted (λ h. h.index < s.made) s.live x (All-head (λ h. h.index < s.made) x old
       was.below) was.live_below;
   live_apart = of_inserted (λ h. All (AreApart h) old) s.live x
@@ -184,12 +177,7 @@ alloc_of_fresh s more was some =
       within = All-nil (IsWithin s.limits);
       below = All-nil (λ h. h.index < s.made + 1);
       apart = λ i j d lt within. absurd (omega arith);
-      live_within = of_inserted (IsWithin s.limits) s.live x
-          (record {
-            index = omega arith;
-            least = omega arith;
-            greatest = was.limits.some_generation;
-          }) was.live_within;
+      live_within = of_inserted (IsWithin s.limits) s.live x (search rules) was.live_within;
       live_below = of_inserted (λ h. h.index < s.made + 1) s.live x (omega arith)
           (λ y alive. let below = was.live_below y alive in omega arith);
       live_apart = λ y alive. All-nil (AreApart y);

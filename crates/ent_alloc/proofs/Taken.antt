@@ -44,8 +44,7 @@ after_take-refused s n short = search (rules, lt-leb)
 pub available-after_take : (s : Allocator) (n : ℕ) → IsSound s → available (after_take s n)
     ≡ available s
 available-after_take s n h = elim (cases_lt (length s.pool) n) [
-  | inl short ↦ rw (after_take-refused s n short)
-      (ap (s.taken ++◌) (append-nil (s.aside ++ s.pool)))
+  | inl short ↦ search (rules, after_take-refused, append-nil)
   | inr enough ↦ rw (after_take-served s n enough) (take_moves s.taken s.aside s.pool n
       (aside_or_pool s h))
 ]
@@ -59,10 +58,7 @@ length-available s h = search (rules, length-append, old_ones, length-fresh)
 module _ (s : Allocator) (h : IsSound s) where
   -- no more is taken than there was
   pub enough : length s.taken ≤ length (old_ones s) + (s.limits.slots - s.made)
-  enough =
-      let all : length (available s) ≡ length (old_ones s) + (s.limits.slots - s.made) =
-      length-available s h in
-      omega (arith, all, length-append s.taken (s.aside ++ s.pool))
+  enough = search (rules, old_ones, length-available, length-append)
 
   -- first the old ones, then fresh ones
   pub taken-parts : s.taken ≡ take (length s.taken) (old_ones s)
@@ -74,18 +70,15 @@ module _ (s : Allocator) (h : IsSound s) where
 
   -- slots of old ones were made
   taken_old_below : All (λ h. h.index < s.made) (take (length s.taken) (old_ones s))
-  taken_old_below = All-take (λ h. h.index < s.made) (length s.taken) (old_ones s)
-      (old_ones_below s)
+  taken_old_below = search (rules, All-take, old_ones, old_ones_below)
 
   -- the fresh ones
   pub taken-fresh : filter (is_fresh s.made) s.taken ≡ fresh s.made (length s.taken - top s)
-  taken-fresh = ap (filter (is_fresh s.made)) taken-parts ∙ fresh_of_joined s.made (length s.taken
-      - top s) (take (length s.taken) (old_ones s)) taken_old_below
+  taken-fresh = search (rules, taken-parts, fresh_of_joined, old_ones, taken_old_below)
 
   -- the flush makes the slots of the fresh ones
   pub made-after_flush : (after_flush s).made ≡ s.made + (length s.taken - top s)
-  made-after_flush = ap (s.made +◌) (ap length taken-fresh ∙ length-fresh s.made (length s.taken
-      - top s))
+  made-after_flush = search (rules, taken-fresh, length-fresh)
 
   -- what is left by the flush
   pub left-parts : s.aside ++ s.pool ≡ drop (length s.taken) (old_ones s)

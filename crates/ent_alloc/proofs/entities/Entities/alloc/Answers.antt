@@ -47,9 +47,7 @@ made c rest room =
     let same = c.in_default.ensures.unchanged in
     let h = c.in_ok-make_one.field-0 in
     made_given c.self.inside.slots c.self.inside.requests c.args.self.now.allocator rest h
-    (ap length c.in_default.ensures.none) room
-    (c.in_ok-make_one.ensures.first
-    ∙ ap (λ (x : Roster). record { index = x.made; generation = 1 }) same)
+    (ap length c.in_default.ensures.none) room (search (rules, c.in_ok-make_one.ensures.first))
     c.make_one.new.self (c.in_ok-make_one.ensures.ok ∙ ap (λ (x : Roster). made_roster x h) same)
 
 -- want of memory is no want of slots

@@ -1,9 +1,8 @@
-use Rattle.std.proofs.Common.{rules, ◌≡◌, Result, Ok, Err, OnErr, ◌-◌, ℕ, length, drop, get_or, ap}
-use Rattle.std.proofs.Common.{subst, ◌∙◌}
+use Rattle.std.proofs.Common.{rules, ◌≡◌, Result, Ok, Err, OnErr, ◌-◌, ℕ, length, get_or, ap, subst}
+use Rattle.std.proofs.Common.{◌∙◌}
 use Rattle.std.proofs.lemmas.List.{length-take-le}
-use Rattle.std.specs.FinSet as sets
 use Rattle.std.specs.FinMap as maps
-use Rattle.ent_alloc.specs.Sequential.{after_flush, born, fresh}
+use Rattle.ent_alloc.specs.Sequential.{after_flush, born}
 use Rattle.ent_alloc.specs.Sound.{IsSound}
 use Rattle.ent_alloc.specs.Roster.{Roster}
 use Rattle.ent_alloc.specs.Entities.{Entities, HasRowsOfLiving}
@@ -43,14 +42,11 @@ left c counts =
     let kept = length r.pending - c.self.inside.requests.served in
     let news = c.self.inside.requests.served - length r.pending in
     closed c.bring_to_life.new.self (flushed_roster r kept news)
-    c.none-self-inside.result (after_flush s)
-    (c.in_ok-bring_to_life.ensures.ok
+    c.none-self-inside.result (after_flush s) (c.in_ok-bring_to_life.ensures.ok
     ∙ (λ i. flushed_roster r (counts.kept_is i) (counts.news_is i))) c.none-self-inside.ensures
     (flush_is r c.self.inside.requests.asked c.self.inside.requests.served inv.given_least
     inv.given_in inv.sound ∙ ap after_flush view)
-    (after_flush-sound s (subst IsSound view inv.sound))
-    (rows-joined (sets.union r.live (sets.from_list (fresh r.made news)))
-    (drop kept r.pending) r.rows (rows-joined r.live (fresh r.made news) r.rows inv.rows))
+    (after_flush-sound s (subst IsSound view inv.sound)) (search (rules, rows-joined))
 
 pub returns-in_err-bring_to_life-clause-memory : goal.returns-in_err-bring_to_life-clause-memory
 returns-in_err-bring_to_life-clause-memory c =

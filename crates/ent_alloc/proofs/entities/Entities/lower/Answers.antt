@@ -36,9 +36,7 @@ invariant_of-self c =
     let all = many (goal.at.invariant_of-self c).After-available-available in
     let keeps : Requests → Type 0 = λ q. AreReserved r q.asked q.served in
     elim (cases_lt c.available-available.result (e.requests.asked + n)) [
-      | inl short ↦ subst keeps (sym (c.and-self-inside.ensures.refused short))
-          (refused_reserved r e.requests.asked e.requests.served n s inv view (omega arith)
-          (omega arith))
+      | inl short ↦ search (rules, c.and-self-inside.ensures.refused, refused_reserved)
       | inr enough ↦ subst keeps (sym (c.and-self-inside.ensures.served enough))
           (served_reserved r e.requests.asked e.requests.served n s inv view (omega arith)
           (omega arith))

@@ -30,16 +30,14 @@ waiting r h position waits =
 pub overflow_sub-result : goal.overflow_sub-result
 overflow_sub-result c =
     let here = waiting c.self.inside.slots c.args.handle c.in-Some-Pending.position
-    (λ from. c.in-Some-Pending.ensures.waits from
-    ∙ ap (λ o. is_pending_from o from) c.in-Some-Pending.field-0-is) in
+    (search (rules, c.in-Some-Pending.ensures.waits, c.in-Some-Pending.field-0-is)) in
     let within = here.0 in
     omega arith
 
 pub overflow_sub-result-in-Some-Pending : goal.overflow_sub-result-in-Some-Pending
 overflow_sub-result-in-Some-Pending c =
     let here = waiting c.self.inside.slots c.args.handle c.in-Some-Pending.position
-    (λ from. c.in-Some-Pending.ensures.waits from
-    ∙ ap (λ o. is_pending_from o from) c.in-Some-Pending.field-0-is) in
+    (search (rules, c.in-Some-Pending.ensures.waits, c.in-Some-Pending.field-0-is)) in
     let within = here.0 in
     omega arith
 
@@ -49,8 +47,7 @@ returns-in-Some-Pending-clause-found c =
     let r = e.slots in
     let position = c.in-Some-Pending.position in
     let here = waiting r c.args.handle position
-    (λ from. c.in-Some-Pending.ensures.waits from
-    ∙ ap (λ o. is_pending_from o from) c.in-Some-Pending.field-0-is) in
+    (search (rules, c.in-Some-Pending.ensures.waits, c.in-Some-Pending.field-0-is)) in
     (λ i. slice_get (available_view r e.requests.asked e.requests.served c.args.self.now.allocator
     c.self.invariant (allocator_is c.self.view_is) i)
     (c.waiting-waiting.ensures.value i - 1 - c.in-Some-Pending.position-is i))
@@ -63,8 +60,7 @@ returns-in-Some-Alive-clause-none c =
     nowhere e.slots e.requests.asked e.requests.served c.args.self.now.allocator c.args.handle
     c.self.invariant (allocator_is c.self.view_is)
     (c.in-Some-Alive.ensures.waits 0 ∙ ap (λ o. is_pending_from o 0) c.in-Some-Alive.field-0-is)
-    (fresh_no c.args.handle e.slots.made (e.slots.limits.slots - e.slots.made)
-    (λ _ after _. absurd (omega arith)))
+    (search (rules, fresh_no, c.args.handle))
 
 pub returns-in-Some-AliveWithRow-clause-none : goal.returns-in-Some-AliveWithRow-clause-none
 returns-in-Some-AliveWithRow-clause-none c =
@@ -83,13 +79,11 @@ returns-in-Some-Retired-clause-none c =
     nowhere e.slots e.requests.asked e.requests.served c.args.self.now.allocator c.args.handle
     c.self.invariant (allocator_is c.self.view_is)
     (c.in-Some-Retired.ensures.waits 0 ∙ ap (λ o. is_pending_from o 0) c.in-Some-Retired.field-0-is)
-    (fresh_no c.args.handle e.slots.made (e.slots.limits.slots - e.slots.made)
-    (λ _ after _. absurd (omega arith)))
+    (search (rules, fresh_no, c.args.handle))
 
 pub returns-in-None-clause-none : goal.returns-in-None-clause-none
 returns-in-None-clause-none c =
     let e = c.self.inside in
-    let made : c.args.handle.index < e.slots.made = c.is_made.ensures.0 c.if-is_made.true in
     nowhere e.slots e.requests.asked e.requests.served c.args.self.now.allocator c.args.handle
     c.self.invariant (allocator_is c.self.view_is) (c.in-None.ensures.waits 0)
     (fresh_no c.args.handle e.slots.made (e.slots.limits.slots - e.slots.made)
@@ -113,5 +107,4 @@ returns-in-None-3-clause-none c =
     c.room.result view c.room.ensures in
     nowhere r e.requests.asked e.requests.served c.args.self.now.allocator c.args.handle
     c.self.invariant view (c.in-None-3.ensures.waits 0)
-    (ap (λ n. stands_in (fresh r.made n) c.args.handle) count
-    ∙ sym c.is_next.ensures ∙ c.if-is_next.false)
+    (search (rules, c.args.handle, c.is_next.ensures, c.if-is_next.false))

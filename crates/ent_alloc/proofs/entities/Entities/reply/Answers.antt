@@ -34,9 +34,7 @@ returns-then-low-high c = search (rules, lies, ints, fresh-none, reply_none, rep
 pub new-requires-then-low-ge0 : goal.new-requires-then-low-ge0
 new-requires-then-low-ge0 c =
     let at = lies (goal.at.new-requires-then-low-ge0 c).After-self in
-    served_in_range c.self.inside.slots c.args.span.high _ _ _ _ _ (omega (arith, ints))
-    (omega (arith, ints)) (served _ _ _ _ _ _ _ (omega (arith, ints)) (omega (arith, ints))
-    (omega (arith, ints)) (omega (arith, ints)) (omega (arith, ints)))
+    search (rules, ints, c.self.inside.slots, c.args.span.high)
 
 pub returns-then-low-ge0 : goal.returns-then-low-ge0
 returns-then-low-ge0 c =
@@ -64,10 +62,7 @@ returns-then-index_end-from c =
 pub new-requires-then-high-gt0 : goal.new-requires-then-high-gt0
 new-requires-then-high-gt0 c =
     let at = lies (goal.at.new-requires-then-high-gt0 c).After-self in
-    let slots = slots_is (goal.at.new-requires-then-high-gt0 c).After-slots in
-    served_in_range c.self.inside.slots c.args.span.high _ _ _ _ _ (omega (arith, ints))
-    (omega (arith, ints)) (served _ _ _ _ _ _ _ (omega (arith, ints)) (omega (arith, ints))
-    (omega (arith, ints)) (omega (arith, ints)) (omega (arith, ints)))
+    search (rules, slots_is, served_in_range, c.self.inside.slots, c.args.span.high, ints, served)
 
 pub returns-then-high-gt0 : goal.returns-then-high-gt0
 returns-then-high-gt0 c =
@@ -92,10 +87,7 @@ returns c =
     let start = (goal.at.returns c).After-self in
     let at = lies start in
     let slots = slots_is (goal.at.returns c).After-slots in
-    λ n requested. ap Ok c.new-2.ensures
-    ∙ lists start n 0 0
-    (c.made-made.result + nat_abs
+    λ n requested. ap Ok c.new-2.ensures ∙ lists start n 0 0 (c.made-made.result + nat_abs
     (to_z w64 (of_z w64 (pos 0 -ℤ to_z w64 (of_z w64 c.args.span.high)))))
     (c.from.result + nat_abs (to_z w64 (of_z w64 (pos 0 -ℤ to_z w64 (of_z w64 c.args.span.low)))))
-    (served _ _ _ _ _ _ _ (omega (arith, ints)) (omega (arith, ints)) (omega (arith, ints))
-    (omega (arith, ints)) (omega (arith, ints)))
+    (search (rules, ints))

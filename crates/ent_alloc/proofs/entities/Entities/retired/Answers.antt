@@ -15,7 +15,6 @@ counted c = search (rules, allocator_is, top_view, retired-rest)
 
 pub overflow_sub-result : goal.overflow_sub-result
 overflow_sub-result c =
-    let e = c.self.inside in
     let s = c.args.self.now.allocator in
     let view = allocator_is c.self.view_is in
     let live = c.live.ensures ∙ ap (λ (t : Allocator). set.len t.live) view in

@@ -1,4 +1,4 @@
-use Rattle.std.proofs.Common.{arith, rules, ◌≡◌, ℕ, true, sym, subst}
+use Rattle.std.proofs.Common.{arith, rules, ◌≡◌, ℕ, true}
 use Rattle.std.proofs.lemmas.Grind.{common_steps}
 use Rattle.std.specs.FinSet as sets
 use Rattle.std.specs.FinMap as maps
@@ -21,9 +21,7 @@ lives c = grind (arith, common_steps)
 pub invariant_of-self : goal.invariant_of-self
 invariant_of-self c =
     let e = c.self.inside in
-    subst (λ (r : Roster). AreReserved r e.requests.asked e.requests.served) (sym c.set_row.ensures)
-    (with_row e.slots e.requests.asked e.requests.served c.args.handle c.args.row
-    (lives (goal.at.invariant_of-self c).After-set_row) c.self.invariant)
+    search (rules, c.set_row.ensures, with_row, c.args.handle, c.args.row, lives, c.self.invariant)
 
 pub returns-clause-rows_of_living : goal.returns-clause-rows_of_living
 returns-clause-rows_of_living c = (invariant_of-self c).rows

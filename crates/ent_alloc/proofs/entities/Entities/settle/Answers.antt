@@ -1,4 +1,4 @@
-use Rattle.std.proofs.Common.{rules, ◌≡◌, ℕ, ℤ, length, sym, ap, subst, ◌∙◌, arith}
+use Rattle.std.proofs.Common.{rules, ◌≡◌, ℕ, ℤ, length, ap, subst, ◌∙◌, arith}
 use Rattle.std.proofs.lemmas.Grind.{common_steps}
 use Rattle.std.proofs.lemmas.Int.{ints}
 use Rattle.ent_alloc.specs.Sequential.{top, asked_at, settled, Allocator}
@@ -40,9 +40,7 @@ invariant_of-self c =
     ap (λ (s : Allocator). s.limits.slots) view in
     settled_reserved e.slots e.requests.asked e.requests.served s c.self.invariant view
     c.requires.flushed c.distance.result c.distance-2.result (omega (arith, ints))
-    (omega (arith, ints)) (omega (arith, ints))
-    (λ within. both.gives_is ∙ ap (asked_at (top s))
-    (c.requires.all_given (omega (arith, ints))) ∙ sym both.asks_is)
+    (omega (arith, ints)) (omega (arith, ints)) (search (rules, c.requires.all_given, ints))
 
 pub returns-clause-settled : goal.returns-clause-settled
 returns-clause-settled c =
@@ -60,7 +58,6 @@ returns-clause-requests c =
     let sound : IsSound s = subst IsSound (allocator_is c.self.view_is) c.self.invariant.sound in
     let greatest = c.requires.greatest in
     let ordered = c.requires.ordered in
-    let reachable = c.requires.reachable in
     let gives = asked_at-is (top s) c.args.floor greatest in
     let asks = asked_at-is (top s) c.args.cursor (omega (arith, ints)) in
     let long = length-all s sound c.requires.flushed in

@@ -26,9 +26,7 @@ told_by : (c : Joined-occupancy_of) → {b : Bool} → c.match-occupancy_of.rese
 told_by c {b} test = search (rules, told, allocator_is, fresh_no, or-false)
 
 pub returns-then-reserved : goal.returns-then-reserved
-returns-then-reserved c =
-    told_by (goal.at.returns-then-reserved c).Joined-occupancy_of c.if-reserved.true
+returns-then-reserved c = search (rules, told_by, c.if-reserved.true)
 
 pub returns-else-reserved : goal.returns-else-reserved
-returns-else-reserved c =
-    told_by (goal.at.returns-else-reserved c).Joined-occupancy_of c.if-reserved.false
+returns-else-reserved c = search (rules, told_by, c.if-reserved.false)

@@ -78,9 +78,7 @@ invariant_of-self-2 c =
       all.written_is,
       c.truncate.ensures.items,
       ← more,
-    )
-    (reuse_keeps_links e.limits (e.records.items ++ replicate n new_record) pending (e.live + n)
-    kept (linked at) all.within)
+    ) (search (rules, reuse_keeps_links, linked))
 
 pub returns-clause-ok : goal.returns-clause-ok
 returns-clause-ok c =
@@ -92,12 +90,7 @@ returns-clause-ok c =
     (λ i. roster_of e.limits ((with_items_is c.make_all.new.records c.reuse_all.new.records all.long
     ∙ all.written_is) i) (c.truncate.ensures.items i))
     ∙ roster_of-reuse e.limits (e.records.items ++ replicate n new_record) e.pending.items
-    (e.live + n) kept (linked at) all.within
-    ∙ (λ i. let r : Roster = grown_roster at i in
-    record r {
-      live = sets.union r.live (sets.from_list (drop kept r.pending));
-      pending = take kept r.pending;
-    })
+    (e.live + n) kept (linked at) all.within ∙ (search (rules, grown_roster))
 
 pub returns-clause-born : goal.returns-clause-born
 returns-clause-born c =
@@ -117,7 +110,6 @@ returns-clause-born c =
     (c.deref_mut.ensures.value ∙ all.grown_is) c.deref.ensures.value
     ∙ ap (λ (r : Roster). drop kept r.pending) (grown_roster at) in
     c.reuse_all.ensures.listed
-    ∙ (λ i. (c.make_all.ensures.listed ∙ (λ j. c.in_ok-reserve-2.ensures.items j
-    ++ fresh (first j) n)) i ++ old i)
+    ∙ (search (rules, c.make_all.ensures.listed, c.in_ok-reserve-2.ensures.items))
     ∙ append_assoc c.args.out.now.items (fresh c.args.self.now.made n)
     (drop kept c.args.self.now.pending)

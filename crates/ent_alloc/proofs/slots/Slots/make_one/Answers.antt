@@ -1,4 +1,4 @@
-use Rattle.std.proofs.Common.{◌≡◌, ◌+◌, List, [], ◌∷◌, ◌++◌, length, sym, ap, ◌∙◌, arith}
+use Rattle.std.proofs.Common.{rules, ◌≡◌, ◌+◌, List, [], ◌∷◌, ◌++◌, length, sym, ap, ◌∙◌, arith}
 use Rattle.std.specs.FinSet as sets
 use Rattle.ent_handle.specs.Handle.{Handle}
 use Rattle.ent_alloc.specs.declared.slot_record.SlotRecord.{SlotRecord}
@@ -16,8 +16,7 @@ invariant_of-self-2 c =
     ∙ ap (λ (r : SlotRecord). e.records.items ++ r ∷ []) c.new.ensures in
     let made : length e.records.items ≡ c.args.self.now.made = ap (λ (r : Roster). r.made)
     c.self.view_is in
-    let slots : e.limits.slots ≡ c.args.self.now.limits.slots = ap (λ (r : Roster). r.limits.slots)
-    c.self.view_is in
+    let slots : e.limits.slots ≡ c.args.self.now.limits.slots = search (rules, c.self.view_is) in
     rw is (make_keeps_links e.limits e.records.items e.pending.items e.live 1 c.self.invariant
     (omega arith))
 

@@ -1,7 +1,5 @@
 use Rattle.std.proofs.Common.{arith, rules, ◌≡◌, drop, sym, ap, ◌∙◌}
 use Rattle.std.proofs.lemmas.Grind.{common_steps}
-use Rattle.std.specs.FinSet as sets
-use Rattle.std.specs.FinMap as maps
 use Rattle.ent_alloc.specs.Roster.{Roster}
 use Rattle.ent_alloc.specs.Sequential.{stands_in}
 use Rattle.ent_alloc.specs.Slots.{occupancy_of, waits_from}
@@ -28,8 +26,7 @@ returns-clause-waits c from =
     let e = c.self.inside in
     let h = c.args.handle in
     sym (ap (λ (r : Roster). stands_in (drop from r.pending) h) c.self.view_is)
-    ∙ sym (stands_in-pending e.limits e.records.items e.pending.items e.live c.self.invariant h
-    from)
+    ∙ sym (search (rules, stands_in-pending, c.self.invariant))
     ∙ waits_at-occupancy e.records.items h from
     ∙ sym (ap (λ o. waits_from o from) (found (goal.at.returns-clause-waits c).After-occupancy_of))
 

@@ -1,11 +1,8 @@
-use Rattle.std.proofs.Common.{rules, ◌≡◌, ◌≢◌, ◌+◌, [], ◌∷◌, ◌++◌, length, set, true, ap, ◌∙◌}
-use Rattle.std.proofs.Common.{arith}
+use Rattle.std.proofs.Common.{rules, ◌≡◌, ◌≢◌, ◌+◌, [], ◌∷◌, ◌++◌, length, true, ap, ◌∙◌, arith}
 use Rattle.std.specs.FinSet as sets
 use Rattle.std.specs.FinMap as maps
-use Rattle.ent_alloc.specs.declared.slot_record.Occupancy.TheVariants.{Pending}
 use Rattle.ent_alloc.specs.Sequential.{following}
 use Rattle.ent_alloc.specs.Roster.{Roster}
-use Rattle.ent_alloc.specs.Slots.{roster_of}
 use Rattle.ent_alloc.proofs.Occupants.{is_occupant}
 use Rattle.ent_alloc.proofs.LivingOccupant.{occupant_made, occupant_generation, lives_in}
 use Rattle.ent_alloc.proofs.Released.{one_lives, release_keeps_links, roster_of-release}
@@ -22,23 +19,20 @@ not_last c last = search (rules)
 
 pub index_mut-requires : goal.index_mut-requires
 index_mut-requires c =
-    let records = c.self.inside.records.items in
     let is = lives (goal.at.index_mut-requires c).After-self in
-    omega (arith, occupant_made records c.args.handle is)
+    omega (arith, occupant_made c.self.inside.records.items c.args.handle is)
 
 pub overflow_sub-self : goal.overflow_sub-self
 overflow_sub-self c =
     let records = c.self.inside.records.items in
-    let is = lives (goal.at.overflow_sub-self c).After-self in
     one_lives c.self.inside.limits records c.self.inside.pending.items c.self.inside.live
-    c.args.handle c.self.invariant is
+    c.args.handle c.self.invariant (lives (goal.at.overflow_sub-self c).After-self)
 
 pub from_parts-requires : goal.from_parts-requires
 from_parts-requires c = search (rules, lives, not_last, occupant_generation, occupant_made)
 
 pub invariant_of-self-2 : goal.invariant_of-self-2
 invariant_of-self-2 c =
-    let records = c.self.inside.records.items in
     let is = lives (goal.at.invariant_of-self-2 c).After-self in
     let position_is : c.len-position.result ≡ length c.self.inside.pending.items = omega arith in
     rw (
@@ -47,7 +41,7 @@ invariant_of-self-2 c =
       c.index-index.ensures,
       c.in_ok-push.ensures.items,
     )
-    (rw c.index-index.ensures (release_keeps_links c.self.inside.limits records
+    (rw c.index-index.ensures (release_keeps_links c.self.inside.limits c.self.inside.records.items
     c.self.inside.pending.items c.self.inside.live c.args.handle c.self.invariant is
     (not_last (goal.at.invariant_of-self-2 c).After-self)))
 
@@ -58,14 +52,9 @@ returns-clause-ok c =
     let is = lives (goal.at.returns-clause-ok c).After-self in
     let position_is : c.len-position.result ≡ length pending = omega arith in
     let pushed = c.in_ok-push.ensures.items ∙ ap (λ n. pending ++ n ∷ []) c.index-index.ensures in
-    (λ i. roster_of c.self.inside.limits (set records (c.index-index.ensures i)
-    (record {
-      generation = c.generation-generation.ensures i + 1;
-      occupancy = Pending (position_is i);
-    })) (pushed i))
+    (search (rules, c.self.inside.limits, c.index-index.ensures, c.generation-generation.ensures))
     ∙ roster_of-release c.self.inside.limits records pending c.self.inside.live c.args.handle
-    c.self.invariant is
-    ∙ ap (λ (r : Roster). record r {
+    c.self.invariant is ∙ ap (λ (r : Roster). record r {
       live = sets.remove r.live c.args.handle;
       rows = maps.remove r.rows c.args.handle;
       pending = r.pending ++ following c.args.handle ∷ [];

@@ -15,20 +15,17 @@ lives : (c : After-self) → is_occupant c.self.inside.records.items c.args.hand
 lives c = search (rules, lives_in)
 
 pub index_mut-requires : goal.index_mut-requires
-index_mut-requires c =
-    let index = c.index-index.ensures in
-    omega (
-      arith,
-      occupant_made c.self.inside.records.items c.args.handle
-          (lives (goal.at.index_mut-requires c).After-self),
-    )
+index_mut-requires c = omega (
+  arith,
+  occupant_made c.self.inside.records.items c.args.handle
+      (lives (goal.at.index_mut-requires c).After-self),
+)
 
 pub overflow_sub-self : goal.overflow_sub-self
 overflow_sub-self c =
     let records = c.self.inside.records.items in
-    let is = lives (goal.at.overflow_sub-self c).After-self in
     one_lives c.self.inside.limits records c.self.inside.pending.items c.self.inside.live
-    c.args.handle c.self.invariant is
+    c.args.handle c.self.invariant (lives (goal.at.overflow_sub-self c).After-self)
 
 pub invariant_of-self : goal.invariant_of-self
 invariant_of-self c =

@@ -1,8 +1,5 @@
-use Rattle.std.proofs.Common.{rules, ◌≡◌, ◌-◌, [], ◌∷◌, length, set, slice_get, take, Some, sym, ap}
-use Rattle.std.proofs.Common.{◌∙◌}
-use Rattle.std.specs.FinSet as sets
+use Rattle.std.proofs.Common.{rules, ◌≡◌, ◌-◌, length, set, slice_get, Some, sym, ap, ◌∙◌}
 use Rattle.std.proofs.lemmas.List.{get_or_read}
-use Rattle.ent_alloc.specs.declared.slot_record.SlotRecord.{SlotRecord}
 use Rattle.ent_alloc.specs.declared.slot_record.Occupancy.TheVariants.{Alive}
 use Rattle.ent_alloc.specs.Roster.{Roster}
 use Rattle.ent_alloc.specs.Slots.{roster_of, record_at, handle_at}
@@ -21,10 +18,7 @@ invariant_of-self-2 c =
     let e = c.self.inside in
     let index = c.in_ok-index.index in
     let rest = c.pop.new.self.items in
-    let last = c.in_ok-index.ensures.items in
-    let read = read (goal.at.invariant_of-self-2 c).After-index_mut-record in
-    rw (ap (λ (r : SlotRecord). r.generation) read) (reuse_last_keeps_links e.limits e.records.items
-    e.pending.items rest e.live index c.self.invariant last)
+    search (rules, c.in_ok-index.ensures.items, read, reuse_last_keeps_links, c.self.invariant)
 
 pub returns-clause-last : goal.returns-clause-last
 returns-clause-last c =
@@ -49,11 +43,5 @@ returns-clause-some c =
     ∙ (λ i. record { index = index; generation = (read i).generation }) in
     (λ i. roster_of e.limits
     (set e.records.items index (record { generation = (read i).generation; occupancy = Alive }))
-    rest)
-    ∙ roster_of-reuse_last e.limits e.records.items e.pending.items rest e.live index
-    c.self.invariant last
-    ∙ (λ i. let r : Roster = c.self.view_is i in
-    record r {
-      live = sets.union r.live (sets.from_list (sym h i ∷ []));
-      pending = take (length r.pending - 1) r.pending;
-    })
+    rest) ∙ roster_of-reuse_last e.limits e.records.items e.pending.items rest e.live index
+    c.self.invariant last ∙ (search (rules, c.self.view_is))

@@ -14,13 +14,11 @@ lives : (c : After-self) → is_occupant c.self.inside.records.items c.args.hand
 lives c = search (rules, lives_in)
 
 pub index_mut-requires : goal.index_mut-requires
-index_mut-requires c =
-    let index = c.index.ensures in
-    omega (
-      arith,
-      occupant_made c.self.inside.records.items c.args.handle
-          (lives (goal.at.index_mut-requires c).After-self),
-    )
+index_mut-requires c = omega (
+  arith,
+  occupant_made c.self.inside.records.items c.args.handle
+      (lives (goal.at.index_mut-requires c).After-self),
+)
 
 pub invariant_of-self : goal.invariant_of-self
 invariant_of-self c =
@@ -29,8 +27,7 @@ invariant_of-self c =
     let lives = lives (goal.at.invariant_of-self c).After-self in
     rw (lent_set e.records.items h c.index.result c.index_mut.result.now
     (AliveWithRow c.args.row) lives c.index.ensures c.index_mut.ensures.value)
-    (set_row_keeps_links e.limits e.records.items e.pending.items e.live h c.args.row
-    c.self.invariant lives)
+    (search (rules, set_row_keeps_links, c.args.row, c.self.invariant, lives))
 
 pub returns : goal.returns
 returns c =
