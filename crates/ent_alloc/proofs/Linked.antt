@@ -45,16 +45,10 @@ module _ (limits : Limits) (records : List SlotRecord) (pending : List ℕ) (liv
       ≡ Pending position → position < from
   position_below index position made is =
       let still = waited-reused records from (drop from pending) index position Wait-drop is in
-      let listed : position < length pending = linked.listed index position made still.before in
-      let back : get_or pending position 0 ≡ index = linked.back index position made still.before in
-      let clash : from ≤ position → ⊥ =
-      λ above.
-      let at : position - from < length (drop from pending) =
-      omega (arith, length-drop from pending) in
-      let there : from + (position - from) ≡ position = omega arith in
-      still.apart (position - from) at (get_or-drop from pending (position - from) 0
-      ∙ ap (λ n. get_or pending n 0) there ∙ back) in
-      elim (cases_lt position from) [ inl below ↦ below | inr above ↦ absurd (clash above) ]
+      let listed = linked.listed index position made still.before in
+      let back = linked.back index position made still.before in
+      let apart = still.apart (position - from) in
+      search (rules, cases_lt, length-drop, get_or-drop, apart, back)
 
   pub reuse_keeps_links : AreLinked limits alive (take from pending) (live
       + (length pending - from))

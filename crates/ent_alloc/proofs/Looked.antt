@@ -5,12 +5,10 @@ use Rattle.std.proofs.Common.{rules, ◌≡◌, ◌≢◌, ℕ, ◌+◌, ◌-◌
 use Rattle.std.proofs.Common.{eqb, ltb, List, length, get_or, set, drop, map, refl, sym, ap, ◌∙◌}
 use Rattle.std.proofs.Common.{arith, Option, None, Some}
 use Rattle.std.specs.List.{Contains}
-use Rattle.std.specs.Option.{OnSome}
 use Rattle.std.specs.FinSet as sets
 use Rattle.std.specs.FinMap as maps
 use Rattle.std.proofs.lemmas.Bool.{cases_eq, cases_lt, false≢true, and_parts, and_from, eqb-true}
-use Rattle.std.proofs.lemmas.Bool.{leb-true, ltb-true, eq-eqb, le-leb, lt-ltb, le-ltb}
-use Rattle.std.proofs.lemmas.Bool.{false_from_ne_true}
+use Rattle.std.proofs.lemmas.Bool.{leb-true, ltb-true, eq-eqb, le-leb, lt-ltb, false_from_ne_true}
 use Rattle.std.proofs.lemmas.List.{get_or-drop, get_or-map, get_or_past, length-drop, length-map}
 use Rattle.std.proofs.lemmas.List.{length-set, get_or-set_same, get_or-set_other}
 use Rattle.ent_handle.specs.Handle.{Handle, handle_cmp, handle_cmp_total}
@@ -22,9 +20,9 @@ use Rattle.ent_alloc.specs.declared.slot_record.SlotRecord.{SlotRecord}
 use Rattle.ent_alloc.specs.declared.slot_record.Occupancy.{Occupancy}
 use Rattle.ent_alloc.specs.declared.slot_record.Occupancy.TheVariants.{Alive, AliveWithRow, Pending}
 use Rattle.ent_alloc.specs.declared.slot_record.Occupancy.TheVariants.{Retired}
-use Rattle.ent_alloc.specs.Slots.{occupants, occupancy_of, is_alive, lives, row_of, row_kept}
-use Rattle.ent_alloc.specs.Slots.{record_at, no_slot, handle_at, rows_from, is_pending_from}
-use Rattle.ent_alloc.specs.Slots.{waits_from, roster_of, AreLinked}
+use Rattle.ent_alloc.specs.Slots.{occupants, occupancy_of, lives, row_kept, record_at, no_slot}
+use Rattle.ent_alloc.specs.Slots.{handle_at, rows_from, is_pending_from, waits_from, roster_of}
+use Rattle.ent_alloc.specs.Slots.{AreLinked}
 use Rattle.ent_alloc.proofs.HandleSets.{Contains-from_stands_in, stands_in-from_Contains}
 use Rattle.ent_alloc.proofs.FreshHandles.{length-fresh, get_or-fresh}
 use Rattle.ent_alloc.proofs.Occupants.{is_occupant, has_occupant, contains_occupants}
@@ -50,29 +48,12 @@ and-false : (b : Bool) → (b && false) ≡ false
 and-false true = refl
 and-false false = refl
 
-lives_if : (made same : Bool) (o : Occupancy) → (made ≡ false → is_alive o ≡ false)
-    → (is_alive o && same) ≡ lives (cond (made && same) (Some o) None)
-lives_if true true o none = and-true (is_alive o)
-lives_if true false o none = and-false (is_alive o)
-lives_if false same o none = ap (λ b. b && same) (none refl)
-
-row_if : (made same : Bool) (o : Occupancy) → (made ≡ false → row_of o ≡ None)
-    → cond same (row_of o) None ≡ row_kept (cond (made && same) (Some o) None)
-row_if true true o none = refl
-row_if true false o none = refl
-row_if false true o none = none refl
-row_if false false o none = refl
-
 waits_if : (made same : Bool) (o : Occupancy) (from : ℕ)
     → (made && (is_pending_from o from && same)) ≡ waits_from (cond (made && same) (Some o) None)
     from
 waits_if true true o from = and-true (is_pending_from o from)
 waits_if true false o from = and-false (is_pending_from o from)
 waits_if false same o from = refl
-
-anyhow : (o : Option Occupancy) (P : Type 0) → P → OnSome o P
-anyhow None P so = tt
-anyhow (Some x) P so = so
 
 module _ (records : List SlotRecord) (h : Handle) where
   abbrev found_record : SlotRecord
@@ -83,10 +64,6 @@ module _ (records : List SlotRecord) (h : Handle) where
 
   pub is_occupant-occupancy : is_occupant records h ≡ lives (occupancy_of records h)
   is_occupant-occupancy = grind (arith, common_steps)
-
-  -- what is found was made
-  pub made-occupancy : OnSome (occupancy_of records h) (h.index < length records)
-  made-occupancy = search (rules, cases_lt, anyhow, le-ltb)
 
   pub row_at-occupancy : row_at records h ≡ row_kept (occupancy_of records h)
   row_at-occupancy = grind (arith, common_steps)

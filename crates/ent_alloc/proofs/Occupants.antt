@@ -119,19 +119,7 @@ len_occupants index [] = sets.len-empty handle_cmp
 len_occupants index (r ∷ records) =
     search (rules, one_more, absent_below, len_occupants (index + 1) records)
 
--- which record stands at an index after one is set
-record-set : (records : List SlotRecord) (index : ℕ) (r : SlotRecord) (at : ℕ) → index
-    < length records → record_at (set records index r) at
-    ≡ cond (eqb at index) r (record_at records at)
-record-set records index r at within = grind (arith, common_steps)
-
 -- ---- one record set
-
--- what is read of the records sees one record set at its index alone
-pub read-set : {A : Type 0} (f : SlotRecord → A) (records : List SlotRecord) (index : ℕ)
-    (r : SlotRecord) (at : ℕ) → index < length records → f (record_at (set records index r) at)
-    ≡ cond (eqb at index) (f r) (f (record_at records at))
-read-set f records index r at within = search (rules, record-set)
 
 -- so does the set
 pub is_occupant-set : (records : List SlotRecord) (index : ℕ) (r : SlotRecord) (q : Handle) → index

@@ -2,7 +2,7 @@
 -- linked, and the roster loses the occupant.
 use Rattle.std.proofs.Common.{rules, ◌≡◌, ◌≢◌, ℕ, ◌+◌, ◌-◌, ◌<◌, ◌≤◌, Bool, true, false, cond, not}
 use Rattle.std.proofs.Common.{◌&&◌, eqb, List, [], ◌∷◌, ◌++◌, length, get_or, set, refl, sym, ap}
-use Rattle.std.proofs.Common.{◌∙◌, arith, inl, inr, Option, None, map}
+use Rattle.std.proofs.Common.{◌∙◌, arith, Option, None, map}
 use Rattle.std.specs.FinSet as sets
 use Rattle.std.specs.FinMap as maps
 use Rattle.std.proofs.lemmas.Bool.{cases_lt, cases_eq, false≢true}
@@ -19,7 +19,6 @@ use Rattle.ent_alloc.specs.Slots.{occupants, is_alive, row_of, record_at, no_slo
 use Rattle.ent_alloc.specs.Slots.{rows_from, roster_of, AreLinked}
 use Rattle.ent_alloc.proofs.Occupants.{is_occupant, contains_occupants, is_occupant-set, ties, one}
 use Rattle.ent_alloc.proofs.Occupants.{length-occupants-set}
-use Rattle.ent_alloc.proofs.Reused.{position_of}
 use Rattle.ent_alloc.proofs.LivingOccupant.{occupant_made, occupant_alive, occupant_generation}
 use Rattle.ent_alloc.proofs.LivingOccupant.{is_occupant-same_slot, row_at-same_slot}
 use Rattle.ent_alloc.proofs.KeptRows.{row_at, row_at-set, get_rows}
@@ -117,76 +116,10 @@ module _ (limits : Limits) (records : List SlotRecord) (pending : List ℕ) (liv
   pub release_keeps_links : h.generation ≢ limits.generations
       → AreLinked limits released (pending ++ h.index ∷ []) (live - 1)
   release_keeps_links before =
-      let long : length released ≡ length records = length-set records h.index vacant in
-      let more : length (pending ++ h.index ∷ []) ≡ length pending + 1 = length_push pending h.index
-      in
-      let counted = linked.counted in
-      let each = linked.each_once in
-      let few = linked.few in
       let less = fewer vacant refl refl in
       let generation = occupant_generation records h lives in
       let greatest = linked.greatest h.index made_slot in
-      record {
-        limited = linked.limited;
-        few = omega arith;
-        counted = omega arith;
-        each_once = omega arith;
-        least = generation_in vacant refl refl (λ g. 1 ≤ g) (omega arith) linked.least;
-        greatest = generation_in vacant refl refl (λ g. g ≤ limits.generations) (omega arith)
-            linked.greatest;
-        made = λ position below.
-            elim (cases_lt position (length pending)) [
-              | inl old ↦ (let b = linked.made position old in
-                  omega (arith, get_or_append_left pending (h.index ∷ []) 0 position old))
-              | inr new ↦ (let b = made_slot in omega (
-                arith,
-                get_or_push pending h.index 0 position (omega arith),
-              ))
-            ];
-        forward = λ position below.
-            elim (cases_lt position (length pending)) [
-              | inl old ↦
-                  ap (λ n. (record_at released n).occupancy)
-                  (get_or_append_left pending (h.index ∷ []) 0 position old)
-                  ∙ ap (λ (r : SlotRecord). r.occupancy)
-                  (other vacant refl refl (get_or pending position 0) (apart position old))
-                  ∙ linked.forward position old
-              | inr new ↦
-                  ap (λ n. (record_at released n).occupancy) (get_or_push pending h.index 0 position
-                  (omega arith))
-                  ∙ ap (λ (r : SlotRecord). r.occupancy) (same vacant refl refl)
-                  ∙ ap Pending (omega arith)
-            ];
-        listed = λ index position within is.
-            elim (cases_eq index h.index) [
-              | inl e ↦
-                  (let at : Pending (length pending) ≡ Pending position =
-                  sym (ap (λ (r : SlotRecord). r.occupancy) (same_at vacant refl refl index e)) ∙ is
-                  in
-                  let there : length pending ≡ position = ap position_of at in omega arith)
-              | inr ne ↦
-                  (let b = linked.listed index position (omega arith)
-                  (sym
-                  (ap (λ (r : SlotRecord). r.occupancy) (other vacant refl refl index ne)) ∙ is) in
-                  omega arith)
-            ];
-        back = λ index position within is.
-            elim (cases_eq index h.index) [
-              | inl e ↦
-                  (let at : Pending (length pending) ≡ Pending position =
-                  sym (ap (λ (r : SlotRecord). r.occupancy) (same_at vacant refl refl index e)) ∙ is
-                  in
-                  let there : length pending ≡ position = ap position_of at in
-                  get_or_push pending h.index 0 position there ∙ sym e)
-              | inr ne ↦
-                  (let old_is =
-                  sym (ap (λ (r : SlotRecord). r.occupancy) (other vacant refl refl index ne)) ∙ is
-                  in
-                  let b = linked.listed index position (omega arith) old_is in
-                  get_or_append_left pending (h.index ∷ []) 0 position b
-                  ∙ linked.back index position (omega arith) old_is)
-            ];
-      }
+      search (rules, length-set, length_push, generation_in vacant refl refl, cases_lt, cases_eq, get_or_append_left, get_or_push, other vacant refl refl, same vacant refl refl, same_at vacant refl refl, apart, made_slot)
 
   pub roster_of-release : roster_of limits released (pending ++ h.index ∷ [])
       ≡ record (roster_of limits records pending) {
@@ -203,11 +136,6 @@ module _ (limits : Limits) (records : List SlotRecord) (pending : List ℕ) (liv
 
   abbrev retired : List SlotRecord
   retired = set records h.index unused
-
-  -- it waits nowhere
-  waits_else : (index position : ℕ) → (record_at retired index).occupancy ≡ Pending position
-      → (record_at records index).occupancy ≡ Pending position
-  waits_else index position is = search (rules, cases_eq, Retired≢Pending, same_at, other)
 
   pub retire_keeps_links : AreLinked limits retired pending (live - 1)
   retire_keeps_links = search (rules, fewer unused refl refl, made_slot)

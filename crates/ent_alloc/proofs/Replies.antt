@@ -6,8 +6,7 @@ use Rattle.std.proofs.Common.{Contains, IsPermutation, Ok, Err, arith, le-leb}
 use Rattle.std.proofs.lemmas.Grind.{common_steps}
 use Rattle.std.proofs.lemmas.Bool.{lt-leb}
 use Rattle.std.proofs.lemmas.Bool.Decides.{nat_tests}
-use Rattle.std.proofs.lemmas.List.Elements.{All-take, All-contains, Contains-append_right}
-use Rattle.std.proofs.lemmas.List.Elements.{All-contains_itself}
+use Rattle.std.proofs.lemmas.List.Elements.{All-take, Contains-append_right, All-contains_itself}
 use Rattle.std.proofs.lemmas.List.Sorted.{IsPermutation-refl, IsPermutation-sym}
 use Rattle.std.proofs.lemmas.List.Sorted.{IsPermutation-trans, IsPermutation-append}
 use Rattle.std.proofs.lemmas.List.Sorted.{IsPermutation-reverse, IsPermutation-filter_both}
@@ -17,8 +16,8 @@ use Rattle.ent_alloc.specs.declared.space.Space.{Space}
 use Rattle.ent_alloc.specs.Sequential.{Allocator, available, after_take, listed, reply_to, is_old}
 use Rattle.ent_alloc.specs.Sequential.{is_fresh}
 use Rattle.ent_alloc.specs.Sound.{IsSound, AreApart, IsLive}
-use Rattle.ent_alloc.proofs.ListLaws.{AllPairs-right, AllPairs-take, AllPairs-across}
-use Rattle.ent_alloc.proofs.ListLaws.{AllPairs-IsPermutation, All-right}
+use Rattle.ent_alloc.proofs.ListLaws.{AllPairs-right, AllPairs-take, AllPairs-IsPermutation}
+use Rattle.ent_alloc.proofs.ListLaws.{All-right}
 use Rattle.ent_alloc.proofs.Taken.{after_take-served}
 
 -- a handle is fresh where it is not old
@@ -67,14 +66,6 @@ distinct_from_apart handles h i j d lt within same = h i j d lt within (ap (λ x
 pub of_pool : (P : Handle → Type 0) (s : Allocator) → All P (available s) → All P s.pool
 of_pool P s all = All-right P s.aside s.pool (All-right P s.taken (s.aside ++ s.pool) all)
 
--- what is taken is of other slots than what is in the pool
-taken_apart : (s : Allocator) (g : Handle) → IsSound s → Contains s.taken g
-    → All (AreApart g) s.pool
-taken_apart s g h in_taken =
-    let across = AllPairs-across AreApart s.taken (s.aside ++ s.pool) h.apart in
-    All-right (AreApart g) s.aside s.pool (All-contains (λ g. All (AreApart g) (s.aside ++ s.pool))
-    s.taken g across in_taken)
-
 module _ (s : Allocator) (n : ℕ) (given : List Handle) (is : reply_to s n ≡ Ok given) where
   -- it lists the front of the pool in another order
   pub reply-IsPermutation : IsPermutation (take n s.pool) given
@@ -120,11 +111,6 @@ module _ (s : Allocator) (n : ℕ) (given : List Handle) (is : reply_to s n ≡ 
   -- so none is alive
   pub reply-not_live : IsSound s → All (λ x. ¬ (IsLive s x)) given
   reply-not_live h k d lt alive = search (rules, not_apart, reply-apart_from_live)
-
-  -- none is of a slot from which something is taken
-  pub reply-apart_from_taken : IsSound s → (x : Handle) → Contains s.taken x
-      → All (AreApart x) given
-  reply-apart_from_taken h x in_taken = of_reply (AreApart x) (taken_apart s x h in_taken)
 
 -- a refused request takes nothing
 pub taken-after_refused : (s : Allocator) (n : ℕ) (space : Space) → reply_to s n ≡ Err space

@@ -1,12 +1,12 @@
 -- What becomes of the records when pending slots get their next occupants.
 use Rattle.std.proofs.Common.{rules, ◌≡◌, ◌≢◌, ℕ, ◌+◌, ◌<◌, Bool, true, false, cond, ◌&&◌, ◌||◌}
 use Rattle.std.proofs.Common.{eqb, List, [], ◌∷◌, length, get_or, set, map, refl, sym, ap, ◌∙◌}
-use Rattle.std.proofs.Common.{arith, suc, zero}
+use Rattle.std.proofs.Common.{arith, suc}
 use Rattle.std.proofs.lemmas.Grind.{common_steps}
 use Rattle.std.specs.List.{list_any}
 use Rattle.std.specs.Ordering.{eq_by_cmp}
 use Rattle.std.specs.FinSet as sets
-use Rattle.std.proofs.lemmas.List.{get_or-set_same, get_or-set_other, length-set}
+use Rattle.std.proofs.lemmas.List.{get_or-set_other, length-set}
 use Rattle.ent_handle.specs.Handle.{Handle, handle_cmp, handle_cmp_total}
 use Rattle.ent_handle.specs.Handle.{handle_cmp-IsAntisymmetric}
 use Rattle.ent_alloc.proofs.ListLaws.{eqb_sym}
@@ -14,8 +14,7 @@ use Rattle.ent_alloc.specs.declared.slot_record.SlotRecord.{SlotRecord}
 use Rattle.ent_alloc.specs.declared.slot_record.Occupancy.{Occupancy}
 use Rattle.ent_alloc.specs.declared.slot_record.Occupancy.TheVariants.{Alive, AliveWithRow, Pending}
 use Rattle.ent_alloc.specs.declared.slot_record.Occupancy.TheVariants.{Retired}
-use Rattle.ent_alloc.specs.Slots.{occupants, record_at, no_slot, is_alive, row_of, rows_from, reuse}
-use Rattle.ent_alloc.specs.Slots.{reused, handle_at}
+use Rattle.ent_alloc.specs.Slots.{occupants, record_at, rows_from, reuse, reused, handle_at}
 use Rattle.ent_alloc.proofs.Occupants.{is_occupant, contains_occupants, is_occupant-set}
 use Rattle.ent_alloc.proofs.Occupants.{length-occupants-set, ties, one}
 use Rattle.ent_alloc.proofs.KeptRows.{rows_from-set}
@@ -37,21 +36,12 @@ pub Wait-rest : (records : List SlotRecord) (from index : ℕ) (indices : List �
     → Wait records from (index ∷ indices)
     → Wait (set records index (reuse (record_at records index))) (from + 1) indices
 Wait-rest records from index indices wait = record {
-  made = λ k within. let h : get_or indices k 0 < length records = wait.made (suc k) (omega arith)
-      in omega (arith, length-set records index (reuse (record_at records index)));
+  made = λ k within. let h = wait.made (suc k) (omega arith) in
+      omega (arith, length-set records index (reuse (record_at records index)));
   pending = λ k within.
-      let here : (record_at records index).occupancy ≡ Pending (from + 0) =
-      wait.pending 0 (omega arith) in
-      let there : (record_at records (get_or indices k 0)).occupancy ≡ Pending (from + suc k) =
-      wait.pending (suc k) (omega arith) in
-      let apart : get_or indices k 0 ≢ index =
-      λ e. let same : Pending (from + suc k) ≡ Pending (from + 0) = sym there
-      ∙ ap (λ n. (record_at records n).occupancy) e ∙ here in
-      let clash : from + suc k ≡ from + 0 = ap position_of same in absurd (omega arith) in
-      ap (λ (r : SlotRecord). r.occupancy) (get_or-set_other records index (get_or indices k 0)
-      (reuse (record_at records index)) no_slot apart)
-      ∙ there
-      ∙ ap Pending (omega arith);
+      let here = wait.pending 0 (omega arith) in
+      let there = wait.pending (suc k) (omega arith) in
+      grind (arith, common_steps);
 }
 
 pub length-reused : (records : List SlotRecord) (indices : List ℕ) → length (reused records indices)
@@ -81,13 +71,14 @@ pub waiting-reused : (records : List SlotRecord) (from : ℕ) (indices : List �
     < from → (record_at (reused records indices) at).occupancy ≡ Pending position
 waiting-reused records from [] at position wait is below = is
 waiting-reused records from (index ∷ indices) at position wait is below =
-    let here : (record_at records index).occupancy ≡ Pending (from + 0) =
-    wait.pending 0 (omega arith) in
+    let here = wait.pending 0 (omega arith) in
     let apart : at ≢ index = search rules in
-    waiting-reused (set records index (reuse (record_at records index))) (from + 1) indices at
-    position (Wait-rest records from index indices wait)
-    (ap (λ (r : SlotRecord). r.occupancy) (get_or-set_other records index at
-    (reuse (record_at records index)) no_slot apart) ∙ is) (omega arith)
+    search (
+      rules,
+      waiting-reused (set records index (reuse (record_at records index))) (from + 1) indices at
+          position (Wait-rest records from index indices wait),
+      get_or-set_other,
+    )
 
 -- one that waits now waited before, and is none of these
 pub record StillWaits (records : List SlotRecord) (indices : List ℕ) (at position : ℕ) : Type 0
@@ -105,25 +96,8 @@ waited-reused records from [] at position wait is = search (rules)
 waited-reused records from (index ∷ indices) at position wait is =
     let later = waited-reused (set records index (reuse (record_at records index))) (from + 1)
     indices at position (Wait-rest records from index indices wait) is in
-    let woke : (record_at (set records index (reuse (record_at records index))) index).occupancy
-    ≡ Alive =
-    ap (λ (r : SlotRecord). r.occupancy)
-    (get_or-set_same records index (reuse (record_at records index)) no_slot
-    (wait.made 0 (omega arith))) in
-    let apart : index ≢ at = λ e. Alive≢Pending (sym woke
-    ∙ ap (λ n. (record_at (set records index (reuse (record_at records index))) n).occupancy) e
-    ∙ later.before) in
-    record {
-      before = sym (ap (λ (r : SlotRecord). r.occupancy) (get_or-set_other records index at
-          (reuse (record_at records index)) no_slot (λ e. apart (sym e)))) ∙ later.before;
-      apart = λ k within. each k within apart later.apart;
-    }
-  where
-    each : (k : ℕ) → k < length (index ∷ indices) → index ≢ at
-        → ((j : ℕ) → j < length indices → get_or indices j 0 ≢ at) → get_or (index ∷ indices) k 0
-        ≢ at
-    each zero within first rest = first
-    each (suc k) within first rest = rest k (omega arith)
+    let within = wait.made 0 (omega arith) in
+    grind (arith, common_steps, later.before, later.apart)
 
 -- each of them has a occupant more
 pub length-occupants-reused : (records : List SlotRecord) (from : ℕ) (indices : List ℕ)
@@ -131,36 +105,24 @@ pub length-occupants-reused : (records : List SlotRecord) (from : ℕ) (indices 
     ≡ length (occupants 0 records) + length indices
 length-occupants-reused records from [] wait = omega arith
 length-occupants-reused records from (index ∷ indices) wait =
-    let here : (record_at records index).occupancy ≡ Pending (from + 0) =
-    wait.pending 0 (omega arith) in
-    let slept : is_alive (record_at records index).occupancy ≡ false = ap is_alive here in
-    let step = length-occupants-set 0 records index (reuse (record_at records index))
-    (wait.made 0 (omega arith)) in
-    let later = length-occupants-reused (set records index (reuse (record_at records index))) (from
-    + 1) indices (Wait-rest records from index indices wait) in
-    search (rules, one)
+    let here = wait.pending 0 (omega arith) in
+    let step = length-occupants-set 0 records index (reuse (record_at records index)) (wait.made 0 (omega arith)) in
+    search (rules, one, length-occupants-reused (set records index (reuse (record_at records index))) (from + 1) indices, Wait-rest, step)
 
 -- the rows stay
 pub rows_from-reused : (records : List SlotRecord) (from : ℕ) (indices : List ℕ)
     → Wait records from indices → rows_from 0 (reused records indices) ≡ rows_from 0 records
 rows_from-reused records from [] wait = refl
 rows_from-reused records from (index ∷ indices) wait =
-    let here : (record_at records index).occupancy ≡ Pending (from + 0) =
-    wait.pending 0 (omega arith) in
-    rows_from-reused (set records index (reuse (record_at records index))) (from + 1) indices
-    (Wait-rest records from index indices wait)
-    ∙ rows_from-set 0 records index (reuse (record_at records index)) refl (ap row_of here)
+    let here = wait.pending 0 (omega arith) in
+    search (rules, rows_from-reused (set records index (reuse (record_at records index))) (from + 1) indices, Wait-rest, rows_from-set)
 
 one_reused : (same : Bool) (gen : Bool) (old : Bool) → (same ≡ true → old ≡ false)
     → cond same gen old ≡ ((same && gen) || old)
-one_reused true true old f = refl
-one_reused true false old f = sym (f refl)
-one_reused false gen old f = refl
+one_reused same gen old f = grind (arith, common_steps)
 
 or_swap : (a b c : Bool) → ((a || b) || c) ≡ (b || (a || c))
-or_swap true true c = refl
-or_swap true false c = refl
-or_swap false b c = refl
+or_swap a b c = grind (arith, common_steps)
 
 slept_no_occupant : (records : List SlotRecord) (index : ℕ) (q : Handle) (position : ℕ)
     → (record_at records index).occupancy ≡ Pending position → eqb q.index index ≡ true

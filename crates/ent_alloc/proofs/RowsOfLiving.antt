@@ -1,8 +1,7 @@
 -- Rows are kept of the living alone, whatever a call does.
 use Rattle.std.proofs.Common.{rules, ◌≡◌, true, false, cond, not, ◌&&◌, ℕ, List, refl, ap, ◌∙◌}
-use Rattle.std.proofs.Common.{None, Some, IsTrue, All, slice_get, subst}
+use Rattle.std.proofs.Common.{None, Some, IsTrue, All}
 use Rattle.std.specs.Ordering.{eq_by_cmp}
-use Rattle.std.proofs.lemmas.Option.{get_or_from_slice_get, slice_get_within}
 use Rattle.std.specs.FinSet as sets
 use Rattle.std.specs.FinMap as maps
 use Rattle.ent_handle.specs.Handle.{Handle, handle_cmp, handle_cmp_total}
@@ -55,13 +54,6 @@ rows-inserted live x row rows lives kept h gone =
 -- what is in the pool is not alive
 pool-not_live : (s : Allocator) → IsSound s → All (λ x. ¬ (IsLive s x)) s.pool
 pool-not_live s h = of_pool (λ x. ¬ (IsLive s x)) s (search rules)
-
--- so the front of the pool has no row
-pub front-no_row : (e : Entities) (h : Handle) → HasRowsOfLiving e → IsSound e.allocator
-    → slice_get e.allocator.pool 0 ≡ Some h → maps.get e.rows h ≡ None
-front-no_row e h kept sound front = kept h (subst (λ x. ¬ (IsLive e.allocator x))
-    (get_or_from_slice_get e.allocator.pool 0 h h front)
-    (pool-not_live e.allocator sound 0 h (slice_get_within e.allocator.pool 0 h front)))
 
 -- nor has what a flush brings to life
 pub born-no_row : (e : Entities) → HasRowsOfLiving e → IsSound e.allocator

@@ -2,7 +2,7 @@
 use Rattle.std.proofs.Common.{rules, ◌≡◌, refl, sym, ap, ◌∙◌, subst, ℕ, zero, suc, ◌+◌, ◌-◌, ◌<◌}
 use Rattle.std.proofs.Common.{◌≤◌, true, false, true≢false, List, [], ◌∷◌, ◌++◌, length, get_or}
 use Rattle.std.proofs.Common.{take, drop, All, AllPairs, arith, append-nil, lt-ltb, le-ltb, ◌≢◌}
-use Rattle.std.proofs.Common.{eq-eqb, inl, inr, Some, None, Option}
+use Rattle.std.proofs.Common.{inl, inr, Some, None, Option}
 use Rattle.std.proofs.lemmas.Grind.{common_steps}
 use Rattle.std.specs.Option.{IfSome}
 use Rattle.std.proofs.lemmas.Bool.{cases_lt}
@@ -68,11 +68,6 @@ after_take-sound s n h = elim (cases_lt (length s.pool) n) [
       (ap (drop n) h.pool ∙ drop-drop n s.asked (available s)) (λ enough. h.aside (omega arith))
       )
 ]
-
--- after the last generation comes nothing
-pub next-last : (limits : Limits) (h : Handle) → h.generation ≡ limits.generations → next limits h
-    ≡ None
-next-last limits h last = search (rules, eq-eqb)
 
 -- else the next one
 pub next-later : (limits : Limits) (h : Handle) → h.generation ≢ limits.generations → next limits h

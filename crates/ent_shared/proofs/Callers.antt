@@ -1,3 +1,4 @@
+use Rattle.std.proofs.Common.{rules}
 -- The calls of one caller among those of all, and records of which no two have one number.
 use Rattle.std.proofs.lemmas.Grind.{common_steps}
 use Rattle.std.proofs.Common.{◌≡◌, ◌≢◌, ℕ, ◌+◌, ◌≤◌, ⊎_elim, List, [], ◌∷◌, refl, sym, ap, ◌∙◌}
@@ -20,17 +21,7 @@ pub sum_by_caller : (caller : ℕ) (f : Reservation → ℕ) (cs : List Reservat
     → sum_by f (reservations_by caller cs) ≡ sum_by (only caller f) cs
 sum_by_caller caller f [] = refl
 sum_by_caller caller f (c ∷ cs) =
-    let rest = sum_by_caller caller f cs in
-    let goal : Bool → Type 0 = λ b.
-    sum_by f (cond b (c ∷ reservations_by caller cs) (reservations_by caller cs))
-    ≡ cond b (f c) 0 + sum_by (only caller f) cs in
-    let more : sum_by f (c ∷ reservations_by caller cs) ≡ f c
-    + sum_by f (reservations_by caller cs) = sum_by-cons f c (reservations_by caller cs) in
-    let yes : goal true = omega arith in
-    let no : goal false = omega arith in
-    let sums : sum_by (only caller f) (c ∷ cs) ≡ only caller f c + sum_by (only caller f) cs =
-    sum_by-cons (only caller f) c cs in
-    (elim (c.caller == caller) as goal [ true ↦ yes | false ↦ no ]) ∙ sym sums
+    grind (arith, common_steps, sum_by-cons, c.caller, sum_by_caller caller f cs)
 
 pub own_by_caller : (number caller : ℕ) (f : Reservation → ℕ) (cs : List Reservation)
     → All (λ (c : Reservation). c.caller ≡ number) cs → sum_by (only caller f) cs
@@ -67,14 +58,7 @@ none_of_number number g (r ∷ rs) none =
     let counts : count_by (λ (x : Record). x.number == number) (r ∷ rs)
     ≡ cond (r.number == number) 1 0 + count_by (λ (x : Record). x.number == number) rs =
     sum_by-cons (λ (x : Record). cond (x.number == number) 1 0) r rs in
-    let sums : sum_by (of_number number g) (r ∷ rs) ≡ of_number number g r
-    + sum_by (of_number number g) rs = sum_by-cons (of_number number g) r rs in
-    let rest = none_of_number number g rs (omega arith) in
-    let goal : Bool → Type 0 = λ b. cond {A = ℕ} b 1 0 ≡ 0 → cond b (g r) 0 ≡ 0 in
-    let zero_here : goal (r.number == number) = elim (r.number == number) as goal
-    [ true ↦ (λ e. absurd (omega arith)) | false ↦ (λ e. refl) ] in
-    let here = zero_here (omega arith) in
-    omega arith
+    search (rules, sum_by-cons, none_of_number number g rs (omega arith))
 
 counted : (number : ℕ) (rs : List Record) (r : Record) → Contains rs r → r.number ≡ number → 1
     ≤ count_by (λ (x : Record). x.number == number) rs

@@ -1,3 +1,4 @@
+use Rattle.std.proofs.Common.{rules}
 -- The end of a phase: the history of all records is legal, and the cursor and the least floor tell
 -- the allocator after it.
 use Rattle.std.proofs.lemmas.Grind.{common_steps}
@@ -55,10 +56,7 @@ module _ (start : Allocator) (count : ℕ) (records : List Record) (at : ℤ)
   asked_in_all = follow_asked (cursor start) k.log at k.follow
 
   asked_most : sum_by requested k.log ≤ count * credit
-  asked_most =
-      let all : sum_by (λ (r : Record). r.left) records + sum_by requested k.log ≤ count
-      * credit = k.credit in
-      omega arith
+  asked_most = omega arith
 
   pub cursor_least : count ≤ 1024 → pos (top start) ≤ℤ (at +ℤ pos (2 ^ 50))
   cursor_least few = let all = asked_in_all in let most = few_asked (sum_by requested k.log) count
@@ -78,8 +76,7 @@ module _ (start : Allocator) (count : ℕ) (records : List Record) (at : ℤ)
     itself = record { sound = sound; available_is = refl; made_is = refl }
 
     pub legal : history.IsLegal start (history_of records)
-    legal = subst (history.IsLegal start) (sym history_is) (legal_from start start k.log at itself
-        k.follow k.replied)
+    legal = search (rules, history_is, legal_from, itself)
 
     pub respected : All (Respects (reservations_of records)) records
     respected = respects_all start count records at k whole
@@ -120,73 +117,43 @@ module _ (start : Allocator) (count : ℕ) (records : List Record) (at : ℤ)
         (length (history.after_history start calls).taken)) (sym history_is)))
 
     asked_is : sum (history.requests_of (history_of records)) ≡ sum_by requested k.log
-    asked_is = ap (λ (calls : List history.Call). sum (history.requests_of calls)) history_is
-        ∙ sum_requests k.log
+    asked_is = search (rules, history_is, sum_requests)
 
     final_asked : final.asked ≡ sum_by requested k.log
-    final_asked =
-        let asked = asked-after_takes start (history.requests_of (history_of records)) in
-        let is = asked_is in
-        ap (λ (s : Allocator). s.asked) (after_history-takes start (history_of records))
-        ∙ omega arith
+    final_asked = search (rules, asked-after_takes, asked_is, after_history-takes)
 
     -- its cursor is the one that the word told
     pub final_cursor : cursor final ≡ at
     final_cursor =
-        let takes = cursor-after_takes start (history.requests_of (history_of records)) sound in
-        let here = ap cursor (after_history-takes start (history_of records)) in
-        let is = asked_is in
-        let all = asked_in_all in
-        omega (arith, ints)
+        search (rules, cursor-after_takes, after_history-takes, asked_is, asked_in_all, ints)
 
     final_sound : IsSound final
-    final_sound = subst IsSound (sym (after_history-takes start (history_of records)))
-        (after_takes-sound start (history.requests_of (history_of records)) sound)
+    final_sound = search (rules, after_history-takes, after_takes-sound)
 
     final_available : available final ≡ available start
-    final_available = ap available (after_history-takes start (history_of records))
-        ∙ available-after_takes start (history.requests_of (history_of records)) sound
+    final_available = search (rules, after_history-takes, available-after_takes)
 
     taken_few : length final.taken ≤ top start + (start.limits.slots - start.made)
-    taken_few =
-        let all : length (available final) ≡ top start + (start.limits.slots - start.made) =
-        ap length final_available ∙ length-available start sound in
-        let parts = length-append final.taken (final.aside ++ final.pool) in
-        omega arith
+    taken_few = search (rules, final_available, length-available, length-append)
 
     taken_all : sum_by requested k.log ≤ top start + (start.limits.slots - start.made)
         → length final.taken ≡ sum_by requested k.log
     taken_all enough =
-        let all : length (available final) ≡ top start + (start.limits.slots - start.made) =
-        ap length final_available ∙ length-available start sound in
-        let asked = final_asked in
-        length-taken final final_sound (omega arith) ∙ asked
+        search (rules, final_available, length-available, final_asked, length-taken, final_sound)
 
     module _ (floor : ℤ) (is : floor ≡ least_floor (pos (top start)) records) where
       floor_here : floor ≡ pos (top start) -ℤ pos (length final.taken)
-      floor_here =
-          let top_is : pos (top start) ≡ cursor start = omega (arith, ints) in
-          is ∙ (ap (λ (z : ℤ). least_floor z records) top_is ∙ floor_is)
+      floor_here = search (rules, ints, floor_is)
 
       pub floor_greatest : floor ≤ℤ pos (top start)
       floor_greatest = let here = floor_here in omega (arith, ints)
 
       pub floor_all : pos 0 ≤ℤ (at +ℤ pos (start.limits.slots - start.made)) → floor ≡ at
-      floor_all within =
-          let here = floor_here in
-          let all = asked_in_all in
-          let taken = taken_all (omega (arith, ints)) in
-          omega (arith, ints)
+      floor_all within = search (rules, floor_here, asked_in_all, taken_all, ints)
 
       pub floor_ordered : at ≤ℤ floor
       floor_ordered =
-          let here = floor_here in
-          let all = asked_in_all in
-          let few = taken_few in
-          elim (cases_lt (top start + (start.limits.slots - start.made)) (sum_by requested k.log)) [
-            | inl more ↦ omega (arith, ints)
-            | inr enough ↦ (let taken = taken_all enough in omega (arith, ints))
-          ]
+          search (rules, floor_here, asked_in_all, taken_few, cases_lt, requested, ints, taken_all)
 
       pub floor_reachable : pos 0 ≤ℤ (floor +ℤ pos (start.limits.slots - start.made))
       floor_reachable = let here = floor_here in let few = taken_few in omega (arith, ints)
@@ -195,8 +162,7 @@ module _ (start : Allocator) (count : ℕ) (records : List Record) (at : ℤ)
       pub settled_is : settled start (asked_at (top start) floor) (asked_at (top start) at) ≡ final
       settled_is =
           let given : asked_at (top start) floor ≡ length final.taken =
-          (let e = asked_at-is (top start) floor floor_greatest in let here = floor_here in
-          omega (arith, ints)) in
+          search (rules, asked_at-is, floor_greatest, floor_here, ints) in
           let asked : asked_at (top start) at ≡ sum (history.requests_of (history_of records)) =
           (let e = asked_at-is (top start) at cursor_greatest in let all = asked_in_all in
           let total = asked_is in omega (arith, ints)) in

@@ -1,3 +1,4 @@
+use Rattle.std.proofs.Common.{rules}
 -- The rule at the ends of a phase: it holds before the first step, and what it says after the last.
 use Rattle.std.proofs.Common.{◌≡◌, ℕ, zero, suc, ◌+◌, ◌*◌, ◌<◌, ◌≤◌, ℤ, ◌≤ℤ◌, List, [], ◌∷◌, length}
 use Rattle.std.proofs.Common.{sym, refl, ap, subst, ◌∙◌, arith, eq-eqb, ne_eqb}
@@ -84,12 +85,7 @@ module _ (start : Allocator) (count : ℕ) where
     start_is = refl;
     caller = All-nil (λ (c : Reservation). c.caller ≡ number);
     credit = record { credit = omega arith; floor = refl };
-    marks = record {
-      mark = le;
-      below = All-nil (λ (c : Reservation). cursor start ≤ℤ low c);
-      order = tt;
-      known = All-nil (Contains []);
-    };
+    marks = search (rules, All-nil);
   }
 
   all_kept-opened : (at : ℤ) (number many : ℕ) → at ≤ℤ cursor start

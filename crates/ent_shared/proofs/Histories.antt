@@ -51,9 +51,7 @@ falls_at : (cs : List Reservation) (i j : ℕ) (d : Reservation) → FallsStrict
     < length cs → (get_or cs j d).high ≤ℤ (get_or cs i d).high
 falls_at [] i j d falls le l = absurd (omega arith)
 falls_at (c ∷ cs) zero zero d falls le l = omega (arith, ints)
-falls_at (c ∷ cs) zero (suc j) d falls le l =
-    let less : (get_or cs j d).high <ℤ c.high = falls.0 j d (omega arith) in
-    omega (arith, ints)
+falls_at (c ∷ cs) zero (suc j) d falls le l = search (rules, ints, c.high)
 falls_at (c ∷ cs) (suc i) zero d falls le l = absurd (omega arith)
 falls_at (c ∷ cs) (suc i) (suc j) d falls le l = falls_at cs i j d falls.1 (omega arith)
     (omega arith)
@@ -119,9 +117,7 @@ follows cs (e ∷ es) falls requests known order =
     let here : All (Contains cs) (reservations_in e) = All-left (Contains cs) (reservations_in e)
     (known_reservations es) known in
     let rest : All (Contains cs) (known_reservations es) = All-right (Contains cs)
-    (reservations_in e) (known_reservations es) known in (
-      after_all cs (reservations_in e) (own_reservations es) falls requests here
-          (all_own (Contains cs) es rest) order.0,
+    (reservations_in e) (known_reservations es) known in ( search (rules, after_all, all_own),
       follows cs es falls requests rest order.1,
     )
 
@@ -213,17 +209,13 @@ module _ (start : Allocator) (count : ℕ) (records : List Record) (at : ℤ)
       let g : Record → ℕ = λ (x : Record). sum_by f (own_reservations x.entries) in
       let h : Record → ℕ = λ (x : Record). sum_by (only r.number f) (own_reservations x.entries) in
       let parted : sum_by h records ≡ sum_by (of_number r.number g) records =
-      sum_same h (of_number r.number g) records
-      (All-weaker (IsKept start at log) (λ (x : Record). h x ≡ of_number r.number g x)
-      (λ x x_kept. own_by_caller x.number r.number f (own_reservations x.entries) x_kept.caller)
-      records k.each) in
+      search (rules, sum_same, of_number, All-weaker, own_by_caller) in
       let alone : sum_by (of_number r.number g) records ≡ g r = one_of_number r.number g records r
       few inside refl in
       let all : sum_by h records ≡ sum_by (only r.number f) log = k.all whole (only r.number f) in
       let caller = sum_by_caller r.number f log in
       omega arith in
-      let same : own ≡ reservations_by r.number log =
-      same_fall own (reservations_by r.number log)
+      let same : own ≡ reservations_by r.number log = same_fall own (reservations_by r.number log)
       (own_fall r.entries own_requests kept.marks.order) (strictly_by r.number log falls)
       (all_contain_by r.number log own own_in kept.caller) weighs in
       record {
@@ -233,5 +225,4 @@ module _ (start : Allocator) (count : ℕ) (records : List Record) (at : ℤ)
       }
 
   pub respects_all : All (Respects (reservations_of records)) records
-  respects_all = All-weaker (Contains records) (Respects (reservations_of records)) respects_one
-      records (All-contains_itself records)
+  respects_all = search (rules, All-weaker, respects_one, All-contains_itself)

@@ -85,5 +85,4 @@ pub given-distinct : (records : List Record)
 given-distinct records distinct =
     AllPairs-IsPermutation (λ g h. g ≢ h) (λ g h apart same. apart (sym same))
     (history.given_in (history_of records)) (flat_map handles_given records)
-    (IsPermutation-sym (flat_map handles_given records) (history.given_in (history_of records))
-    (given-IsPermutation records)) distinct
+    (search (rules, IsPermutation-sym, given-IsPermutation)) distinct

@@ -1,3 +1,4 @@
+use Rattle.std.proofs.Common.{rules}
 -- The end of a phase where some reservers are lost: the front of the pool counts as reserved.
 use Rattle.std.proofs.lemmas.Grind.{common_steps}
 use Rattle.std.proofs.Common.{◌≡◌, ℕ, ◌+◌, ◌-◌, ◌*◌, ◌^◌, ◌<◌, ◌≤◌, ℤ, pos, ◌+ℤ◌, ◌-ℤ◌, ◌≤ℤ◌, List}
@@ -89,11 +90,7 @@ reservations_within : (start : Allocator) (high : ℤ) (cs : List Reservation) (
     × (end ≤ℤ high)
 reservations_within start high [] end asked up is f = grind (arith, common_steps)
 reservations_within start high (c ∷ cs) end asked up is f =
-    grind (
-      arith,
-      common_steps,
-      reservations_within start (low c) cs end asked (omega (arith, ints)) is f.2,
-    )
+    grind (arith, common_steps, reservations_within start (low c) cs end asked (omega (arith, ints)) is f.2)
 
 -- what the closing call with lost reservers owes and gives
 pub record Lost (here start : Allocator) (count : ℕ) (records : List Record) (at floor : ℤ) : Type 0
@@ -122,8 +119,7 @@ max_left a b le = grind (arith, ints)
 -- the two numbers that are set
 module _ (start : Allocator) (sound : IsSound start) (flushed : start.asked ≡ 0) where
   all_pool : available start ≡ start.pool
-  all_pool = let f = flushed-laid_out start sound flushed in
-      (λ i. f.taken i ++ (f.aside i ++ start.pool))
+  all_pool = search (rules, flushed-laid_out)
 
   length_pool : length start.pool ≡ top start + (start.limits.slots - start.made)
   length_pool = ap length (sym all_pool) ∙ length-available start sound
@@ -131,31 +127,11 @@ module _ (start : Allocator) (sound : IsSound start) (flushed : start.asked ≡ 
   loss_is : (given asked : ℕ) → given ≤ asked → (given ≡ asked) ⊎ (given ≡ length start.pool)
       → settled start given asked ≡ after_loss start asked
   loss_is given asked le which =
-      let f = flushed-laid_out start sound flushed in
-      let front : take given start.pool ≡ take asked start.pool =
-      ⊎_elim (λ (e : given ≡ asked). ap (λ (n : ℕ). take n start.pool) e)
-      (λ (e : given ≡ length start.pool). take_all given start.pool (omega arith)
-      ∙ sym (take_all asked start.pool (omega arith))) which in
-      let short = length-take asked start.pool in
-      let none_aside : drop given (take asked start.pool)
-      ≡ [] = ⊎_elim (λ (e : given ≡ asked). drop_all given (take asked start.pool) (omega arith))
-      (λ (e : given ≡ length start.pool). drop_all given (take asked start.pool) (omega arith))
-      which in
-      λ i. record start {
-        taken = ((λ j. f.taken j ++ take given start.pool) ∙ front) i;
-        aside = ((λ j. f.aside j ++ drop given (take asked start.pool)) ∙ none_aside) i;
-        pool = drop asked start.pool;
-        asked = (ap (λ (n : ℕ). n + asked) flushed ∙ zero-add asked) i;
-      }
+      search (rules, flushed-laid_out, take_all, length-take, drop_all, zero-add)
 
   -- the cursor of the allocator that is left
   cursor-loss : (asked : ℕ) → cursor (after_loss start asked) ≡ cursor start -ℤ pos asked
-  cursor-loss asked =
-      let same : available (after_loss start asked) ≡ available start = take-append-drop asked
-      start.pool ∙ sym all_pool in
-      let tops : top (after_loss start asked) ≡ top start =
-      ap (λ (hs : List Handle). length (filter (is_old start.made) hs)) same in
-      omega (arith, ints)
+  cursor-loss asked = search (rules, take-append-drop, all_pool, ints)
 
 lost_at : (start : Allocator) (count : ℕ) (records : List Record) (at floor : ℤ) → IsSound start
     → start.asked ≡ 0 → count ≤ 1024 → IsClosed start count records at

@@ -16,8 +16,7 @@ use Rattle.ent_shared.proofs.Settling.{least_floor-more}
 pub item_is : (P : Reserver → Type 0) (items yielded now rest : List Reserver) (r : Reserver)
     → yielded ++ now ≡ items → now ≡ r ∷ rest → All P items → P r
 item_is P items yielded now rest r all first holds =
-    let whole : yielded ++ r ∷ rest ≡ items = ap (λ (xs : List Reserver). yielded ++ xs) (sym first)
-    ∙ all in
+    let whole : yielded ++ r ∷ rest ≡ items = search rules in
     All-head P r rest (All-right P yielded (r ∷ rest) (subst (All P) (sym whole) holds))
 
 pub items_on : (items yielded now rest : List Reserver) (r : Reserver) → yielded ++ now ≡ items

@@ -101,8 +101,7 @@ pub floor-made : (start : Allocator) (cs : List Reservation) (c : Reservation)
 floor-made start [] c below top = search (rules, ints)
 floor-made start (d ∷ cs) c below top =
     let P : Reservation → Type 0 = λ (e : Reservation). low c ≤ℤ low e in
-    let rest = floor-made start cs c (All-tail P d cs below) top in
-    ap (int_min (floor_after start d)) rest
+    ap (int_min (floor_after start d)) (floor-made start cs c (All-tail P d cs below) top)
     ∙ lower_first (floor_after start d) (low c) (floor_of start cs)
     (nat_le c.requested (length (pool_at start c.high)))
     (least_after start (low c) d (All-head P d cs below) top)
@@ -143,10 +142,7 @@ kept_reserved start at log n r within top k =
             (c ∷ []) lower (all_one Q c (omega (arith, ints))));
         order = order-made es c k.marks.order below;
         known = subst (All (Contains (log ++ c ∷ []))) (sym (known-more es (Own c)))
-            (All-append (Contains (log ++ c ∷ [])) (known_reservations es) (c ∷ [])
-            (All-weaker (Contains log) (Contains (log ++ c ∷ []))
-            (λ d h. Contains-append_left log (c ∷ []) d h) (known_reservations es) k.marks.known)
-            (all_one (Contains (log ++ c ∷ [])) c (Contains-push log c)));
+            (search (rules, All-append, All-weaker, Contains-append_left, all_one, Contains-push));
       };
     }
 

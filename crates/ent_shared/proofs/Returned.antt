@@ -38,9 +38,7 @@ length-served made pool handles n is =
     let test = enough_served made pool handles n is in
     let enough : n ≤ length pool = grind (arith, nat_tests) in
     let space : Space = record { wanted = n; left = length pool } in
-    let served : reply_from made pool n ≡ Ok (listed made (take n pool)) =
-    ap (λ (b : Bool). cond {A = Result (List Handle) Space} b (Ok (listed made (take n pool)))
-    (Err space)) test in
+    let served : reply_from made pool n ≡ Ok (listed made (take n pool)) = search rules in
     let same : handles ≡ listed made (take n pool) = cc in
     ap length same ∙ (length_permutation (take n pool) (listed made (take n pool))
     (listed-IsPermutation made (take n pool)) ∙ length-take-le n pool enough)

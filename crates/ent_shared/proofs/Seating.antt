@@ -47,10 +47,7 @@ pub of_stepped : (shared : Shared) (r : Reserver) (views after : List (List Reco
 of_stepped shared r views after number left n high floor was now view seated of within same gains =
     of_reserved shared r (record { word = now; own = own_of after }) high n of
     (subst (λ (k : ℕ). n ≤ k) (seated.left_is ∙ ap (λ (x : Reserver). x.own.left) view) within)
-    (λ i. record {
-      word = (same ∙ ap (λ (x : Reserver). x.word) view) i;
-      own = (ap own_of gains ∙ ap (λ (x : Reserver). after_reservation x.own high n) view) i;
-    })
+    (search rules)
 
 pub of_met : (shared : Shared) (r met after : Reserver) → IsOf shared r → after
     ≡ record r { own = after_meeting r.own met.own } → IsOf shared after

@@ -98,20 +98,7 @@ taken_floor start s (c ∷ cs) end flushed l f =
     let some_request : 0 < n = f.1 in
     let goal : ℤ → Type 0 = λ z. int_min a (int_min z (floor_of start cs))
     ≡ pos (top start) -ℤ pos (length (history.after_history t (map as_call cs)).taken) in
-    ⊎_elim
-    (λ (short : length s.pool < n).
-    let test : nat_le n (length (pool_at start c.high))
-    ≡ false = ap (λ (hs : List Handle). nat_le n (length hs)) pool
-    ∙ lt-leb n (length s.pool) short in
-    let same : length t.taken ≡ length s.taken = ap (λ (x : Allocator). length x.taken)
-    (after_take-refused s n short) in
-    let at_top : a ≤ℤ cursor start = omega (arith, ints) in
-    let begins : int_min a (int_min (cursor start) (floor_of start cs))
-    ≡ int_min a (floor_of start cs) = sym (min_assoc a (cursor start) (floor_of start cs))
-    ∙ ap (λ (z : ℤ). int_min z (floor_of start cs)) (min_left a (cursor start) at_top) in
-    subst goal (sym (ap (λ (b : Bool). cond b (low c) (cursor start)) test))
-    (begins ∙ (ap (λ (k : ℕ). int_min (pos (top start) -ℤ pos k) (floor_of start cs)) (sym same)
-    ∙ rest)))
+    ⊎_elim (search (rules, c.high, lt-leb, after_take-refused, ints, min_assoc, min_left))
     (λ (enough : n ≤ length s.pool).
     let test : nat_le n (length (pool_at start c.high))
     ≡ true = ap (λ (hs : List Handle). nat_le n (length hs)) pool
@@ -155,9 +142,7 @@ floor_of_all start at log [] all = refl
 floor_of_all start at log (r ∷ records) all =
     let kept = All-head (IsKept start at log) r records all in
     let rest = floor_of_all start at log records (All-tail (IsKept start at log) r records all) in
-    (λ i. int_min (kept.credit.floor i) (rest i))
-    ∙ sym (floor-append start (own_reservations r.entries)
-    (flat_map (λ (x : Record). own_reservations x.entries) records))
+    search (rules, floor-append)
 
 pub least_floor-more : (high : ℤ) (rs : List Record) (r : Record) → least_floor high (rs ++ r ∷ [])
     ≡ int_min (least_floor high rs) r.floor

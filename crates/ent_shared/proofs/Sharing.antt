@@ -61,18 +61,7 @@ module _ (start : Allocator) (n number : ℕ) (word seat : TableId) (made : List
 
   pub next_seated : (views : List (List Record)) (floor : ℤ) → views ≡ take 1 me.0 ∷ [] → floor
       ≡ cursor start → IsSeated views number credit floor
-  next_seated views floor is at =
-      let one : views ≡ (opened start number ∷ []) ∷ [] = is ∙ ap (λ (rs : List Record). take 1 rs
-      ∷ []) next_is in
-      subst (λ vs. IsSeated vs number credit floor) (sym one)
-      (record {
-        views_is = refl;
-        number_is = refl;
-        left_is = refl;
-        floor_is = at;
-        below = All-nil (λ (c : Reservation). cursor start ≤ℤ low c);
-        credit = omega arith;
-      })
+  next_seated views floor is at = search (rules, next_is)
 
   pub shared_more : (later : TableId) (after : Me (Unit {0}) (List Record)) (r : Reserver) → later
       ≡ seat → after ≡ (drop 1 me.0, []) → (views : List (List Record)) → views ≡ take 1 me.0 ∷ []

@@ -181,11 +181,7 @@ pub follow_falls : (high : ℤ) (cs : List Reservation) (end : ℤ) → Follow h
     → FallsStrictly cs
 follow_falls high [] end f = tt
 follow_falls high (c ∷ cs) end f =
-    let some_request = f.1 in (
-      All-weaker (λ (d : Reservation). d.high ≤ℤ low c) (λ (d : Reservation). d.high <ℤ c.high)
-          (λ d le. omega (arith, ints)) cs (follow_below (low c) cs end f.2),
-      follow_falls (low c) cs end f.2,
-    )
+    search (rules, ints, follow_below (low c) cs end f.2, follow_falls (low c) cs end f.2, c.high)
 
 pub follow_requests : (high : ℤ) (cs : List Reservation) (end : ℤ) → Follow high cs end
     → All (λ (c : Reservation). 0 < c.requested) cs

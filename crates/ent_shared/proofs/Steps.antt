@@ -1,3 +1,4 @@
+use Rattle.std.proofs.Common.{rules}
 -- Each step keeps the rule over the cursor word and the records.
 use Rattle.std.proofs.Common.{◌≡◌, ℕ, ◌+◌, ◌-◌, ◌%◌, ◌^◌, ◌<◌, ◌≤◌, ℤ, pos, ◌-ℤ◌}
 use Rattle.std.proofs.Common.{◌≤ℤ◌, List, [], ◌∷◌, ◌++◌, length, set, get_or, take, drop, sym, refl}
@@ -47,18 +48,7 @@ module _ (start : Allocator) (count : ℕ) where
   -- what a seat's one record weighs after one more reservation
   weigh-made : (f : Reservation → ℕ) (r : Record) (at : ℤ) (n : ℕ)
       → weigh f (after_reservation r at n ∷ []) ≡ weigh f (r ∷ []) + f (reservation_at r at n)
-  weigh-made f r at n =
-      let c : Reservation = reservation_at r at n in
-      let own : List Reservation = own_reservations r.entries in
-      let g : Record → ℕ = λ x. sum_by f (own_reservations x.entries) in
-      let before : weigh f (r ∷ []) ≡ sum_by f own + 0 = sum_by-cons g r [] in
-      let after : weigh f (after_reservation r at n ∷ [])
-      ≡ sum_by f (own_reservations (r.entries ++ Own c ∷ []))
-      + 0 = sum_by-cons g (after_reservation r at n) [] in
-      let more : sum_by f (own_reservations (r.entries ++ Own c ∷ [])) ≡ sum_by f own + (f c + 0) =
-      ap (sum_by f) (own-made r.entries c)
-      ∙ (sum_by-append f own (c ∷ []) ∙ ap (λ (k : ℕ). sum_by f own + k) (sum_by-cons f c [])) in
-      omega arith
+  weigh-made f r at n = search (rules, sum_by-cons, own-made, sum_by-append)
 
   pub reserves : (slots id : ℕ) (r : Record) (n : ℕ) → 0 < n → n ≤ r.left
       → Allows Rule slots id (r ∷ [], []) 0 (λ word. (word + (2 ^ 64 - n)) % 2 ^ 64)
@@ -90,20 +80,10 @@ module _ (start : Allocator) (count : ℕ) where
       (K (high -ℤ pos n))
       (λ v. All-weaker (IsKept start high log) (IsKept start (high -ℤ pos n) (log ++ c ∷ []))
       (λ x. kept_on start high (high -ℤ pos n) log (c ∷ []) x down) v) s.views k.each in
-      let told : AfterReserve n r (get_or s.words 0 0) w = subst (λ (z : ℕ). AfterReserve n r z w)
-      (sym found) (record {
-        least = least;
-        greatest = greatest;
-        mark = mark;
-        top = subst (λ (a : Allocator). high ≤ℤ cursor a) (sym kept.start_is) up;
-        after = refl;
-      }) in
+      let told : AfterReserve n r (get_or s.words 0 0) w = search rules in
       let own : K (high -ℤ pos n) w = all_one (IsKept start (high -ℤ pos n) (log ++ c ∷ []))
-      (after_reservation r high n) (kept_reserved start high log n r within up kept) in (
-        w,
-        keeps,
-        tt,
-        record {
+      (after_reservation r high n) (kept_reserved start high log n r within up kept) in ( w,
+        keeps, tt, record {
           begins = k.begins;
           few = k.few;
           word = word - n;
@@ -133,10 +113,7 @@ module _ (start : Allocator) (count : ℕ) where
               omega arith;
           each = subst (λ z. All (K z) (set s.views id w)) (sym now)
               (All-set (K (high -ℤ pos n)) s.views id w own others);
-        },
-        (
-          refl,
-          λ x is. subst (λ (y : Record). AfterReserve n y (get_or s.words 0 0) w)
+        }, ( refl, λ x is. subst (λ (y : Record). AfterReserve n y (get_or s.words 0 0) w)
               (ap (λ (rs : List Record). get_or rs 0 r) is) told,
         ),
       )
@@ -218,27 +195,20 @@ module _ (start : Allocator) (count : ℕ) where
 
   weigh-met : (f : Reservation → ℕ) (r met : Record) → weigh f (after_meeting r met ∷ [])
       ≡ weigh f (r ∷ [])
-  weigh-met f r met = ap (λ (cs : List Reservation). 0 + sum_by f cs)
-      (own-met r.entries (known_reservations met.entries))
+  weigh-met f r met = search (rules, own-met)
 
   pub meets : (id other : ℕ) (r met : Record) → Joins Rule id (r ∷ []) other (met ∷ [])
       (met_in (r ∷ []) (met ∷ [])) []
   meets id other r met = joins id other (r ∷ []) (met ∷ []) (after_meeting r met ∷ met ∷ [])
-      (λ f. weigh_two f (after_meeting r met ∷ []) (met ∷ [])
-      ∙ ap (λ (k : ℕ). k + weigh f (met ∷ [])) (weigh-met f r met)) refl
-      (λ k. numbered_two k (r ∷ []) (met ∷ []))
+      (search (rules, weigh_two, weigh-met)) refl (λ k. numbered_two k (r ∷ []) (met ∷ []))
       (λ at log v w. All-cons (IsKept start at log) (after_meeting r met) (met ∷ [])
       (kept_met start at log r met (All-head (IsKept start at log) r [] v)
       (All-head (IsKept start at log) met [] w)) w)
 
   pub meets_at : (id other : ℕ) (v w : List Record) (r met : Record) → v ≡ r ∷ [] → w ≡ met ∷ []
       → Joins Rule id v other w (met_in v w) []
-  meets_at id other v w r met v_is w_is =
-      let A : List Record × List Record → Type 0 = λ p. Joins Rule id p.0 other p.1 (met_in p.0 p.1)
-      [] in
-      subst A (λ i. (sym v_is i, sym w_is i)) (meets id other r met)
+  meets_at id other v w r met v_is w_is = search (rules, meets)
 
   -- the first record stays, and the others go to a seat of their own
   pub splits_others : (id : ℕ) (v : List Record) → Splits Rule id v (take 1 v) (drop 1 v)
-  splits_others id v = splits Rule goes_by_records id v (take 1 v) (drop 1 v)
-      (subst (IsPermutation v) (sym (take-append-drop 1 v)) (IsPermutation-refl v))
+  splits_others id v = search (rules, splits, goes_by_records, take-append-drop, IsPermutation-refl)

@@ -1,3 +1,5 @@
+use Rattle.std.proofs.lemmas.Grind.{common_steps}
+use Rattle.std.proofs.Common.{rules}
 -- The cursor word stays in its range, and what the code makes of it.
 use Rattle.std.proofs.Common.{◌≡◌, ℕ, suc, ◌+◌, ◌*◌, ◌-◌, ◌%◌, ◌^◌, ◌<◌, ◌≤◌, ℤ, pos, ◌+ℤ◌}
 use Rattle.std.proofs.Common.{◌-ℤ◌, ◌≤ℤ◌, List, [], ◌∷◌, length, sym, ap, subst, ◌∙◌, arith}
@@ -29,11 +31,7 @@ pub follow_asked : (high : ℤ) (cs : List Reservation) (end : ℤ) → Follow h
     ≡ end +ℤ pos (sum_by requested cs)
 follow_asked high [] end f = omega (arith, ints, f)
 follow_asked high (c ∷ cs) end f =
-    let rest = follow_asked (low c) cs end f.2 in
-    let sums : sum_by requested (c ∷ cs) ≡ c.requested + sum_by requested cs = sum_by-cons requested
-    c cs in
-    let here : c.high ≡ high = f.0 in
-    omega (arith, ints)
+    search (rules, c.requested, sum_by-cons, c.high, ints, follow_asked (low c) cs end f.2)
 
 -- the word as the code turns it into a cursor
 pub word_fits : (word : ℕ) → word < offset + 2 ^ 32 → SFits w64 (pos word)
@@ -119,13 +117,7 @@ module _ (start : Allocator) (count : ℕ) where
       let here : r.left + requested_by r
       ≡ credit = (All-head (IsKept start at log) r view all).credit.credit in
       let rest = view_credit at log view (All-tail (IsKept start at log) r view all) in
-      let lefts : left_of (r ∷ view) ≡ r.left + left_of view = sum_by-cons (λ (x : Record). x.left)
-      r view in
-      let sums : weigh requested (r ∷ view) ≡ requested_by r + weigh requested view =
-      sum_by-cons (λ (x : Record). sum_by requested (own_reservations x.entries)) r view in
-      let product : suc (length view) * credit ≡ length view * credit
-      + credit = suc-mul (length view) credit in
-      rw (lefts, sums, product) (omega arith)
+      search (rules, sum_by-cons, suc-mul)
 
   -- and so it is with the records of all seats
   pub all_credit : (s : St) (k : Rule s) → sum_by left_of s.views + sum_by requested k.spans.log
@@ -134,11 +126,7 @@ module _ (start : Allocator) (count : ℕ) where
       let each = All-weaker (All (IsKept start (cursor_of k.word) k.spans.log))
       (λ (v : List Record). left_of v + weigh requested v ≡ length v * credit)
       (view_credit (cursor_of k.word) k.spans.log) s.views k.each in
-      let sums = sum_parts left_of (weigh requested) length credit s.views each in
-      subst (λ (n : ℕ). sum_by left_of s.views + sum_by requested k.spans.log ≡ n * credit)
-      k.records
-      (subst (λ (n : ℕ). sum_by left_of s.views + n ≡ sum_by length s.views * credit)
-      (k.spans.all requested) sums)
+      grind (arith, common_steps, sum_parts)
 
   all_asked : (s : St) (k : Rule s) → sum_by requested k.spans.log ≤ count * credit
   all_asked s k = let all = all_credit s k in omega arith
@@ -146,18 +134,11 @@ module _ (start : Allocator) (count : ℕ) where
   pub word_least : (s : St) (k : Rule s) → offset ≤ k.word + 2 ^ 50
   word_least s k =
       let asked = few_asked (sum_by requested k.spans.log) count (all_asked s k) k.few in
-      let f = follow_asked (cursor start) k.spans.log (cursor_of k.word) k.spans.follow in
-      let flushed = k.begins.flushed in
-      omega (arith, ints)
+      search (rules, follow_asked, ints)
 
   pub word_greatest : (s : St) (k : Rule s) → k.word < offset + 2 ^ 32
-  word_greatest s k =
-      let f = follow_asked (cursor start) k.spans.log (cursor_of k.word) k.spans.follow in
-      let flushed = k.begins.flushed in
-      let top_is = k.begins.top in
-      omega (arith, ints)
+  word_greatest s k = search (rules, follow_asked, ints)
 
   pub last_word : (s : St) (k : Rule s) (items : List ℕ) (w : ℕ) → s.words ≡ items
       → get_elem? items 0 ≡ some w → k.word ≡ w
-  last_word s k items w same e = some-injective k.word w (ap (λ (l : List ℕ). get_elem? l 0)
-      (sym k.words ∙ same) ∙ e)
+  last_word s k items w same e = search rules

@@ -117,14 +117,7 @@ column_past columns n l = get_or_past columns n no_column l
 -- a column with room is one of the list
 pub room_inside : (columns : List Column) (n place : ℕ) → HasRoomAt (column_at columns n) place → n
     < length columns
-room_inside columns n place room = by (cases_lt n (length columns))
-  where
-    by : (n < length columns) ⊎ (length columns ≤ n) → n < length columns
-    by (inl l) = l
-    by (inr l) =
-        let none : HasRoomAt no_column place = subst (λ c. HasRoomAt c place)
-        (column_past columns n l) room in
-        absurd (omega (arith, none.spare (map.get-empty nat_cmp place)))
+room_inside columns n place room = search (rules, cases_lt n (length columns), column_past, map.get-empty)
 
 same_id : (a b : ComponentId) → a.0 ≡ b.0 → a ≡ b
 same_id a b e = λ i. record { 0 = e i }

@@ -254,12 +254,7 @@ module _ (living : List LivingEntity) (pairs : List (Handle × ℕ))
       let unused : Handle × ℕ = (record { index = 0; generation = 0 }, q) in
       let inside : at.0 < length left = search (rules, length-map) in
       let resident = stands living _ _ (filter_passes (counts living) pairs at.0 unused inside) in
-      omega (
-        arith,
-        resident.0,
-        get_or-map (λ (e : Handle × ℕ). e.1) left at.0 unused q inside,
-        at.2,
-      )
+      search (rules, get_or-map, resident)
 
   -- so there are no more of them than residents
   pub left_fits : length (filter (counts living) pairs) ≤ length living

@@ -147,30 +147,15 @@ pub rest_kept : (old new : List Column) (place item n : ℕ)
     → ((k : ℕ) → k ≢ item → column_at new k ≡ column_at old k)
     → HasRoomAt (column_at old item) place → column_at old n ≡ no_column
     → column_at new n ≡ no_column
-rest_kept old new place item n others room none = by (same_or_apart total same n item)
-  where
-    by : (n ≡ item) ⊎ (n ≢ item) → column_at new n ≡ no_column
-    by (inl e) =
-        let column = ap (column_at old) (sym e) ∙ none in
-        let room = subst (λ (c : Column). HasRoomAt c place) column room in
-        absurd (omega (arith, room.spare (map.get-empty nat_cmp place)))
-    by (inr far) = others n far ∙ none
+rest_kept old new place item n others room none = search (rules, cases_eq n item, map.get-empty)
 
 -- a column without values is not changed where a value is taken out
 pub removed_rest : (columns : List Column) (id n : ℕ) (was is : Column) (place : ℕ)
     → id < length columns → was ≡ get_or columns id was
     → (map.get (get_or columns id was).values place ≡ None → is ≡ get_or columns id was)
     → column_at columns n ≡ no_column → column_at (set columns id is) n ≡ no_column
-removed_rest columns id n was is place inside read stays none = by (same_or_apart total same n id)
-  where
-    by : (n ≡ id) ⊎ (n ≢ id) → column_at (set columns id is) n ≡ no_column
-    by (inl e) =
-        let empty : get_or columns id was ≡ no_column = get_or_default columns id was no_column
-        inside ∙ ap (column_at columns) (sym e) ∙ none in
-        ap (column_at (set columns id is)) e ∙ column_set columns id was is inside read
-        ∙ stays (ap (λ (c : Column). map.get c.values place) empty ∙ map.get-empty nat_cmp place)
-        ∙ empty
-    by (inr far) = column_kept columns id was is inside read n far ∙ none
+removed_rest columns id n was is place inside read stays none =
+    search (rules, cases_eq n id, column_set, column_kept, map.get-empty, get_or_default)
 
 -- a column in use is changed
 pub in_use_set : (used : List ℕ) (columns : List Column) (id : ℕ) (is : Column) → Contains used id

@@ -24,6 +24,23 @@ pub struct Crate {
     pub files: Vec<File>,
 }
 
+impl Crate {
+    /// Leaves out a module of tests, with all that is below it.
+    pub fn leave_out(&mut self, module: &str) {
+        let path = format!("crates/{}/src/{module}", self.name);
+        self.files.retain(|file| {
+            let rest = file.path.strip_prefix(&path);
+            !rest.is_some_and(|rest| rest == ".rt" || rest.starts_with('/'))
+        });
+        let line = format!("#[cfg(test)]\nmod {module};\n");
+        for file in &mut self.files {
+            if file.result == Path::new("mod.rs") {
+                file.text = file.text.replace(&line, "");
+            }
+        }
+    }
+}
+
 /// The crates of this repository that these ones stand on, with themselves, in the order of
 /// `crates.txt`: a crate comes after those that it uses.
 ///

@@ -16,8 +16,11 @@ use std::path::{Path, PathBuf};
 /// The crates that the package's face calls. They are erased with all that they stand on.
 const TOPS: &[&str] = &["ent_map", "ent_runner", "ent_total", "ent_trace"];
 
-/// The tests of those crates, and what tests alone use.
+/// The tests of those crates.
 const TESTS: &[&str] = &["cases", "ent_tests"];
+
+/// A module of the tests that isn't erased: the package has no scripts.
+const SCRIPTS: &str = "scripts";
 
 /// A folder of results in the repository. Nothing else stands in it.
 pub struct Target {
@@ -89,8 +92,11 @@ pub fn package(repository: &Path) -> Result<Files, Box<dyn Error>> {
 /// As of [`package`].
 pub fn tests(repository: &Path) -> Result<Files, Box<dyn Error>> {
     let crates = crates_below(repository, TOPS)?;
-    let mut tests = crates_below(repository, TESTS)?;
-    tests.retain(|test| crates.iter().all(|krate| krate.name != test.name));
+    let tests = TESTS.iter().map(|name| read(repository, name));
+    let mut tests = tests.collect::<Result<Vec<_>, _>>()?;
+    for krate in &mut tests {
+        krate.leave_out(SCRIPTS);
+    }
     let mut names = Names {
         forms: vec![&PACKAGE, &HOST],
         ..Names::default()

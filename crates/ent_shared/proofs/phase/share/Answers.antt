@@ -31,14 +31,11 @@ loop-number-preserved c = record {
       c.loop-number-test.true c.loop-number.invariant.first c.split_first.new.all.table_id
       c.split_first.new.all.me c.new.result
       c.split_first.ensures.kept.0 c.split_first.ensures.kept.1 c.split_first.result.views
-      c.split_first.ensures.first.1
-      (c.new.ensures
-      ∙ (λ i. record {
+      c.split_first.ensures.first.1 (c.new.ensures ∙ (λ i. record {
         word = c.split_first.ensures.first.0 i;
         own = own_of c.split_first.result.views;
       })) _ c.push_reserved.ensures.items;
-  count = (let was = c.loop-number.invariant.count in let now = c.push_reserved.ensures.len in
-      omega arith);
+  count = search (rules, c.loop-number.invariant.count, c.push_reserved.ensures.len);
   room = (let was = c.loop-number.invariant.room in let now = c.push_reserved.ensures.capacity in
       omega arith);
 }

@@ -31,16 +31,13 @@ loop-reserver-preserved c =
           i.all c.in-Some.ensures.steps.0;
       seat = c.merge.ensures.kept ∙ i.seat;
       bare = c.merge.ensures.merges.0;
-      records =
-          records_on c.loop-reserver.all.me.0 c.merge.new.all.me.0 c.loop-reserver.yielded
+      records = records_on c.loop-reserver.all.me.0 c.merge.new.all.me.0 c.loop-reserver.yielded
           c.in-Some.reserver (own_of c.reserver.inside.badge.views ∷ []) i.records
           (c.merge.ensures.merges.1 (own_of c.reserver.inside.badge.views ∷ []) view.views_is)
           (ap (λ (r : Reserver). r.own ∷ []) c.reserver.view_is);
       floor =
           let fits = c.min-floor.type_inv in
-          let ranges = c.reserver.ranges in
-          let after : to_z w64 (of_z w64 c.min-floor.result) ≡ c.min-floor.result =
-          omega (arith, ints) in
+    let after : to_z w64 (of_z w64 c.min-floor.result) ≡ c.min-floor.result = omega (arith, ints) in
           let own : to_z w64 (of_z w64 c.reserver.inside.floor) ≡ c.reserver.inside.floor =
           omega (arith, ints) in
           floor_on (to_z w64 (of_z w64 c.args.top)) (to_z w64 c.loop-reserver.floor-bits)

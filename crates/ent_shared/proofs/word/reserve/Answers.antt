@@ -22,7 +22,6 @@ fetch_sub-found-requires c = (
 told : (c : goal.After-drop-badge) → AfterReserve c.args.n (own_of c.args.badge.now.views)
     c.fetch_sub-found.result c.fetch_sub-found.new.seat.me.0
 told c =
-    let e = c.into_seat-seat.ensures.2 in
     let same = c.replace.ensures.value in
     let alone = c.requires.alone in
     let n = c.into.ensures in
@@ -42,15 +41,12 @@ returns-clause-gains c = search (rules, told, cursor_is)
 pub returns-clause-mark : goal.returns-clause-mark
 returns-clause-mark c =
     let d = told c in
-    let is = cursor_is c.fetch_sub-found.result d.least d.greatest in
-    rw is d.mark
+    search (rules, cursor_is, c.fetch_sub-found.result)
 
 pub returns-clause-least : goal.returns-clause-least
 returns-clause-least c =
     let d = told c in
-    let is = cursor_is c.fetch_sub-found.result d.least d.greatest in
-    let least = d.least in
-    rw is (least_cursor c.fetch_sub-found.result least)
+    search (rules, cursor_is, c.fetch_sub-found.result, least_cursor)
 
 pub returns-clause-greatest : goal.returns-clause-greatest
 returns-clause-greatest c = search (rules, told, cursor_is)

@@ -1,3 +1,4 @@
+use Rattle.std.proofs.Common.{rules}
 use Rattle.std.proofs.Common.{arith, ap, sym, subst, ◌∙◌, pos, Contains, ◌↔◌, ◌⊎◌, to_z, of_z, w64}
 use Rattle.std.proofs.lemmas.Grind.{common_steps}
 use Rattle.ent_alloc.specs.Sequential.{Allocator, after_flush}
@@ -47,8 +48,5 @@ returns c =
       numbers = end.all_numbers;
       distinct = end.all_distinct;
       not_live = end.none_live;
-      brings_to_life = λ h.
-          subst (λ (s : Allocator). IsLive (after_flush s) h ↔ IsLive c.args.self.start h
-          ⊎ Contains (given_in (history_of (records_of c.args.reservers.items))) h)
-          (sym settled) (end.brings_to_life h);
+      brings_to_life = search (rules, c.args.self.start, c.args.reservers.items);
     }

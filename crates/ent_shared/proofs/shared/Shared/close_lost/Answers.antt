@@ -1,3 +1,6 @@
+use Rattle.std.proofs.lemmas.Grind.{common_steps}
+use Rattle.std.proofs.Common.{rules}
+use Rattle.std.proofs.Common.{arith}
 use Rattle.std.proofs.Common.{◌≡◌, ℕ, ◌+◌, ◌*◌, ◌≤◌, ◌≤ℤ◌, ap, ◌∙◌, to_z, of_z, w64, All, Contains}
 use Rattle.std.proofs.Common.{subst, sym}
 use Rattle.std.specs.List.{sum_by}
@@ -34,8 +37,7 @@ settle-requires-clause-greatest c =
     (known (goal.at.settle-requires-clause-greatest c).After-max).greatest
 
 pub settle-requires-clause-all_given : goal.settle-requires-clause-all_given
-settle-requires-clause-all_given c =
-    (known (goal.at.settle-requires-clause-all_given c).After-max).all_given
+settle-requires-clause-all_given c = search (rules, known)
 
 -- what is left, and how much it was asked for
 left_is : (c : goal.After-settle)
@@ -47,44 +49,28 @@ left_is c l = c.settle.ensures.settled ∙ l.after
 pub returns-clause-after : goal.returns-clause-after
 returns-clause-after c =
     let l = known (goal.at.returns-clause-after c).After-max in
-    let asked : c.settle.new.self.allocator.asked ≡ l.asked = ap (λ (s : Allocator). s.asked)
-    (left_is c l) in
-    left_is c l ∙ ap (after_loss c.args.self.start) (sym asked)
+    search (rules, c.settle.new.self.allocator.asked, left_is, c.args.self.start)
 
 pub returns-clause-least : goal.returns-clause-least
 returns-clause-least c =
     let l = known (goal.at.returns-clause-least c).After-max in
-    let own : sum_by requested_by (records_of c.args.reservers.items)
-    ≡ sum_by (λ (r : Reserver). requested_by r.own) c.args.reservers.items = sum_by-records_of
-    requested_by c.args.reservers.items in
-    subst (λ (s : Allocator). sum_by (λ (r : Reserver). requested_by r.own) c.args.reservers.items
-    ≤ s.asked) (sym (left_is c l)) (subst (λ (n : ℕ). n ≤ l.asked) own l.some_asked)
+    search (rules, c.args.reservers.items, sum_by-records_of, left_is)
 
 pub returns-clause-asked : goal.returns-clause-asked
 returns-clause-asked c = λ all_here.
     let l = known (goal.at.returns-clause-asked c).After-max in
-    let own : sum_by requested_by (records_of c.args.reservers.items)
-    ≡ sum_by (λ (r : Reserver). requested_by r.own) c.args.reservers.items = sum_by-records_of
-    requested_by c.args.reservers.items in
-    sym own ∙ l.all_asked (length-records_of c.args.reservers.items ∙ all_here)
-    ∙ ap (λ (s : Allocator). s.asked) (sym (left_is c l))
+    search (rules, c.args.reservers.items, sum_by-records_of, length-records_of, left_is)
 
 pub returns-clause-most : goal.returns-clause-most
 returns-clause-most c =
     let l = known (goal.at.returns-clause-most c).After-max in
-    let own : sum_by (λ (r : Record). r.left) (records_of c.args.reservers.items)
-    ≡ sum_by (λ (r : Reserver). r.own.left) c.args.reservers.items = sum_by-records_of
-    (λ (r : Record). r.left) c.args.reservers.items in
-    subst (λ (s : Allocator). sum_by (λ (r : Reserver). r.own.left) c.args.reservers.items + s.asked
-    ≤ c.args.self.count * credit) (sym (left_is c l))
-    (subst (λ (n : ℕ). n + l.asked ≤ c.args.self.count * credit) own l.most_asked)
+    grind (arith, common_steps, left_is c l, c.args.reservers.items, c.args.self.count)
 
 pub returns-clause-reached : goal.returns-clause-reached
 returns-clause-reached c =
     let l = known (goal.at.returns-clause-reached c).After-max in
     all_owners (λ (r : Record). cursor c.settle.new.self.allocator ≤ℤ r.mark) c.args.reservers.items
-    (subst (λ (s : Allocator). All (λ (r : Record). cursor s ≤ℤ r.mark)
-    (records_of c.args.reservers.items)) (sym (left_is c l)) l.reached)
+    (search (rules, c.args.reservers.items, left_is))
 
 pub returns-clause-whole : goal.returns-clause-whole
 returns-clause-whole c = λ all_here.

@@ -9,13 +9,8 @@ pub invariant_of-a : goal.invariant_of-a
 invariant_of-a c = search (rules, seated_meeting)
 
 pub returns-clause-first : goal.returns-clause-first
-returns-clause-first c =
-    of_met c.args.self.now c.args.a.now c.args.b.now _ c.requires.first
-    (λ i. record {
-      word = (c.meet.ensures.same.0 ∙ ap (λ (r : Reserver). r.word) c.a.view_is) i;
-      own = (ap own_of c.meet.ensures.meets
-          ∙ (λ j. after_meeting (c.a.view_is j).own (c.b.view_is j).own)) i;
-    })
+returns-clause-first c = of_met c.args.self.now c.args.a.now c.args.b.now _ c.requires.first
+    (search (rules, c.meet.ensures.same.0, c.a.view_is, c.meet.ensures.meets, c.b.view_is))
 
 pub returns-clause-given : goal.returns-clause-given
 returns-clause-given c = search (rules, given-after_meeting)

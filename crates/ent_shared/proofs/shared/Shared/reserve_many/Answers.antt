@@ -26,9 +26,7 @@ returns-then-n-eq0-clause-nothing c = λ n.
     ≡ Ok [] = c.reply.ensures 0 (low_of c.new.result _ 0 c.new.ensures.value)
     ∙ reply-none c.self.inside.entities.allocator.made
     (pool_at c.self.inside.entities.allocator c.new.result.high) in
-    let found = c.in-Ok.is in
-    let same : c.in-Ok.nothing ≡ [] = cc in
-    (ap Ok same, refl)
+    search (rules, c.in-Ok.is, c.in-Ok.nothing)
 
 pub reply-requires-2 : goal.reply-requires-2
 reply-requires-2 c =
@@ -66,8 +64,6 @@ invariant_of-reserver-2 c =
     let few = c.ranges.n in
     let at = (goal.at.invariant_of-reserver-2 c).After-reply-2 in
     let span = spanned at in
-    let low : c.new-span.result.low ≡ c.reserve.result -ℤ pos c.args.n = ap (λ (s : Span). s.low)
-    span in
     let low_word : to_z w64 (of_z w64 c.new-span.result.low) ≡ c.new-span.result.low =
     omega (arith, ints) in
     let start : (own_of c.reserver.inside.badge.views).start ≡ c.self.inside.entities.allocator =
@@ -126,10 +122,7 @@ returns-then-n-eq0-clause-given c =
     ≡ Ok [] = c.reply.ensures 0 (low_of c.new.result _ 0 c.new.ensures.value)
     ∙ reply-none c.self.inside.entities.allocator.made
     (pool_at c.self.inside.entities.allocator c.new.result.high) in
-    let found = c.in-Ok.is in
-    let none : c.in-Ok.nothing ≡ [] = cc in
-    sym (append-nil (handles_given c.args.reserver.now.own))
-    ∙ ap (λ (handles : List Handle). handles_given c.args.reserver.now.own ++ handles) (sym none)
+    search (rules, c.in-Ok.is, c.in-Ok.nothing, append-nil, c.args.reserver.now.own)
 
 pub returns-clause-given : goal.returns-clause-given
 returns-clause-given c = search (rules, given)

@@ -1,4 +1,4 @@
-use crate::memory::{EndlessSource, MemorySource, NEVER};
+use super::memory::{EndlessSource, MemorySource, NEVER};
 use spawnrun_lib::{INPUT_LIMIT, InputFault, Source, read_all};
 use std::alloc::Global;
 use std::test::Fail;

@@ -1,4 +1,4 @@
-use crate::memory::NEVER;
+use super::memory::NEVER;
 use spawnrun_lib::{Counted, Failed, Sink, Source};
 use std::io;
 use std::io::{ErrorKind, Read, Write};
