@@ -1,16 +1,14 @@
 -- The texts of births, cut at their dots.
 use Rattle.std.proofs.Common.{rules, ◌≡◌, ◌≢◌, ℕ, Bool, true, false, eqb, List, [], ◌∷◌, Option}
-use Rattle.std.proofs.Common.{Some, None, IfNone, ◌++◌, Result, Err, All, refl, sym, ap, ◌∙◌, inl}
-use Rattle.std.proofs.Common.{inr, arith}
+use Rattle.std.proofs.Common.{IfNone, ◌++◌, Result, Err, All, refl, sym, ap, ◌∙◌, inl, inr, arith}
 use Rattle.std.proofs.lemmas.Grind.{common_steps}
 use Rattle.std.specs.List.{join_with_byte, slice_split}
 use Rattle.std.proofs.lemmas.Bool.{cases_Bool, ne_eqb, cond-false}
 use Rattle.std.proofs.lemmas.List.{get_or_default}
 use Rattle.std.proofs.lemmas.List.Splits.{slice_split_none, slice_split_at}
 use Rattle.std.proofs.lemmas.List.Splits.{join_with_byte-slice_split}
-use Rattle.std.proofs.lemmas.Str.Parse.{not_in_digits}
 use Rattle.ent_handle.specs.Text.{is_decimal}
-use Rattle.ent_handle.proofs.Decimals.{digit_texts, plain_from_decimal}
+use Rattle.ent_handle.proofs.Decimals.{plain_from_decimal}
 use Rattle.ent_script.specs.Reading.{◌>>=◌, birth_number, birth_of_parts, birth_of}
 use Rattle.ent_script.specs.declared.cause.Cause.{Cause}
 use Rattle.ent_script.specs.declared.cause.Cause.TheVariants as cause
@@ -27,8 +25,7 @@ fails bytes h k d lt = ne_eqb _ 46 (h k d lt)
 
 decimal_without_dot : (ds : List ℕ) → is_decimal ds ≡ true → IsWithoutDot ds
 decimal_without_dot ds is k d lt e =
-    not_in_digits digit_texts ds 46 (plain_from_decimal ds is).digits (λ range. omega arith) k lt
-    (get_or_default ds k 0 d lt ∙ e)
+    grind (arith, common_steps, plain_from_decimal ds is, get_or_default ds k 0 d lt)
 
 -- what is no decimal has no number
 number_refused : (ds : List ℕ) → is_decimal ds ≡ false → birth_number ds ≡ Err cause.Birth
@@ -92,5 +89,4 @@ birth_of_split before text frame others system ordinal e e' f s =
 
 -- what holds anyway holds where there is nothing
 pub in_any_case : {A : Type 0} (o : Option A) (P : Type 0) → P → IfNone o P
-in_any_case None P holds = holds
-in_any_case (Some x) P holds = tt
+in_any_case it P holds = search rules

@@ -1,5 +1,5 @@
 -- Reading the members of a bundle one after another.
-use Rattle.std.proofs.Common.{◌≡◌, ℕ, ℤ, List, [], ◌∷◌, Result, Ok, Err, refl, ap, ◌∙◌}
+use Rattle.std.proofs.Common.{rules, ◌≡◌, ℕ, ℤ, List, [], ◌∷◌, Result, Ok, Err}
 use Rattle.std.specs.FinMap.{put}
 use Rattle.serde_json.specs.Data.{Data}
 use Rattle.ent_handle.specs.declared.component.ComponentId.{ComponentId}
@@ -15,27 +15,20 @@ onto bundle (Err c) = Err c
 
 pub onto_none : (read : Result Bundle Cause) → onto [] read
     ≡ (read >>= λ items. Ok (bundle_of items))
-onto_none (Ok items) = refl
-onto_none (Err c) = refl
+onto_none it = search rules
 
 onto_item : (bundle : Bundle) (item : ComponentId × ℤ) (read : Result Bundle Cause)
     → onto bundle (read >>= λ items. Ok (item ∷ items))
     ≡ onto (put component_cmp item.0 item.1 bundle) read
-onto_item bundle item (Ok items) = refl
-onto_item bundle item (Err c) = refl
+onto_item bundle item it = search rules
 
 pub goes_on : (components : List (List ℕ)) (bundle : Bundle) (m : List ℕ × Data)
     (ms : List (List ℕ × Data)) (item : ComponentId × ℤ) → item_of components m ≡ Ok item
     → onto bundle (items_of components (m ∷ ms))
     ≡ onto (put component_cmp item.0 item.1 bundle) (items_of components ms)
-goes_on components bundle m ms item e =
-    ap (λ (r : Result (ComponentId × ℤ) Cause).
-    onto bundle (r >>= λ i. items_of components ms >>= λ is. Ok (i ∷ is))) e
-    ∙ onto_item bundle item (items_of components ms)
+goes_on components bundle m ms item e = search (rules, onto_item)
 
 pub stops : (components : List (List ℕ)) (bundle : Bundle) (m : List ℕ × Data)
     (ms : List (List ℕ × Data)) (c : Cause)
     → item_of components m ≡ Err c → onto bundle (items_of components (m ∷ ms)) ≡ Err c
-stops components bundle m ms c e =
-    ap (λ (r : Result (ComponentId × ℤ) Cause).
-    onto bundle (r >>= λ i. items_of components ms >>= λ is. Ok (i ∷ is))) e
+stops components bundle m ms c e = search rules

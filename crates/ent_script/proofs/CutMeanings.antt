@@ -2,8 +2,8 @@
 -- that is cut means the same.
 use Rattle.std.proofs.Common.{arith, rules, ◌≡◌, ℕ, false, zero, suc, ◌+◌, List, [], ◌∷◌, map, take}
 use Rattle.std.proofs.Common.{refl, ap, ap₂, ◌∙◌, Option, Some, None, option_map, Result, Ok}
-use Rattle.std.proofs.Common.{Ordering, Less, Equal, Greater, Bool, ◌&&◌, is_some, option_and_then}
-use Rattle.std.proofs.Common.{ok_or, codes, unwrap_or}
+use Rattle.std.proofs.Common.{Ordering, Bool, ◌&&◌, is_some, option_and_then, ok_or, codes}
+use Rattle.std.proofs.Common.{unwrap_or}
 use Rattle.std.proofs.lemmas.Grind.{common_steps}
 use Rattle.std.specs.List.{list_all, fold}
 use Rattle.std.specs.Ordering.{match_ordering}
@@ -13,15 +13,14 @@ use Rattle.serde_json.specs.Find.{get, get_member, as_str}
 use Rattle.ent_script.specs.Cut.{cut, cut_members}
 use Rattle.ent_script.specs.Json.{members, pairs_of, keys_among, whole, whole_within}
 use Rattle.ent_script.specs.Names.{as_name, with_part}
-use Rattle.ent_script.specs.Reading.{◌>>=◌, has_keys, item_of, items_of, bundle_by, read_bundle}
-use Rattle.ent_script.specs.Reading.{with_of, count_of, binding_of, removed_of, only, target_of}
-use Rattle.ent_script.specs.Reading.{target_at, is_spawn, is_spawn_many, is_insert, is_remove}
-use Rattle.ent_script.specs.Reading.{is_despawn, kind_of, of_kind, operation_of, operation_at}
-use Rattle.ent_script.specs.Reading.{bound_name, format_of, heading_of, or_absent, numbered}
-use Rattle.ent_script.specs.Reading.{script_keys, test, component_at}
+use Rattle.ent_script.specs.Reading.{◌>>=◌, has_keys, items_of, bundle_by, read_bundle, with_of}
+use Rattle.ent_script.specs.Reading.{count_of, binding_of, removed_of, only, target_of, target_at}
+use Rattle.ent_script.specs.Reading.{is_spawn, is_spawn_many, is_insert, is_remove, is_despawn}
+use Rattle.ent_script.specs.Reading.{kind_of, of_kind, operation_of, bound_name, format_of}
+use Rattle.ent_script.specs.Reading.{heading_of, or_absent, numbered, script_keys, test}
+use Rattle.ent_script.specs.Reading.{component_at}
 use Rattle.ent_script.specs.declared.cause.ScriptCause.{ScriptCause}
 use Rattle.ent_script.specs.declared.cause.ScriptCause.TheVariants as script_cause
-use Rattle.ent_script.specs.declared.format.Format.{Format}
 use Rattle.ent_script.specs.declared.heading.Heading.{Heading}
 use Rattle.ent_script.specs.declared.kind.Kind.{Kind}
 use Rattle.ent_script.specs.declared.kind.Kind.TheVariants as kinds
@@ -30,9 +29,7 @@ use Rattle.ent_script.specs.declared.cause.Cause.TheVariants as cause
 found_cut : (l : ℕ) (o : Ordering) (a : Option Data) (d : Data) (b : Option Data) → b ≡ option_map
     (cut l) a
     → match_ordering o b (Some (cut l d)) b ≡ option_map (cut l) (match_ordering o a (Some d) a)
-found_cut l Less a d b e = e
-found_cut l Equal a d b e = refl
-found_cut l Greater a d b e = e
+found_cut l it a d b e = search rules
 
 get_member-cut : (l : ℕ) (k : List ℕ) (ms : Members) → get_member k (cut_members l ms) ≡ option_map
     (cut l) (get_member k ms)
@@ -97,12 +94,10 @@ among_cut l allowed (m ∷ ms) = search (rules, among_cut l allowed ms)
 
 among_option : (l : ℕ) (allowed : List (List ℕ)) (o : Option (List (List ℕ × Data))) → option_map
     (keys_among allowed) (option_map (map (cut_pair l)) o) ≡ option_map (keys_among allowed) o
-among_option l allowed None = refl
-among_option l allowed (Some ms) = ap (λ (b : Bool). Some b) (among_cut l allowed ms)
+among_option l allowed it = search (rules, among_cut)
 
 some_cut : (l : ℕ) (o : Option Data) → is_some (option_map (cut l) o) ≡ is_some o
-some_cut l None = refl
-some_cut l (Some d) = refl
+some_cut l it = search rules
 
 all_cut : (l : ℕ) (required : List (List ℕ)) (d : Data) → list_all
     (λ key. is_some (get key (cut (suc l) d))) required ≡ list_all (λ key. is_some (get key d))
@@ -140,8 +135,7 @@ items_of-cut l components (m ∷ ms) = grind (arith, common_steps, items_of-cut 
 bundle_option : (l : ℕ) (components : List (List ℕ)) (o : Option (List (List ℕ × Data)))
     → (ok_or (option_map (map (cut_pair l)) o) cause.Bundle >>= bundle_by components) ≡
     (ok_or o cause.Bundle >>= bundle_by components)
-bundle_option l components None = refl
-bundle_option l components (Some ms) = search (rules, items_of-cut)
+bundle_option l components it = search (rules, items_of-cut)
 
 bundle-cut : (l : ℕ) (components : List (List ℕ)) (o : Option Data) → read_bundle components
     (option_map (cut (suc l)) o) ≡ read_bundle components o
@@ -180,8 +174,7 @@ target_option : (l : ℕ) (components bound : List (List ℕ)) (before : Option 
     λ m. ok_or (as_str m.1) cause.Target >>= target_at components bound before m.0)
     ≡ (ok_or (option_and_then only o) cause.Target >>=
     λ m. ok_or (as_str m.1) cause.Target >>= target_at components bound before m.0)
-target_option l components bound before None = refl
-target_option l components bound before (Some ms) = grind (arith, common_steps)
+target_option l components bound before it = grind (arith, common_steps)
 
 target-cut : (l : ℕ) (components bound : List (List ℕ)) (before : Option ℕ) (o : Option Data)
     → target_of components bound before (option_map (cut (suc l)) o)
@@ -250,8 +243,7 @@ operation_of-cut components bound before d =
 
 name_option : (l : ℕ) (o : Option Data) → option_and_then as_name (option_map (cut l) o) ≡
     option_and_then as_name o
-name_option l None = refl
-name_option l (Some d) = as_name-cut l d
+name_option l it = search (rules, as_name-cut)
 
 pub bound_name-cut : (d : Data) → bound_name (cut 2 d) ≡ bound_name d
 bound_name-cut d = search (rules, get-cut, name_option)
@@ -259,8 +251,7 @@ bound_name-cut d = search (rules, get-cut, name_option)
 names_from : (names : List (List ℕ)) (ds : List Data) → fold
     (λ names d. with_part names (bound_name d)) names (map (cut 2) ds) ≡ fold
     (λ names d. with_part names (bound_name d)) names ds
-names_from names [] = refl
-names_from names (d ∷ ds) = grind (arith, common_steps, bound_name-cut)
+names_from names ds = grind (arith, common_steps, bound_name-cut)
 
 numbered-cut : {A E : Type 0} (f g : ℕ → Data → Result A E) (l n : ℕ) (ds : List Data) →
     ((m : ℕ) (d : Data) → f m (cut l d) ≡ g m d) → numbered f n (map (cut l) ds) ≡ numbered g n ds
@@ -271,8 +262,7 @@ numbered-cut {A} {E} f g l n (d ∷ ds) same = search (rules, numbered-cut f g l
 
 part_cut : (l absent low high : ℕ) (o : Option Data) → or_absent absent (whole_within low high)
     (option_map (cut l) o) ≡ or_absent absent (whole_within low high) o
-part_cut l absent low high None = refl
-part_cut l absent low high (Some d) = rw (whole-cut l d) refl
+part_cut l absent low high it = search (rules, whole-cut)
 
 number_cut : (absent low high : ℕ) (k : List ℕ) (d : Data) → or_absent absent
     (whole_within low high) (get k (cut 1 d)) ≡ or_absent absent (whole_within low high) (get k d)
@@ -298,8 +288,7 @@ first_tests : (o : Option (List (List ℕ × Data))) (rest : Result Heading Scri
     λ ms. test (keys_among script_keys ms) script_cause.Key >>= λ _. rest) ≡
     (ok_or o script_cause.Top >>=
     λ ms. test (keys_among script_keys ms) script_cause.Key >>= λ _. rest)
-first_tests None rest = refl
-first_tests (Some ms) rest = search (rules, among_cut)
+first_tests it rest = search (rules, among_cut)
 
 pub heading_of-cut : (d : Data) → heading_of (cut 1 d) ≡ heading_of d
 unfolding heading_of
@@ -315,8 +304,7 @@ heading_of-cut d =
 component_names_from : (names : List (List ℕ)) (ds : List Data) → fold
     (λ names d. with_part names (as_name d)) names (map (cut 0) ds) ≡ fold
     (λ names d. with_part names (as_name d)) names ds
-component_names_from names [] = refl
-component_names_from names (d ∷ ds) = grind (arith, common_steps)
+component_names_from names ds = grind (arith, common_steps)
 
 take_none : (n : ℕ) (ds : List Data) → take n (map (cut 0) ds) ≡ map (cut 0) (take n ds)
 take_none zero ds = refl

@@ -1,8 +1,8 @@
 -- Values that are cut, beside the members of an object as they are put in.
 use Rattle.std.proofs.lemmas.Grind.{common_steps}
 use Rattle.std.proofs.Common.{◌≡◌, ℕ, List, [], ◌∷◌, Option, Some, None, String, Vec, BTreeMap}
-use Rattle.std.proofs.Common.{Global, Ordering, Less, Equal, Greater, string_bytes, string_cmp}
-use Rattle.std.proofs.Common.{refl, sym, ap, ◌∙◌, rules, zero, suc, ◌<◌, ◌-◌, length, arith}
+use Rattle.std.proofs.Common.{Global, Ordering, string_bytes, string_cmp, refl, sym, ap, ◌∙◌, rules}
+use Rattle.std.proofs.Common.{zero, suc, ◌<◌, ◌-◌, length, arith}
 use Rattle.std.specs.Ordering.{match_ordering}
 use Rattle.std.specs.BTreeMap.{insert_entry}
 use Rattle.json.specs.Token.{Token}
@@ -24,22 +24,18 @@ view-Object m = search (rules, the_lemmas)
 
 members_view-match_ordering : (o : Ordering) (a b c : List (String Global × Value)) → members_view
     (match_ordering o a b c) ≡ match_ordering o (members_view a) (members_view b) (members_view c)
-members_view-match_ordering Less a b c = refl
-members_view-match_ordering Equal a b c = refl
-members_view-match_ordering Greater a b c = refl
+members_view-match_ordering it a b c = search rules
 
 pub members_view-insert_entry : (es : List (String Global × Value)) (k : String Global) (v : Value)
     → members_view (insert_entry string_cmp es k v) ≡ put (string_bytes k) (view v)
     (members_view es)
 members_view-insert_entry [] k v = refl
-members_view-insert_entry (e ∷ es) k v = members_view-match_ordering (string_cmp k e.0) _ _ _ ∙
-    rw (members_view-insert_entry es k v)
+members_view-insert_entry (e ∷ es) k v = search (rules, members_view-insert_entry es k v)
 
 pub cut_members-put : (levels : ℕ) (k : List ℕ) (d : Data) (ms : Members) → cut_members levels
     (put k d ms) ≡ put k (cut levels d) (cut_members levels ms)
 cut_members-put levels k d no_members = refl
-cut_members-put levels k d (member l e ms) =
-    grind (arith, common_steps, cut_members-put levels k d ms)
+cut_members-put levels k d (member l e ms) = grind (arith, common_steps, cut_members-put levels k d ms)
 
 -- an array that was read, and an object
 abbrev data_of : Data → Option (Data × List Token) → Data
@@ -52,13 +48,11 @@ rest_of r (Some p) = p.1
 
 pub array_read : (o : Option (Items × List Token)) (d : Data) (r : List Token) → parse_map array o ≡
     Some (d, r) → (ds : Items) × (d ≡ array ds) × (o ≡ Some (ds, r))
-array_read None d r e = absurd (cc)
-array_read (Some p) d r e = search (rules)
+array_read it d r e = search rules
 
 pub object_read : (o : Option (Members × List Token)) (d : Data) (r : List Token) → parse_map object
     o ≡ Some (d, r) → (ms : Members) × (d ≡ object ms) × (o ≡ Some (ms, r))
-object_read None d r e = absurd (cc)
-object_read (Some p) d r e = search (rules)
+object_read it d r e = search rules
 
 pub opened_array : (depth : ℕ) (ts r : List Token) (d : Data) → converted of_json
     (value depth (Token.begin_array ∷ ts)) ≡ Some (d, r)

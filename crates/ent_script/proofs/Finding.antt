@@ -7,12 +7,11 @@ use Rattle.json.specs.Json as json
 use Rattle.json.specs.Json.{Parse, parse_map, after_end_array, read_key, items_step, members_step}
 use Rattle.json.specs.Json.{items, members, value, value_with}
 use Rattle.json.proofs.Grammar.{value_is}
-use Rattle.serde_json.specs.Data.{Num, Data, number, array, object, Items, no_items, item, Members}
-use Rattle.serde_json.specs.Data.{no_members, put}
+use Rattle.serde_json.specs.Data.{Num, Data, number, Items, no_items, item, Members, put}
 use Rattle.serde_json.specs.Find.{as_array, get}
 use Rattle.json.specs.Lex.{tokens}
 use Rattle.ent_script.specs.Streaming.{begins_object}
-use Rattle.serde_json.specs.Read.{number_of, of_json, of_items, of_members, converted, read}
+use Rattle.serde_json.specs.Read.{of_json, of_items, of_members, converted, read}
 use Rattle.ent_script.proofs.Turns.{item_read, item_refused, member_read, member_refused}
 use Rattle.ent_script.proofs.Turns.{key_refused, converted-object, converted-array}
 
@@ -113,25 +112,13 @@ nested_members (suc d) ts = members (value d) (length ts) ts
 
 no_array_number : (ts r : List Token) (o : Option Num) (d : Data) → option_map
     {U = Data × List Token} (λ b. (b, ts)) (option_map number o) ≡ Some (d, r) → as_array d ≡ None
-no_array_number ts r None d e = impossible (d, r) e
-no_array_number ts r (Some n) d e = ap (λ x. as_array (first_of d x)) (sym e)
+no_array_number ts r it d e = search rules
 
 no_array_by : (a : Parse json.Items) (o : Parse json.Members) (t : Token) (ts r : List Token)
     (d : Data) → (t ≡ Token.begin_array → ⊥)
     → converted of_json (value_with a o (t ∷ ts)) ≡ Some (d, r) → as_array d ≡ None
-no_array_by a o Token.begin_object ts r d other e =
-    ap as_array
-    (mapped object
-    (converted (λ ms. of_members ms no_members) (o ts)) d r (sym (converted-object (o ts)) ∙ e)).1
-no_array_by a o Token.end_object ts r d other e = impossible (d, r) e
-no_array_by a o Token.begin_array ts r d other e = absurd (other refl)
-no_array_by a o Token.end_array ts r d other e = impossible (d, r) e
-no_array_by a o (Token.key s) ts r d other e = impossible (d, r) e
-no_array_by a o (Token.string s) ts r d other e = ap (λ x. as_array (first_of d x)) (sym e)
-no_array_by a o (Token.number s) ts r d other e = no_array_number ts r (number_of s) d e
-no_array_by a o (Token.boolean b) ts r d other e = ap (λ x. as_array (first_of d x)) (sym e)
-no_array_by a o Token.null ts r d other e = ap (λ x. as_array (first_of d x)) (sym e)
-no_array_by a o Token.bad ts r d other e = impossible (d, r) e
+no_array_by a o it ts r d other e =
+    search (rules, mapped, converted-object, impossible, no_array_number)
 
 pub no_array : (depth : ℕ) (t : Token) (ts r : List Token) (d : Data) → (t ≡ Token.begin_array → ⊥)
     → converted of_json (value depth (t ∷ ts)) ≡ Some (d, r) → as_array d ≡ None
@@ -155,24 +142,13 @@ not_passed o r a e is = impossible r (sym e ∙ ap (option_map (λ p. p.1)) is)
 
 no_members_number : (k : List ℕ) (ts r : List Token) (o : Option Num) (d : Data) → option_map
     {U = Data × List Token} (λ b. (b, ts)) (option_map number o) ≡ Some (d, r) → get k d ≡ None
-no_members_number k ts r None d e = impossible (d, r) e
-no_members_number k ts r (Some n) d e = ap (λ x. get k (first_of d x)) (sym e)
+no_members_number k ts r it d e = search rules
 
 no_object_by : (a : Parse json.Items) (o : Parse json.Members) (ts r : List Token) (d : Data)
     (k : List ℕ) → begins_object ts ≡ false
     → converted of_json (value_with a o ts) ≡ Some (d, r) → get k d ≡ None
-no_object_by a o [] r d k other e = impossible (d, r) e
-no_object_by a o (Token.begin_object ∷ ts) r d k other e = absurd (cc other)
-no_object_by a o (Token.end_object ∷ ts) r d k other e = impossible (d, r) e
-no_object_by a o (Token.begin_array ∷ ts) r d k other e =
-    ap (get k) (mapped array (converted of_items (a ts)) d r (sym (converted-array (a ts)) ∙ e)).1
-no_object_by a o (Token.end_array ∷ ts) r d k other e = impossible (d, r) e
-no_object_by a o (Token.key s ∷ ts) r d k other e = impossible (d, r) e
-no_object_by a o (Token.string s ∷ ts) r d k other e = ap (λ x. get k (first_of d x)) (sym e)
-no_object_by a o (Token.number s ∷ ts) r d k other e = no_members_number k ts r (number_of s) d e
-no_object_by a o (Token.boolean b ∷ ts) r d k other e = ap (λ x. get k (first_of d x)) (sym e)
-no_object_by a o (Token.null ∷ ts) r d k other e = ap (λ x. get k (first_of d x)) (sym e)
-no_object_by a o (Token.bad ∷ ts) r d k other e = impossible (d, r) e
+no_object_by a o ts r d k other e =
+    search (rules, impossible, mapped, converted-array, no_members_number)
 
 pub no_object : (depth : ℕ) (ts r : List Token) (d : Data) (k : List ℕ) → begins_object ts ≡ false
     → converted of_json (value depth ts) ≡ Some (d, r) → get k d ≡ None
@@ -186,9 +162,7 @@ ended j d o e = ap (option_map (λ b. (b, []))) e
 
 whole_by : (o : Option (json.Json × List Token)) (d : Data) → option_and_then of_json
     (option_and_then (λ p. json.if_last p.0 p.1) o) ≡ Some d → converted of_json o ≡ Some (d, [])
-whole_by None d e = impossible d e
-whole_by (Some (j, [])) d e = ended j d (of_json j) e
-whole_by (Some (j, t ∷ ts)) d e = impossible d e
+whole_by ts d e = search (rules, impossible, ended)
 
 -- the tokens of a text that is read are those of a value, and no more
 pub whole_text : (text : List ℕ) (d : Data) → read text ≡ Some d → converted of_json

@@ -1,8 +1,7 @@
 -- What the first pass over a text finds: whether it is JSON, and its heading.
-use Rattle.std.proofs.Common.{rules, ◌≡◌, ◌∙◌, ℕ, List, [], ◌∷◌, Option, Some, None, option_map}
-use Rattle.std.proofs.Common.{is_some, option_and_then, ok_or, Result, Ok, Err, Bool, true, false}
-use Rattle.std.proofs.Common.{cond, refl, sym, ap, subst, inl, inr, MatchOption}
-use Rattle.std.specs.Prelude.{◌⊎◌}
+use Rattle.std.proofs.Common.{rules, ◌≡◌, ℕ, List, [], ◌∷◌, Option, Some, None, option_map, is_some}
+use Rattle.std.proofs.Common.{option_and_then, ok_or, Result, Ok, Err, Bool, true, false, cond, ap}
+use Rattle.std.proofs.Common.{MatchOption}
 use Rattle.std.specs.Str.{IsUtf8}
 use Rattle.std.proofs.lemmas.Str.{is_utf8-from_IsUtf8}
 use Rattle.json.specs.Lex.{tokens}
@@ -11,11 +10,11 @@ use Rattle.json.specs.Json as json
 use Rattle.json.specs.Json.{value}
 use Rattle.serde_json.specs.Data.{Data}
 use Rattle.serde_json.specs.Read.{of_json, converted, read}
-use Rattle.ent_script.specs.Reading.{◌>>=◌, heading_of, in_script, script_of, json_of, ReadsAs}
+use Rattle.ent_script.specs.Reading.{◌>>=◌, heading_of, in_script, script_of, json_of}
 use Rattle.ent_script.specs.Script.{Script}
 use Rattle.ent_script.specs.declared.heading.Heading.{Heading}
 use Rattle.ent_script.specs.declared.read_fault.ReadFault.{ReadFault}
-use Rattle.ent_script.specs.declared.read_fault.ReadFault.TheVariants.{Json, Memory}
+use Rattle.ent_script.specs.declared.read_fault.ReadFault.TheVariants.{Json}
 use Rattle.ent_script.proofs.Finding.{second_of}
 use Rattle.ent_script.proofs.Whole.{heading_refused}
 
@@ -32,29 +31,24 @@ err e = Err e
 
 pub stops : (o : Option Data) (e : ReadFault) → headed o ≡ Err e
     → (ok_or o Json >>= script_of) ≡ Err e
-stops None e h = ap (λ (r : Result Heading ReadFault). err (fault_or e r)) h
-stops (Some d) e h = heading_refused d e h
+stops it e h = search (rules, heading_refused)
 
 pub found : (o : Option Data) (heading : Heading) → headed o ≡ Ok heading
     → (d : Data) × (o ≡ Some d) × (in_script (heading_of d) ≡ Ok heading)
-found None heading h = absurd (cc h)
-found (Some d) heading h = (d, refl, h)
+found it heading h = search rules
 
 pub json_is : (text : List ℕ) → IsUtf8 text → json_of text ≡ read text
 json_is text utf8 = ap (λ (b : Bool). cond b (read text) None) (is_utf8-from_IsUtf8 text utf8)
 
 none_read : {A : Type 0} (r : List Token) (o : Option A)
     → option_map {U = A × List Token} (λ y. (y, r)) o ≡ None → o ≡ None
-none_read r None e = refl
-none_read r (Some y) e = absurd (cc e)
+none_read r it e = search rules
 
 abbrev last : Option (json.Json × List Token) → Option Data
 last o = option_and_then of_json (option_and_then (λ p. json.if_last p.0 p.1) o)
 
 refused_by : (o : Option (json.Json × List Token)) → converted of_json o ≡ None → last o ≡ None
-refused_by None e = refl
-refused_by (Some (j, [])) e = none_read [] (of_json j) e
-refused_by (Some (j, t ∷ ts)) e = refl
+refused_by ts e = search (rules, none_read)
 
 pub refused : (text : List ℕ) → converted of_json (value 127 (tokens text)) ≡ None
     → read text ≡ None
@@ -65,22 +59,18 @@ apart t ts e = absurd (cc e)
 
 not_ended : (o : Option Data) (d : Data) (t : Token) (ts : List Token)
     → option_map {U = Data × List Token} (λ b. (b, [])) o ≡ Some (d, t ∷ ts) → o ≡ None
-not_ended None d t ts e = refl
-not_ended (Some y) d t ts e = absurd (apart t ts (ap (second_of []) e))
+not_ended it d t ts e = search (rules, apart, second_of)
 
 longer_by : (o : Option (json.Json × List Token)) (d : Data) (t : Token) (ts : List Token)
     → converted of_json o ≡ Some (d, t ∷ ts) → last o ≡ None
-longer_by None d t ts e = refl
-longer_by (Some (j, [])) d t ts e = not_ended (of_json j) d t ts e
-longer_by (Some (j, u ∷ us)) d t ts e = refl
+longer_by us d t ts e = search (rules, not_ended)
 
 -- a text that goes on after its value
 pub longer : {T : Type 0} (r : Option T) (f : T → Token) (text : List ℕ) (d : Data)
     (left after : List Token) → is_some r ≡ true
     → MatchOption r ((left ≡ []) × (after ≡ [])) (λ t. left ≡ f t ∷ after)
     → converted of_json (value 127 (tokens text)) ≡ Some (d, left) → read text ≡ None
-longer None f text d left after some next e = absurd (cc some)
-longer (Some t) f text d left after some next e = search (rules, longer_by)
+longer it f text d left after some next e = search (rules, longer_by)
 
 abbrev first : Data → Option (Data × List Token) → Data
 first d None = d
@@ -88,25 +78,19 @@ first d (Some p) = p.0
 
 ended : (o : Option Data) (d : Data)
     → option_map {U = Data × List Token} (λ b. (b, [])) o ≡ Some (d, []) → o ≡ Some d
-ended None d e = absurd (cc e)
-ended (Some y) d e = ap (λ x. Some (first y x)) e
+ended it d e = search rules
 
 no_more : (t : Token) (ts : List Token) (o : Option Data) (d : Data)
     → option_map {U = Data × List Token} (λ b. (b, t ∷ ts)) o ≡ Some (d, []) → None ≡ Some d
-no_more t ts None d e = absurd (cc e)
-no_more t ts (Some y) d e = absurd (apart t ts (sym (ap (second_of []) e)))
+no_more t ts it d e = search (rules, apart, second_of)
 
 whole_by : (o : Option (json.Json × List Token)) (d : Data)
     → converted of_json o ≡ Some (d, []) → last o ≡ Some d
-whole_by None d e = absurd (cc e)
-whole_by (Some (j, [])) d e = ended (of_json j) d e
-whole_by (Some (j, t ∷ ts)) d e = no_more t ts (of_json j) d e
+whole_by ts d e = search (rules, ended, no_more)
 
 -- a text that is its value
 pub whole : {T : Type 0} (r : Option T) (f : T → Token) (text : List ℕ) (d : Data)
     (left after : List Token) → is_some r ≡ false
     → MatchOption r ((left ≡ []) × (after ≡ [])) (λ t. left ≡ f t ∷ after)
     → converted of_json (value 127 (tokens text)) ≡ Some (d, left) → read text ≡ Some d
-whole None f text d left after none next e =
-    whole_by (value 127 (tokens text)) d (e ∙ ap (λ (ts : List Token). Some (d, ts)) next.0)
-whole (Some t) f text d left after none next e = absurd (cc none)
+whole it f text d left after none next e = search rules

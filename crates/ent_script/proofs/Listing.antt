@@ -1,7 +1,7 @@
 -- Reading the elements of an array one after another, of at most so many.
-use Rattle.std.proofs.Common.{◌≡◌, ℕ, ◌+◌, ◌-◌, ◌<◌, ◌≤◌, List, [], ◌∷◌, ◌++◌, length, Some, None}
-use Rattle.std.proofs.Common.{Result, Ok, Err, Bool, true, false, cond, ok_or, refl, sym, ap, ◌∙◌}
-use Rattle.std.proofs.Common.{arith, le-leb}
+use Rattle.std.proofs.Common.{rules, ◌≡◌, ℕ, ◌+◌, ◌-◌, ◌<◌, ◌≤◌, List, [], ◌∷◌, ◌++◌, length, Some}
+use Rattle.std.proofs.Common.{None, Result, Ok, Err, Bool, true, false, cond, ok_or, refl, sym, ap}
+use Rattle.std.proofs.Common.{◌∙◌, arith}
 use Rattle.std.proofs.lemmas.Bool.{lt-leb, leb-true, leb-false}
 use Rattle.std.proofs.lemmas.List.{append-nil}
 use Rattle.std.specs.Global.{Vec}
@@ -15,41 +15,25 @@ use Rattle.ent_script.specs.Json.{list_of}
 use Rattle.ent_script.specs.Reading.{◌>>=◌, numbered, ReadsAs, ReadsList}
 use Rattle.ent_script.specs.Streaming.{Streams, StreamsList, FaultOfArray, ran_out}
 use Rattle.ent_script.specs.declared.read_fault.ReadFault.{ReadFault}
-use Rattle.ent_script.specs.declared.read_fault.ReadFault.TheVariants.{Json, Script, Frame, System}
-use Rattle.ent_script.specs.declared.read_fault.ReadFault.TheVariants.{Operation, Memory}
+use Rattle.ent_script.specs.declared.read_fault.ReadFault.TheVariants.{Json, Memory}
 use Rattle.ent_script.proofs.Numbering.{onto, onto_none, onto_one}
 use Rattle.ent_script.proofs.Finding.{next_item, last_item}
 
 pub streams_fault : {A : Type 0} (e : ReadFault) (left : List Token) (read : Result A ReadFault)
     (rest : List Token)
     → (e ≡ Memory → ⊥) → Streams {A = A} (Err e) left read rest → (read ≡ Err e) × (left ≡ rest)
-streams_fault Json left read rest other h = h
-streams_fault (Script c) left read rest other h = h
-streams_fault (Frame f) left read rest other h = h
-streams_fault (System f s) left read rest other h = h
-streams_fault (Operation f s o c) left read rest other h = h
-streams_fault Memory left read rest other h = absurd (other refl)
+streams_fault it left read rest other h = search rules
 
 pub fault_streams : {A : Type 0} (e : ReadFault) (left : List Token) (read : Result A ReadFault)
     (rest : List Token)
     → ((e ≡ Memory → ⊥) → (read ≡ Err e) × (left ≡ rest)) → Streams {A = A} (Err e) left read rest
-fault_streams Json left read rest h = h (λ e. cc e)
-fault_streams (Script c) left read rest h = h (λ e. cc e)
-fault_streams (Frame f) left read rest h = h (λ e. cc e)
-fault_streams (System f s) left read rest h = h (λ e. cc e)
-fault_streams (Operation f s o c) left read rest h = h (λ e. cc e)
-fault_streams Memory left read rest h = tt
+fault_streams it left read rest h = search rules
 
 pub fault_streams_list : {A : Type 0} (e : ReadFault) (left : List Token)
     (read : Result (List A) ReadFault) (rest : List Token)
     → ((e ≡ Memory → ⊥) → (read ≡ Err e) × (left ≡ rest)) → StreamsList {A = A} (Err e) left read
     rest
-fault_streams_list Json left read rest h = h (λ e. cc e)
-fault_streams_list (Script c) left read rest h = h (λ e. cc e)
-fault_streams_list (Frame f) left read rest h = h (λ e. cc e)
-fault_streams_list (System f s) left read rest h = h (λ e. cc e)
-fault_streams_list (Operation f s o c) left read rest h = h (λ e. cc e)
-fault_streams_list Memory left read rest h = tt
+fault_streams_list it left read rest h = search rules
 
 abbrev pub done_with : {A : Type 0} → List A → Result (List A) ReadFault
 done_with xs = Ok xs
@@ -71,15 +55,11 @@ At p f done number now ds rest = (m : ℕ) × (later : Items)
 module _ {A : Type 0} (p : Parse json.Json) (f : ℕ → Data → Result A ReadFault) where
   pub listed_few : (most : ℕ) (limit : ReadFault) (ds : List Data) → length ds ≤ most → listed most
       f limit ds ≡ numbered f 0 ds
-  listed_few most limit ds h = ap
-      (λ (b : Bool). ok_or (cond b (Some ds) None) limit >>= λ xs. numbered f 0 xs)
-      (le-leb (length ds) most h)
+  listed_few most limit ds h = search rules
 
   pub listed_many : (most : ℕ) (limit : ReadFault) (ds : List Data) → most < length ds → listed most
       f limit ds ≡ Err limit
-  listed_many most limit ds h = ap
-      (λ (b : Bool). ok_or (cond b (Some ds) None) limit >>= λ xs. numbered f 0 xs)
-      (lt-leb (length ds) most h)
+  listed_many most limit ds h = search (rules, lt-leb)
 
   pub at_start : (n : ℕ) (ts : List Token) (ds : Items) (rest : List Token) → converted of_items
       (items p n ts) ≡ Some (ds, rest) → At p f [] 0 ts ds rest
@@ -91,33 +71,14 @@ module _ {A : Type 0} (p : Parse json.Json) (f : ℕ → Data → Result A ReadF
       (f number d) r) → At p f (done ++ x ∷ []) (number + 1) left ds rest
   at_next done number now left x ds rest at going reads =
       let next = next_item p at.0 now rest at.1 going at.2 in
-      let is = reads next.0 next.1 next.4 in
-      let later : list_of at.1 ≡ next.0 ∷ list_of next.2 = ap list_of next.3 in (
-        at.0 - 1,
-        next.2,
-        ap (λ ts. converted of_items (items p (at.0 - 1) ts)) is.1 ∙ next.5,
-        omega (arith, at.3, ap length later),
-        sym (onto_one done x (numbered f (number + 1) (list_of next.2)))
-            ∙ sym
-            (ap
-            (λ (r : Result A ReadFault). onto done
-            (r >>= λ y. numbered f (number + 1) (list_of next.2) >>= λ ys. Ok (y ∷ ys))) is.0)
-            ∙ sym (ap (λ (xs : List Data). onto done (numbered f number xs)) later)
-            ∙ at.4,
-      )
+      search (rules, onto_one, onto)
 
   pub at_end : (most : ℕ) (limit : ReadFault) (done : List A) (number : ℕ) (now left : List Token)
       (ds : Items) (rest : List Token)
       → At p f done number now ds rest → after_end_array now ≡ Some left → number ≤ most
       → (listed most f limit (list_of ds) ≡ Ok done) × (left ≡ rest)
   at_end most limit done number now left ds rest at over few =
-      let last = last_item p at.0 now left rest at.1 over at.2 in
-      let none : list_of at.1 ≡ [] = ap list_of last.0 in (
-        listed_few most limit (list_of ds) (omega (arith, at.3, ap length none, few))
-            ∙ sym at.4 ∙ ap (λ (xs : List Data). onto done (numbered f number xs)) none ∙ ap
-            (λ (xs : List A). done_with xs) (append-nil done),
-        last.1,
-      )
+      search (rules, last_item, listed_few, onto, append-nil)
 
   -- one element too many
   pub at_most_many : (most : ℕ) (limit found : ReadFault) (done : List A) (number : ℕ)
@@ -127,13 +88,7 @@ module _ {A : Type 0} (p : Parse json.Json) (f : ℕ → Data → Result A ReadF
       (later, r) → FaultOfArray 0 limit limit found left later r)
       → (listed most f limit (list_of ds) ≡ Err found) × (left ≡ rest)
   at_most_many most limit found done number now left ds rest at going full faults =
-      let next = next_item p at.0 now rest at.1 going at.2 in
-      let later : list_of at.1 ≡ next.0 ∷ list_of next.2 = ap list_of next.3 in
-      let fault = faults at.0 at.1 rest at.2 in (
-        listed_many most limit (list_of ds) (omega (arith, at.3, ap length later, full))
-            ∙ ap (λ (e : ReadFault). Err e) (sym (fault.many (omega (arith, ap length later)))),
-        fault.passed,
-      )
+      search (rules, next_item, listed_many)
 
   fault_by : (most : ℕ) (limit e found : ReadFault) (ds : List Data) (later room : ℕ) (b : Bool) →
       nat_le later room ≡ b
@@ -142,11 +97,9 @@ module _ {A : Type 0} (p : Parse json.Json) (f : ℕ → Data → Result A ReadF
       → (later ≤ room → found ≡ e) → (room < later → found ≡ limit) → numbered f 0 ds ≡ Err e →
       listed most f limit ds ≡ Err found
   fault_by most limit e found ds later room true test a b c d few many means =
-      let le : later ≤ room = leb-true later room test in
-      listed_few most limit ds (c le) ∙ means ∙ ap (λ (x : ReadFault). Err x) (sym (few le))
+      search (rules, leb-true, listed_few)
   fault_by most limit e found ds later room false test a b c d few many means =
-      let lt : room < later = leb-false later room test in
-      listed_many most limit ds (d lt) ∙ ap (λ (x : ReadFault). Err x) (sym (many lt))
+      search (rules, leb-false, listed_many)
 
   -- an element that means nothing
   pub at_fault : (most : ℕ) (limit e found : ReadFault) (done : List A) (number : ℕ)
@@ -183,21 +136,9 @@ module _ {A : Type 0} (p : Parse json.Json) (f : ℕ → Data → Result A ReadF
 pub read_and_left : {A : Type 0} (r : Result A ReadFault) (left : List Token)
     (read : Result A ReadFault) (rest : List Token)
     → ReadsAs r read → left ≡ rest → Streams r left read rest
-read_and_left (Ok x) left read rest h is = (h, is)
-read_and_left (Err Json) left read rest h is = (h, is)
-read_and_left (Err (Script c)) left read rest h is = (h, is)
-read_and_left (Err (Frame f)) left read rest h is = (h, is)
-read_and_left (Err (System f s)) left read rest h is = (h, is)
-read_and_left (Err (Operation f s o c)) left read rest h is = (h, is)
-read_and_left (Err Memory) left read rest h is = tt
+read_and_left it left read rest h is = search rules
 
 pub streamed_list : {A : Type 0} (r : Result (Vec A) ReadFault) (left : List Token)
     (read : Result (List A) ReadFault) (rest : List Token)
     → ran_out r ≡ false → StreamsList r left read rest → ReadsList r read × (left ≡ rest)
-streamed_list (Ok xs) left read rest e h = h
-streamed_list (Err Json) left read rest e h = h
-streamed_list (Err (Script c)) left read rest e h = h
-streamed_list (Err (Frame f)) left read rest e h = h
-streamed_list (Err (System f s)) left read rest e h = h
-streamed_list (Err (Operation f s o c)) left read rest e h = h
-streamed_list (Err Memory) left read rest e h = absurd (cc e)
+streamed_list it left read rest e h = search rules

@@ -2,7 +2,7 @@
 use Rattle.std.proofs.Common.{rules, ◌≡◌, ℕ, ◌+◌, ◌<◌, Bool, true, false, List, [], ◌∷◌, ◌++◌}
 use Rattle.std.proofs.Common.{length, map, Option, Some, None, option_map, is_some, IfSome, cond}
 use Rattle.std.proofs.Common.{refl, sym, ap, ◌∙◌, arith, bytes_eq, true≢false, suc, add-one, Bor}
-use Rattle.std.proofs.Common.{BTreeMap, subst, option_and_then}
+use Rattle.std.proofs.Common.{BTreeMap, option_and_then}
 use Rattle.std.proofs.lemmas.Grind.{common_steps}
 use Rattle.std.specs.BTreeMap.{get_by, Updates}
 use Rattle.std.specs.Cmp.Lexicographic.{slice_cmp}
@@ -28,9 +28,7 @@ first_of (Some n) other = Some n
 later : (found : Option ℕ) (b : Bool) (n : ℕ)
     → option_map (λ p. p + 1) (first_of found (cond b (Some n) None))
     ≡ first_of (option_map (λ p. p + 1) found) (cond b (Some (suc n)) None)
-later (Some p) b n = refl
-later None true n = ap (λ (m : ℕ). Some m) (add-one n)
-later None false n = refl
+later it b n = search (rules, add-one)
 
 here_or_later : (here : Bool) (found : Option ℕ) (b : Bool) (n : ℕ)
     → cond here (Some 0) (option_map (λ p. p + 1) (first_of found (cond b (Some n) None)))
@@ -43,24 +41,16 @@ number_among-append : (text name : List ℕ) (names : List (List ℕ))
     (cond (bytes_eq name text) (Some (length names)) None)
 number_among-append text name [] = refl
 number_among-append text name (first ∷ others) =
-    ap (λ (found : Option ℕ). cond (bytes_eq first text) (Some 0) (option_map (λ p. p + 1) found))
-    (number_among-append text name others)
-    ∙ here_or_later (bytes_eq first text) (number_among text others) (bytes_eq name text)
-    (length others)
+    search (rules, here_or_later, number_among-append text name others)
 
 no_other : (found : Option ℕ) → found ≡ first_of found None
-no_other None = refl
-no_other (Some n) = refl
+no_other it = search rules
 
 at_end_by : (b : Bool) (text name : List ℕ) (names : List (List ℕ)) → bytes_eq name text ≡ b
     → number_among name names ≡ None
     → cond b (Some (length names)) (number_among text names) ≡ first_of (number_among text names)
     (cond b (Some (length names)) None)
-at_end_by true text name names e none =
-    let absent : number_among text names ≡ None = subst (λ (t : List ℕ). number_among t names
-    ≡ None) ((bytes_eq-Decides name text).0 e) none in
-    ap (λ (found : Option ℕ). first_of found (Some (length names))) (sym absent)
-at_end_by false text name names e none = no_other (number_among text names)
+at_end_by b text name names e none = search (rules, bytes_eq-Decides, no_other)
 
 pub at_end : (text name : List ℕ) (names : List (List ℕ)) → number_among name names ≡ None
     → cond (bytes_eq name text) (Some (length names)) (number_among text names)
@@ -93,20 +83,17 @@ numbers_added names numbers after name n count old none updates = λ text.
     ∙ ap (number_among text) (sym (map_now names name))
 
 pub none_of : (found : Option ℕ) (b : Bool) → b ≡ is_some found → b ≡ false → found ≡ None
-none_of None b e h = refl
-none_of (Some n) b e h = absurd (true≢false (sym e ∙ h))
+none_of it b e h = search (rules, true≢false)
 
 new_by : (found : Option ℕ) (name t : List ℕ) (names : List (List ℕ)) → number_among name names
     ≡ found → cond (is_some found) None (Some name) ≡ Some t → (Some name ≡ Some t)
     × (number_among t names ≡ None)
-new_by None name t names e h = search (rules)
-new_by (Some n) name t names e h = absurd (cc h)
+new_by it name t names e h = search rules
 
 found_by : (o : Option (List ℕ)) (t : List ℕ) (names : List (List ℕ))
     → option_and_then (λ name. cond (is_some (number_among name names)) None (Some name)) o ≡ Some t
     → (o ≡ Some t) × (number_among t names ≡ None)
-found_by None t names h = absurd (cc h)
-found_by (Some name) t names h = new_by (number_among name names) name t names refl h
+found_by it t names h = search (rules, new_by)
 
 -- a new name is none of the others
 pub new_name_is : (names : List (List ℕ)) (d : Data) (t : List ℕ) → new_name names d ≡ Some t

@@ -1,11 +1,9 @@
 -- Reading the elements of an array one after another.
-use Rattle.std.proofs.Common.{◌≡◌, ℕ, ◌+◌, ◌<◌, ◌≤◌, zero, suc, List, [], ◌∷◌, ◌++◌, length, map}
-use Rattle.std.proofs.Common.{take}
-use Rattle.std.proofs.Common.{drop, get_or, Result, Ok, Err, Option, refl, sym, ap, ◌∙◌, arith}
-use Rattle.std.proofs.Common.{add-one}
-use Rattle.std.proofs.Common.{append_assoc}
+use Rattle.std.proofs.lemmas.Grind.{common_steps}
+use Rattle.std.proofs.Common.{rules, ◌≡◌, ℕ, ◌+◌, ◌<◌, ◌≤◌, zero, suc, List, [], ◌∷◌, ◌++◌, length}
+use Rattle.std.proofs.Common.{map, take, drop, get_or, Result, Ok, Err, Option, refl, sym, ap}
+use Rattle.std.proofs.Common.{arith, add-one, append_assoc}
 use Rattle.std.proofs.lemmas.List.{append-nil}
-use Rattle.std.proofs.lemmas.List.Sums.{fold-append}
 use Rattle.serde_json.specs.Data.{Data}
 use Rattle.serde_json.specs.View.{view}
 use Rattle.serde_json.specs.declared.value.Value.{Value}
@@ -30,8 +28,7 @@ until_here : (vs : List Value) (i : ℕ) (v : Value) → i < length vs → v ≡
     → until vs (suc i) ≡ until vs i ++ view v ∷ []
 until_here [] i v h e = absurd (omega arith)
 until_here (first ∷ vs) zero v h e = ap (λ (d : Data). d ∷ []) (sym (ap view e))
-until_here (first ∷ vs) (suc i) v h e = ap (λ (ds : List Data). view first ∷ ds)
-    (until_here vs i v (omega arith) e)
+until_here (first ∷ vs) (suc i) v h e = search (rules, until_here vs i v (omega arith) e)
 
 from_end : (vs : List Value) (i : ℕ) → length vs ≤ i → from vs i ≡ []
 from_end [] zero h = refl
@@ -45,8 +42,7 @@ onto front (Ok xs) = Ok (front ++ xs)
 onto front (Err e) = Err e
 
 pub onto_none : {A E : Type 0} (read : Result (List A) E) → onto [] read ≡ read
-onto_none (Ok xs) = refl
-onto_none (Err e) = refl
+onto_none it = search rules
 
 abbrev ok : (A E : Type 0) → List A → Result (List A) E
 ok A E xs = Ok xs
@@ -61,35 +57,19 @@ module _ {A E : Type 0} (f : ℕ → Data → Result A E) where
       (total : Result (List A) E) → i < length vs → v ≡ get_or vs i v → f i (view v) ≡ Ok x
       → onto front (numbered f i (from vs i)) ≡ total
       → onto (front ++ x ∷ []) (numbered f (i + 1) (from vs (i + 1))) ≡ total
-  goes_on vs i v front x total h is means invariant =
-      ap (λ (n : ℕ). onto (front ++ x ∷ []) (numbered f (i + 1) (from vs n))) (add-one i)
-      ∙ sym (onto_one front x (numbered f (i + 1) (from vs (suc i))))
-      ∙ sym (ap (λ (r : Result A E). onto front (r >>= λ y. numbered f (i + 1) (from vs (suc i)) >>=
-      λ ys. Ok (y ∷ ys))) means)
-      ∙ sym (ap (λ (ds : List Data). onto front (numbered f i ds)) (from_here vs i v h is))
-      ∙ invariant
+  goes_on vs i v front x total h is means invariant = search (rules, add-one, onto_one, from_here)
 
   pub stops : (vs : List Value) (i : ℕ) (v : Value) (front : List A) (e : E)
       (total : Result (List A) E) → i < length vs → v ≡ get_or vs i v → f i (view v) ≡ Err e
       → onto front (numbered f i (from vs i)) ≡ total → total ≡ Err e
-  stops vs i v front e total h is means invariant =
-      sym invariant
-      ∙ ap (λ (ds : List Data). onto front (numbered f i ds)) (from_here vs i v h is)
-      ∙ ap (λ (r : Result A E). onto front (r >>= λ y. numbered f (i + 1) (from vs (suc i)) >>=
-      λ ys. Ok (y ∷ ys))) means
+  stops vs i v front e total h is means invariant = search (rules, from_here)
 
   pub ends : (vs : List Value) (i : ℕ) (front : List A) (total : Result (List A) E)
       → length vs ≤ i → onto front (numbered f i (from vs i)) ≡ total → total ≡ Ok front
-  ends vs i front total h invariant =
-      sym invariant
-      ∙ ap (λ (ds : List Data). onto front (numbered f i ds)) (from_end vs i h)
-      ∙ ap (ok A E) (append-nil front)
+  ends vs i front total h invariant = search (rules, from_end, append-nil)
 
 -- the names that are found as far as the next element
 pub names_on : (f : Data → Option (List ℕ)) (vs : List Value) (i : ℕ) (v : Value) → i < length vs
     → v ≡ get_or vs i v
     → names_in f (until vs (i + 1)) ≡ with_part (names_in f (until vs i)) (f (view v))
-names_on f vs i v h is =
-    ap (λ (n : ℕ). names_in f (until vs n)) (add-one i)
-    ∙ ap (names_in f) (until_here vs i v h is)
-    ∙ fold-append (λ names d. with_part names (f d)) [] (until vs i) (view v ∷ [])
+names_on f vs i v h is = grind (arith, common_steps, add-one i, until_here vs i v h is)

@@ -1,6 +1,6 @@
 -- What stands behind the bracket that a reader took, and behind a value that it passed over.
 use Rattle.std.proofs.Common.{rules, ◌≡◌, ◌-◌, ℕ, [], ◌∷◌, List, length, Some, None, Bool, true}
-use Rattle.std.proofs.Common.{false, sym, subst, ap, ◌∙◌}
+use Rattle.std.proofs.Common.{false, subst, ap, ◌∙◌}
 use Rattle.std.specs.Prelude.{Ok}
 use Rattle.json.specs.Lex.{tokens}
 use Rattle.json.specs.Token.{Token}
@@ -34,8 +34,7 @@ module _ (text : List ℕ) (d : Data) (read_as : read text ≡ Some d) (all : Li
       → (ms : Members) × (d ≡ object ms)
       × (converted (λ ms. of_members ms no_members) (members (value 126) (length ts) ts) ≡ Some
       (ms, []))
-  text_object ts begins =
-      (opened_object 127 ts [] d (ap (λ x. converted of_json (value 127 x)) (sym begins) ∙ whole)).1
+  text_object ts begins = search (rules, opened_object, whole)
 
   pub text_no_object : (k : List ℕ) → begins_object all ≡ false → get k d ≡ None
   text_no_object k other = no_object 127 all [] d k other whole

@@ -1,7 +1,7 @@
 -- Reading the operations of a system one after another, with the names that they bind.
 use Rattle.std.proofs.Common.{rules, ◌≡◌, ℕ, zero, suc, ◌+◌, ◌-◌, List, [], ◌∷◌, ◌++◌, length, take}
-use Rattle.std.proofs.Common.{drop, Some, None, Option, Result, Ok, Bool, true, false, cond, ok_or}
-use Rattle.std.proofs.Common.{refl, sym, ap, ◌∙◌, arith, add-one, inl, inr}
+use Rattle.std.proofs.Common.{drop, Some, None, Option, Result, Ok, Bool, cond, ok_or, sym, ap, ◌∙◌}
+use Rattle.std.proofs.Common.{arith, add-one}
 use Rattle.std.proofs.lemmas.Grind.{common_steps}
 use Rattle.std.proofs.lemmas.List.Sums.{fold-append}
 use Rattle.std.specs.Prelude.{◌⊎◌, nat_le}
@@ -25,8 +25,7 @@ use Rattle.ent_script.proofs.Listing.{listed}
 use Rattle.ent_script.proofs.Numbering.{onto, onto_none, onto_one}
 
 pub memory_only : (e : ReadFault) → (e ≡ Json) ⊎ (e ≡ Memory) → (e ≡ Json → ⊥) → e ≡ Memory
-memory_only e (inl is) other = absurd (other is)
-memory_only e (inr is) other = is
+memory_only e which other = search rules
 
 -- a cut value that was read, and the value that the tokens have
 pub cut_read : (p : Parse json.Json) (ts left rest : List Token) (d was : Data) (v : Value)
@@ -57,8 +56,7 @@ here : (ds : List Data) (i : ℕ) (d : Data) (later : List Data) → drop i ds �
 here [] zero d later e = absurd (cc e)
 here [] (suc i) d later e = absurd (cc e)
 here (x ∷ ds) zero d later e = (ap tail_of e, ap (λ y. y ∷ []) (ap (head_or x) e))
-here (x ∷ ds) (suc i) d later e =
-    let both = here ds i d later e in (both.0, ap (λ ys. x ∷ ys) both.1)
+here (x ∷ ds) (suc i) d later e = search (rules, here ds i d later e)
 
 names_here : (ds : List Data) (i : ℕ) (d : Data) (later : List Data) → drop i ds ≡ d ∷ later
     → names_in bound_name (take (i + 1) ds)
@@ -79,15 +77,7 @@ module _ {A : Type 0} (p : Parse json.Json) (f : ℕ → Data → Result A ReadF
   pub reached_start : (n : ℕ) (ts : List Token) (ds : Items) (rest : List Token)
       (bound : List (List ℕ)) → bound ≡ [] → converted of_items (items p n ts) ≡ Some (ds, rest)
       → Reached p f [] 0 ts ds rest bound
-  reached_start n ts ds rest bound none e = (
-    n,
-    ds,
-    e,
-    omega arith,
-    onto_none (numbered f 0 (list_of ds)),
-    refl,
-    none,
-  )
+  reached_start n ts ds rest bound none e = search (rules, onto_none)
 
   pub reached_next : (done : List A) (number : ℕ) (now left : List Token) (x : A) (ds : Items)
       (rest : List Token) (bound after : List (List ℕ))
@@ -124,8 +114,7 @@ listed_by : {A : Type 0} (b : Bool) (g : List Data → ℕ → Data → Result A
     (limit : ReadFault) (ds : List Data)
     → (ok_or (cond b (Some ds) None) limit >>= λ xs. numbered (g xs) 0 xs)
     ≡ (ok_or (cond b (Some ds) None) limit >>= λ xs. numbered (g ds) 0 xs)
-listed_by true g limit ds = refl
-listed_by false g limit ds = refl
+listed_by b g limit ds = search rules
 
 -- elements that mean something among all of them
 pub listed_among : {A : Type 0} (most : ℕ) (g : List Data → ℕ → Data → Result A ReadFault)

@@ -1,14 +1,12 @@
 -- The parts of a script that is read are in its ranges: numbers, components, bundles, names,
 -- targets and operations.
-use Rattle.std.proofs.Common.{rules, ◌≡◌, ℕ, ℤ, pos, negsuc, ◌+◌, ◌<◌, ◌≤◌, zero, suc, Bool, true}
-use Rattle.std.proofs.Common.{false, ◌&&◌, cond, List, [], ◌∷◌, ◌++◌, length, length-append, take}
-use Rattle.std.proofs.Common.{Option, Some, None, option_map, option_and_then, ok_or, Result, Ok}
-use Rattle.std.proofs.Common.{Err, IfSome, is_some, unwrap_or, bytes_eq, codes, refl, arith}
-use Rattle.std.proofs.Common.{leb-true}
+use Rattle.std.proofs.Common.{rules, ◌≡◌, ℕ, ℤ, ◌+◌, ◌<◌, ◌≤◌, zero, suc, Bool, true, ◌&&◌, cond}
+use Rattle.std.proofs.Common.{List, [], ◌∷◌, ◌++◌, length, length-append, take, Option, Some, None}
+use Rattle.std.proofs.Common.{option_map, option_and_then, ok_or, Result, IfSome, unwrap_or}
+use Rattle.std.proofs.Common.{bytes_eq, codes, arith}
 use Rattle.std.proofs.lemmas.Grind.{common_steps}
-use Rattle.std.specs.Prelude.{IfOk, nat_le, ◌==◌}
+use Rattle.std.specs.Prelude.{IfOk, ◌==◌}
 use Rattle.std.specs.declared.cmp.Ordering.{Ordering}
-use Rattle.std.specs.declared.cmp.Ordering.TheVariants.{Less, Equal, Greater}
 use Rattle.std.specs.List.{AllByRecursion, fold, slice_split}
 use Rattle.std.specs.FinMap.{put}
 use Rattle.std.specs.FinMap.Entries.{by_order}
@@ -23,7 +21,7 @@ use Rattle.ent_script.specs.declared.format.Format.TheVariants as format
 use Rattle.ent_script.specs.declared.kind.Kind.{Kind}
 use Rattle.ent_script.specs.declared.kind.Kind.TheVariants as kinds
 use Rattle.ent_script.specs.declared.target.Target.TheVariants as target
-use Rattle.ent_script.specs.Json.{at_most, members, whole, in_range, whole_within}
+use Rattle.ent_script.specs.Json.{at_most, members, in_range, whole_within}
 use Rattle.ent_script.specs.Names.{as_name, number_among, with_part, names_in}
 use Rattle.ent_script.specs.Ranges.{IsBundleOf, IsBindingAt, IsBirthBefore, IsTargetAt}
 use Rattle.ent_script.specs.Ranges.{IsOperationAt}
@@ -36,32 +34,26 @@ use Rattle.ent_script.proofs.NamesLaws.{number_within}
 
 pub then_ok : {A B E : Type 0} (Q : A → Type 0) (P : B → Type 0) (r : Result A E)
     (f : A → Result B E) → IfOk r Q → ((x : A) → Q x → IfOk (f x) P) → IfOk (r >>= f) P
-then_ok Q P (Ok x) f h k = k x h
-then_ok Q P (Err e) f h k = tt
+then_ok Q P it f h k = search rules
 
 pub or_cause : {A E : Type 0} (Q : A → Type 0) (o : Option A) (e : E) → IfSome o Q
     → IfOk (ok_or o e) Q
-or_cause Q None e h = tt
-or_cause Q (Some x) e h = h
+or_cause Q it e h = search rules
 
 pub always : {A E : Type 0} (r : Result A E) → IfOk r (λ _. Unit {0})
-always (Ok x) = tt
-always (Err e) = tt
+always it = search rules
 
 mapped : {A B : Type 0} (P : B → Type 0) (g : A → B) (o : Option A) → IfSome o (λ x. P (g x))
     → IfSome (option_map g o) P
-mapped P g None h = tt
-mapped P g (Some x) h = h
+mapped P g it h = search rules
 
 pub chained : {A B : Type 0} (P : B → Type 0) (g : A → Option B) (o : Option A)
     → ((x : A) → IfSome (g x) P) → IfSome (option_and_then g o) P
-chained P g None h = tt
-chained P g (Some x) h = h x
+chained P g it h = search rules
 
 either : {A E : Type 0} (P : A → Type 0) (b : Bool) (x y : Result A E) → IfOk x P → IfOk y P
     → IfOk (cond b x y) P
-either P true x y h k = h
-either P false x y h k = k
+either P b x y h k = search rules
 
 pub numbered_each : {A E : Type 0} (P : A → Type 0) (f : ℕ → Data → Result A E) (n : ℕ)
     (ds : List Data)
@@ -73,13 +65,11 @@ numbered_each P f n (d ∷ ds) each = search (rules, then_ok, numbered_each P f 
 pub loosened : {A E : Type 0} (P : A → Type 0) (r : Result (List A) E) (n most : ℕ) → n ≤ most
     → IfOk r (λ xs. (length xs ≤ n) × AllByRecursion P xs)
     → IfOk r (λ xs. (length xs ≤ most) × AllByRecursion P xs)
-loosened P (Ok xs) n most h k = (omega (arith, h, k.0), k.1)
-loosened P (Err e) n most h k = tt
+loosened P it n most h k = search rules
 
 pub first_part : {A E : Type 0} (P : A → Type 0) (r : Result (List A) E) (most : ℕ)
     → IfOk r (λ xs. (length xs ≤ most) × AllByRecursion P xs) → IfOk r (λ xs. length xs ≤ most)
-first_part P (Ok xs) most k = k.0
-first_part P (Err e) most k = tt
+first_part P it most k = search rules
 
 abbrev ComponentIn : ℕ → ComponentId → Type 0
 ComponentIn n c = c.0 < n
@@ -97,18 +87,13 @@ Between low high n = (low ≤ n) × (n ≤ high)
 
 if_within : (b c : Bool) (low high n : ℕ) → (b ≡ true → low ≤ n) → (c ≡ true → n ≤ high)
     → IfSome (cond (b && c) (Some n) None) (Between low high)
-if_within true true low high n l h = (l refl, h refl)
-if_within true false low high n l h = tt
-if_within false c low high n l h = tt
+if_within b c low high n l h = search rules
 
 in_range_within : (low high : ℕ) (z : ℤ) → IfSome (in_range low high z) (Between low high)
-in_range_within low high (pos n) = if_within (nat_le low n) (nat_le n high) low high n
-    (λ e. leb-true low n e) (λ e. leb-true n high e)
-in_range_within low high (negsuc n) = tt
+in_range_within low high it = search rules
 
 pub whole_in : (low high : ℕ) (d : Data) → IfSome (whole_within low high d) (Between low high)
-whole_in low high d = chained (Between low high) (in_range low high) (whole d)
-    (in_range_within low high)
+whole_in low high d = search (rules, chained, in_range_within)
 
 pub few : (most : ℕ) (d : Data) → IfSome (at_most most d) (λ ds. length ds ≤ most)
 few most d = grind (arith, common_steps)
@@ -121,13 +106,10 @@ component_in components text = search (rules, mapped, number_within)
 
 item_in : (components : List (List ℕ)) (m : List ℕ × Data) → IfOk (item_of components m)
     (λ item. item.0.0 < length components)
-item_in components m =
-    then_ok (ComponentIn (length components)) (ItemIn (length components))
+item_in components m = then_ok (ComponentIn (length components)) (ItemIn (length components))
     (ok_or (component_of components m.0) cause.Component) _
     (or_cause (ComponentIn (length components)) (component_of components m.0) cause.Component
-    (component_in components m.0))
-    (λ id h. then_ok (λ _. Unit {0}) (ItemIn (length components)) (ok_or (whole m.1) cause.Value) _
-    (always (ok_or (whole m.1) cause.Value)) (λ value _. h))
+    (component_in components m.0)) (search (rules, then_ok, always))
 
 items_in : (components : List (List ℕ)) (ms : List (List ℕ × Data)) → IfOk (items_of components ms)
     (IsBundleOf (length components))
@@ -137,9 +119,7 @@ items_in components (m ∷ ms) =
 
 ordered : {X : Type 0} (P : X → Type 0) (o : Ordering) (xs ys zs : List X) → AllByRecursion P xs
     → AllByRecursion P ys → AllByRecursion P zs → AllByRecursion P (by_order o xs ys zs)
-ordered P Less xs ys zs a b c = a
-ordered P Equal xs ys zs a b c = b
-ordered P Greater xs ys zs a b c = c
+ordered P it xs ys zs a b c = search rules
 
 insert_in : (n : ℕ) (bundle : List (ComponentId × ℤ)) (id : ComponentId) (value : ℤ) → id.0 < n
     → IsBundleOf n bundle → IsBundleOf n (put component_cmp id value bundle)
@@ -191,13 +171,11 @@ removed_in components part =
 
 below_more_names : (found : Option ℕ) (n most : ℕ) → n ≤ most → IfSome found (λ p. p < n)
     → IfSome found (λ p. p < most)
-below_more_names None n most few h = tt
-below_more_names (Some p) n most few h = omega (arith, few, h)
+below_more_names it n most few h = search (rules, few)
 
 or_next : (found : Option ℕ) (n most : ℕ) → n ≤ most → IfSome found (λ p. p < n) → unwrap_or found n
     ≤ most
-or_next None n most few h = few
-or_next (Some p) n most few h = omega (arith, few, h)
+or_next it n most few h = search (rules, few)
 
 binding_in : (bound : List (List ℕ)) (most : ℕ) → length bound ≤ most → (part : Option Data)
     → IfOk (binding_of bound part) (IsBindingAt most)
@@ -210,23 +188,18 @@ binding_in bound most few (Some d) =
 
 one_more : (b : Bool) (names : List (List ℕ)) (name : List ℕ)
     → length (cond b names (names ++ name ∷ [])) ≤ length names + 1
-one_more true names name = omega arith
-one_more false names name = omega (arith, length-append names (name ∷ []))
+one_more b names name = search (rules, length-append)
 
 part_more : (names : List (List ℕ)) (found : Option (List ℕ)) → length (with_part names found)
     ≤ length names + 1
-part_more names None = omega arith
-part_more names (Some name) = one_more (is_some (number_among name names)) names name
+part_more names it = search (rules, one_more)
 
 names_from : (f : Data → Option (List ℕ)) (i : ℕ) (names : List (List ℕ)) (ds : List Data)
     → length (fold (λ names d. with_part names (f d)) names (take i ds)) ≤ length names + i
 names_from f zero names ds = omega arith
 names_from f (suc i) names [] = omega arith
-names_from f (suc i) names (d ∷ ds) = omega (
-  arith,
-  names_from f i (with_part names (f d)) ds,
-  part_more names (f d),
-)
+names_from f (suc i) names (d ∷ ds) =
+    search (rules, part_more, names_from f i (with_part names (f d)) ds)
 
 -- at most as many names as operations
 pub few_names : (i : ℕ) (ds : List Data) → length (names_in bound_name (take i ds)) ≤ i
@@ -245,11 +218,7 @@ numbers_in before frame system ordinal = grind (arith, common_steps)
 
 parts_in : (before : ℕ) (parts : List (List ℕ)) → IfOk (birth_of_parts before parts)
     (IsBirthBefore before)
-parts_in before [] = tt
-parts_in before (frame ∷ []) = tt
-parts_in before (frame ∷ system ∷ []) = tt
-parts_in before (frame ∷ system ∷ ordinal ∷ []) = search (rules, then_ok, always, numbers_in)
-parts_in before (frame ∷ system ∷ ordinal ∷ more ∷ others) = tt
+parts_in before others = search (rules, then_ok, always, numbers_in)
 
 birth_in : (components most : ℕ) (format : Format) (frame : ℕ) (text : List ℕ)
     → IfOk (target_birth (births_before format frame) text) (IsTargetAt components frame most)

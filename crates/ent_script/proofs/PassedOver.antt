@@ -1,5 +1,5 @@
 -- An item or a member that was passed over, or that is none, and those after it.
-use Rattle.std.proofs.Common.{◌≡◌, ℕ, ◌+◌, ◌-◌, List, length, Some, None, ap, ◌∙◌, arith}
+use Rattle.std.proofs.Common.{rules, ◌≡◌, ℕ, ◌+◌, ◌-◌, List, length, Some, None}
 use Rattle.json.specs.Token.{Token}
 use Rattle.json.specs.Json as json
 use Rattle.json.specs.Json.{Parse, after_end_array, read_key, items, members}
@@ -18,11 +18,7 @@ module _ (p : Parse json.Json) where
       × (converted of_items (items p (n - 1) over) ≡ Some (later, rest))
   item_over n ts over rest ds going gone e =
       let next = next_item p n ts rest ds going e in
-      let same = passed (converted of_json (p ts)) over next.1 next.0 gone next.4 in (
-        next.2,
-        ap (λ x. length (list_of x)) next.3 ∙ omega arith,
-        ap (λ x. converted of_items (items p (n - 1) x)) same ∙ next.5,
-      )
+      search (rules, passed)
 
   module _ (n : ℕ) (k : List ℕ) (ts s rest : List Token) (old ms : Members)
       (named : read_key ts ≡ Some (Some k, s))
@@ -31,15 +27,7 @@ module _ (p : Parse json.Json) where
     pub member_over : (over : List Token) → left (converted of_json (p s)) ≡ Some over
         → (d : Data) × (converted (λ ms. of_members ms (put k d old)) (members p (n - 1) over)
         ≡ Some (ms, rest))
-    member_over over gone =
-        let next = next_member p n k ts s rest old ms named e in
-        let same = passed (converted of_json (p s)) over next.1 next.0 gone next.2 in (
-          next.0,
-          ap (λ x. converted (λ ms. of_members ms (put k next.0 old)) (members p (n - 1) x)) same
-              ∙ next.3,
-        )
+    member_over over gone = search (rules, next_member, passed)
 
     pub member_not_over : {P : Type 0} → left (converted of_json (p s)) ≡ None → P
-    member_not_over gone =
-        let next = next_member p n k ts s rest old ms named e in
-        not_passed (converted of_json (p s)) next.1 next.0 gone next.2
+    member_not_over gone = search (rules, next_member, not_passed)

@@ -17,9 +17,7 @@ get_member-put_at : (o : Ordering) (k l : List ℕ) (d e : Data) (ms : Members) 
     l ≡ o → get_member k (put k d ms) ≡ Some d
     → get_member k (match_ordering o (member k d (member l e ms)) (member l d ms)
     (member l e (put k d ms))) ≡ Some d
-get_member-put_at Less k l d e ms is later = rw same_text
-get_member-put_at Equal k l d e ms is later = rw is
-get_member-put_at Greater k l d e ms is later = rw is later
+get_member-put_at it k l d e ms is later = search (rules, same_text)
 
 -- what was put at a name is found there
 pub get_member-put : (k : List ℕ) (d : Data) (ms : Members) → get_member k (put k d ms) ≡ Some d
@@ -27,13 +25,10 @@ get_member-put k d no_members = rw same_text
 get_member-put k d (member l e ms) = get_member-put_at _ k l d e ms refl (get_member-put k d ms)
 
 either : (o : Ordering) (a b : Option Data) → is_eq o ≡ false → match_ordering o a b a ≡ a
-either Less a b e = refl
-either Equal a b e = absurd (true≢false e)
-either Greater a b e = refl
+either it a b e = search (rules, true≢false)
 
 differ : (xs ys : List ℕ) (b : Bool) → bytes_eq xs ys ≡ b → (xs ≡ ys → ⊥) → b ≡ false
-differ xs ys true e other = absurd (other ((bytes_eq-Decides xs ys).0 e))
-differ xs ys false e other = refl
+differ xs ys b e other = search (rules, bytes_eq-Decides)
 
 skips : (q k : List ℕ) (d : Data) (ms : Members) → (q ≡ k → ⊥) → get_member q (member k d ms) ≡
     get_member q ms

@@ -1,5 +1,5 @@
 -- A script that is read is in its ranges: its systems, its frames and the whole.
-use Rattle.std.proofs.Common.{rules, ℕ, ◌+◌, ◌≤◌, List, [], ◌∷◌, length, take, Option, Some, None}
+use Rattle.std.proofs.Common.{rules, ℕ, ◌+◌, ◌≤◌, List, [], ◌∷◌, length, take, Option}
 use Rattle.std.proofs.Common.{option_and_then, ok_or, Result, Ok, Err, IfSome, codes, arith, lit≤}
 use Rattle.std.proofs.lemmas.Grind.{common_steps}
 use Rattle.std.specs.Prelude.{IfOk}
@@ -27,8 +27,7 @@ use Rattle.ent_script.proofs.PartRanges.{few_names, operation_in}
 
 at_in : {A : Type 0} (P : A → Type 0) (f s o : ℕ) (r : Result A Cause) → IfOk r P
     → IfOk (at_operation f s o r) P
-at_in P f s o (Ok x) h = h
-at_in P f s o (Err c) h = tt
+at_in P f s o it h = search rules
 
 -- at most so many, each with its number
 abbrev AreFrom : {A : Type 0} → (ℕ → A → Type 0) → ℕ → ℕ → List A → Type 0
@@ -42,8 +41,7 @@ numbered_from P f n (d ∷ ds) each = search (rules, then_ok, numbered_from P f 
 
 few_from : {A E : Type 0} (P : ℕ → A → Type 0) (r : Result (List A) E) (n most : ℕ) → n ≤ most
     → IfOk r (AreFrom P 0 n) → IfOk r (AreFrom P 0 most)
-few_from P (Ok xs) n most h k = (omega (arith, h, k.0), k.1)
-few_from P (Err e) n most h k = tt
+few_from P it n most h k = search rules
 
 system_in : (format : Format) (components : List (List ℕ)) (frame number : ℕ) (d : Data)
     → IfOk (system_of format components frame number d) (IsSystemOf (length components) frame)
@@ -84,12 +82,10 @@ components_in part =
 
 absent_in : (absent low high : ℕ) → Between low high absent → (part : Option Data)
     → IfSome (or_absent absent (whole_within low high) part) (Between low high)
-absent_in absent low high h None = h
-absent_in absent low high h (Some d) = whole_in low high d
+absent_in absent low high h it = search (rules, whole_in)
 
 in_top : {A : Type 0} (P : A → Type 0) (r : Result A ScriptCause) → IfOk r P → IfOk (in_script r) P
-in_top P (Ok x) h = h
-in_top P (Err c) h = tt
+in_top P it h = search rules
 
 abbrev HasLimits : Heading → Type 0
 HasLimits heading = AreLimits heading.limits

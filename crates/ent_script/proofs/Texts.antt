@@ -1,18 +1,16 @@
 -- Texts: which of them are JSON, and names as texts of their own.
 use Rattle.std.proofs.Common.{rules, ◌≡◌, ℕ, ◌+◌, ◌<◌, zero, suc, List, [], ◌∷◌, ◌++◌, length, map}
-use Rattle.std.proofs.Common.{take, get_or, Bool, true, false, cond, Some, None, Bor, String}
-use Rattle.std.proofs.Common.{Global, string_bytes, refl, ap, arith, add-one}
+use Rattle.std.proofs.Common.{take, get_or, Bool, cond, None, Bor, String, Global, string_bytes}
+use Rattle.std.proofs.Common.{refl, ap, arith, add-one}
 use Rattle.std.specs.Str.{IsUtf8, is_utf8}
 use Rattle.std.proofs.lemmas.List.{map-append}
-use Rattle.std.proofs.lemmas.Str.{IsUtf8-from_is_utf8, is_utf8-from_IsUtf8}
-use Rattle.serde_json.specs.Data.{Data}
+use Rattle.std.proofs.lemmas.Str.{IsUtf8-from_is_utf8}
 use Rattle.serde_json.specs.Read.{read}
 use Rattle.ent_script.specs.Reading.{json_of}
 
 none_by : (text : List ℕ) (b : Bool) → is_utf8 text ≡ b → (IsUtf8 text → read text ≡ None)
     → cond b (read text) None ≡ None
-none_by text true e refused = refused (IsUtf8-from_is_utf8 text e)
-none_by text false e refused = refl
+none_by text b e refused = search (rules, IsUtf8-from_is_utf8)
 
 pub json_none : (text : List ℕ) → (IsUtf8 text → read text ≡ None) → json_of text ≡ None
 json_none text refused = none_by text (is_utf8 text) refl refused

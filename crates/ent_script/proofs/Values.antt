@@ -1,6 +1,6 @@
 -- The values in memory, and the lists that they are seen as.
 use Rattle.std.proofs.Common.{rules, ◌≡◌, ℕ, List, [], ◌∷◌, map, Option, Some, None, option_map}
-use Rattle.std.proofs.Common.{String, Vec, BTreeMap, Global, string_bytes, Bor, refl, sym, ap, ◌∙◌}
+use Rattle.std.proofs.Common.{String, Vec, BTreeMap, Global, string_bytes, Bor, refl, sym, ap}
 use Rattle.std.proofs.Common.{bytes_eq, length, arith, slice_get}
 use Rattle.serde_json.specs.Data.{Data, Items, Members}
 use Rattle.serde_json.specs.View.{view, items_view, members_view}
@@ -21,16 +21,12 @@ list_of-items_view (v ∷ vs) = ap (λ (ds : List Data). view v ∷ ds) (list_of
 pub pairs_of-members_view : (ms : List (String Global × Value)) → pairs_of (members_view ms)
     ≡ map pair_view ms
 pairs_of-members_view [] = refl
-pairs_of-members_view (m ∷ ms) = ap (λ (ps : List (List ℕ × Data)). pair_view m ∷ ps)
-    (pairs_of-members_view ms)
+pairs_of-members_view (m ∷ ms) = search (rules, pairs_of-members_view ms)
 
 pub members_seen : (r : Option (Bor (BTreeMap (String Global) Value))) (o : Option Members)
     → option_map (λ m. members_view m.now.entries) r ≡ o
     → option_map (λ m. map pair_view m.now.entries) r ≡ option_map pairs_of o
-members_seen None o e = ap (option_map pairs_of) e
-members_seen (Some m) o e =
-    ap (λ (ps : List (List ℕ × Data)). Some ps) (sym (pairs_of-members_view m.now.entries))
-    ∙ ap (option_map pairs_of) e
+members_seen it o e = search (rules, pairs_of-members_view)
 
 pub elements_seen : (r : Option (Bor (Vec Value Global))) (o : Option Items)
     → option_map (λ v. items_view v.now.items) r ≡ o

@@ -1,6 +1,6 @@
 -- A script, of the parts that are read one after another.
 use Rattle.std.proofs.Common.{rules, ◌≡◌, ℕ, List, map, Option, Some, None, option_map}
-use Rattle.std.proofs.Common.{option_and_then, ok_or, codes, Result, refl, ap, ◌∙◌}
+use Rattle.std.proofs.Common.{option_and_then, ok_or, codes, Result, ap, ◌∙◌}
 use Rattle.std.specs.Prelude.{Ok, Err}
 use Rattle.serde_json.specs.Data.{Data}
 use Rattle.serde_json.specs.Find.{get}
@@ -25,14 +25,12 @@ Names = List (List ℕ)
 no_names_by : (o : Option (List Data)) → None ≡ option_map (map (cut 0)) o
     → in_script (ok_or o script_cause.Components >>=
     λ ds. numbered (component_at ds) 0 ds) ≡ Err (fault.Script script_cause.Components)
-no_names_by None e = refl
-no_names_by (Some ds) e = absurd (cc e)
+no_names_by it e = search rules
 
 names_by : (o : Option (List Data)) (vs : List Value) → Some (map view vs) ≡ option_map
     (map (cut 0)) o → in_script (numbered (component_at (map view vs)) 0 (map view vs)) ≡ in_script
     (ok_or o script_cause.Components >>= λ ds. numbered (component_at ds) 0 ds)
-names_by None vs e = absurd (cc e)
-names_by (Some ds) vs e = search (rules, components-cut)
+names_by it vs e = search (rules, components-cut)
 
 pub no_names : (part : Option Data) → None ≡ option_map (map (cut 0))
     (option_and_then (at_most 256) part) → in_script (component_names part) ≡ Err
@@ -58,8 +56,7 @@ after_these heading names o = ok_or o (fault.Script script_cause.Frames) >>=
 after_frames : (heading : Heading) (names : Names) (o : Option (List Data))
     → after_these heading names o ≡ ((ok_or o (fault.Script script_cause.Frames) >>=
     λ ds. numbered (frame_of heading.format names) 0 ds) >>= λ frames. all_of heading names frames)
-after_frames heading names None = refl
-after_frames heading names (Some ds) = refl
+after_frames heading names it = search rules
 
 abbrev after_names : Data → Heading → Names → Result Script ReadFault
 after_names d heading names =
