@@ -1,6 +1,6 @@
 -- The texts of births, cut at their dots.
-use Rattle.std.proofs.Common.{rules, ◌≡◌, ◌≢◌, ℕ, Bool, true, false, eqb, List, [], ◌∷◌, Option}
-use Rattle.std.proofs.Common.{IfNone, ◌++◌, Result, Err, All, refl, sym, ap, ◌∙◌, inl, inr, arith}
+use Rattle.std.proofs.Common.{rules, ◌≡◌, ◌≢◌, ℕ, Bool, true, false, eqb, List, [], ◌∷◌, ◌++◌}
+use Rattle.std.proofs.Common.{Result, Err, All, refl, sym, ap, ◌∙◌, inl, inr, arith}
 use Rattle.std.proofs.lemmas.Grind.{common_steps}
 use Rattle.std.specs.List.{join_with_byte, slice_split}
 use Rattle.std.proofs.lemmas.Bool.{cases_Bool, ne_eqb, cond-false}
@@ -86,7 +86,3 @@ birth_of_split before text frame others system ordinal e e' f s =
       | inr lacks ↦ one_part before frame system ordinal (slice_split is_dot ordinal) refl lacks
           ∙ sym (ordinal_refused before frame system ordinal (number_refused ordinal lacks))
     ]
-
--- what holds anyway holds where there is nothing
-pub in_any_case : {A : Type 0} (o : Option A) (P : Type 0) → P → IfNone o P
-in_any_case it P holds = search rules

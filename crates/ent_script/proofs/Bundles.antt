@@ -17,16 +17,11 @@ pub onto_none : (read : Result Bundle Cause) → onto [] read
     ≡ (read >>= λ items. Ok (bundle_of items))
 onto_none it = search rules
 
-onto_item : (bundle : Bundle) (item : ComponentId × ℤ) (read : Result Bundle Cause)
-    → onto bundle (read >>= λ items. Ok (item ∷ items))
-    ≡ onto (put component_cmp item.0 item.1 bundle) read
-onto_item bundle item it = search rules
-
 pub goes_on : (components : List (List ℕ)) (bundle : Bundle) (m : List ℕ × Data)
     (ms : List (List ℕ × Data)) (item : ComponentId × ℤ) → item_of components m ≡ Ok item
     → onto bundle (items_of components (m ∷ ms))
     ≡ onto (put component_cmp item.0 item.1 bundle) (items_of components ms)
-goes_on components bundle m ms item e = search (rules, onto_item)
+goes_on components bundle m ms item e = search rules
 
 pub stops : (components : List (List ℕ)) (bundle : Bundle) (m : List ℕ × Data)
     (ms : List (List ℕ × Data)) (c : Cause)

@@ -1,12 +1,10 @@
 -- One law, with a step for each test of the format, and so one file of more than 400 lines: a value
 -- that is cut means the same.
 use Rattle.std.proofs.Common.{arith, rules, ◌≡◌, ℕ, false, zero, suc, ◌+◌, List, [], ◌∷◌, map, take}
-use Rattle.std.proofs.Common.{refl, ap, ap₂, ◌∙◌, Option, Some, None, option_map, Result, Ok}
-use Rattle.std.proofs.Common.{Ordering, Bool, ◌&&◌, is_some, option_and_then, ok_or, codes}
-use Rattle.std.proofs.Common.{unwrap_or}
+use Rattle.std.proofs.Common.{refl, ap, ap₂, ◌∙◌, Option, Some, None, option_map, Result, Ok, Bool}
+use Rattle.std.proofs.Common.{◌&&◌, is_some, option_and_then, ok_or, codes, unwrap_or}
 use Rattle.std.proofs.lemmas.Grind.{common_steps}
 use Rattle.std.specs.List.{list_all, fold}
-use Rattle.std.specs.Ordering.{match_ordering}
 use Rattle.serde_json.specs.Data.{Data, null, boolean, number, string, array, object, Members}
 use Rattle.serde_json.specs.Data.{no_members, member}
 use Rattle.serde_json.specs.Find.{get, get_member, as_str}
@@ -26,15 +24,10 @@ use Rattle.ent_script.specs.declared.kind.Kind.{Kind}
 use Rattle.ent_script.specs.declared.kind.Kind.TheVariants as kinds
 use Rattle.ent_script.specs.declared.cause.Cause.TheVariants as cause
 
-found_cut : (l : ℕ) (o : Ordering) (a : Option Data) (d : Data) (b : Option Data) → b ≡ option_map
-    (cut l) a
-    → match_ordering o b (Some (cut l d)) b ≡ option_map (cut l) (match_ordering o a (Some d) a)
-found_cut l it a d b e = search rules
-
 get_member-cut : (l : ℕ) (k : List ℕ) (ms : Members) → get_member k (cut_members l ms) ≡ option_map
     (cut l) (get_member k ms)
 get_member-cut l k no_members = refl
-get_member-cut l k (member key d ms) = search (rules, found_cut, get_member-cut l k ms)
+get_member-cut l k (member key d ms) = search (rules, get_member-cut l k ms)
 
 pub get-cut : (l : ℕ) (k : List ℕ) (d : Data) → get k (cut (suc l) d) ≡ option_map (cut l) (get k d)
 get-cut l k null = refl
@@ -241,12 +234,8 @@ operation_of-cut components bound before d =
     (kind_of-cut 1 d)
     ∙ kind_then components bound before d (kind_of d)
 
-name_option : (l : ℕ) (o : Option Data) → option_and_then as_name (option_map (cut l) o) ≡
-    option_and_then as_name o
-name_option l it = search (rules, as_name-cut)
-
 pub bound_name-cut : (d : Data) → bound_name (cut 2 d) ≡ bound_name d
-bound_name-cut d = search (rules, get-cut, name_option)
+bound_name-cut d = search (rules, get-cut, as_name-cut)
 
 names_from : (names : List (List ℕ)) (ds : List Data) → fold
     (λ names d. with_part names (bound_name d)) names (map (cut 2) ds) ≡ fold
@@ -260,13 +249,9 @@ numbered-cut {A} {E} f g l n (d ∷ ds) same = search (rules, numbered-cut f g l
 
 -- ---- the heading, and the names of the components
 
-part_cut : (l absent low high : ℕ) (o : Option Data) → or_absent absent (whole_within low high)
-    (option_map (cut l) o) ≡ or_absent absent (whole_within low high) o
-part_cut l absent low high it = search (rules, whole-cut)
-
 number_cut : (absent low high : ℕ) (k : List ℕ) (d : Data) → or_absent absent
     (whole_within low high) (get k (cut 1 d)) ≡ or_absent absent (whole_within low high) (get k d)
-number_cut absent low high k d = search (rules, get-cut, part_cut)
+number_cut absent low high k d = search (rules, get-cut, whole-cut)
 
 abbrev said : Data → Result Heading ScriptCause
 said d =
@@ -301,11 +286,6 @@ heading_of-cut d =
     (λ (r : Result Heading ScriptCause). ok_or (members d) script_cause.Top >>= λ ms. test
     (keys_among script_keys ms) script_cause.Key >>= λ _. r) (said-cut d)
 
-component_names_from : (names : List (List ℕ)) (ds : List Data) → fold
-    (λ names d. with_part names (as_name d)) names (map (cut 0) ds) ≡ fold
-    (λ names d. with_part names (as_name d)) names ds
-component_names_from names ds = grind (arith, common_steps)
-
 take_none : (n : ℕ) (ds : List Data) → take n (map (cut 0) ds) ≡ map (cut 0) (take n ds)
 take_none zero ds = refl
 take_none (suc n) [] = refl
@@ -313,7 +293,7 @@ take_none (suc n) (d ∷ ds) = ap (λ (xs : List Data). cut 0 d ∷ xs) (take_no
 
 component_at-cut : (all : List Data) (n : ℕ) (d : Data) → component_at (map (cut 0) all) n (cut 0 d)
     ≡ component_at all n d
-component_at-cut all n d = search (rules, take_none, component_names_from, as_name-cut)
+component_at-cut all n d = grind (arith, common_steps, take_none, as_name-cut)
 
 pub components-cut : (ds : List Data) → numbered (component_at (map (cut 0) ds)) 0 (map (cut 0) ds)
     ≡ numbered (component_at ds) 0 ds

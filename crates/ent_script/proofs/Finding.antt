@@ -5,7 +5,7 @@ use Rattle.std.proofs.Common.{arith}
 use Rattle.json.specs.Token.{Token}
 use Rattle.json.specs.Json as json
 use Rattle.json.specs.Json.{Parse, parse_map, after_end_array, read_key, items_step, members_step}
-use Rattle.json.specs.Json.{items, members, value, value_with}
+use Rattle.json.specs.Json.{items, members, value}
 use Rattle.json.proofs.Grammar.{value_is}
 use Rattle.serde_json.specs.Data.{Num, Data, number, Items, no_items, item, Members, put}
 use Rattle.serde_json.specs.Find.{as_array, get}
@@ -114,15 +114,10 @@ no_array_number : (ts r : List Token) (o : Option Num) (d : Data) → option_map
     {U = Data × List Token} (λ b. (b, ts)) (option_map number o) ≡ Some (d, r) → as_array d ≡ None
 no_array_number ts r it d e = search rules
 
-no_array_by : (a : Parse json.Items) (o : Parse json.Members) (t : Token) (ts r : List Token)
-    (d : Data) → (t ≡ Token.begin_array → ⊥)
-    → converted of_json (value_with a o (t ∷ ts)) ≡ Some (d, r) → as_array d ≡ None
-no_array_by a o it ts r d other e =
-    search (rules, mapped, converted-object, impossible, no_array_number)
-
 pub no_array : (depth : ℕ) (t : Token) (ts r : List Token) (d : Data) → (t ≡ Token.begin_array → ⊥)
     → converted of_json (value depth (t ∷ ts)) ≡ Some (d, r) → as_array d ≡ None
-no_array depth t ts r d other e = search (rules, no_array_by, value_is)
+no_array depth t ts r d other e =
+    search (rules, mapped, converted-object, impossible, no_array_number, value_is)
 
 -- after no token there is no value
 pub no_token : (depth : ℕ) (r : List Token) (d : Data) {P : Type 0} → converted of_json
@@ -144,15 +139,10 @@ no_members_number : (k : List ℕ) (ts r : List Token) (o : Option Num) (d : Dat
     {U = Data × List Token} (λ b. (b, ts)) (option_map number o) ≡ Some (d, r) → get k d ≡ None
 no_members_number k ts r it d e = search rules
 
-no_object_by : (a : Parse json.Items) (o : Parse json.Members) (ts r : List Token) (d : Data)
-    (k : List ℕ) → begins_object ts ≡ false
-    → converted of_json (value_with a o ts) ≡ Some (d, r) → get k d ≡ None
-no_object_by a o ts r d k other e =
-    search (rules, impossible, mapped, converted-array, no_members_number)
-
 pub no_object : (depth : ℕ) (ts r : List Token) (d : Data) (k : List ℕ) → begins_object ts ≡ false
     → converted of_json (value depth ts) ≡ Some (d, r) → get k d ≡ None
-no_object depth ts r d k other e = search (rules, no_object_by, value_is)
+no_object depth ts r d k other e =
+    search (rules, impossible, mapped, converted-array, no_members_number, value_is)
 
 -- ---- the whole text
 

@@ -10,13 +10,12 @@ use Rattle.json.specs.Json as json
 use Rattle.json.specs.Json.{value}
 use Rattle.serde_json.specs.Data.{Data}
 use Rattle.serde_json.specs.Read.{of_json, converted, read}
-use Rattle.ent_script.specs.Reading.{◌>>=◌, heading_of, in_script, script_of, json_of}
+use Rattle.ent_script.specs.Reading.{◌>>=◌, heading_of, in_script, json_of}
 use Rattle.ent_script.specs.Script.{Script}
 use Rattle.ent_script.specs.declared.heading.Heading.{Heading}
 use Rattle.ent_script.specs.declared.read_fault.ReadFault.{ReadFault}
 use Rattle.ent_script.specs.declared.read_fault.ReadFault.TheVariants.{Json}
 use Rattle.ent_script.proofs.Finding.{second_of}
-use Rattle.ent_script.proofs.Whole.{heading_refused}
 
 -- the heading of what a text is read as
 abbrev pub headed : Option Data → Result Heading ReadFault
@@ -29,10 +28,6 @@ fault_or e (Err f) = f
 abbrev err : ReadFault → Result Script ReadFault
 err e = Err e
 
-pub stops : (o : Option Data) (e : ReadFault) → headed o ≡ Err e
-    → (ok_or o Json >>= script_of) ≡ Err e
-stops it e h = search (rules, heading_refused)
-
 pub found : (o : Option Data) (heading : Heading) → headed o ≡ Ok heading
     → (d : Data) × (o ≡ Some d) × (in_script (heading_of d) ≡ Ok heading)
 found it heading h = search rules
@@ -40,15 +35,11 @@ found it heading h = search rules
 pub json_is : (text : List ℕ) → IsUtf8 text → json_of text ≡ read text
 json_is text utf8 = ap (λ (b : Bool). cond b (read text) None) (is_utf8-from_IsUtf8 text utf8)
 
-none_read : {A : Type 0} (r : List Token) (o : Option A)
-    → option_map {U = A × List Token} (λ y. (y, r)) o ≡ None → o ≡ None
-none_read r it e = search rules
-
 abbrev last : Option (json.Json × List Token) → Option Data
 last o = option_and_then of_json (option_and_then (λ p. json.if_last p.0 p.1) o)
 
 refused_by : (o : Option (json.Json × List Token)) → converted of_json o ≡ None → last o ≡ None
-refused_by ts e = search (rules, none_read)
+refused_by ts e = search rules
 
 pub refused : (text : List ℕ) → converted of_json (value 127 (tokens text)) ≡ None
     → read text ≡ None
@@ -57,13 +48,9 @@ refused text e = refused_by (value 127 (tokens text)) e
 apart : (t : Token) (ts : List Token) → [] ≡ t ∷ ts → ⊥
 apart t ts e = absurd (cc e)
 
-not_ended : (o : Option Data) (d : Data) (t : Token) (ts : List Token)
-    → option_map {U = Data × List Token} (λ b. (b, [])) o ≡ Some (d, t ∷ ts) → o ≡ None
-not_ended it d t ts e = search (rules, apart, second_of)
-
 longer_by : (o : Option (json.Json × List Token)) (d : Data) (t : Token) (ts : List Token)
     → converted of_json o ≡ Some (d, t ∷ ts) → last o ≡ None
-longer_by us d t ts e = search (rules, not_ended)
+longer_by us d t ts e = search (rules, apart, second_of)
 
 -- a text that goes on after its value
 pub longer : {T : Type 0} (r : Option T) (f : T → Token) (text : List ℕ) (d : Data)
@@ -76,17 +63,13 @@ abbrev first : Data → Option (Data × List Token) → Data
 first d None = d
 first d (Some p) = p.0
 
-ended : (o : Option Data) (d : Data)
-    → option_map {U = Data × List Token} (λ b. (b, [])) o ≡ Some (d, []) → o ≡ Some d
-ended it d e = search rules
-
 no_more : (t : Token) (ts : List Token) (o : Option Data) (d : Data)
     → option_map {U = Data × List Token} (λ b. (b, t ∷ ts)) o ≡ Some (d, []) → None ≡ Some d
 no_more t ts it d e = search (rules, apart, second_of)
 
 whole_by : (o : Option (json.Json × List Token)) (d : Data)
     → converted of_json o ≡ Some (d, []) → last o ≡ Some d
-whole_by ts d e = search (rules, ended, no_more)
+whole_by ts d e = search (rules, no_more)
 
 -- a text that is its value
 pub whole : {T : Type 0} (r : Option T) (f : T → Token) (text : List ℕ) (d : Data)

@@ -46,16 +46,10 @@ number_among-append text name (first ∷ others) =
 no_other : (found : Option ℕ) → found ≡ first_of found None
 no_other it = search rules
 
-at_end_by : (b : Bool) (text name : List ℕ) (names : List (List ℕ)) → bytes_eq name text ≡ b
-    → number_among name names ≡ None
-    → cond b (Some (length names)) (number_among text names) ≡ first_of (number_among text names)
-    (cond b (Some (length names)) None)
-at_end_by b text name names e none = search (rules, bytes_eq-Decides, no_other)
-
 pub at_end : (text name : List ℕ) (names : List (List ℕ)) → number_among name names ≡ None
     → cond (bytes_eq name text) (Some (length names)) (number_among text names)
     ≡ number_among text (names ++ name ∷ [])
-at_end text name names none = search (rules, at_end_by, number_among-append)
+at_end text name names none = search (rules, bytes_eq-Decides, no_other, number_among-append)
 
 map_now : (names : List (Bor (List ℕ))) (name : Bor (List ℕ))
     → map (λ n. n.now) (names ++ name ∷ []) ≡ map (λ n. n.now) names ++ name.now ∷ []
@@ -85,15 +79,10 @@ numbers_added names numbers after name n count old none updates = λ text.
 pub none_of : (found : Option ℕ) (b : Bool) → b ≡ is_some found → b ≡ false → found ≡ None
 none_of it b e h = search (rules, true≢false)
 
-new_by : (found : Option ℕ) (name t : List ℕ) (names : List (List ℕ)) → number_among name names
-    ≡ found → cond (is_some found) None (Some name) ≡ Some t → (Some name ≡ Some t)
-    × (number_among t names ≡ None)
-new_by it name t names e h = search rules
-
 found_by : (o : Option (List ℕ)) (t : List ℕ) (names : List (List ℕ))
     → option_and_then (λ name. cond (is_some (number_among name names)) None (Some name)) o ≡ Some t
     → (o ≡ Some t) × (number_among t names ≡ None)
-found_by it t names h = search (rules, new_by)
+found_by it t names h = search rules
 
 -- a new name is none of the others
 pub new_name_is : (names : List (List ℕ)) (d : Data) (t : List ℕ) → new_name names d ≡ Some t

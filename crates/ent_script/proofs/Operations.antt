@@ -1,7 +1,7 @@
 -- Reading the operations of a system one after another, with the names that they bind.
 use Rattle.std.proofs.Common.{rules, ◌≡◌, ℕ, zero, suc, ◌+◌, ◌-◌, List, [], ◌∷◌, ◌++◌, length, take}
-use Rattle.std.proofs.Common.{drop, Some, None, Option, Result, Ok, Bool, cond, ok_or, sym, ap, ◌∙◌}
-use Rattle.std.proofs.Common.{arith, add-one}
+use Rattle.std.proofs.Common.{drop, Some, None, Result, Ok, Bool, cond, ok_or, sym, ap, ◌∙◌, arith}
+use Rattle.std.proofs.Common.{add-one}
 use Rattle.std.proofs.lemmas.Grind.{common_steps}
 use Rattle.std.proofs.lemmas.List.Sums.{fold-append}
 use Rattle.std.specs.Prelude.{◌⊎◌, nat_le}
@@ -15,11 +15,11 @@ use Rattle.serde_json.specs.declared.value.Value.{Value}
 use Rattle.ent_script.specs.Cut.{cut}
 use Rattle.ent_script.specs.Json.{list_of}
 use Rattle.ent_script.specs.Names.{with_part, names_in}
-use Rattle.ent_script.specs.Reading.{◌>>=◌, numbered, at_operation, operation_of, bound_name}
+use Rattle.ent_script.specs.Reading.{◌>>=◌, numbered, bound_name}
 use Rattle.ent_script.specs.Streaming.{Streams}
 use Rattle.ent_script.specs.declared.read_fault.ReadFault.{ReadFault}
 use Rattle.ent_script.specs.declared.read_fault.ReadFault.TheVariants.{Json, Memory}
-use Rattle.ent_script.proofs.CutMeanings.{operation_of-cut, bound_name-cut}
+use Rattle.ent_script.proofs.CutMeanings.{bound_name-cut}
 use Rattle.ent_script.proofs.Finding.{next_item}
 use Rattle.ent_script.proofs.Listing.{listed}
 use Rattle.ent_script.proofs.Numbering.{onto, onto_none, onto_one}
@@ -32,13 +32,6 @@ pub cut_read : (p : Parse json.Json) (ts left rest : List Token) (d was : Data) 
     → converted of_json (p ts) ≡ Some (was, left) → view v ≡ cut 2 was
     → converted of_json (p ts) ≡ Some (d, rest) → (view v ≡ cut 2 d) × (left ≡ rest)
 cut_read p ts left rest d was v found seen e = grind (arith, common_steps)
-
-pub operation_read : (components bound : List (List ℕ)) (before : Option ℕ)
-    (frame system number : ℕ) (v : Value) (d : Data) → view v ≡ cut 2 d
-    → at_operation frame system number (operation_of components bound before (view v))
-    ≡ at_operation frame system number (operation_of components bound before d)
-operation_read components bound before frame system number v d seen =
-    search (rules, operation_of-cut)
 
 pub bound_read : (v : Value) (d : Data) → view v ≡ cut 2 d → bound_name (view v) ≡ bound_name d
 bound_read v d seen = ap bound_name seen ∙ bound_name-cut d
@@ -57,11 +50,6 @@ here [] zero d later e = absurd (cc e)
 here [] (suc i) d later e = absurd (cc e)
 here (x ∷ ds) zero d later e = (ap tail_of e, ap (λ y. y ∷ []) (ap (head_or x) e))
 here (x ∷ ds) (suc i) d later e = search (rules, here ds i d later e)
-
-names_here : (ds : List Data) (i : ℕ) (d : Data) (later : List Data) → drop i ds ≡ d ∷ later
-    → names_in bound_name (take (i + 1) ds)
-    ≡ with_part (names_in bound_name (take i ds)) (bound_name d)
-names_here ds i d later e = search (rules, add-one, here, fold-append)
 
 -- of an array that is read as ds, so many operations were taken, which bind these names
 abbrev pub Reached : {A : Type 0} → Parse json.Json → (ℕ → Data → Result A ReadFault) → List A → ℕ
@@ -96,18 +84,15 @@ module _ {A : Type 0} (p : Parse json.Json) (f : ℕ → Data → Result A ReadF
         next.2,
         ap (λ ts. converted of_items (items p (at.0 - 1) ts)) is.1 ∙ next.5,
         omega (arith, at.3, ap length later),
-        sym (onto_one done x (numbered f (number + 1) (list_of next.2)))
-            ∙ sym
-            (ap
+        sym (onto_one done x (numbered f (number + 1) (list_of next.2))) ∙ sym (ap
             (λ (r : Result A ReadFault). onto done
             (r >>= λ y. numbered f (number + 1) (list_of next.2) >>= λ ys. Ok (y ∷ ys))) is.0)
-            ∙ sym (ap (λ (xs : List Data). onto done (numbered f number xs)) later)
-            ∙ at.4,
+            ∙ sym (ap (λ (xs : List Data). onto done (numbered f number xs)) later) ∙ at.4,
         ap (λ (n : ℕ). drop n (list_of ds)) (add-one number)
             ∙ (here (list_of ds) number next.0 (list_of next.2) now).0,
         binds next.0 next.1 next.4
             ∙ ap (λ (ns : List (List ℕ)). with_part ns (bound_name next.0)) at.6
-            ∙ sym (names_here (list_of ds) number next.0 (list_of next.2) now),
+            ∙ sym (search (rules, add-one, here, fold-append)),
       )
 
 listed_by : {A : Type 0} (b : Bool) (g : List Data → ℕ → Data → Result A ReadFault)

@@ -1,15 +1,13 @@
 -- The parts of a script that is read are in its ranges: numbers, components, bundles, names,
 -- targets and operations.
 use Rattle.std.proofs.Common.{rules, ◌≡◌, ℕ, ℤ, ◌+◌, ◌<◌, ◌≤◌, zero, suc, Bool, true, ◌&&◌, cond}
-use Rattle.std.proofs.Common.{List, [], ◌∷◌, ◌++◌, length, length-append, take, Option, Some, None}
+use Rattle.std.proofs.Common.{List, [], ◌∷◌, length, length-append, take, Option, Some, None}
 use Rattle.std.proofs.Common.{option_map, option_and_then, ok_or, Result, IfSome, unwrap_or}
 use Rattle.std.proofs.Common.{bytes_eq, codes, arith}
 use Rattle.std.proofs.lemmas.Grind.{common_steps}
 use Rattle.std.specs.Prelude.{IfOk, ◌==◌}
-use Rattle.std.specs.declared.cmp.Ordering.{Ordering}
 use Rattle.std.specs.List.{AllByRecursion, fold, slice_split}
 use Rattle.std.specs.FinMap.{put}
-use Rattle.std.specs.FinMap.Entries.{by_order}
 use Rattle.serde_json.specs.Data.{Data}
 use Rattle.serde_json.specs.Find.{get, as_str}
 use Rattle.ent_handle.specs.declared.component.ComponentId.{ComponentId}
@@ -21,15 +19,15 @@ use Rattle.ent_script.specs.declared.format.Format.TheVariants as format
 use Rattle.ent_script.specs.declared.kind.Kind.{Kind}
 use Rattle.ent_script.specs.declared.kind.Kind.TheVariants as kinds
 use Rattle.ent_script.specs.declared.target.Target.TheVariants as target
-use Rattle.ent_script.specs.Json.{at_most, members, in_range, whole_within}
+use Rattle.ent_script.specs.Json.{at_most, members, whole_within}
 use Rattle.ent_script.specs.Names.{as_name, number_among, with_part, names_in}
 use Rattle.ent_script.specs.Ranges.{IsBundleOf, IsBindingAt, IsBirthBefore, IsTargetAt}
 use Rattle.ent_script.specs.Ranges.{IsOperationAt}
 use Rattle.ent_script.specs.Reading.{◌>>=◌, numbered, component_of, item_of, items_of, read_bundle}
 use Rattle.ent_script.specs.Reading.{with_of, count_of, binding_of, removed_of, only, target_handle}
 use Rattle.ent_script.specs.Reading.{target_at, target_of, kind_of, of_kind, operation_of}
-use Rattle.ent_script.specs.Reading.{bound_name, birth_of_numbers, birth_of_parts, birth_of}
-use Rattle.ent_script.specs.Reading.{births_before, target_birth}
+use Rattle.ent_script.specs.Reading.{bound_name, birth_of_parts, birth_of, births_before}
+use Rattle.ent_script.specs.Reading.{target_birth}
 use Rattle.ent_script.proofs.NamesLaws.{number_within}
 
 pub then_ok : {A B E : Type 0} (Q : A → Type 0) (P : B → Type 0) (r : Result A E)
@@ -89,11 +87,8 @@ if_within : (b c : Bool) (low high n : ℕ) → (b ≡ true → low ≤ n) → (
     → IfSome (cond (b && c) (Some n) None) (Between low high)
 if_within b c low high n l h = search rules
 
-in_range_within : (low high : ℕ) (z : ℤ) → IfSome (in_range low high z) (Between low high)
-in_range_within low high it = search rules
-
 pub whole_in : (low high : ℕ) (d : Data) → IfSome (whole_within low high d) (Between low high)
-whole_in low high d = search (rules, chained, in_range_within)
+whole_in low high d = search (rules, chained)
 
 pub few : (most : ℕ) (d : Data) → IfSome (at_most most d) (λ ds. length ds ≤ most)
 few most d = grind (arith, common_steps)
@@ -117,14 +112,10 @@ items_in components [] = tt
 items_in components (m ∷ ms) =
     grind (arith, common_steps, item_in components m, items_in components ms)
 
-ordered : {X : Type 0} (P : X → Type 0) (o : Ordering) (xs ys zs : List X) → AllByRecursion P xs
-    → AllByRecursion P ys → AllByRecursion P zs → AllByRecursion P (by_order o xs ys zs)
-ordered P it xs ys zs a b c = search rules
-
 insert_in : (n : ℕ) (bundle : List (ComponentId × ℤ)) (id : ComponentId) (value : ℤ) → id.0 < n
     → IsBundleOf n bundle → IsBundleOf n (put component_cmp id value bundle)
 insert_in n [] id value h all = (h, tt)
-insert_in n (e ∷ es) id value h all = search (rules, ordered, insert_in n es id value h all.1)
+insert_in n (e ∷ es) id value h all = search (rules, insert_in n es id value h all.1)
 
 with_put_in : (n : ℕ) (bundle items : List (ComponentId × ℤ)) → IsBundleOf n bundle → IsBundleOf n items
     → IsBundleOf n (with_put bundle items)
@@ -186,13 +177,9 @@ binding_in bound most few (Some d) =
     (always (ok_or (as_name d) cause.Name))
     (λ name _. or_next (number_among name bound) (length bound) most few (number_within name bound))
 
-one_more : (b : Bool) (names : List (List ℕ)) (name : List ℕ)
-    → length (cond b names (names ++ name ∷ [])) ≤ length names + 1
-one_more b names name = search (rules, length-append)
-
 part_more : (names : List (List ℕ)) (found : Option (List ℕ)) → length (with_part names found)
     ≤ length names + 1
-part_more names it = search (rules, one_more)
+part_more names it = search (rules, length-append)
 
 names_from : (f : Data → Option (List ℕ)) (i : ℕ) (names : List (List ℕ)) (ds : List Data)
     → length (fold (λ names d. with_part names (f d)) names (take i ds)) ≤ length names + i
@@ -211,14 +198,9 @@ handle_in : (components frame most : ℕ) (text : List ℕ)
     → IfOk (target_handle text) (IsTargetAt components frame most)
 handle_in components frame most text = search (rules)
 
--- the numbers of a birth were tested
-numbers_in : (before frame system ordinal : ℕ) → IfOk (birth_of_numbers before frame system ordinal)
-    (IsBirthBefore before)
-numbers_in before frame system ordinal = grind (arith, common_steps)
-
 parts_in : (before : ℕ) (parts : List (List ℕ)) → IfOk (birth_of_parts before parts)
     (IsBirthBefore before)
-parts_in before others = search (rules, then_ok, always, numbers_in)
+parts_in before others = search (rules, then_ok, always)
 
 birth_in : (components most : ℕ) (format : Format) (frame : ℕ) (text : List ℕ)
     → IfOk (target_birth (births_before format frame) text) (IsTargetAt components frame most)

@@ -4,7 +4,7 @@ use Rattle.std.proofs.Common.{None, option_map, option_and_then, refl, ap, ◌�
 use Rattle.json.specs.Token.{Token}
 use Rattle.json.specs.Json as json
 use Rattle.json.specs.Json.{Parse, parse_map, after_end_array, read_key, items_step, items, members}
-use Rattle.json.proofs.Grammar.{items_end, items_more, members_end, members_no_key, members_more}
+use Rattle.json.proofs.Grammar.{items_end, items_more, members_no_key, members_more}
 use Rattle.serde_json.specs.Data.{Data, array, object, no_items, item, Members, no_members, put}
 use Rattle.serde_json.specs.Read.{of_json, of_items, of_members, converted}
 
@@ -40,20 +40,11 @@ with_item : (j : json.Json) (d : Data) → of_json j ≡ Some d → (o : Option 
     → converted of_items (parse_map (json.item j) o) ≡ parse_map (item d) (converted of_items o)
 with_item j d e it = search (rules, twice)
 
-without_item : (j : json.Json) → of_json j ≡ None → (o : Option (json.Items × List Token)) →
-    converted of_items (parse_map (json.item j) o) ≡ None
-without_item j e it = search rules
-
 with_member : (k : List ℕ) (j : json.Json) (d : Data) (old : Members) → of_json j ≡ Some d →
     (o : Option (json.Members × List Token)) → converted
     (λ ms. of_members ms old) (parse_map (json.member k j) o) ≡ converted
     (λ ms. of_members ms (put k d old)) o
 with_member k j d old e it = search rules
-
-without_member : (k : List ℕ) (j : json.Json) (old : Members) → of_json j ≡ None →
-    (o : Option (json.Members × List Token)) → converted
-    (λ ms. of_members ms old) (parse_map (json.member k j) o) ≡ None
-without_member k j old e it = search rules
 
 module _ (p : Parse json.Json) where
   pub item_read : (n : ℕ) (ts r : List Token) (d : Data) → 0 < n → after_end_array ts ≡ None →
@@ -67,7 +58,7 @@ module _ (p : Parse json.Json) where
   no_item : (more : Parse json.Items) (o : Option (json.Json × List Token)) → converted of_json o ≡
       None → converted of_items (option_and_then
       (λ q. parse_map (json.item q.0) (more q.1)) o) ≡ None
-  no_item more it e = search (rules, without_item, refused)
+  no_item more it e = search (rules, refused)
 
   pub item_refused : (n : ℕ) (ts : List Token) → after_end_array ts ≡ None → converted of_json
       (p ts) ≡ None → converted of_items (items p n ts) ≡ None
@@ -93,7 +84,7 @@ module _ (p : Parse json.Json) where
         converted of_json o ≡ None → converted
         (λ ms. of_members ms old) (option_and_then
         (λ q. parse_map (json.member k q.0) (more q.1)) o) ≡ None
-    no_member k more it e = search (rules, without_member, refused)
+    no_member k more it e = search (rules, refused)
 
     pub member_refused : (n : ℕ) (k : List ℕ) (ts s : List Token) → read_key ts ≡ Some (Some k, s) →
         converted of_json (p s) ≡ None → converted (λ ms. of_members ms old) (members p n ts) ≡ None
@@ -104,7 +95,3 @@ module _ (p : Parse json.Json) where
     pub key_refused : (n : ℕ) (ts : List Token) → read_key ts ≡ None → converted
         (λ ms. of_members ms old) (members p n ts) ≡ None
     key_refused n ts e = ap (converted (λ ms. of_members ms old)) (members_no_key p n ts e)
-
-    pub members_over : (n : ℕ) (ts r : List Token) → length ts ≤ n → read_key ts ≡ Some (None, r) →
-        converted (λ ms. of_members ms old) (members p n ts) ≡ Some (old, r)
-    members_over n ts r enough e = search (rules, members_end)

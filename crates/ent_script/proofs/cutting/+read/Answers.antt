@@ -1,15 +1,14 @@
+use Rattle.json.proofs.Grammar.{members_end, value_is, value-begin_object, read_key-shorter}
 use Rattle.std.proofs.Common.{◌≡◌, ◌-◌, ◌∷◌, length, Some, string_bytes, refl, sym, ap, ap₂, ◌∙◌}
 use Rattle.std.proofs.Common.{arith, rules, suc}
 use Rattle.json.specs.Token.{Token}
 use Rattle.json.specs.Json.{parse_map, read_key, members, value}
 use Rattle.json.specs.Reads.{token_of}
-use Rattle.json.proofs.Grammar.{value_is, value-begin_object, read_key-shorter}
 use Rattle.serde_json.specs.Data.{null, boolean, number, string, array, object, no_members, put}
 use Rattle.serde_json.specs.Read.{of_json, converted}
 use Rattle.serde_json.specs.View.{view, number_view, members_view, items_view}
 use Rattle.serde_json.specs.declared.value.Value.{String, Number, Bool, Null, the_lemmas}
 use Rattle.ent_script.proofs.Turns.{converted-object, member_read, member_refused, key_refused}
-use Rattle.ent_script.proofs.Turns.{members_over}
 use Rattle.ent_script.proofs.Cuts.{view-Array, view-Object, members_view-insert_entry}
 use Rattle.ent_script.proofs.Cuts.{cut_members-put, opened_array, opened_object}
 use Rattle.ent_script.proofs.Openings.{passed_nested}
@@ -150,7 +149,7 @@ cut_members-members-preserved t c =
     )
 
 pub cut_members-returns-clause-ok : goal.cut_members-returns-clause-ok
-cut_members-returns-clause-ok t c = search (rules, members_over)
+cut_members-returns-clause-ok t c = search (rules, members_end)
 
 pub read_cut-returns-then-levels-eq0-clause-ok : goal.read_cut-returns-then-levels-eq0-clause-ok
 read_cut-returns-then-levels-eq0-clause-ok t c =

@@ -1,12 +1,11 @@
+use Rattle.json.proofs.Grammar.{members_end, left-parse_map, value_is, value-begin_array}
+use Rattle.json.proofs.Grammar.{value-begin_object, read_key-shorter}
 use Rattle.std.proofs.Common.{rules, ◌≡◌, ◌-◌, ◌<◌, ◌∷◌, length, Some, None, refl, ap, ap₂, ◌∙◌}
 use Rattle.std.proofs.Common.{arith}
 use Rattle.json.specs.Json.{after_end_array, read_key, value}
 use Rattle.json.specs.Reads.{token_of}
-use Rattle.json.proofs.Grammar.{left-parse_map, value_is, value-begin_array, value-begin_object}
-use Rattle.json.proofs.Grammar.{read_key-shorter}
 use Rattle.serde_json.specs.Data.{no_members}
 use Rattle.ent_script.proofs.Turns.{converted-array, converted-object, items_over, key_refused}
-use Rattle.ent_script.proofs.Turns.{members_over}
 use Rattle.ent_script.specs.Passing.{after_value}
 use Rattle.ent_script.proofs.Stepping.{item_passed, item_stuck, member_passed, member_stuck}
 use Rattle.ent_script.proofs.passing.+pass.Goals as goal
@@ -69,7 +68,7 @@ pub pass_members-returns-in_err-pass_value-clause-value :
 pass_members-returns-in_err-pass_value-clause-value t c = search (rules, member_stuck)
 
 pub pass_members-returns-clause-value : goal.pass_members-returns-clause-value
-pass_members-returns-clause-value t c = search (rules, members_over)
+pass_members-returns-clause-value t c = search (rules, members_end)
 
 pub pass_rest-returns-then-depth-eq0-clause-value :
     goal.pass_rest-returns-then-depth-eq0-clause-value

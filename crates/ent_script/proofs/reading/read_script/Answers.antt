@@ -1,7 +1,8 @@
+use Rattle.ent_script.proofs.Whole.{heading_refused}
 use Rattle.std.proofs.Common.{arith, rules}
 use Rattle.std.proofs.lemmas.Grind.{common_steps}
 use Rattle.ent_script.proofs.Faults.{passes_on, returned}
-use Rattle.ent_script.proofs.Headings.{headed, stops, found, json_is}
+use Rattle.ent_script.proofs.Headings.{headed, found, json_is}
 use Rattle.ent_script.proofs.Ranges.{returned_in}
 use Rattle.ent_script.proofs.Texts.{json_none}
 use Rattle.ent_script.proofs.reading.read_script.Goals as goal
@@ -11,7 +12,7 @@ returns-in_default-clause-exact c = search (rules, json_none)
 
 pub returns-in_err-heading-clause-exact : goal.returns-in_err-heading-clause-exact
 returns-in_err-heading-clause-exact c =
-    grind (arith, common_steps, json_is, returned, passes_on, headed, stops)
+    grind (arith, common_steps, json_is, returned, passes_on, headed, heading_refused)
 
 pub returns-clause-exact : goal.returns-clause-exact
 returns-clause-exact c = search (rules, json_is, found)

@@ -27,18 +27,11 @@ done s = Ok s
 abbrev Part : Data → Option Data
 Part d = get (codes "components") d
 
--- the names of values that were cut
-meant : (d : Data) (vs lent : List Value) → lent ≡ vs → Some (map view vs) ≡ option_map
-    (map (cut 0)) (option_and_then (at_most 256) (Part d))
-    → in_script (numbered (component_at (map view lent)) 0 (map view lent)) ≡ in_script
-    (component_names (Part d))
-meant d vs lent same seen = search (rules, names_meant)
-
 -- the names are those that the text means
 same_names : (c : After-deref) (d : Data) → read c.args.text.now ≡ Some d
     → in_script (numbered (component_at (map view c.deref.result.now)) 0
     (map view c.deref.result.now)) ≡ in_script (component_names (Part d))
-same_names c d e = search (rules, meant)
+same_names c d e = search (rules, names_meant)
 
 pub returns-in_err-values : goal.returns-in_err-values
 returns-in_err-values c d e said =
