@@ -1,4 +1,3 @@
-use Rattle.std.proofs.Common.{rules}
 -- Lists of numbers that weigh the same, however each number is weighed.
 use Rattle.std.proofs.Common.{◌≡◌, ℕ, zero, suc, ◌+◌, ◌<◌, ◌≤◌, List, [], ◌∷◌, sym, refl, ap, arith}
 use Rattle.std.proofs.Common.{eq-eqb, ne_eqb, IsPermutation, remove, cond, Bool}
@@ -22,14 +21,25 @@ is_other n m ne = ap (λ (b : Bool). cond {A = ℕ} b 1 0) (ne_eqb m n ne)
 
 pub found_in : (n : ℕ) (xs : List ℕ) → Contains xs n → 1 ≤ sum_by (is n) xs
 found_in n [] at = absurd (let none = at.1 in omega arith)
-found_in n (x ∷ xs) (zero, within, at) = search (rules, sum_by-cons, is_same)
+found_in n (x ∷ xs) (zero, within, at) =
+    let sums = sum_by-cons (is n) x xs in
+    let one = is_same n x at in
+    omega arith
 found_in n (x ∷ xs) (suc k, within, at) =
-    search (rules, sum_by-cons, found_in n xs (k, omega arith, at))
+    let sums = sum_by-cons (is n) x xs in
+    let rest = found_in n xs (k, omega arith, at) in
+    omega arith
 
 pub inside : (n : ℕ) (xs : List ℕ) → 1 ≤ sum_by (is n) xs → Contains xs n
 inside n [] some = absurd (omega arith)
 inside n (x ∷ xs) some =
-    search (rules, dite, ℕ_discrete, sum_by-cons, is_other, inside n xs (omega arith))
+    dite (ℕ_discrete x n)
+    (λ same. (0, omega arith, same))
+    (λ other.
+    let sums = sum_by-cons (is n) x xs in
+    let none = is_other n x other in
+    let rest = inside n xs (omega arith) in
+    (suc rest.0, (let within = rest.1 in omega arith), rest.2))
 
 -- how often a number stands among those from low on
 pub in_range : (n low many : ℕ) → (sum_by (is n) (range_with_len low many) ≤ 1)
@@ -37,10 +47,27 @@ pub in_range : (n low many : ℕ) → (sum_by (is n) (range_with_len low many) �
     × (low ≤ n → n < low + many → 1 ≤ sum_by (is n) (range_with_len low many))
 in_range n low zero = (omega arith, λ _. refl, λ le lt. absurd (omega arith))
 in_range n low (suc many) =
-    search (rules, sum_by-cons, dite, ℕ_discrete, is_same, is_other, in_range n (low + 1) many)
+    let rest = in_range n (low + 1) many in
+    let few = rest.0 in
+    let none_below = rest.1 in
+    let some = rest.2 in
+    let sums = sum_by-cons (is n) low (range_with_len (low + 1) many) in
+    dite (ℕ_discrete low n)
+    (λ same.
+    let one = is_same n low same in
+    let none = none_below (omega arith) in
+    (omega arith, λ lt. absurd (omega arith), λ le lt. omega arith))
+    (λ other.
+    let nought = is_other n low other in (
+      omega arith,
+      λ lt. (let none = none_below (omega arith) in omega arith),
+      λ le lt.
+          (let one = some (omega (arith, other)) (omega arith) in omega arith),
+    ))
 
 nothing_in : (xs : List ℕ) → sum_by (λ (_ : ℕ). 1) xs ≡ 0 → xs ≡ []
-nothing_in xs e = search rules
+nothing_in [] e = refl
+nothing_in (x ∷ xs) e = absurd (let sums = sum_by-cons (λ (_ : ℕ). 1) x xs in omega arith)
 
 pub weigh_same : (xs ys : List ℕ) → ((f : ℕ → ℕ) → sum_by f xs ≡ sum_by f ys) → IsPermutation xs ys
 weigh_same xs [] same = rw (nothing_in xs (same (λ (_ : ℕ). 1))) (IsPermutation-refl [])
@@ -51,4 +78,8 @@ weigh_same xs (y ∷ ys) same =
     let at = inside y xs (omega arith) in
     let moved : IsPermutation xs (y ∷ remove xs at.0) = IsPermutation-remove xs at.0 y at.1
     (sym at.2) in
-    search (rules, sum_by_popped, sum_by-cons, IsPermutation-trans, IsPermutation-cons)
+    let rest : (f : ℕ → ℕ) → sum_by f (remove xs at.0) ≡ sum_by f ys = λ f.
+    (let e = same f in let a = sum_by_popped f y xs (remove xs at.0) moved in let b =
+    sum_by-cons f y ys in omega arith) in
+    IsPermutation-trans xs (y ∷ remove xs at.0) (y ∷ ys) moved
+    (IsPermutation-cons y (remove xs at.0) ys (weigh_same (remove xs at.0) ys rest))
