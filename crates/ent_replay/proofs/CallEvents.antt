@@ -1,5 +1,5 @@
 -- What the events of a call do to the fields of a `Machine`, and that they keep them in order.
-use Rattle.std.proofs.Common.{◌≡◌, sym, ap, subst, ◌∙◌, ℕ, ◌+◌, ◌^◌, ◌<◌, ◌≤◌, pos, ◌-ℤ◌}
+use Rattle.std.proofs.Common.{rules, ◌≡◌, sym, ap, subst, ◌∙◌, ℕ, ◌+◌, ◌^◌, ◌<◌, ◌≤◌, pos, ◌-ℤ◌}
 use Rattle.std.proofs.Common.{◌≤ℤ◌, true, nat_lt, length, drop, filter, Option, Some, None, Ok, Err}
 use Rattle.std.proofs.Common.{arith}
 use Rattle.std.proofs.lemmas.Int.{ints}
@@ -57,8 +57,7 @@ module _ (s : Allocator) (spent : FinMap nat_cmp ℕ) (calls : FinMap nat_cmp St
     pub begin-open : (n : ℕ) (call : StoredCall) → finite.get calls caller ≡ Some call
         → on_begin (machine_state s spent calls) caller n
         ≡ (Err fault.AlreadyOpen, machine_state s spent calls)
-    begin-open n call is = when (nat_lt caller callers) _ _ is_caller
-        ∙ ap (begin_with (machine_state s spent calls) caller n) (opened (Some call) is)
+    begin-open n call is = search (rules, is_caller, opened (Some call) is)
 
     pub begin-quota : (n : ℕ) → finite.get calls caller ≡ None
         → left_of (machine_state s spent calls) caller < n
@@ -67,11 +66,7 @@ module _ (s : Allocator) (spent : FinMap nat_cmp ℕ) (calls : FinMap nat_cmp St
           Err (fault.Quota (left_of (machine_state s spent calls) caller)),
           machine_state s spent calls,
         )
-    begin-quota n is short =
-        when (nat_lt caller callers) _ _ is_caller
-        ∙ ap (begin_with (machine_state s spent calls) caller n) (opened None is)
-        ∙ when (nat_lt (left_of (machine_state s spent calls) caller) n) _ _
-        (grind (arith, nat_tests))
+    begin-quota n is short = search (rules, is_caller, opened None is, nat_tests)
 
     -- the call as it begins
     abbrev begun : ℕ → StoredCall
@@ -104,20 +99,7 @@ module _ (s : Allocator) (spent : FinMap nat_cmp ℕ) (calls : FinMap nat_cmp St
         (finite.insert calls caller (begun n))
     begin-consistent h n is small enough = record {
       sound = h.sound;
-      credit = λ q. elim (ℕ_discrete q caller) [
-        | yes same ↦
-            let new : unwrap_or (finite.get (finite.insert spent caller (more n)) q) 0
-            ≡ more n = ap (λ p. unwrap_or (finite.get (finite.insert spent caller (more n)) p)
-            0) same ∙ ap (λ o. unwrap_or o 0) (get-inserted spent caller (more n)) in
-            let old = h.credit caller in
-            omega arith
-        | no other ↦
-            let new : unwrap_or (finite.get (finite.insert spent caller (more n)) q) 0
-            ≡ unwrap_or (finite.get spent q) 0 = ap (λ o. unwrap_or o 0)
-            (get-insert_other spent caller (more n) q other) in
-            let old = h.credit q in
-            omega arith
-      ];
+      credit = search (rules, ℕ_discrete, get-inserted, get-insert_other);
       asked =
           let before = h.asked in
           let waits = sum_below-changed (λ q. awaited (finite.get calls q))
@@ -125,8 +107,7 @@ module _ (s : Allocator) (spent : FinMap nat_cmp ℕ) (calls : FinMap nat_cmp St
           (λ q other. ap awaited (sym (get-insert_other calls caller (begun n) q other))) in
           let spends = sum_below-changed (λ q. unwrap_or (finite.get spent q) 0)
           (λ q. unwrap_or (finite.get (finite.insert spent caller (more n)) q) 0) caller callers
-          below
-          (λ q other. ap (λ o. unwrap_or o 0)
+          below (λ q other. ap (λ o. unwrap_or o 0)
           (sym (get-insert_other spent caller (more n) q other))) in
           let waited : awaited (finite.get calls caller) ≡ 0 = ap awaited is in
           let waits_now : awaited (finite.get (finite.insert calls caller (begun n)) caller)
@@ -159,23 +140,17 @@ module _ (s : Allocator) (spent : FinMap nat_cmp ℕ) (calls : FinMap nat_cmp St
 
     pub step-not_open : finite.get calls caller ≡ None → on_step (machine_state s spent calls)
         caller ≡ (Err fault.NotOpen, machine_state s spent calls)
-    step-not_open is = when (nat_lt caller callers) _ _ is_caller
-        ∙ ap (step_open (machine_state s spent calls) caller) (opened None is)
+    step-not_open is = search (rules, is_caller, opened None is)
 
     pub answer-not_open : finite.get calls caller ≡ None → on_answer (machine_state s spent calls)
         caller ≡ (Err fault.NotOpen, machine_state s spent calls)
-    answer-not_open is = when (nat_lt caller callers) _ _ is_caller
-        ∙ ap (answer_open (machine_state s spent calls) caller) (opened None is)
+    answer-not_open is = search (rules, is_caller, opened None is)
 
     module _ (call : StoredCall) (is : finite.get calls caller ≡ Some call) where
       pub step-stepped : (span : Span) → call.span ≡ Some span
           → on_step (machine_state s spent calls) caller
           ≡ (Err fault.AlreadyStepped, machine_state s spent calls)
-      step-stepped span passed =
-          when (nat_lt caller callers) _ _ is_caller
-          ∙ ap (step_open (machine_state s spent calls) caller) (opened (Some call) is)
-          ∙ ap (λ o. step_with (machine_state s spent calls) caller call.requested
-          (option_map (λ span. reply_from s.made (pool_at s span.high) call.requested) o)) passed
+      step-stepped span passed = search (rules, is_caller, opened (Some call) is)
 
       -- the call after its step
       abbrev stepped : StoredCall
@@ -284,11 +259,7 @@ module _ (s : Allocator) (spent : FinMap nat_cmp ℕ) (calls : FinMap nat_cmp St
 
       pub answer-not_stepped : call.span ≡ None → on_answer (machine_state s spent calls) caller
           ≡ (Err fault.NotStepped, machine_state s spent calls)
-      answer-not_stepped waits =
-          when (nat_lt caller callers) _ _ is_caller
-          ∙ ap (answer_open (machine_state s spent calls) caller) (opened (Some call) is)
-          ∙ ap (λ o. answer_with (machine_state s spent calls) caller
-          (option_map (λ span. reply_from s.made (pool_at s span.high) call.requested) o)) waits
+      answer-not_stepped waits = search (rules, is_caller, opened (Some call) is)
 
       pub answer-answered : (span : Span) → call.span ≡ Some span
           → on_answer (machine_state s spent calls) caller

@@ -1,10 +1,9 @@
 -- What the events that need the allocator to themselves do to the fields of a `Machine`, and that
 -- they keep them in order.
-use Rattle.std.proofs.Common.{◌≡◌, ◌≢◌, refl, sym, ap, ◌∙◌, ℕ, ◌+◌, ◌*◌, ◌^◌, ◌<◌, ◌≤◌, Bool, true}
-use Rattle.std.proofs.Common.{false, not, nat_lt, [], length, drop, filter, slice_get, Some, None}
-use Rattle.std.proofs.Common.{Ok, Err, arith}
+use Rattle.std.proofs.Common.{rules, ◌≡◌, ◌≢◌, refl, sym, ap, ◌∙◌, ℕ, ◌+◌, ◌*◌, ◌^◌, ◌<◌, ◌≤◌, Bool}
+use Rattle.std.proofs.Common.{true, false, not, [], length, slice_get, Some, None, Ok, Err, arith}
 use Rattle.std.specs.Prelude.{◌==◌}
-use Rattle.std.specs.Option.{unwrap_or, is_some}
+use Rattle.std.specs.Option.{unwrap_or}
 use Rattle.std.specs.Ordering.{nat_cmp}
 use Rattle.std.specs.FinSet as set
 use Rattle.std.specs.FinMap as finite
@@ -13,8 +12,8 @@ use Rattle.std.proofs.lemmas.Bool.Decides.{nat_tests}
 use Rattle.std.proofs.lemmas.List.Sorted.{length_permutation}
 use Rattle.ent_handle.specs.Handle.{Handle}
 use Rattle.ent_alloc.specs.Limits.{credit}
-use Rattle.ent_alloc.specs.Sequential.{Allocator, top, available, next, born, is_old, after_alloc}
-use Rattle.ent_alloc.specs.Sequential.{after_free, after_flush}
+use Rattle.ent_alloc.specs.Sequential.{Allocator, top, next, born, after_alloc, after_free}
+use Rattle.ent_alloc.specs.Sequential.{after_flush}
 use Rattle.ent_alloc.specs.Sound.{IsSound}
 use Rattle.ent_alloc.specs.Spent as given
 use Rattle.ent_alloc.proofs.Flushes.{born-IsPermutation}
@@ -33,8 +32,7 @@ use Rattle.ent_replay.proofs.Conditions.{when, unless}
 use Rattle.ent_replay.proofs.Giving.{all_held-none, given-none}
 use Rattle.ent_replay.proofs.Totals.{sum_below-bound, sum_below-none}
 use Rattle.ent_replay.proofs.Maps.{maps_alike, get-map_values, map_values-empty}
-use Rattle.ent_replay.proofs.MachineAnswers.{flushed, front, none_is_none, front_takes_memory}
-use Rattle.ent_replay.proofs.MachineAnswers.{some_handles, not_false}
+use Rattle.ent_replay.proofs.MachineAnswers.{front, none_is_none, some_handles, not_false}
 
 module _ (s : Allocator) (spent : FinMap nat_cmp ℕ) (calls : FinMap nat_cmp StoredCall) where
   -- ---- whether a call is open
@@ -65,15 +63,12 @@ module _ (s : Allocator) (spent : FinMap nat_cmp ℕ) (calls : FinMap nat_cmp St
   -- with no call open the allocator may change
   pub quiet_calls : calls ≡ finite.empty → (t : Allocator) → map_values (open_call_of s) calls
       ≡ map_values (open_call_of t) calls
-  quiet_calls none t = ap (map_values (open_call_of s)) none ∙ map_values-empty (open_call_of s)
-      ∙ sym (map_values-empty (open_call_of t)) ∙ ap (map_values (open_call_of t)) (sym none)
+  quiet_calls none t = search (rules, map_values-empty)
 
   -- nor is anything kept for one
   quiet_once : calls ≡ finite.empty → (t : Allocator)
       → given.AreSpent t (all_held (map_values (open_call_of t) calls))
-  quiet_once none t = given-none t (all_held (map_values (open_call_of t) calls))
-      (all_held-none (map_values (open_call_of t) calls) (ap (map_values (open_call_of t)) none
-      ∙ map_values-empty (open_call_of t)))
+  quiet_once none t = search (rules, given-none, all_held-none, map_values-empty)
 
   pub quiet_played : AreConsistent s spent calls → calls ≡ finite.empty → (t : Allocator)
       → IsSound t → t.asked ≡ s.asked → AreConsistent t spent calls
@@ -117,106 +112,69 @@ module _ (s : Allocator) (spent : FinMap nat_cmp ℕ) (calls : FinMap nat_cmp St
   module _ (none : calls ≡ finite.empty) where
     pub alloc-needs_flush : 0 < s.asked → on_alloc (machine_state s spent calls)
         ≡ (Ok outcome.NeedsFlush, machine_state s spent calls)
-    alloc-needs_flush some = unless (is_busy (machine_state s spent calls)) _ _ (quiet none)
-        ∙ when (nat_lt 0 s.asked) _ _ (grind (arith, nat_tests))
+    alloc-needs_flush some = search (rules, quiet none, nat_tests)
 
     alloc-flushed : ¬ (0 < s.asked) → on_alloc (machine_state s spent calls)
         ≡ alloc_front (machine_state s spent calls) s.pool
-    alloc-flushed rest = unless (is_busy (machine_state s spent calls)) _ _ (quiet none)
-        ∙ unless (nat_lt 0 s.asked) _ _ (grind (arith, nat_tests))
+    alloc-flushed rest = search (rules, quiet none, nat_tests)
 
     pub alloc-space : s.asked ≡ 0 → s.pool ≡ [] → on_alloc (machine_state s spent calls)
         ≡ (Ok (outcome.Space 1 0), machine_state s spent calls)
-    alloc-space rest empty = alloc-flushed (λ some. absurd (omega arith))
-        ∙ ap (alloc_front (machine_state s spent calls)) empty
+    alloc-space rest empty = search (rules, alloc-flushed)
 
     pub alloc-given : (h : Handle) → ¬ (0 < s.asked) → slice_get s.pool 0 ≡ Some h
         → on_alloc (machine_state s spent calls)
         ≡ (Ok (outcome.Handle h), machine_state (after_alloc s h) spent calls)
-    alloc-given h rest first =
-        alloc-flushed rest ∙ ap (alloc_front (machine_state s spent calls)) (front s.pool h first)
-        ∙ ap (λ m. (
-          Ok (outcome.Handle h),
-          record { allocator = after_alloc s h; spent = spent; calls = m },
-        )) (quiet_calls none (after_alloc s h))
+    alloc-given h rest first = search (rules, alloc-flushed, front, quiet_calls)
 
     -- if no old slot waits, the front of the pool makes a slot
     pub alloc-takes_memory : IsSound s → ¬ (0 < s.asked) → ¬ (s.pool ≡ []) → top s ≡ 0
         → event_takes_memory (machine_state s spent calls)
         (on_alloc (machine_state s spent calls)).0 ≡ true
-    alloc-takes_memory sound rest some none_old =
-        let nothing : s.asked ≡ 0 = flushed rest in
-        let pool : s.pool ≡ available s = sound.pool ∙ ap (λ n. drop n (available s)) nothing in
-        ap (λ p. event_takes_memory (machine_state s spent calls) p.0) (alloc-flushed rest)
-        ∙ front_takes_memory (machine_state s spent calls) s.pool some
-        (ap (λ hs. length (filter (is_old s.made) hs)) pool ∙ none_old)
+    alloc-takes_memory sound rest some none_old = search (rules, alloc-flushed rest)
 
     pub alloc-consistent : (h : Handle) → AreConsistent s spent calls → ¬ (0 < s.asked)
         → slice_get s.pool 0 ≡ Some h → AreConsistent (after_alloc s h) spent calls
     alloc-consistent h played rest first =
         let nothing : s.asked ≡ 0 = omega arith in
-        quiet_played played none (after_alloc s h) (after_alloc-sound s h (drop 1 s.pool)
-        played.sound nothing (front s.pool h first)) refl
+        search (rules, quiet_played, after_alloc-sound, front)
 
     pub free-needs_flush : (h : Handle) → 0 < s.asked → on_free (machine_state s spent calls) h
         ≡ (Ok outcome.NeedsFlush, machine_state s spent calls)
-    free-needs_flush h some = unless (is_busy (machine_state s spent calls)) _ _ (quiet none)
-        ∙ when (nat_lt 0 s.asked) _ _ (grind (arith, nat_tests))
+    free-needs_flush h some = search (rules, quiet none, nat_tests)
 
     pub free-not_alive : (h : Handle) → s.asked ≡ 0 → set.contains s.live h ≡ false
         → on_free (machine_state s spent calls) h
         ≡ (Ok outcome.NotAlive, machine_state s spent calls)
-    free-not_alive h rest gone =
-        unless (is_busy (machine_state s spent calls)) _ _ (quiet none)
-        ∙ unless (nat_lt 0 s.asked) _ _ (grind (arith, nat_tests))
-        ∙ unless (set.contains s.live h) _ _ gone
+    free-not_alive h rest gone = search (rules, quiet none, nat_tests)
 
     pub free-freed : (h : Handle) → ¬ (0 < s.asked) → set.contains s.live h ≡ true
         → on_free (machine_state s spent calls) h
         ≡ (Ok (outcome.Freed h (next s.limits h)), machine_state (after_free s h) spent calls)
-    free-freed h rest lives =
-        unless (is_busy (machine_state s spent calls)) _ _ (quiet none)
-        ∙ unless (nat_lt 0 s.asked) _ _ (grind (arith, nat_tests))
-        ∙ when (set.contains s.live h) _ _ lives
-        ∙ ap (λ m. (
-          Ok (outcome.Freed h (next s.limits h)),
-          record { allocator = after_free s h; spent = spent; calls = m },
-        )) (quiet_calls none (after_free s h))
+    free-freed h rest lives = search (rules, unless, quiet, nat_tests, when, quiet_calls)
 
     -- to free what lives takes memory, unless its slot is retired
     pub free-takes_memory : (h : Handle) → ¬ (0 < s.asked) → ¬ (set.contains s.live h ≡ false)
         → h.generation ≢ s.limits.generations
         → event_takes_memory (machine_state s spent calls) (on_free (machine_state s spent calls)
         h).0 ≡ true
-    free-takes_memory h rest lives before =
-        ap (λ p. event_takes_memory (machine_state s spent calls) p.0)
-        (free-freed h rest (not_false (set.contains s.live h) lives))
-        ∙ ap is_some (next-later s.limits h before)
+    free-takes_memory h rest lives before = search (rules, free-freed, not_false, next-later)
 
     pub free-consistent : (h : Handle) → AreConsistent s spent calls → ¬ (0 < s.asked)
         → set.contains s.live h ≡ true → AreConsistent (after_free s h) spent calls
     free-consistent h played rest lives =
         let nothing : s.asked ≡ 0 = omega arith in
-        quiet_played played none (after_free s h) (after_free-sound s h played.sound nothing lives)
-        refl
+        search (rules, quiet_played, after_free-sound)
 
     pub flush-flushed : on_flush (machine_state s spent calls)
         ≡ (Ok (outcome.Born (born s)), machine_state (after_flush s) finite.empty calls)
-    flush-flushed =
-        unless (is_busy (machine_state s spent calls)) _ _ (quiet none)
-        ∙ ap (λ m. (
-          Ok (outcome.Born (born s)),
-          record { allocator = after_flush s; spent = finite.empty; calls = m },
-        )) (quiet_calls none (after_flush s))
+    flush-flushed = search (rules, unless, quiet, quiet_calls)
 
     -- to bring handles to life takes memory
     pub flush-takes_memory : 0 < length s.taken → event_takes_memory (machine_state s spent calls)
         (on_flush (machine_state s spent calls)).0 ≡ true
     flush-takes_memory some =
-        let long : length (born s) ≡ length s.taken = length_permutation s.taken (born s)
-        (born-IsPermutation s) in
-        ap (λ p. event_takes_memory (machine_state s spent calls) p.0) flush-flushed
-        ∙ some_handles (born s) (omega arith)
+        search (rules, length_permutation, born-IsPermutation, flush-flushed, some_handles)
 
     pub flush-consistent : AreConsistent s spent calls → AreConsistent (after_flush s) finite.empty
         calls

@@ -1,6 +1,6 @@
 -- No handle is given twice in a run.
 use Rattle.std.proofs.Common.{rules, ◌≡◌, ◌≢◌, refl, sym, ap, subst, ◌∙◌, ℕ, zero, suc, ◌<◌, List}
-use Rattle.std.proofs.Common.{[], ◌∷◌, ◌++◌, append-nil, append_assoc, Some, None, Result, Ok, Err}
+use Rattle.std.proofs.Common.{[], ◌∷◌, ◌++◌, append-nil, append_assoc, Some, None, Result, Ok}
 use Rattle.std.proofs.Common.{AllPairs, IsPermutation, inl, inr, arith}
 use Rattle.std.specs.Ordering.{nat_cmp}
 use Rattle.std.specs.FinMap as finite
@@ -110,8 +110,7 @@ record IsGiven (s : MachineState) (given : List Handle) : Type 0 where
   once : spent.AreSpent s.allocator (given ++ all_held s.calls)
 
 given_by-reported : (reply : Reply) → given_by (Ok (reported reply)) ≡ handles_in reply
-given_by-reported (Ok handles) = refl
-given_by-reported (Err space) = refl
+given_by-reported it = search rules
 
 none_left : (given more : List Handle) → more ≡ [] → given ++ more ≡ given
 none_left given more none = ap (given ++◌) none ∙ append-nil given
@@ -227,8 +226,7 @@ pub all_held-next : (s : MachineState) (e : Event) (r : Result Outcome ReplayFau
 all_held-next s e r t is sound once =
     let h = given-next s e [] (record { sound = sound; once = once }) (move s e) in
     subst (λ (p : Returned). spent.AreSpent p.1.allocator (all_held p.1.calls)) is
-    (given-right (after_event s e).allocator (given_by (outcome_of s e))
-    (all_held (after_event s e).calls) h.once)
+    (search (rules, given-right))
 
 -- ---- whole runs
 
@@ -236,9 +234,7 @@ given_run : (s : MachineState) (events : List Event) (given : List Handle) → I
     → AllPairs (λ g h. g ≢ h) (given ++ given_by_all (outcomes_of s events))
 given_run s [] given h = subst (AllPairs (λ g h. g ≢ h)) (sym (append-nil given))
     (AllPairs-left (λ g h. g ≢ h) given (all_held s.calls) h.once.distinct)
-given_run s (e ∷ events) given h =
-    subst (AllPairs (λ g h. g ≢ h)) (append_assoc given (given_by (outcome_of s e))
-    (given_by_all (outcomes_of (after_event s e) events)))
+given_run s (e ∷ events) given h = subst (AllPairs (λ g h. g ≢ h)) (search (rules, append_assoc))
     (given_run (after_event s e) events (given ++ given_by (outcome_of s e))
     (given-next s e given h (move s e)))
 

@@ -49,8 +49,7 @@ last_of-append q (c ∷ calls) call own = search (rules, last_of-append q calls 
 last_of-append_other : (q : ℕ) (calls : List Call) (call : Call) → call.caller ≢ q
     → last_of q (calls ++ call ∷ []) ≡ last_of q calls
 last_of-append_other q [] call other = unless (call.caller == q) _ _ (grind (arith, nat_tests))
-last_of-append_other q (c ∷ calls) call other =
-    search (rules, last_of-append_other q calls call other)
+last_of-append_other q (c ∷ calls) call other = search (rules, last_of-append_other q calls call other)
 
 -- ---- what is kept from event to event
 
@@ -105,13 +104,7 @@ module _ (P : ℕ → ℕ → Reply → Type 0) (calls : FinMap nat_cmp OpenCall
 
   on_removed : (q : ℕ) (call : OpenCall) (r : Reply) → finite.get (finite.remove calls caller) q
       ≡ Some call → call.reply ≡ Some r → P q call.requested r
-  on_removed q call r at told = elim (ℕ_discrete q caller) [
-    | yes same ↦
-        let nothing : finite.get (finite.remove calls caller) q
-        ≡ None = ap (finite.get (finite.remove calls caller)) same ∙ get-removed calls caller in
-        absurd cc
-    | no other ↦ before q call r other (sym (get-remove_other calls caller q other) ∙ at) told
-  ]
+  on_removed q call r at told = search (rules, ℕ_discrete, get-removed, get-remove_other)
 
 none_some : {X : Type 0} (x : X) → None ≡ Some x → ⊥
 none_some x is = cc
@@ -125,10 +118,7 @@ module _ (p : Phase) (s : MachineState) (e : Event) (h : IsFollowed p s) where
   onward = record { start = p.start; calls = p.calls ++ reservations s e }
 
   same_phase : reservations s e ≡ [] → p ≡ onward
-  same_phase none = λ i. record {
-    start = p.start;
-    calls = (sym (append-nil p.calls) ∙ ap (p.calls ++◌) (sym none)) i;
-  }
+  same_phase none = search (rules, append-nil)
 
   -- where nothing is asked for after the event
   at_rest : Move s e → (after_event s e).allocator.asked ≡ 0 → NothingTold (after_event s e)
@@ -341,12 +331,7 @@ told_by p s caller h (Ok told) result = go (move s (event.Answer caller))
 
 tells : (p : Phase) (s : MachineState) (e : Event) → IsFollowed p s
     → TellsReply s p.calls e (outcome_of s e)
-tells p s event.Alloc h = tt
-tells p s (event.Free x) h = tt
-tells p s event.Flush h = tt
-tells p s (event.Begin caller n) h = tt
-tells p s (event.Step caller) h = tt
-tells p s (event.Answer caller) h = told_by p s caller h (outcome_of s (event.Answer caller)) refl
+tells p s it h = search (rules, told_by)
 
 -- ---- whole runs
 
@@ -363,9 +348,4 @@ follows p s (e ∷ events) h =
 
 pub linear : (s : MachineState) (events : List Event) → IsAtRest s → StandInHistory (new_phase s) s
     events (outcomes_of s events)
-linear s events rest = follows (new_phase s) s events (record {
-  legal = tt;
-  reached = refl;
-  rest = λ _ q call r at _. absurd (no_calls s.calls rest.closed q call at);
-  open_calls = λ q call r at _. absurd (no_calls s.calls rest.closed q call at);
-})
+linear s events rest = follows (new_phase s) s events (search (rules, no_calls))

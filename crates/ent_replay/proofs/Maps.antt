@@ -119,13 +119,11 @@ get-map_values f m q = get-from_entries nat_cmp_total (map (λ e. (e.0, f e.1)) 
 
 mapped : {X Y : Type 0} (f : X → Y) (b : Bool) (v : X) (o : Option X)
     → option_map f (cond b (Some v) o) ≡ cond b (Some (f v)) (option_map f o)
-mapped f true v o = refl
-mapped f false v o = refl
+mapped f b v o = search rules
 
 mapped_none : {X Y : Type 0} (f : X → Y) (b : Bool) (o : Option X) → option_map f (cond b None o)
     ≡ cond b None (option_map f o)
-mapped_none f true o = refl
-mapped_none f false o = refl
+mapped_none f b o = search rules
 
 pub map_values-insert : {X Y : Type 0} (f : X → Y) (m : FinMap nat_cmp X) (k : ℕ) (v : X)
     → map_values f (finite.insert m k v) ≡ finite.insert (map_values f m) k (f v)

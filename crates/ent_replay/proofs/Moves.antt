@@ -1,6 +1,6 @@
 -- The kinds of event, by what they do to a machine.
-use Rattle.std.proofs.Common.{◌≡◌, ◌≢◌, refl, sym, ap, ◌∙◌, ℕ, ◌+◌, ◌<◌, Bool, true, false, nat_lt}
-use Rattle.std.proofs.Common.{List, [], ◌∷◌, Option, Some, None, Result, Ok, Err, All, arith}
+use Rattle.std.proofs.Common.{rules, ◌≡◌, refl, ap, ◌∙◌, ℕ, ◌+◌, ◌<◌, Bool, true, false, nat_lt}
+use Rattle.std.proofs.Common.{List, [], ◌∷◌, Option, Some, None, Result, Ok, Err, arith}
 use Rattle.std.specs.Ordering.{nat_cmp}
 use Rattle.std.specs.FinSet as set
 use Rattle.std.specs.FinMap as finite
@@ -17,13 +17,10 @@ use Rattle.ent_replay.specs.declared.outcome.Outcome.TheVariants as outcome
 use Rattle.ent_replay.specs.declared.fault.ReplayFault.{ReplayFault}
 use Rattle.ent_replay.specs.declared.fault.ReplayFault.TheVariants as fault
 use Rattle.ent_replay.specs.Schedule.{MachineState, OpenCall, Reply, is_busy, on_event, outcome_of}
-use Rattle.ent_replay.specs.Schedule.{after_event, outcomes_of, alloc_front, begin_with, step_with}
-use Rattle.ent_replay.specs.Schedule.{step_open, answer_with, answer_open, spent_by, left_of}
-use Rattle.ent_replay.specs.Schedule.{callers, reported}
+use Rattle.ent_replay.specs.Schedule.{alloc_front, begin_with, step_with, step_open, answer_with}
+use Rattle.ent_replay.specs.Schedule.{answer_open, spent_by, left_of, callers, reported}
 use Rattle.ent_replay.specs.Histories.{reserved_by_request, reserved_by_call, reservations}
 use Rattle.ent_replay.specs.Histories.{given_by}
-use Rattle.std.proofs.lemmas.List.Elements.{All-nil, All-cons}
-use Rattle.ent_replay.proofs.Maps.{no_test}
 use Rattle.ent_replay.proofs.Conditions.{when, unless}
 
 -- memory ran out
@@ -98,8 +95,7 @@ err_not_ok x e is = cc
 -- a fault
 faulty : (s : MachineState) (e : Event) (why : ReplayFault) → ran_out (Err why) ≡ false
     → on_event s e ≡ (Err why, s) → reservations s e ≡ [] → Move s e
-faulty s e why plain is none = stays (Err why) is refl plain (λ told caller at ok.
-    err_not_ok told why ok) none
+faulty s e why plain is none = stays (Err why) is refl plain (search rules) none
 
 -- ---- alloc
 

@@ -1,7 +1,7 @@
 -- An event is read from its own text and from no other.
 use Rattle.std.proofs.Common.{rules, ◌≡◌, ◌≢◌, ℕ, ◌^◌, ◌<◌, ◌⊎◌, Bool, true, false, not, cond, eqb}
 use Rattle.std.proofs.Common.{List, [], ◌∷◌, ◌++◌, All, Result, Ok, Err, refl, sym, ap, subst, ◌∙◌}
-use Rattle.std.proofs.Common.{inl, inr, append_assoc, arith}
+use Rattle.std.proofs.Common.{append_assoc, arith}
 use Rattle.std.proofs.lemmas.Grind.{common_steps}
 use Rattle.std.specs.Prelude.{codes}
 use Rattle.std.specs.Char.{is_ascii_digit}
@@ -9,7 +9,6 @@ use Rattle.std.specs.Fmt.{decimal}
 use Rattle.std.specs.List.{join_with_byte, list_all, slice_split}
 use Rattle.std.specs.Str.{bytes_eq}
 use Rattle.std.proofs.lemmas.Bool.{and_parts, and_from, false≢true}
-use Rattle.std.proofs.lemmas.List.Folds.{list_all-append}
 use Rattle.std.proofs.lemmas.List.Splits.{slice_split_none, slice_split_at}
 use Rattle.std.proofs.lemmas.List.Sums.{AllPass-from_list_all}
 use Rattle.std.proofs.lemmas.Slice.Eq.{bytes_eq-Decides}
@@ -32,13 +31,11 @@ use Rattle.ent_replay.specs.ScheduleText.{event_with, event_of}
 
 bind_ok : {A B : Type 0} (r : Result A Cause) (f : A → Result B Cause) (y : B) → (r >>= f) ≡ Ok y
     → (x : A) × (r ≡ Ok x) × (f x ≡ Ok y)
-bind_ok (Ok x) f y e = (x, refl, e)
-bind_ok (Err c) f y e = absurd cc
+bind_ok it f y e = search rules
 
 chosen : {A : Type 0} (b : Bool) (x y z : A) → cond b x y ≡ z → ((b ≡ true) × (x ≡ z))
     ⊎ ((b ≡ false) × (y ≡ z))
-chosen true x y z e = inl (refl, e)
-chosen false x y z e = inr (refl, e)
+chosen b x y z e = search rules
 
 abbrev done : {A : Type 0} → A → Result A Cause
 done x = Ok x
@@ -48,25 +45,18 @@ ok_is x y e = cc
 
 or_cause_ok : {A : Type 0} (c : Cause) (r : Result A TextFault) (x : A) → or_cause c r ≡ Ok x → r
     ≡ Ok x
-or_cause_ok c (Ok y) x e = ap (λ z. Ok z) (ok_is y x e)
-or_cause_ok c (Err fault) x e = absurd cc
+or_cause_ok c it x e = search (rules, ok_is)
 
 none_ok : (event : Event) (words : List (List ℕ)) (e : Event) → none event words ≡ Ok e
     → (words ≡ []) × (event ≡ e)
-none_ok event [] e h = (refl, ok_is event e h)
-none_ok event (word ∷ more) e h = absurd cc
+none_ok event more e h = search (rules, ok_is)
 
 one_ok : (words : List (List ℕ)) (word : List ℕ) → one words ≡ Ok word → words ≡ word ∷ []
-one_ok [] word h = absurd cc
-one_ok (first ∷ []) word h = ap (λ (w : List ℕ). w ∷ []) (ok_is first word h)
-one_ok (first ∷ next ∷ more) word h = absurd cc
+one_ok more word h = search (rules, ok_is)
 
 two_ok : (words : List (List ℕ)) (pair : List ℕ × List ℕ) → two words ≡ Ok pair → words ≡ pair.0
     ∷ pair.1 ∷ []
-two_ok [] pair h = absurd cc
-two_ok (first ∷ []) pair h = absurd cc
-two_ok (first ∷ second ∷ []) pair h = search (rules, ok_is)
-two_ok (first ∷ second ∷ third ∷ more) pair h = absurd cc
+two_ok more pair h = search (rules, ok_is)
 
 abbrev text_fault : {A : Type 0} → TextFault → Result A TextFault
 text_fault f = Err f
@@ -112,28 +102,15 @@ decimal_lacks separator n h small = digits_lack separator (decimal n) h
 
 append_lacks : (separator : ℕ) (xs ys : List ℕ) → lacks separator xs ≡ true → lacks separator ys
     ≡ true → lacks separator (xs ++ ys) ≡ true
-append_lacks separator xs ys x y = list_all-append (λ byte. not (eqb byte separator)) xs ys
-    ∙ and_from _ _ x y
+append_lacks separator xs ys x y = grind (arith, common_steps)
 
 handle_lacks : (separator : ℕ) (h : Handle) → is_ascii_digit separator ≡ false
     → not (eqb 118 separator) ≡ true → IsHandle h → lacks separator (handle_text h) ≡ true
-handle_lacks separator h digit letter is =
-    append_lacks separator (decimal h.index) (118 ∷ decimal h.generation)
-    (decimal_lacks separator h.index digit (omega (arith, is.index)))
-    (and_from _ _ letter (decimal_lacks separator h.generation digit (omega (arith, is.greatest))))
+handle_lacks separator h digit letter is = search (rules, append_lacks, decimal_lacks, and_from)
 
 -- no text of an event has a line feed
 pub event_lacks : (event : Event) → IsEvent event → lacks 10 (event_text event) ≡ true
-event_lacks Alloc is = refl
-event_lacks (Free h) is = handle_lacks 10 h refl refl is
-event_lacks Flush is = refl
-event_lacks (Begin caller n) is =
-    append_lacks 10 (decimal caller ++ codes " ") (decimal n)
-    (append_lacks 10 (decimal caller) (codes " ")
-    (decimal_lacks 10 caller refl (omega (arith, is.0))) refl)
-    (decimal_lacks 10 n refl (omega (arith, is.1)))
-event_lacks (Step caller) is = decimal_lacks 10 caller refl (omega (arith, is))
-event_lacks (Answer caller) is = decimal_lacks 10 caller refl (omega (arith, is))
+event_lacks it is = search (rules, handle_lacks, append_lacks, decimal_lacks)
 
 lacks_all : (separator : ℕ) (bytes : List ℕ) → lacks separator bytes ≡ true
     → All (λ byte. eqb byte separator ≡ false) bytes
@@ -146,15 +123,13 @@ lacks_all separator bytes h k d lt =
 
 pub split_lacking : (separator : ℕ) (bytes : List ℕ) → lacks separator bytes ≡ true
     → slice_split (λ byte. eqb byte separator) bytes ≡ bytes ∷ []
-split_lacking separator bytes h = slice_split_none (λ byte. eqb byte separator) bytes
-    (lacks_all separator bytes h)
+split_lacking separator bytes h = search (rules, slice_split_none, lacks_all)
 
 pub split_at_lacking : (separator : ℕ) (bytes others : List ℕ) → eqb separator separator ≡ true
     → lacks separator bytes ≡ true
     → slice_split (λ byte. eqb byte separator) (bytes ++ separator ∷ others) ≡ bytes
     ∷ slice_split (λ byte. eqb byte separator) others
-split_at_lacking separator bytes others same h = slice_split_at (λ byte. eqb byte separator) bytes
-    separator others (lacks_all separator bytes h) same
+split_at_lacking separator bytes others same h = search (rules, slice_split_at, lacks_all)
 
 -- ---- what is read is spelled so
 
@@ -176,13 +151,7 @@ free_found : (word : List ℕ) (others : List (List ℕ)) (e : Event) → word �
     → (one others >>= handle_word >>= λ h. Ok (Free h)) ≡ Ok e → IsRead (word ∷ others) e
 free_found word others e is h =
     let b = bind_ok (one others >>= handle_word) (λ h. Ok (Free h)) e h in
-    let a = bind_ok (one others) handle_word b.0 b.1 in
-    let p = handle_ok a.0 b.0 a.2 in
-    subst (λ (x : Event). IsRead (word ∷ others) x) (ok_is (Free b.0) e b.2) (
-      p.0,
-      ap (λ (ws : List (List ℕ)). joined (word ∷ ws)) (one_ok others a.0 a.1)
-          ∙ ap (λ (w : List ℕ). w ++ 32 ∷ a.0) is ∙ ap (λ (w : List ℕ). codes "free " ++ w) p.1,
-    )
+    search (rules, bind_ok, handle_ok, ok_is, one_ok)
 
 -- a keyword with one number after it
 caller_found : (make : ℕ → Event) (keyword : List ℕ) → ((n : ℕ) → n < 2 ^ 32 → IsEvent (make n))

@@ -33,9 +33,7 @@ goes_on_ok : (line : ℕ) (r : Result Event Cause) (others : Result (List Event)
     (events : List Event) → goes_on line r others ≡ Ok events
     → (event : Event) × (rest : List Event) × (r ≡ Ok event) × (others ≡ Ok rest)
     × (event ∷ rest ≡ events)
-goes_on_ok line (Err c) others events e = absurd cc
-goes_on_ok line (Ok event) (Err fault) events e = absurd cc
-goes_on_ok line (Ok event) (Ok rest) events e = search (rules)
+goes_on_ok line it others events e = search rules
 
 events_found : (number : ℕ) (lines : List (List ℕ)) (events : List Event) → events_of number lines
     ≡ Ok events → AreEvents events × (lines ≡ map event_text events)
@@ -43,21 +41,13 @@ events_found number [] events e = search (rules)
 events_found number (line ∷ lines) events e =
     let g = goes_on_ok number (event_of (words_of line)) (events_of (number + 1) lines) events e in
     let first = event_found (words_of line) g.0 g.2 in
-    let others = events_found (number + 1) lines g.1 g.3 in
-    let text : line ≡ event_text g.0 = sym (join_with_byte-slice_split 32 line) ∙ first.1 in
-    subst (λ (es : List Event). AreEvents es × (line ∷ lines ≡ map event_text es)) g.4 (
-      (first.0, others.0),
-      ap (λ (l : List ℕ). l ∷ lines) text
-          ∙ ap (λ (ls : List (List ℕ)). event_text g.0 ∷ ls) others.1,
-    )
+    search (rules, events_found (number + 1) lines g.1 g.3, join_with_byte-slice_split 32 line, g, first)
 
 events_again : (number : ℕ) (events : List Event) → AreEvents events
     → events_of number (map event_text events) ≡ Ok events
 events_again number [] fits = refl
-events_again number (event ∷ events) fits = rw (
-  event_again event fits.0,
-  events_again (number + 1) events fits.1,
-) refl
+events_again number (event ∷ events) fits =
+    search (rules, event_again, events_again (number + 1) events fits.1)
 
 -- the first fault of lines that are numbered from this one on
 record FaultAt (number : ℕ) (lines : List (List ℕ)) (fault : ReadFault) : Type 0 where
@@ -129,8 +119,7 @@ IsEnded text lines = (text ≡ ended lines) ⊎ (text ++ 10 ∷ [] ≡ ended lin
 
 more_ended : (line text : List ℕ) (lines : List (List ℕ)) → IsEnded text lines
     → IsEnded (line ++ 10 ∷ text) (line ∷ lines)
-more_ended line text lines (inl e) = grind (arith, common_steps)
-more_ended line text lines (inr e) = grind (arith, common_steps)
+more_ended line text lines which = grind (arith, common_steps)
 
 last_ended : (part : List ℕ) → IsEnded part (without_empty_end (part ∷ []))
 last_ended part = grind (arith, common_steps)
@@ -173,8 +162,7 @@ is_end byte = eqb byte 10
 
 onto_first-append : (x : ℕ) (parts more : List (List ℕ)) → 0 < length parts
     → onto_first x (parts ++ more) ≡ onto_first x parts ++ more
-onto_first-append x [] more long = absurd (omega arith)
-onto_first-append x (part ∷ parts) more long = refl
+onto_first-append x parts more long = search rules
 
 -- a line feed after a text makes one more part, which is empty
 split_ended : (text : List ℕ) → slice_split is_end (text ++ 10 ∷ []) ≡ slice_split is_end text ++ []
@@ -204,8 +192,7 @@ without_empty_end-events (Flush ∷ []) = last_line _ _
 without_empty_end-events (Begin caller n ∷ []) = last_line _ _
 without_empty_end-events (Step caller ∷ []) = last_line _ _
 without_empty_end-events (Answer caller ∷ []) = last_line _ _
-without_empty_end-events (event ∷ next ∷ events) = ap (λ (ps : List (List ℕ)). event_text event
-    ∷ ps) (without_empty_end-events (next ∷ events))
+without_empty_end-events (event ∷ next ∷ events) = search (rules, without_empty_end-events (next ∷ events))
 
 lines_from_spelling : (text : List ℕ) (events : List Event) → AreEvents events → Spells events text
     → lines_of text ≡ map event_text events

@@ -1,12 +1,11 @@
 -- Reading line after line, as a loop does.
-use Rattle.std.proofs.Common.{◌≡◌, ℕ, ◌+◌, List, ◌∷◌, ◌++◌, length, Result, Ok, Err, sym}
-use Rattle.std.proofs.Common.{ap, ◌∙◌}
+use Rattle.std.proofs.Common.{rules, ◌≡◌, ℕ, ◌+◌, List, ◌∷◌, ◌++◌, length, Result, Ok, Err}
 use Rattle.std.proofs.lemmas.List.{append-nil, nil_from_length}
 use Rattle.ent_replay.specs.declared.event.Event.{Event}
 use Rattle.ent_replay.specs.declared.read_fault.Cause.{Cause}
 use Rattle.ent_replay.specs.declared.read_fault.ReadFault.{ReadFault}
 use Rattle.ent_replay.specs.declared.read_fault.ReadFault.TheVariants.{Line}
-use Rattle.ent_replay.specs.ScheduleText.{lines_of, words_of, event_of, goes_on, events_of}
+use Rattle.ent_replay.specs.ScheduleText.{lines_of, words_of, event_of, events_of}
 
 -- the events so far, and what is read after them
 abbrev pub with_front : List Event → Result (List Event) ReadFault → Result (List Event) ReadFault
@@ -21,15 +20,8 @@ pub stops : (front : List Event) (so_far : ℕ) (rest line following : List ℕ)
     (total : Result (List Event) ReadFault)
     → lines_of rest ≡ line ∷ lines_of following → event_of (words_of line) ≡ Err c
     → with_front front (read_from so_far rest) ≡ total → total ≡ Err (Line (so_far + 1) c)
-stops front so_far rest line following c total split named invariant =
-    sym invariant
-    ∙ ap (λ (ls : List (List ℕ)). with_front front (events_of (so_far + 1) ls)) split
-    ∙ ap (λ (r : Result Event Cause).
-    with_front front (goes_on (so_far + 1) r (read_from (so_far + 1) following))) named
+stops front so_far rest line following c total split named invariant = search rules
 
 pub ends : (front : List Event) (so_far : ℕ) (rest : List ℕ) (total : Result (List Event) ReadFault)
     → length rest ≡ 0 → with_front front (read_from so_far rest) ≡ total → total ≡ Ok front
-ends front so_far rest total empty invariant =
-    sym invariant
-    ∙ ap (λ (bs : List ℕ). with_front front (read_from so_far bs)) (nil_from_length rest empty)
-    ∙ ap (λ (es : List Event). Ok es) (append-nil front)
+ends front so_far rest total empty invariant = search (rules, nil_from_length, append-nil)

@@ -1,9 +1,9 @@
 -- Lines and words: what stands before the first separator, and then the parts of what stands after
 -- it.
 use Rattle.std.proofs.Common.{rules, ◌≡◌, ◌≢◌, ℕ, ◌<◌, false, eqb, List, [], ◌∷◌, ◌++◌, length, All}
-use Rattle.std.proofs.Common.{Err, refl, ap, ◌∙◌, arith}
+use Rattle.std.proofs.Common.{Err, ap, ◌∙◌, arith}
 use Rattle.std.specs.List.{slice_split}
-use Rattle.std.proofs.lemmas.Bool.{eq-eqb, ne_eqb, cond-false}
+use Rattle.std.proofs.lemmas.Bool.{eq-eqb, ne_eqb}
 use Rattle.std.proofs.lemmas.List.Splits.{slice_split_none, slice_split_at, length-slice_split}
 use Rattle.ent_replay.specs.declared.read_fault.Cause.TheVariants as cause
 use Rattle.ent_replay.specs.ScheduleText.{without_empty_end, lines_of, words_of, none, one}
@@ -17,15 +17,12 @@ fails separator bytes h k d lt = ne_eqb _ separator (h k d lt)
 
 pub parts_whole : (separator : ℕ) (bytes : List ℕ) → IsWithout separator bytes
     → slice_split (λ byte. eqb byte separator) bytes ≡ bytes ∷ []
-parts_whole separator bytes h = slice_split_none (λ byte. eqb byte separator) bytes
-    (fails separator bytes h)
+parts_whole separator bytes h = search (rules, slice_split_none, fails)
 
 pub parts_first : (separator : ℕ) (bytes first others : List ℕ) → bytes ≡ first ++ separator
     ∷ others → IsWithout separator first → slice_split (λ byte. eqb byte separator) bytes ≡ first
     ∷ slice_split (λ byte. eqb byte separator) others
-parts_first separator bytes first others e h =
-    ap (slice_split (λ byte. eqb byte separator)) e ∙ slice_split_at (λ byte. eqb byte separator)
-    first separator others (fails separator first h) (eq-eqb separator separator refl)
+parts_first separator bytes first others e h = search (rules, slice_split_at, fails, eq-eqb)
 
 -- there is always a part
 
@@ -37,15 +34,13 @@ parts_nonempty separator bytes = search (rules, length-slice_split)
 
 pub without_empty_end-cons : (part : List ℕ) (parts : List (List ℕ)) → 0 < length parts
     → without_empty_end (part ∷ parts) ≡ part ∷ without_empty_end parts
-without_empty_end-cons part [] long = absurd (omega arith)
-without_empty_end-cons part (next ∷ more) long = refl
+without_empty_end-cons part more long = search rules
 
 not_empty : (n : ℕ) → 0 < n → eqb n 0 ≡ false
 not_empty n long = ne_eqb n 0 (λ e. absurd (omega (arith, e)))
 
 pub lines_whole : (text : List ℕ) → 0 < length text → IsWithout 10 text → lines_of text ≡ text ∷ []
-lines_whole text long h = ap without_empty_end (parts_whole 10 text h)
-    ∙ cond-false _ _ _ (not_empty (length text) long)
+lines_whole text long h = search (rules, parts_whole 10 text h, not_empty (length text) long)
 
 pub lines_first : (text line others : List ℕ) → text ≡ line ++ 10 ∷ others → IsWithout 10 line
     → lines_of text ≡ line ∷ lines_of others
@@ -56,16 +51,14 @@ lines_first text line others e h = ap without_empty_end (parts_first 10 text lin
 
 none_of_words : {A : Type 0} (x : A) (words : List (List ℕ)) → 0 < length words → none x words
     ≡ Err cause.Count
-none_of_words x [] long = absurd (omega arith)
-none_of_words x (word ∷ more) long = refl
+none_of_words x more long = search rules
 
 pub none_after : {A : Type 0} (x : A) (line : List ℕ) → none x (words_of line) ≡ Err cause.Count
 none_after x line = none_of_words x (words_of line) (parts_nonempty 32 line)
 
 one_of_more : (word : List ℕ) (words : List (List ℕ)) → 0 < length words → one (word ∷ words)
     ≡ Err cause.Count
-one_of_more word [] long = absurd (omega arith)
-one_of_more word (next ∷ more) long = refl
+one_of_more word more long = search rules
 
 pub one_after : (word line : List ℕ) → one (word ∷ words_of line) ≡ Err cause.Count
 one_after word line = one_of_more word (words_of line) (parts_nonempty 32 line)
