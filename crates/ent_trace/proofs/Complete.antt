@@ -84,10 +84,7 @@ module _ (given : List Handle) where
   none_high : (n own : ℕ) (reply : ReserveReply) → n < 2 ^ 32
       → FitsReserved reply (Err (record { wanted = n; left = 0 })) → KeyOf given n reply own
       → 2 ^ 32 < own
-  none_high n own (reserve.Handles told) small fits key = absurd fits
-  none_high n own reserve.Space small fits key = omega arith
-  none_high n own (reserve.SpaceLeft zero) small fits key = omega arith
-  none_high n own (reserve.SpaceLeft (suc told)) small fits key = absurd (omega arith)
+  none_high n own told small fits key = search rules
 
   -- a first refusal would do as a later one, or says that it left some
   later_or_first : (n left : ℕ) (reply : ReserveReply)
@@ -106,22 +103,7 @@ module _ (given : List Handle) where
       → KeyOf given n reply own → FitsReserved mine (Err (record { wanted = m; left = 0 })) → 0 < m
       → KeyOf given m mine other → other ≤ own
       → FitsReserved mine (Err (record { wanted = m; left = left })) × (left < m)
-  takes_place n m left own other (reserve.Handles told) mine fits later more key answered some of le =
-      absurd fits
-  takes_place n m left own other reserve.Space (reserve.Handles told) fits later more key answered some
-      of le = absurd answered
-  takes_place n m left own other reserve.Space reserve.Space fits later more key answered some of le =
-      (tt, omega arith)
-  takes_place n m left own other reserve.Space (reserve.SpaceLeft zero) fits later more key answered some
-      of le = absurd (omega arith)
-  takes_place n m left own other reserve.Space (reserve.SpaceLeft (suc t)) fits later more key answered
-      some of le = absurd (omega arith)
-  takes_place n m left own other (reserve.SpaceLeft told) (reserve.Handles t) fits later more key answered
-      some of le = absurd answered
-  takes_place n m left own other (reserve.SpaceLeft told) reserve.Space fits later more key answered some
-      of le = (tt, omega arith)
-  takes_place n m left own other (reserve.SpaceLeft told) (reserve.SpaceLeft t) fits later more key
-      answered some of le = (omega arith, omega arith)
+  takes_place n m left own other it t fits later more key answered some of le = search rules
 
 -- a run of which the first is refused, and nothing is left to the others
 refused_run : (s : Allocator) (h : Placed) (run : List Placed) → length s.pool < asks h

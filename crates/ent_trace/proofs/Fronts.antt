@@ -1,7 +1,7 @@
 -- The front of the pool at a position, handle by handle.
-use Rattle.std.proofs.Common.{rules, ◌≡◌, refl, sym, ap, ◌∙◌, ℕ, zero, suc, ◌+◌, ◌-◌, ◌<◌, ◌≤◌, ℤ}
-use Rattle.std.proofs.Common.{pos, negsuc, ◌+ℤ◌, ◌-ℤ◌, ◌≤ℤ◌, List, [], ◌∷◌, ◌++◌, length, take}
-use Rattle.std.proofs.Common.{drop, slice_get, Some, None, append-nil, arith}
+use Rattle.std.proofs.Common.{rules, ◌≡◌, refl, ap, ◌∙◌, ℕ, suc, ◌+◌, ◌-◌, ◌<◌, ◌≤◌, ℤ, pos, ◌+ℤ◌}
+use Rattle.std.proofs.Common.{◌-ℤ◌, ◌≤ℤ◌, List, [], ◌∷◌, ◌++◌, length, take, drop, slice_get, Some}
+use Rattle.std.proofs.Common.{None, append-nil, arith}
 use Rattle.std.proofs.lemmas.Int.{ints}
 use Rattle.std.proofs.lemmas.List.{drop-drop, append_assoc, length-append}
 use Rattle.std.proofs.lemmas.Option.{slice_get_within}
@@ -13,9 +13,7 @@ use Rattle.ent_alloc.proofs.PoolLaw.{pool_at-cursor, pool_at-later, top-after_ta
 
 -- one position below, one more was asked for
 asked_below : (high : ℕ) (p : ℤ) → p ≤ℤ pos high → asked_at high (p -ℤ pos 1) ≡ asked_at high p + 1
-asked_below high (pos zero) below = omega (arith, ints)
-asked_below high (pos (suc p)) below = search (rules, ints)
-asked_below high (negsuc p) below = omega (arith, ints)
+asked_below high p below = search (rules, ints)
 
 pool_below : (s : Allocator) (p : ℤ) → p ≤ℤ pos (top s) → pool_at s (p -ℤ pos 1)
     ≡ drop 1 (pool_at s p)
@@ -23,8 +21,7 @@ pool_below s p below = search (rules, asked_below, drop-drop)
 
 -- nothing of an empty list
 none_of : (k : ℕ) → take {A = Handle} k [] ≡ []
-none_of zero = refl
-none_of (suc k) = refl
+none_of k = search rules
 
 empty : (pool : List Handle) → slice_get pool 0 ≡ None → pool ≡ []
 empty [] is = refl
@@ -44,28 +41,13 @@ module _ (s : Allocator) (start next : ℤ) (front : List Handle)
       let pool = pool_at s next in
       let whole : pool ≡ h ∷ drop 1 pool = drop_at pool 0 h (slice_get_within pool 0 h is) is in
       let left : 8 - length front ≡ suc (7 - length front) = omega arith in
-      let long : length (front ++ h ∷ []) ≡ length front + 1 = length-append front (h ∷ []) in
-      let less : 8 - length (front ++ h ∷ []) ≡ 7 - length front = omega arith in
-      let above = listed.above in
-      record {
-        is = append_assoc front (h ∷ []) (take (8 - length (front ++ h ∷ []))
-            (pool_at s (next -ℤ pos 1)))
-            ∙ (λ i. front ++ h ∷ take (less i) (pool_below s next below i))
-            ∙ sym (λ i. front ++ take (left i) (whole i)) ∙ listed.is;
-        few = omega arith;
-        above = omega (arith, ints);
-      }
+      search (rules, length-append, append_assoc, pool_below, ints)
 
   pub Listed-full : 8 ≤ length front → front ≡ take 8 (pool_at s start)
-  Listed-full full =
-      let none : 0 ≡ 8 - length front = omega arith in
-      sym (append-nil front) ∙ (λ i. front ++ take (none i) (pool_at s next)) ∙ listed.is
+  Listed-full full = search (rules, append-nil)
 
   pub Listed-all : slice_get (pool_at s next) 0 ≡ None → front ≡ take 8 (pool_at s start)
-  Listed-all out =
-      sym (append-nil front) ∙ ap (λ xs. front ++ xs) (sym (none_of (8 - length front)))
-      ∙ ap (λ pool. front ++ take (8 - length front) pool) (sym (empty (pool_at s next) out))
-      ∙ listed.is
+  Listed-all out = search (rules, append-nil, none_of, empty)
 
 -- at the cursor it is the front of the pool
 pub front_here : (s : Allocator) (at : ℤ) → IsSound s → at ≡ cursor s
@@ -75,8 +57,7 @@ front_here s at sound is = ap (λ p. take 8 (pool_at s p)) is ∙ ap (take 8) (p
 -- and after a request that found the cursor there
 pub front_before : (s t : Allocator) (n : ℕ) (at : ℤ) → IsSound s → t ≡ after_take s n
     → at ≡ cursor s → take 8 (pool_at t at) ≡ take 8 s.pool
-front_before s t n at sound after is =
-    (λ i. take 8 (pool_at (after i) (is i))) ∙ ap (take 8) (pool_at-later s (n ∷ []) sound)
+front_before s t n at sound after is = search (rules, pool_at-later s (n ∷ []) sound)
 
 pub top_before : (s t : Allocator) (n : ℕ) → IsSound s → t ≡ after_take s n → top t ≡ top s
 top_before s t n sound after = ap top after ∙ top-after_take s n sound

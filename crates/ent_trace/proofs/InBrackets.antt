@@ -1,8 +1,8 @@
 -- A decimal in brackets: what stands before the closing one, which ends the word.
-use Rattle.std.proofs.Common.{◌≡◌, ◌≢◌, ℕ, ◌<◌, false, eqb, List, [], ◌∷◌, ◌++◌, length, All}
-use Rattle.std.proofs.Common.{Result, Err, refl, ap, ◌∙◌, inl, inr, arith}
+use Rattle.std.proofs.Common.{rules, ◌≡◌, ◌≢◌, ℕ, ◌<◌, false, eqb, List, [], ◌∷◌, ◌++◌, length, All}
+use Rattle.std.proofs.Common.{Result, Err, ap, ◌∙◌, inl, inr}
 use Rattle.std.specs.List.{slice_split, onto_first}
-use Rattle.std.proofs.lemmas.Bool.{cases_Bool, cond-true, cond-false}
+use Rattle.std.proofs.lemmas.Bool.{cases_Bool, cond-false}
 use Rattle.std.proofs.lemmas.List.{nil_from_length}
 use Rattle.ent_replay.proofs.ScheduleWords.{parts_whole, parts_first, parts_nonempty}
 use Rattle.ent_trace.specs.Text.{Word, count_in, number_told}
@@ -17,22 +17,18 @@ no_count = Err cause.Reply
 
 more_parts : (count : Word) (others : List Word) → 0 < length others
     → count_in (count ∷ [] ∷ others) ≡ no_count
-more_parts count [] long = absurd (omega arith)
-more_parts count (part ∷ others) long = refl
+more_parts count others long = search rules
 
 other_end : (count : Word) (x : ℕ) (others : List Word)
     → count_in (count ∷ onto_first x others) ≡ no_count
-other_end count x [] = refl
-other_end count x (part ∷ others) = refl
+other_end count x others = search rules
 
 longer : (count : Word) (x : ℕ) (xs : List ℕ) → count_in (count ∷ parts (x ∷ xs)) ≡ no_count
-longer count x xs =
-    elim (cases_Bool (eqb x 41)) [
-      | inl closes ↦ ap (λ (ws : List Word). count_in (count ∷ ws)) (cond-true (eqb x 41) _ _ closes)
-          ∙ more_parts count (parts xs) (parts_nonempty 41 xs)
-      | inr other ↦ ap (λ (ws : List Word). count_in (count ∷ ws)) (cond-false (eqb x 41) _ _ other)
-          ∙ other_end count x (parts xs)
-    ]
+longer count x xs = elim (cases_Bool (eqb x 41)) [
+  | inl closes ↦ search (rules, more_parts count (parts xs) (parts_nonempty 41 xs))
+  | inr other ↦ ap (λ (ws : List Word). count_in (count ∷ ws)) (cond-false (eqb x 41) _ _ other)
+      ∙ other_end count x (parts xs)
+]
 
 not_last : (count : Word) (others : List ℕ) → eqb (length others) 0 ≡ false
     → count_in (count ∷ parts others) ≡ no_count
@@ -53,5 +49,4 @@ pub closed : (text count others : List ℕ) → text ≡ count ++ 41 ∷ others
     → All (λ x. x ≢ 41) count → length others ≡ 0
     → count_in (slice_split (λ byte. eqb byte 41) text) ≡ number_told count
 closed text count others is none last =
-    ap count_in (parts_first 41 text count others is none)
-    ∙ ap (λ (bs : List ℕ). count_in (count ∷ parts bs)) (nil_from_length others last)
+    search (rules, parts_first 41 text count others is none, nil_from_length others last)

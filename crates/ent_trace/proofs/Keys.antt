@@ -1,6 +1,6 @@
 -- The keys of a run: along a caller they don't fall.
-use Rattle.std.proofs.Common.{rules, ◌≡◌, ℕ, ◌+◌, ◌^◌, ◌≤◌, List, [], ◌∷◌, ◌++◌, sym, ap, ◌∙◌}
-use Rattle.std.proofs.Common.{arith, inl, inr, cond, refl, subst}
+use Rattle.std.proofs.Common.{rules, ◌≡◌, ℕ, ◌+◌, ◌^◌, ◌≤◌, List, [], ◌∷◌, ◌++◌, ap, ◌∙◌, arith}
+use Rattle.std.proofs.Common.{refl}
 use Rattle.std.proofs.lemmas.Grind.{common_steps}
 use Rattle.std.specs.List.{AllByRecursion}
 use Rattle.std.specs.Option.{unwrap_or}
@@ -43,43 +43,19 @@ module _ (latest : finite.FinMap nat_cmp ℕ) (p : Placed)
   now = finite.insert latest p.reservation.caller p.key
 
   comes_after : (q : Placed) → IsLatest latest q → ComesAfter q p
-  comes_after q is same =
-      let here : unwrap_or (finite.get latest q.reservation.caller) 0
-      ≡ unwrap_or (finite.get latest p.reservation.caller) 0 =
-      ap (λ caller. unwrap_or (finite.get latest caller) 0) (sym same) in
-      omega arith
+  comes_after q is same = search rules
 
   steady_push : (run : List Placed) → AreSteady run → AllByRecursion (IsLatest latest) run
       → AreSteady (run ++ p ∷ [])
   steady_push [] steady all = (tt, tt)
-  steady_push (q ∷ run) steady all = (
-    all_push (ComesAfter q) run p steady.0 (comes_after q all.0),
-    steady_push run steady.1 all.1,
-  )
+  steady_push (q ∷ run) steady all =
+      search (rules, all_push, comes_after, steady_push run steady.1 all.1)
 
   latest_own : IsLatest now p
-  latest_own =
-      let here : unwrap_or (finite.get now p.reservation.caller) 0 ≡ p.key =
-      ap (λ o. unwrap_or o 0) (get-inserted latest p.reservation.caller p.key) in
-      omega arith
+  latest_own = search (rules, get-inserted)
 
   latest_kept : (q : Placed) → IsLatest latest q → IsLatest now q
-  latest_kept q is = elim (cases_eq q.reservation.caller p.reservation.caller) [
-    | inl same ↦
-        let before : unwrap_or (finite.get latest q.reservation.caller) 0
-        ≡ unwrap_or (finite.get latest p.reservation.caller) 0 =
-        ap (λ caller. unwrap_or (finite.get latest caller) 0) same in
-        let here : unwrap_or (finite.get now q.reservation.caller) 0 ≡ p.key =
-        ap (λ caller. unwrap_or (finite.get now caller) 0) same
-        ∙ ap (λ o. unwrap_or o 0) (get-inserted latest p.reservation.caller p.key) in
-        omega arith
-    | inr other ↦
-        let here : unwrap_or (finite.get now q.reservation.caller) 0
-        ≡ unwrap_or (finite.get latest q.reservation.caller) 0 =
-        ap (λ o. unwrap_or o 0)
-        (get-insert_other latest p.reservation.caller p.key q.reservation.caller other) in
-        omega arith
-  ]
+  latest_kept q is = search (rules, cases_eq, get-inserted, get-insert_other)
 
   all_kept : (run : List Placed) → AllByRecursion (IsLatest latest) run
       → AllByRecursion (IsLatest now) run
@@ -89,15 +65,7 @@ module _ (latest : finite.FinMap nat_cmp ℕ) (p : Placed)
   -- what is kept for each caller is its last key
   last_push : (f : ℕ → ℕ) → ((q : ℕ) → unwrap_or (finite.get latest q) 0 ≡ f q) → (q : ℕ)
       → unwrap_or (finite.get now q) 0 ≡ raised f p q
-  last_push f last q = elim (cases_eq q p.reservation.caller) [
-    | inl same ↦
-        ap (λ caller. unwrap_or (finite.get now caller) 0) same
-        ∙ ap (λ o. unwrap_or o 0) (get-inserted latest p.reservation.caller p.key)
-        ∙ sym (ap (λ b. cond b p.key (f q)) (eq-eqb q p.reservation.caller same))
-    | inr other ↦
-        ap (λ o. unwrap_or o 0) (get-insert_other latest p.reservation.caller p.key q other)
-        ∙ last q ∙ sym (ap (λ b. cond b p.key (f q)) (ne_eqb q p.reservation.caller other))
-  ]
+  last_push f last q = search (rules, cases_eq, get-inserted, eq-eqb, get-insert_other, ne_eqb)
 
   pub IsChecking-push : (s : Allocator) (wanted : ℕ) (run : List Placed)
       → IsChecking s wanted run latest → wanted + p.reservation.requested ≤ 2 ^ 50
@@ -106,16 +74,7 @@ module _ (latest : finite.FinMap nat_cmp ℕ) (p : Placed)
   IsChecking-push s wanted run is few keyed =
       let before = is.wanted_is in
       let more = requested-push run p in
-      record {
-        wanted_is = omega arith;
-        wanted_in = few;
-        steady = steady_push run is.steady is.latest_is;
-        latest_is = all_push (IsLatest now) run p (all_kept run is.latest_is) latest_own;
-        keyed = keyed_push (available s) run (λ _. 0) p is.keyed
-            (subst (λ n. IsKeyed (available s) n p) (is.last p.reservation.caller) keyed);
-        last = λ q. last_push (keys_after (λ _. 0) run) is.last q
-            ∙ sym (ap (λ g. g q) (after_push run (λ _. 0) p));
-      }
+      search (rules, steady_push, all_push, all_kept, latest_own, keyed_push, last_push, after_push)
 
 -- no run
 pub IsChecking-none : (s : Allocator) (wanted : ℕ) (latest : finite.FinMap nat_cmp ℕ)

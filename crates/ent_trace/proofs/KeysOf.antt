@@ -1,8 +1,8 @@
 -- What the key of a reservation tells of where it comes.
-use Rattle.std.proofs.Common.{rules, ◌≡◌, ◌≢◌, ℕ, zero, suc, ◌+◌, ◌-◌, ◌^◌, ◌<◌, ◌≤◌, false, cond}
-use Rattle.std.proofs.Common.{List, [], ◌∷◌, ◌++◌, length, take, drop, get_or, slice_get, Some, Ok}
-use Rattle.std.proofs.Common.{Err, refl, sym, ap, subst, ◌∙◌, arith, true≢false, inl, inr, ◌⊎◌}
-use Rattle.std.proofs.Common.{Contains, AllPairs, eq-eqb, ne_eqb}
+use Rattle.std.proofs.Common.{rules, ◌≡◌, ◌≢◌, ℕ, ◌+◌, ◌-◌, ◌^◌, ◌<◌, ◌≤◌, false, cond, List, []}
+use Rattle.std.proofs.Common.{◌∷◌, ◌++◌, length, take, drop, get_or, slice_get, Some, Ok, Err, refl}
+use Rattle.std.proofs.Common.{sym, ap, subst, ◌∙◌, arith, true≢false, inl, inr, ◌⊎◌, Contains}
+use Rattle.std.proofs.Common.{AllPairs, eq-eqb, ne_eqb}
 use Rattle.std.proofs.lemmas.Grind.{common_steps}
 use Rattle.std.specs.List.{AllByRecursion}
 use Rattle.std.proofs.lemmas.Bool.{cases_lt}
@@ -60,9 +60,7 @@ module _ (given : List Handle) (s : Allocator) (sound : IsSound s) (is : availab
         | inl own_at ↦
             let own_in = slice_get_within given own h own_at in
             let own_is = get_or_from_slice_get given own h h own_at in
-            let same : own ≡ s.asked + i = same_place given h own (s.asked + i) apart own_in there
-            own_is found in
-            record { from = omega arith; below = omega arith; small = small }
+            search (rules, same_place)
         | inr nowhere ↦
             absurd (true≢false (sym (stands_in-from_Contains given h (s.asked + i, there, found))
             ∙ nowhere))
@@ -73,34 +71,27 @@ module _ (given : List Handle) (s : Allocator) (sound : IsSound s) (is : availab
       let long : length (listed s.made (take n s.pool)) ≡ length (take n s.pool) =
       length_permutation (take n s.pool) (listed s.made (take n s.pool))
       (listed-IsPermutation s.made (take n s.pool)) in
-      let zero_long : 0 ≡ length (listed s.made (take n s.pool)) = ap length none in
-      absurd (omega (arith, length-take n s.pool))
+      search (rules, length-take)
 
   served_by : (reply : ReserveReply) → 0 < n → n ≤ length s.pool
       → FitsReserved reply (Ok (listed s.made (take n s.pool))) → KeyOf given n reply own → InPlace
   served_by (reserve.Handles []) some enough fits key = absurd (some_listed some enough fits)
-  served_by (reserve.Handles (h ∷ told)) some enough fits key =
-      in_place h
+  served_by (reserve.Handles (h ∷ told)) some enough fits key = in_place h
       (Contains-permutation (listed s.made (take n s.pool)) (take n s.pool) h
-      (IsPermutation-sym (take n s.pool) (listed s.made (take n s.pool))
-      (listed-IsPermutation s.made (take n s.pool)))
+      (search (rules, IsPermutation-sym, listed-IsPermutation))
       (subst (λ (hs : List Handle). Contains hs h) fits (0, omega arith, refl))) key
   served_by reserve.Space some enough fits key = absurd fits
   served_by (reserve.SpaceLeft left) some enough fits key = absurd fits
 
   pub served_key : (reply : ReserveReply) → 0 < n → n ≤ length s.pool
       → FitsReserved reply (reply_to s n) → KeyOf given n reply own → InPlace
-  served_key reply some enough fits key =
-      served_by reply some enough (subst (FitsReserved reply) (reply-served s n enough) fits) key
+  served_key reply some enough fits key = search (rules, served_by, reply-served)
 
 -- a refused one's lies above all places
 pub refused_key : (given : List Handle) (n own left : ℕ) (reply : ReserveReply) → n < 2 ^ 32
     → FitsReserved reply (Err (record { wanted = n; left = left })) → KeyOf given n reply own
     → 2 ^ 32 ≤ own
-refused_key given n own left (reserve.Handles told) small fits key = absurd fits
-refused_key given n own left reserve.Space small fits key = omega arith
-refused_key given n own left (reserve.SpaceLeft zero) small fits key = omega arith
-refused_key given n own left (reserve.SpaceLeft (suc told)) small fits key = omega arith
+refused_key given n own left told small fits key = search rules
 
 -- ---- keys along a caller
 
@@ -123,18 +114,13 @@ module _ (given : List Handle) (after : List Placed) (c : Placed) where
       → AreKeyed given f (before ++ c ∷ after) → IsKeyed given (f c.reservation.caller) c
   keyed_head [] f others keyed = keyed.0
   keyed_head (b ∷ before) f others keyed =
-      subst (λ n. IsKeyed given n c)
-      (raised_other f b c.reservation.caller (λ same. others.0 (sym same)))
-      (keyed_head before (raised f b) others.1 keyed.1)
+      search (rules, keyed_head before (raised f b) others.1 keyed.1, c.reservation.caller)
 
   pub keyed_without : (before : List Placed) (f : ℕ → ℕ) → AllByRecursion (IsOfOther c) before
       → AreKeyed given f (before ++ c ∷ after) → AreKeyed given (raised f c) (before ++ after)
   keyed_without [] f others keyed = keyed.1
-  keyed_without (b ∷ before) f others keyed = (
-    subst (λ n. IsKeyed given n b) (sym (raised_other f c b.reservation.caller others.0)) keyed.0,
-    subst (λ g. AreKeyed given g (before ++ after)) (raised_both f b c others.0)
-        (keyed_without before (raised f b) others.1 keyed.1),
-  )
+  keyed_without (b ∷ before) f others keyed =
+      search (rules, raised_other, raised_both, keyed_without before (raised f b) others.1 keyed.1)
 
 -- each has its own key or a greater one
 pub record HasKey (given : List Handle) (p : Placed) : Type 0 where

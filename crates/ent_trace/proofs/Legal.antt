@@ -1,9 +1,9 @@
 -- Reservations one after the other: those for nothing can be left out, and of those that follow a
 -- refusal none is served.
+use Rattle.std.proofs.Common.{rules, ◌≡◌, ℕ, ◌+◌, ◌<◌, Bool, true, false, cond, nat_lt, List, []}
+use Rattle.std.proofs.Common.{◌∷◌, length, filter, Ok, Err, refl, sym, ap, subst, ◌∙◌, arith, inl}
+use Rattle.std.proofs.Common.{inr, ◌⊎◌, append-nil}
 use Rattle.std.proofs.lemmas.Grind.{common_steps}
-use Rattle.std.proofs.Common.{◌≡◌, ℕ, zero, suc, ◌+◌, ◌<◌, Bool, true, false, cond, nat_lt, List}
-use Rattle.std.proofs.Common.{[], ◌∷◌, ◌++◌, length, filter, Ok, Err, refl, sym, ap, subst, ◌∙◌}
-use Rattle.std.proofs.Common.{arith, inl, inr, ◌⊎◌, append-nil}
 use Rattle.std.specs.List.{AllByRecursion}
 use Rattle.std.proofs.lemmas.Bool.{lt-ltb}
 use Rattle.ent_alloc.specs.Sequential.{Allocator, after_take, reply_to}
@@ -36,8 +36,7 @@ after_run s run = after_lines s (lines run)
 -- ---- requests for nothing
 
 pub some_or_none : (n : ℕ) → ((nat_lt 0 n ≡ true) × (0 < n)) ⊎ ((nat_lt 0 n ≡ false) × (n ≡ 0))
-some_or_none zero = inr (refl, refl)
-some_or_none (suc n) = inl (lt-ltb 0 (suc n) (omega arith), omega arith)
+some_or_none n = search (rules, lt-ltb)
 
 module _ (p : Placed) (run : List Placed) where
   pub kept : nat_lt 0 (asks p) ≡ true → filter asks_some (p ∷ run) ≡ p ∷ filter asks_some run
@@ -58,8 +57,7 @@ pub Answers-some : (run : List Placed) (s : Allocator) → Answers s run
     → Answers s (filter asks_some run)
 Answers-some [] s answered = tt
 Answers-some (p ∷ run) s answered = elim (some_or_none (asks p)) [
-  | inl some ↦ subst (Answers s) (sym (kept p run some.0))
-      (answered.0, Answers-some run (after_take s (asks p)) answered.1)
+  | inl some ↦ search (rules, kept, Answers-some run (after_take s (asks p)) answered.1)
   | inr none ↦ subst (Answers s) (sym (left_out p run none.0))
       (Answers-some run s (subst (λ t. Answers t run) (nothing-after s p none.1) answered.1))
 ]
@@ -68,19 +66,14 @@ pub after-some : (run : List Placed) (s : Allocator) → after_run s run
     ≡ after_run s (filter asks_some run)
 after-some [] s = refl
 after-some (p ∷ run) s = elim (some_or_none (asks p)) [
-  | inl some ↦ after-some run (after_take s (asks p))
-      ∙ ap (after_run s) (sym (kept p run some.0))
-  | inr none ↦ ap (λ t. after_run t run) (nothing-after s p none.1) ∙ after-some run s
-      ∙ ap (after_run s) (sym (left_out p run none.0))
+  | inl some ↦ after-some run (after_take s (asks p)) ∙ ap (after_run s) (sym (kept p run some.0))
+  | inr none ↦ search (rules, nothing-after, left_out, after-some run s)
 ]
 
 pub nothing-fits : (run : List Placed) (s : Allocator) → Answers s run
     → AllByRecursion FitsNothing run
 nothing-fits [] s answered = tt
-nothing-fits (p ∷ run) s answered = (
-  λ none. subst (FitsReserved p.reservation.reply) (nothing-reply s p none) answered.0,
-  nothing-fits run (after_take s (asks p)) answered.1,
-)
+nothing-fits (p ∷ run) s answered = search (rules, nothing-fits run (after_take s (asks p)) answered.1)
 
 pub Answers-from_some : (run : List Placed) (s : Allocator) → AllByRecursion FitsNothing run
     → Answers s (filter asks_some run) → Answers s run
@@ -114,8 +107,7 @@ pub Answers-empty : (run : List Placed) (s : Allocator) → s.pool ≡ []
     → AllByRecursion FindsNone run → Answers s run
 Answers-empty [] s none all = tt
 Answers-empty (p ∷ run) s none all = (
-  subst (FitsReserved p.reservation.reply) (sym (empty-refuses s (asks p) none all.0.some))
-      all.0.fits,
+  search (rules, empty-refuses),
   Answers-empty run (after_take s (asks p)) (stays-empty s (asks p) none) all.1,
 )
 
@@ -123,10 +115,7 @@ pub empty-Answers : (run : List Placed) (s : Allocator) → s.pool ≡ []
     → AllByRecursion (λ p. 0 < asks p) run → Answers s run → AllByRecursion FindsNone run
 empty-Answers [] s none some answered = tt
 empty-Answers (p ∷ run) s none some answered = (
-  record {
-    some = some.0;
-    fits = subst (FitsReserved p.reservation.reply) (empty-refuses s (asks p) none some.0) answered.0;
-  },
+  search (rules, empty-refuses),
   empty-Answers run (after_take s (asks p)) (stays-empty s (asks p) none) some.1 answered.1,
 )
 
@@ -146,11 +135,7 @@ after-empty (p ∷ run) s none some =
     let more = some.0 in
     let empty : length s.pool ≡ 0 = ap length none in
     let one : after_take s n ≡ record s { asked = s.asked + n } =
-    after_take-refused s n (omega arith) ∙ (λ i. record s {
-      aside = (ap (λ hs. s.aside ++ hs) none ∙ append-nil s.aside) i;
-      pool = sym none i;
-      asked = s.asked + n;
-    }) in
+    search (rules, after_take-refused, append-nil) in
     let sum : s.asked + n + total run ≡ s.asked + (n + total run) = omega arith in
     ap (λ t. after_run t run) one ∙ after-empty run (record s { asked = s.asked + n }) none some.1
     ∙ (λ i. record s { asked = sum i })

@@ -1,8 +1,7 @@
 -- Orders of the lines of a run as orders of its reservations with their keys, and without those for
 -- nothing.
-use Rattle.std.proofs.Common.{◌≡◌, ℕ, ◌+◌, ◌<◌, ◌≤◌, Bool, true, false, cond}
-use Rattle.std.proofs.Common.{List, [], ◌∷◌, ◌++◌, filter, Ok, refl, sym, ap, subst}
-use Rattle.std.proofs.Common.{◌∙◌, arith, inl, inr}
+use Rattle.std.proofs.Common.{rules, ◌≡◌, ℕ, ◌+◌, ◌<◌, ◌≤◌, Bool, true, false, cond, List, [], ◌∷◌}
+use Rattle.std.proofs.Common.{◌++◌, filter, Ok, refl, sym, ap, subst, ◌∙◌, arith, inl, inr}
 use Rattle.std.specs.List.{AllByRecursion}
 use Rattle.std.proofs.lemmas.Bool.{cases_eq}
 use Rattle.std.proofs.lemmas.List.Elements.{filter-append}
@@ -12,9 +11,7 @@ use Rattle.ent_alloc.specs.Sequential.{Allocator, available}
 use Rattle.ent_alloc.specs.Sound.{IsSound}
 use Rattle.ent_trace.specs.declared.line.Line.{Line}
 use Rattle.ent_trace.specs.declared.line.Line.TheVariants as line
-use Rattle.ent_trace.specs.declared.line.Reservation.{Reservation}
 use Rattle.ent_trace.specs.declared.reply.ReserveReply.{ReserveReply}
-use Rattle.ent_trace.specs.declared.reply.ReserveReply.TheVariants as reserve
 use Rattle.ent_trace.specs.declared.placed.Placed.{Placed}
 use Rattle.ent_trace.specs.Trace.{MayPass, IsOrderOf, FitsReserved, AreAnswered, after_lines}
 use Rattle.ent_trace.specs.Checker.{KeyOf, AreKeyed, raised, reservations_of, requested_in}
@@ -68,8 +65,7 @@ unmapped (p ∷ run) (b ∷ before) after c e =
 
 lines_append : (xs ys : List Placed) → lines (xs ++ ys) ≡ lines xs ++ lines ys
 lines_append [] ys = refl
-lines_append (x ∷ xs) ys =
-    ap (λ (ls : List Line). line.Reserve x.reservation ∷ ls) (lines_append xs ys)
+lines_append (x ∷ xs) ys = search (rules, lines_append xs ys)
 
 others_of : (p : Placed) (before : List Placed)
     → AllByRecursion (MayPass (line.Reserve p.reservation)) (lines before)
@@ -151,8 +147,7 @@ swap_filters p q (x ∷ xs) = swap_with (swap_filters p q xs) (p x) (q x) refl r
 
 alike_filtered : (p : Placed → Bool) (sorted run : List Placed) → TieAlike sorted run
     → TieAlike (filter p sorted) (filter p run)
-alike_filtered p sorted run alike x =
-    swap_filters (tie x) p sorted ∙ ap (filter p) (alike x) ∙ sym (swap_filters (tie x) p run)
+alike_filtered p sorted run alike x = search (rules, swap_filters, tie)
 
 pub order_filtered : (order run : List Placed) → IsPlacedOrder run order
     → IsPlacedOrder (filter asks_some run) (filter asks_some order)
@@ -162,28 +157,15 @@ order_filtered (p ∷ order) run (before, after, parts, others, more) =
     let joined = filter-append asks_some before after in
     let split_here = ap (filter asks_some) parts ∙ filter-append asks_some before (p ∷ after) in
     elim (some_or_none (asks p)) [
-      | inl some ↦
-          subst (IsPlacedOrder (filter asks_some run)) (sym (kept p order some.0)) (
-            filter asks_some before,
-            filter asks_some after,
-            split_here ∙ ap (λ ps. filter asks_some before ++ ps) (kept p after some.0),
-            all_filtered (IsOfOther p) asks_some before others,
-            subst (λ ps. IsPlacedOrder ps (filter asks_some order)) joined rest,
-          )
-      | inr none ↦
-          subst (IsPlacedOrder (filter asks_some run)) (sym (left_out p order none.0))
-          (subst (λ ps. IsPlacedOrder ps (filter asks_some order))
-          (joined ∙ sym (split_here
+      | inl some ↦ search (rules, IsPlacedOrder, asks_some, kept, all_filtered, IsOfOther)
+      | inr none ↦ subst (IsPlacedOrder (filter asks_some run)) (sym (left_out p order none.0))
+          (subst (λ ps. IsPlacedOrder ps (filter asks_some order)) (joined ∙ sym (split_here
           ∙ ap (λ ps. filter asks_some before ++ ps) (left_out p after none.0))) rest)
     ]
 
 nothing_key : (given : List Handle) (n own : ℕ) (reply : ReserveReply) → FitsReserved reply (Ok [])
     → KeyOf given n reply own → own ≡ 0
-nothing_key given n own (reserve.Handles []) fits key = key
-nothing_key given n own (reserve.Handles (h ∷ told)) fits key =
-    absurd (let no : h ∷ told ≡ [] = fits in cc)
-nothing_key given n own reserve.Space fits key = absurd fits
-nothing_key given n own (reserve.SpaceLeft left) fits key = absurd fits
+nothing_key given n own told fits key = search rules
 
 not_raised : (f : ℕ → ℕ) (p : Placed) → p.key ≡ f p.reservation.caller → raised f p ≡ f
 not_raised f p same = λ i q. each q i
@@ -204,27 +186,12 @@ keyed_filtered given f (p ∷ run) keyed fits = elim (some_or_none (asks p)) [
       let key = keyed.0 in
       let zero_own = nothing_key given (asks p) key.own p.reservation.reply (fits.0 none.1)
       key.key_of in
-      let least = key.least in
-      let floor = key.floor in
-      let same : p.key ≡ f p.reservation.caller = elim key.either [
-        | inl own ↦ omega arith
-        | inr old ↦ old
-      ] in
-      subst (AreKeyed given f) (sym (left_out p run none.0))
-      (subst (λ g. AreKeyed given g (filter asks_some run)) (not_raised f p same)
-      (keyed_filtered given (raised f p) run keyed.1 fits.1))
+      search (rules, left_out, asks_some, not_raised, keyed_filtered given (raised f p) run keyed.1 fits.1)
 ]
 
 total_filtered : (run : List Placed) → total (filter asks_some run) ≡ total run
 total_filtered [] = refl
-total_filtered (p ∷ run) = elim (some_or_none (asks p)) [
-  | inl some ↦ ap total (kept p run some.0) ∙ ap (λ n. asks p + n) (total_filtered run)
-  | inr none ↦
-      let rest = total_filtered run in
-      let here = ap total (left_out p run none.0) in
-      let nothing = none.1 in
-      omega arith
-]
+total_filtered (p ∷ run) = search (rules, some_or_none, asks, total, kept, left_out, total_filtered run)
 
 total_append : (xs ys : List Placed) → total (xs ++ ys) ≡ total xs + total ys
 total_append [] ys = omega arith
@@ -233,28 +200,15 @@ total_append (x ∷ xs) ys = let rest = total_append xs ys in omega arith
 total_ordered : (order run : List Placed) → IsPlacedOrder run order → total order ≡ total run
 total_ordered [] run none = ap total (sym none)
 total_ordered (p ∷ order) run (before, after, parts, others, more) =
-    let rest = total_ordered order (before ++ after) more in
-    let joined = total_append before after in
-    let here = ap total parts ∙ total_append before (p ∷ after) in
-    omega arith
+    search (rules, total_append, total, total_ordered order (before ++ after) more)
 
 pub total_is : (run : List Placed) → total run ≡ requested_in (reservations_of run)
 total_is [] = refl
-total_is (p ∷ run) =
-    let rest = total_is run in
-    omega (
-      arith,
-      sum_by-cons (λ (r : Reservation). r.requested) p.reservation (reservations_of run),
-    )
+total_is (p ∷ run) = search (rules, sum_by-cons, total_is run)
 
 some_filtered : (run : List Placed) → AllByRecursion (λ p. 0 < asks p) (filter asks_some run)
 some_filtered [] = tt
-some_filtered (p ∷ run) = elim (some_or_none (asks p)) [
-  | inl some ↦ subst (AllByRecursion (λ p. 0 < asks p)) (sym (kept p run some.0))
-      (some.1, some_filtered run)
-  | inr none ↦ subst (AllByRecursion (λ p. 0 < asks p)) (sym (left_out p run none.0))
-      (some_filtered run)
-]
+some_filtered (p ∷ run) = search (rules, some_filtered run)
 
 -- If any order of a run is answered so, the sorted one is, and leaves the same state.
 pub sorted_run : (s : Allocator) (sorted run : List Placed) (order : List Line) → IsSound s

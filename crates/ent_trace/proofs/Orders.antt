@@ -1,6 +1,6 @@
 -- Orders that lines may have come in: of a front and a rest, and what they are answered.
-use Rattle.std.proofs.Common.{arith, rules, append-nil, ◌≡◌, ℕ, List, [], ◌∷◌, ◌++◌, refl, sym, ap}
-use Rattle.std.proofs.Common.{subst, ◌∙◌}
+use Rattle.std.proofs.Common.{arith, rules, append-nil, ◌≡◌, ℕ, List, [], ◌∷◌, ◌++◌, refl, ap}
+use Rattle.std.proofs.Common.{subst}
 use Rattle.std.proofs.lemmas.Grind.{common_steps}
 use Rattle.std.proofs.lemmas.List.{append_assoc}
 use Rattle.ent_alloc.specs.Sequential.{Allocator}
@@ -16,16 +16,9 @@ use Rattle.ent_trace.specs.declared.difference.Difference.{Difference}
 -- an order of the front and one of the rest are one of all
 pub IsOrderOf-append : (front rest first second : List Line) → IsOrderOf front first
     → IsOrderOf rest second → IsOrderOf (front ++ rest) (first ++ second)
-IsOrderOf-append front rest [] second none is =
-    subst (λ (lines : List Line). IsOrderOf (lines ++ rest) second) (sym none) is
-IsOrderOf-append front rest (l ∷ first) second (before, after, parts, passes, more) is = (
-  before,
-  after ++ rest,
-  ap (λ (lines : List Line). lines ++ rest) parts ∙ append_assoc before (l ∷ after) rest,
-  passes,
-  subst (λ (lines : List Line). IsOrderOf lines (first ++ second)) (append_assoc before after rest)
-      (IsOrderOf-append (before ++ after) rest first second more is),
-)
+IsOrderOf-append front rest [] second none is = search rules
+IsOrderOf-append front rest (l ∷ first) second (before, after, parts, passes, more) is =
+    search (rules, parts, append_assoc, IsOrderOf-append (before ++ after) rest first second more is)
 
 -- one line first
 pub IsOrderOf-cons : (l : Line) (rest order : List Line) → IsOrderOf rest order
@@ -105,10 +98,7 @@ pub Shows-more : (c : Checked) (n : ℕ) (l : Line) (d : Difference) → Shows c
     → Shows c n (l ∷ []) d
 Shows-more c n l d shows = record {
   order = shows.order ++ l ∷ [];
-  is_order = subst (λ (ls : List Line). IsOrderOf ls (shows.order ++ l ∷ []))
-      (append_assoc (reserve_lines c.run) [] (l ∷ []))
-      (IsOrderOf-append (reserve_lines c.run ++ []) (l ∷ []) shows.order (l ∷ []) shows.is_order
-      (IsOrderOf-cons l [] [] refl));
+  is_order = search (rules, append_assoc, c.run, IsOrderOf-append, IsOrderOf-cons);
   fails = Fails-append c.allocator n shows.order (l ∷ []) d shows.fails;
 }
 

@@ -1,6 +1,8 @@
 -- An order of lines of which one overlaps nothing: an order of those before it, that line, and an
 -- order of those after it.
-use Rattle.std.proofs.Common.{◌≡◌, List, [], ◌∷◌, ◌++◌, refl, sym, ap, subst, ◌∙◌, ◌⊎◌, inl, inr}
+use Rattle.std.proofs.lemmas.Grind.{common_steps}
+use Rattle.std.proofs.Common.{rules, arith, ◌≡◌, List, [], ◌∷◌, ◌++◌, refl, sym, ap, subst, ◌∙◌}
+use Rattle.std.proofs.Common.{◌⊎◌, inl, inr}
 use Rattle.std.specs.List.{AllByRecursion}
 use Rattle.std.proofs.lemmas.List.{append_assoc}
 use Rattle.ent_trace.specs.declared.line.Line.{Line}
@@ -57,36 +59,17 @@ module _ {X : Type 0} where
   parted (f ∷ front) rest (b ∷ before) after x l e =
       let first : f ≡ b = cc in
       let others : front ++ x ∷ rest ≡ before ++ l ∷ after = cc in
-      elim (parted front rest before after x l others) [
-        | inl p ↦ inl (record {
-          more = p.more;
-          front_is = λ i. first i ∷ p.front_is i;
-          after_is = p.after_is;
-        })
-        | inr (inl p) ↦ inr (inl (record {
-          before_is = λ i. sym first i ∷ p.before_is i;
-          is = p.is;
-          after_is = p.after_is;
-        }))
-        | inr (inr p) ↦ inr (inr (record {
-          more = p.more;
-          before_is = λ i. sym first i ∷ p.before_is i;
-          rest_is = p.rest_is;
-        }))
-      ]
+      grind (arith, common_steps, parted front rest before after x l others)
 
   no_middle : (front rest : List X) (x : X) → front ++ x ∷ rest ≡ [] → ⊥
   no_middle [] rest x e = cc
   no_middle (f ∷ front) rest x e = cc
 
 not_passed : (l x : Line) → IsAlone x → MayPass l x → ⊥
-not_passed l (line.Reserve r) alone p = alone
-not_passed (line.Reserve q) other alone p = p
-not_passed l other alone p = p
+not_passed l other alone p = search rules
 
 passes_none : (x y : Line) → IsAlone x → MayPass x y → ⊥
-passes_none (line.Reserve r) y alone p = alone
-passes_none other y alone p = p
+passes_none other y alone p = search rules
 
 none_before : (x : Line) (front : List Line) → IsAlone x → AllByRecursion (MayPass x) front
     → front ≡ []
@@ -119,18 +102,7 @@ parts front rest x (l ∷ order) reserves alone (before, after, is, passes, more
             first_is = (before, p.more, p.front_is, passes, next.first_is);
             second_is = next.second_is;
           }
-      | inr (inl p) ↦
-          let own = subst (λ (y : Line). AllByRecursion (MayPass y) before) p.is passes in
-          let none = none_before x before alone own in
-          record {
-            first = [];
-            second = order;
-            is = ap (λ (y : Line). y ∷ order) p.is;
-            first_is = sym p.before_is ∙ none;
-            second_is = subst (λ (ls : List Line). IsOrderOf ls order)
-                ((λ i. none i ++ p.after_is i)) more;
-          }
-      | inr (inr p) ↦
-          absurd (not_passed l x alone (all_at (MayPass l) front p.more x
+      | inr (inl p) ↦ search (rules, none_before)
+      | inr (inr p) ↦ absurd (not_passed l x alone (all_at (MayPass l) front p.more x
           (subst (AllByRecursion (MayPass l)) p.before_is passes)))
     ]

@@ -1,6 +1,6 @@
 -- The reservations of a run one after the other: what is left to be placed.
-use Rattle.std.proofs.Common.{rules, ◌≡◌, ℕ, suc, ◌+◌, ◌^◌, ◌<◌, ◌≤◌, List, [], ◌∷◌, length, drop}
-use Rattle.std.proofs.Common.{get_or, refl, sym, ap, subst, ◌∙◌, arith, IsPermutation}
+use Rattle.std.proofs.Common.{rules, ◌≡◌, ℕ, ◌+◌, ◌^◌, ◌<◌, ◌≤◌, List, [], ◌∷◌, length, drop}
+use Rattle.std.proofs.Common.{get_or, ap, arith, IsPermutation}
 use Rattle.std.proofs.lemmas.Grind.{common_steps}
 use Rattle.std.proofs.Math.Seq.{drop-cons}
 use Rattle.std.proofs.lemmas.List.{drop_all}
@@ -43,19 +43,11 @@ pub record Rest (old s : Allocator) (run : List Placed) (i : ℕ) : Type 0 where
 module _ (old s : Allocator) (run : List Placed) (i : ℕ) where
   -- the next one requests no more than all that are left
   next_is : (p : Placed) → i < length run → p ≡ get_or run i p → drop i run ≡ p ∷ drop (i + 1) run
-  next_is p within is =
-      let one : suc i ≡ i + 1 = omega arith in
-      drop-cons run i p within ∙ (λ k. sym is k ∷ drop (one k) run)
+  next_is p within is = search (rules, drop-cons)
 
   pub Rest-few : Rest old s run i → (p : Placed) → i < length run → p ≡ get_or run i p
       → s.asked + p.reservation.requested ≤ 2 ^ 50
-  Rest-few rest p within is =
-      let all = rest.asked in
-      let parts : requested_in (reservations_of (drop i run)) ≡ p.reservation.requested
-      + requested_in (reservations_of (drop (i + 1) run)) =
-      ap (λ ps. requested_in (reservations_of ps)) (next_is p within is)
-      ∙ sum_by-cons requested p.reservation (reservations_of (drop (i + 1) run)) in
-      omega arith
+  Rest-few rest p within is = grind (arith, common_steps, next_is, sum_by-cons)
 
   -- a line that fits comes before
   fails_later : (p : Placed) → FitsReserved p.reservation.reply (reply_to s p.reservation.requested)
@@ -76,53 +68,15 @@ module _ (old s : Allocator) (run : List Placed) (i : ℕ) where
       → (d : Difference) → Differs s 0 (line.Reserve p.reservation) d → (n : ℕ)
       → Fails old n (lines run) d
   Rest-fails rest p within is d differs n =
-      rest.fails n d (subst (λ ps. Fails s n (lines ps) d) (sym (next_is p within is)) record {
-        placed = [];
-        next = line.Reserve p.reservation;
-        left = lines (drop (i + 1) run);
-        is = refl;
-        answered = tt;
-        differs = record {
-          unlike = differs.unlike;
-          expected = differs.expected;
-          number_is = differs.number_is;
-          told_is = differs.told_is;
-          front_is = differs.front_is;
-          cursor_is = differs.cursor_is;
-        };
-      })
+      rest.fails n d (grind (arith, common_steps, lines, next_is))
 
   pub Rest-next : Rest old s run i → (p : Placed) → i < length run → p ≡ get_or run i p
       → (t : Allocator) → t ≡ after_take s p.reservation.requested
       → FitsReserved p.reservation.reply (reply_to s p.reservation.requested)
       → Rest old t run (i + 1)
   Rest-next rest p within is t after fits =
-      let here = subst (λ ps. AreAnswered s (lines ps) → AreAnswered old (lines run))
-      (next_is p within is) rest.answered in
-      let all = rest.asked in
-      let parts : requested_in (reservations_of (drop i run)) ≡ p.reservation.requested
-      + requested_in (reservations_of (drop (i + 1) run)) =
-      ap (λ ps. requested_in (reservations_of ps)) (next_is p within is)
-      ∙ sum_by-cons requested p.reservation (reservations_of (drop (i + 1) run)) in
-      let more : t.asked ≡ s.asked + p.reservation.requested =
-      ap (λ (a : Allocator). a.asked) after ∙ asked-after_take s p.reservation.requested in
-      record {
-        answered = λ told. here (
-          fits,
-          subst (λ a. AreAnswered a (lines (drop (i + 1) run))) after told,
-        );
-        fails = λ n d later. rest.fails n d (subst (λ ps. Fails s n (lines ps) d)
-            (sym (next_is p within is)) (fails_later p fits n (lines (drop (i + 1) run)) d
-            (subst (λ a. Fails a n (lines (drop (i + 1) run)) d) after later)));
-        after = ap (λ a. after_lines a (lines (drop (i + 1) run))) after
-            ∙ sym (ap (λ ps. after_lines s (lines ps)) (next_is p within is)) ∙ rest.after;
-        asked = omega arith;
-      }
+      grind (arith, common_steps, lines, next_is, sum_by-cons, asked-after_take, fails_later)
 
   pub Rest-last : Rest old s run i → length run ≤ i → AreAnswered old (lines run)
       × (s ≡ after_lines old (lines run))
-  Rest-last rest past =
-      let none : drop i run ≡ [] = drop_all i run past in (
-        rest.answered (subst (λ ps. AreAnswered s (lines ps)) (sym none) tt),
-        sym (ap (λ ps. after_lines s (lines ps)) none) ∙ rest.after,
-      )
+  Rest-last rest past = search (rules, drop_all, lines)

@@ -1,10 +1,9 @@
 -- A sorted run is in an order that its reservations may have come in: a stable sort by keys that don't
 -- fall along a caller keeps each caller's order.
-use Rattle.std.proofs.lemmas.Grind.{common_steps}
-use Rattle.std.proofs.Common.{◌≡◌, ℕ, suc, ◌≤◌, Bool, true, false, not, ◌&&◌, cond, nat_lt, List}
-use Rattle.std.proofs.Common.{[], ◌∷◌, ◌++◌, filter, All, refl, sym, ap, subst, ◌∙◌, arith}
+use Rattle.std.proofs.Common.{rules, ◌≡◌, ℕ, suc, ◌≤◌, Bool, true, false, not, ◌&&◌, cond, nat_lt}
+use Rattle.std.proofs.Common.{List, [], ◌∷◌, ◌++◌, filter, All, refl, sym, ap, subst, ◌∙◌, arith}
 use Rattle.std.proofs.Common.{true≢false}
-use Rattle.std.specs.Prelude.{◌==◌}
+use Rattle.std.proofs.lemmas.Grind.{common_steps}
 use Rattle.std.specs.List.{AllByRecursion}
 use Rattle.std.specs.List.Sorted.{ties, IsNonDecreasingBy}
 use Rattle.std.specs.Ordering.{nat_cmp, is_lt}
@@ -31,16 +30,14 @@ abbrev pub tie : Placed → Placed → Bool
 tie = ties (λ x y. is_lt (nat_cmp (key x) (key y)))
 
 not_less : (b : Bool) → is_lt (cond b Equal Greater) ≡ false
-not_less true = refl
-not_less false = refl
+not_less b = search rules
 
 less_if : (a b : Bool) → is_lt (cond a Less (cond b Equal Greater)) ≡ a
 less_if true b = refl
 less_if false b = not_less b
 
 tie_is : (p q : Placed) → tie p q ≡ (not (nat_lt p.key q.key) && not (nat_lt q.key p.key))
-tie_is p q = λ i. not (less_if (nat_lt p.key q.key) (p.key == q.key) i)
-    && not (less_if (nat_lt q.key p.key) (q.key == p.key) i)
+tie_is p q = search rules
 
 tests_same : (a b : ℕ) → a ≡ b → (not (nat_lt a b) && not (nat_lt b a)) ≡ true
 tests_same a b e = λ i. not (le-ltb a b (omega arith) i) && not (le-ltb b a (omega arith) i)
@@ -115,26 +112,19 @@ passes : (h : Placed) (before : List Placed) → AllByRecursion (λ b. tie h b �
     → AllByRecursion (λ (b : Placed). ComesAfter b h) before
     → AllByRecursion (MayPass (line.Reserve h.reservation)) (lines before)
 passes h [] none least steady = tt
-passes h (b ∷ before) none least steady = (
-  λ same.
-      let lower : b.key ≤ h.key = steady.0 (sym same) in
-      let upper : h.key ≤ b.key = least.0 in
-      true≢false (sym (tie_from h b (omega arith)) ∙ none.0),
-  passes h before none.1 least.1 steady.1,
-)
+passes h (b ∷ before) none least steady =
+    search (rules, true≢false, tie_from, passes h before none.1 least.1 steady.1)
 
 -- ---- one is taken out
 
 lines_split : (before after : List Placed) (h : Placed) → lines (before ++ h ∷ after)
     ≡ lines before ++ line.Reserve h.reservation ∷ lines after
 lines_split [] after h = refl
-lines_split (b ∷ before) after h =
-    ap (λ (ls : List Line). line.Reserve b.reservation ∷ ls) (lines_split before after h)
+lines_split (b ∷ before) after h = search (rules, lines_split before after h)
 
 lines_append : (xs ys : List Placed) → lines (xs ++ ys) ≡ lines xs ++ lines ys
 lines_append [] ys = refl
-lines_append (x ∷ xs) ys =
-    ap (λ (ls : List Line). line.Reserve x.reservation ∷ ls) (lines_append xs ys)
+lines_append (x ∷ xs) ys = search (rules, lines_append xs ys)
 
 none_tie : (x h : Placed) (before : List Placed) → x.key ≡ h.key
     → AllByRecursion (λ b. tie h b ≡ false) before → filter (tie x) before ≡ []
@@ -169,16 +159,11 @@ alike_rest h sorted before after none alike x =
 
 pub begins : (h : Placed) (sorted run : List Placed) → TieAlike (h ∷ sorted) run
     → filter (tie h) run ≡ h ∷ filter (tie h) sorted
-begins h sorted run alike =
-    sym (alike h) ∙ ap (λ b. cond b (h ∷ filter (tie h) sorted) (filter (tie h) sorted))
-    (tie_from h h refl)
+begins h sorted run alike = search (rules, tie_from)
 
 pub nothing_left : (run : List Placed) → TieAlike [] run → run ≡ []
 nothing_left [] alike = refl
-nothing_left (d ∷ run) alike =
-    let some : [] ≡ d ∷ filter (tie d) run =
-    alike d ∙ ap (λ b. cond b (d ∷ filter (tie d) run) (filter (tie d) run)) (tie_from d d refl) in
-    absurd (let no : [] ≡ d ∷ filter (tie d) run = some in cc)
+nothing_left (d ∷ run) alike = search (rules, tie_from d d refl)
 
 pub sorted-IsOrderOf : (sorted run : List Placed) → IsRising sorted → TieAlike sorted run
     → AreSteady run → IsOrderOf (lines run) (lines sorted)
@@ -192,9 +177,7 @@ sorted-IsOrderOf (h ∷ sorted) run up alike steady =
       lines s.before,
       lines s.after,
       ap lines s.is ∙ lines_split s.before s.after h,
-      passes h s.before s.none
-          (all_left (λ (p : Placed). h.key ≤ p.key) s.before (h ∷ s.after) low_here)
-          (steady_before s.before s.after h steady_here),
+      search (rules, passes, all_left, steady_before),
       subst (λ (ls : List Line). IsOrderOf ls (lines sorted)) (lines_append s.before s.after)
           (sorted-IsOrderOf sorted (s.before ++ s.after) up.1
           (alike_rest h sorted s.before s.after s.none alike_here)

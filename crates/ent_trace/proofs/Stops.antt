@@ -1,32 +1,25 @@
 -- What holds of a result holds of it in other words.
-use Rattle.std.proofs.Common.{Result, Ok, Err}
+use Rattle.std.proofs.Common.{rules, Result}
 use Rattle.std.specs.Result.{IfOk, IfErr, OnOk}
 use Rattle.ent_trace.specs.declared.difference.Difference.{Difference}
 use Rattle.ent_trace.specs.declared.difference.Stop.{Stop}
-use Rattle.ent_trace.specs.declared.difference.Stop.TheVariants as stop
 use Rattle.ent_trace.specs.Checker.{OnDiffers}
 
 pub on_differs : (s : Stop) (P Q : Difference → Type 0) → ((d : Difference) → P d → Q d)
     → OnDiffers s P → OnDiffers s Q
-on_differs (stop.Differs d) P Q each h = each d h
-on_differs stop.TooMany P Q each h = tt
-on_differs stop.Memory P Q each h = tt
+on_differs it P Q each h = search rules
 
 module _ {X E : Type 0} where
   pub on_ok : (r : Result X E) (P Q : X → Type 0) → ((x : X) → P x → Q x) → IfOk r P → IfOk r Q
-  on_ok (Ok x) P Q each h = each x h
-  on_ok (Err e) P Q each h = tt
+  on_ok it P Q each h = search rules
 
   pub on_both : (r : Result X E) (F : Type 0) (P Q : X → Type 0) → (F → (x : X) → P x → Q x)
       → OnOk r F → IfOk r P → IfOk r Q
-  on_both (Ok x) F P Q each f h = each f x h
-  on_both (Err e) F P Q each f h = tt
+  on_both it F P Q each f h = search rules
 
   pub on_some : (r : Result X E) (P : X → Type 0) (Q : Type 0) → ((x : X) → P x → Q) → IfOk r P
       → OnOk r Q
-  on_some (Ok x) P Q each h = each x h
-  on_some (Err e) P Q each h = tt
+  on_some it P Q each h = search rules
 
   pub on_err : (r : Result X E) (P Q : E → Type 0) → ((e : E) → P e → Q e) → IfErr r P → IfErr r Q
-  on_err (Ok x) P Q each h = tt
-  on_err (Err e) P Q each h = each e h
+  on_err it P Q each h = search rules

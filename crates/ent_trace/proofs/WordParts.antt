@@ -1,12 +1,12 @@
 -- Words: what stands before a comment, blanks that part words, and the front of a text's words.
 use Rattle.std.proofs.Common.{rules, ◌≡◌, ◌≢◌, ℕ, ◌+◌, ◌<◌, Bool, true, false, not, cond, eqb, List}
-use Rattle.std.proofs.Common.{[], ◌∷◌, ◌++◌, length, take, All, refl, sym, ap, ◌∙◌, arith, suc}
+use Rattle.std.proofs.Common.{[], ◌∷◌, ◌++◌, length, take, All, refl, ap, ◌∙◌, arith, suc}
 use Rattle.std.proofs.lemmas.Grind.{common_steps}
-use Rattle.std.specs.List.{before_first, position_or_len, filter, slice_split}
+use Rattle.std.specs.List.{before_first, position_or_len, filter}
 use Rattle.std.proofs.lemmas.Bool.{ne_eqb}
 use Rattle.std.proofs.lemmas.List.{append-nil, nil_from_length}
 use Rattle.std.proofs.lemmas.List.Splits.{slice_split_none, slice_split_at}
-use Rattle.ent_trace.specs.Text.{Word, is_blank, words_in, before_comment}
+use Rattle.ent_trace.specs.Text.{is_blank, words_in, before_comment}
 
 -- the first element passes, and what is so of the rest
 first_of : {X : Type 0} (P : X → Type 0) (x : X) (xs : List X) → All P (x ∷ xs) → P x
@@ -74,25 +74,19 @@ kept word parts long = rw (not_empty (length word) long) refl
 
 -- the text begins with a word, which ends at its end or at a blank
 pub words_in-last : (word : List ℕ) → AreNoBlank word → 0 < length word → words_in word ≡ word ∷ []
-words_in-last word all long = ap (filter (λ w. not (eqb (length w) 0)))
-    (slice_split_none is_blank word all) ∙ kept word [] long
+words_in-last word all long = search (rules, slice_split_none, kept)
 
 pub words_in-word : (word : List ℕ) (y : ℕ) (ys : List ℕ) → AreNoBlank word → 0 < length word
     → is_blank y ≡ true → words_in (word ++ y ∷ ys) ≡ word ∷ words_in (y ∷ ys)
-words_in-word word y ys all long passes =
-    ap (filter (λ w. not (eqb (length w) 0))) (slice_split_at is_blank word y ys all passes)
-    ∙ kept word (slice_split is_blank ys) long ∙ ap (λ (ws : List Word). word ∷ ws) (sym (words_in-blank y ys passes))
+words_in-word word y ys all long passes = search (rules, slice_split_at, kept, words_in-blank)
 
 pub is_long : (xs : List ℕ) → eqb (length xs) 0 ≡ false → 0 < length xs
-is_long [] lacks = absurd cc
-is_long (x ∷ xs) lacks = omega arith
+is_long xs lacks = search rules
 
 -- the parts that a reader takes off the front of a text
 pub first_word_none : (text front rest : List ℕ) → text ≡ front ++ rest → AreBlank front
     → length rest ≡ 0 → words_in text ≡ []
-first_word_none text front rest whole all none =
-    ap words_in whole ∙ words_in-blanks front rest all
-    ∙ ap words_in (nil_from_length rest none)
+first_word_none text front rest whole all none = search (rules, words_in-blanks, nil_from_length)
 
 word_first : (word rest : List ℕ) → AreNoBlank word → AreBlank (take 1 rest)
     → 0 < length word → words_in (word ++ rest) ≡ word ∷ words_in rest
@@ -102,17 +96,10 @@ word_first word (y ∷ ys) all next long = words_in-word word y ys all long (nex
 -- a text that begins with no blank has a word at its front
 word_long : (word rest : List ℕ) → AreNoBlank (take 1 (word ++ rest)) → AreBlank (take 1 rest)
     → 0 < length (word ++ rest) → 0 < length word
-word_long [] [] first next long = long
-word_long [] (y ∷ ys) first next long =
-    absurd (let lacks : is_blank y ≡ false = first 0 y (omega arith) in
-    let passes : is_blank y ≡ true = next 0 y (omega arith) in cc)
-word_long (x ∷ word) rest first next long = omega arith
+word_long word ys first next long = grind (arith, common_steps)
 
 pub first_word_found : (text front middle word rest : List ℕ) → text ≡ front ++ middle
     → middle ≡ word ++ rest → AreBlank front → AreNoBlank (take 1 middle) → 0 < length middle
     → AreNoBlank word → AreBlank (take 1 rest) → words_in text ≡ word ∷ words_in rest
 first_word_found text front middle word rest whole parts blanks first long all next =
-    let long_word : 0 < length word =
-    word_long word rest (rw parts at first) next (rw parts at long) in
-    ap words_in whole ∙ words_in-blanks front middle blanks ∙ ap words_in parts
-    ∙ word_first word rest all next long_word
+    search (rules, word_long, words_in-blanks, word_first)
