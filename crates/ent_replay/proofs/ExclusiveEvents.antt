@@ -1,5 +1,4 @@
--- What the events that need the allocator to themselves do to the fields of a `Machine`, and that
--- they keep them in order.
+use Rattle.std.proofs.lemmas.List.Elements.{All-nil}
 use Rattle.std.proofs.Common.{rules, ◌≡◌, ◌≢◌, refl, sym, ap, ◌∙◌, ℕ, ◌+◌, ◌*◌, ◌^◌, ◌<◌, ◌≤◌, Bool}
 use Rattle.std.proofs.Common.{true, false, not, [], length, slice_get, Some, None, Ok, Err, arith}
 use Rattle.std.specs.Prelude.{◌==◌}
@@ -29,10 +28,13 @@ use Rattle.ent_replay.specs.Held.{all_held}
 use Rattle.ent_replay.specs.Machine.{map_values, open_call_of, machine_state, awaited}
 use Rattle.ent_replay.specs.Machine.{AreConsistent}
 use Rattle.ent_replay.proofs.Conditions.{when, unless}
-use Rattle.ent_replay.proofs.Giving.{all_held-none, given-none}
+use Rattle.ent_replay.proofs.Giving.{all_held-none}
 use Rattle.ent_replay.proofs.Totals.{sum_below-bound, sum_below-none}
 use Rattle.ent_replay.proofs.Maps.{maps_alike, get-map_values, map_values-empty}
 use Rattle.ent_replay.proofs.MachineAnswers.{front, none_is_none, some_handles, not_false}
+
+-- What the events that need the allocator to themselves do to the fields of a `Machine`, and that
+-- they keep them in order.
 
 module _ (s : Allocator) (spent : FinMap nat_cmp ℕ) (calls : FinMap nat_cmp StoredCall) where
   -- ---- whether a call is open
@@ -60,15 +62,10 @@ module _ (s : Allocator) (spent : FinMap nat_cmp ℕ) (calls : FinMap nat_cmp St
           ≡ true = is in grind (arith, nat_tests))))
       go false is = ap not is
 
-  -- with no call open the allocator may change
-  pub quiet_calls : calls ≡ finite.empty → (t : Allocator) → map_values (open_call_of s) calls
-      ≡ map_values (open_call_of t) calls
-  quiet_calls none t = search (rules, map_values-empty)
-
   -- nor is anything kept for one
   quiet_once : calls ≡ finite.empty → (t : Allocator)
       → given.AreSpent t (all_held (map_values (open_call_of t) calls))
-  quiet_once none t = search (rules, given-none, all_held-none, map_values-empty)
+  quiet_once none t = search (rules, All-nil, all_held-none, map_values-empty)
 
   pub quiet_played : AreConsistent s spent calls → calls ≡ finite.empty → (t : Allocator)
       → IsSound t → t.asked ≡ s.asked → AreConsistent t spent calls
@@ -125,7 +122,7 @@ module _ (s : Allocator) (spent : FinMap nat_cmp ℕ) (calls : FinMap nat_cmp St
     pub alloc-given : (h : Handle) → ¬ (0 < s.asked) → slice_get s.pool 0 ≡ Some h
         → on_alloc (machine_state s spent calls)
         ≡ (Ok (outcome.Handle h), machine_state (after_alloc s h) spent calls)
-    alloc-given h rest first = search (rules, alloc-flushed, front, quiet_calls)
+    alloc-given h rest first = search (rules, alloc-flushed, front, map_values-empty)
 
     -- if no old slot waits, the front of the pool makes a slot
     pub alloc-takes_memory : IsSound s → ¬ (0 < s.asked) → ¬ (s.pool ≡ []) → top s ≡ 0
@@ -151,7 +148,7 @@ module _ (s : Allocator) (spent : FinMap nat_cmp ℕ) (calls : FinMap nat_cmp St
     pub free-freed : (h : Handle) → ¬ (0 < s.asked) → set.contains s.live h ≡ true
         → on_free (machine_state s spent calls) h
         ≡ (Ok (outcome.Freed h (next s.limits h)), machine_state (after_free s h) spent calls)
-    free-freed h rest lives = search (rules, unless, quiet, nat_tests, when, quiet_calls)
+    free-freed h rest lives = search (rules, unless, quiet, nat_tests, when, map_values-empty)
 
     -- to free what lives takes memory, unless its slot is retired
     pub free-takes_memory : (h : Handle) → ¬ (0 < s.asked) → ¬ (set.contains s.live h ≡ false)
@@ -168,7 +165,7 @@ module _ (s : Allocator) (spent : FinMap nat_cmp ℕ) (calls : FinMap nat_cmp St
 
     pub flush-flushed : on_flush (machine_state s spent calls)
         ≡ (Ok (outcome.Born (born s)), machine_state (after_flush s) finite.empty calls)
-    flush-flushed = search (rules, unless, quiet, quiet_calls)
+    flush-flushed = search (rules, unless, quiet, map_values-empty)
 
     -- to bring handles to life takes memory
     pub flush-takes_memory : 0 < length s.taken → event_takes_memory (machine_state s spent calls)

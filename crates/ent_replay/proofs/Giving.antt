@@ -6,7 +6,6 @@ use Rattle.std.specs.Ordering.{nat_cmp}
 use Rattle.std.specs.FinMap as finite
 use Rattle.std.specs.FinMap.{FinMap, get-empty}
 use Rattle.std.proofs.lemmas.Bool.{cases_lt}
-use Rattle.std.proofs.lemmas.List.Elements.{All-nil}
 use Rattle.std.proofs.lemmas.List.Sorted.{IsPermutation-refl, IsPermutation-sym}
 use Rattle.std.proofs.lemmas.List.Sorted.{IsPermutation-trans, IsPermutation-append_left}
 use Rattle.std.proofs.lemmas.List.Sorted.{IsPermutation-append_right, IsPermutation-append_comm}
@@ -215,10 +214,6 @@ given-right s xs ys h = record {
   distinct = AllPairs-right (λ g h. g ≢ h) xs ys h.distinct;
   spent = All-right (spent.IsSpent s) xs ys h.spent;
 }
-
--- so was an empty list
-pub given-none : (s : Allocator) (hs : List Handle) → hs ≡ [] → spent.AreSpent s hs
-given-none s hs none = search (rules, All-nil)
 
 pub all_held-next : (s : MachineState) (e : Event) (r : Result Outcome ReplayFault)
     (t : MachineState) → on_event s e ≡ (r, t) → IsSound s.allocator → spent.AreSpent s.allocator

@@ -1,6 +1,6 @@
 -- Maps of callers: what a tree's entries stand for, and the values of a map under a function.
-use Rattle.std.proofs.Common.{rules, ◌≡◌, ◌≢◌, refl, sym, ap, ◌∙◌, ℕ, Bool, true, false, cond, List}
-use Rattle.std.proofs.Common.{[], ◌∷◌, map, Option, Some, None, arith, eq-eqb, ne_eqb}
+use Rattle.std.proofs.Common.{rules, ◌≡◌, ◌≢◌, refl, sym, ap, ◌∙◌, ℕ, true, false, cond, List, []}
+use Rattle.std.proofs.Common.{◌∷◌, map, Some, None, arith, eq-eqb, ne_eqb}
 use Rattle.std.proofs.lemmas.Grind.{common_steps}
 use Rattle.std.specs.Option.{option_map, IsSome}
 use Rattle.std.specs.Ordering.{nat_cmp, eq_by_cmp}
@@ -26,9 +26,6 @@ itself k = unsigned_tied k k ∙ eq-eqb k k refl
 
 apart : (q k : ℕ) → q ≢ k → eq_by_cmp nat_cmp q k ≡ false
 apart q k other = unsigned_tied q k ∙ ne_eqb q k other
-
-same_caller : (q k : ℕ) → eq_by_cmp nat_cmp q k ≡ true → q ≡ k
-same_caller q k tied = search (rules, nat_tests)
 
 -- ---- trees
 
@@ -75,7 +72,7 @@ from_entries-set es k w there =
     get-from_entries nat_cmp_total (set_value (is_at (nat_cmp k)) es w) q
     ∙ find-lookup q (set_value (is_at (nat_cmp k)) es w)
     ∙ lookup-set_value {eq = eq_by_cmp nat_cmp} (eq_by_cmp_equiv nat_cmp_total) (is_at (nat_cmp k))
-    (λ x y tied. ap (λ j. eq_by_cmp nat_cmp j y) (same_caller k x tied)) q w es there
+    (λ x y tied. ap (λ j. eq_by_cmp nat_cmp j y) (search (rules, nat_tests))) q w es there
     ∙ (λ i. cond ((eq_by_cmp_equiv nat_cmp_total).symm k q i) (Some w)
     (sym (get-from_entries nat_cmp_total es q ∙ find-lookup q es) i))
     ∙ sym (get-insert nat_cmp_total (finite.from_entries es) k w q))
@@ -103,7 +100,7 @@ get-remove_other m k q other = get-remove nat_cmp_total m k q
 -- to take out what was put where nothing was is to change nothing
 pub insert-remove : {X : Type 0} (m : FinMap nat_cmp X) (k : ℕ) (v : X) → finite.get m k ≡ None
     → finite.remove (finite.insert m k v) k ≡ m
-insert-remove {X} m k v none = search (rules, maps_alike, same_caller, get-remove, get-insert)
+insert-remove {X} m k v none = search (rules, maps_alike, nat_tests, get-remove, get-insert)
 
 -- ---- the values under a function
 
@@ -117,21 +114,13 @@ pub get-map_values : {X Y : Type 0} (f : X → Y) (m : FinMap nat_cmp X) (q : �
 get-map_values f m q = get-from_entries nat_cmp_total (map (λ e. (e.0, f e.1)) (finite.entries m)) q
     ∙ find-values f q (finite.entries m) ∙ ap (option_map f) (sym (get-entries m q))
 
-mapped : {X Y : Type 0} (f : X → Y) (b : Bool) (v : X) (o : Option X)
-    → option_map f (cond b (Some v) o) ≡ cond b (Some (f v)) (option_map f o)
-mapped f b v o = search rules
-
-mapped_none : {X Y : Type 0} (f : X → Y) (b : Bool) (o : Option X) → option_map f (cond b None o)
-    ≡ cond b None (option_map f o)
-mapped_none f b o = search rules
-
 pub map_values-insert : {X Y : Type 0} (f : X → Y) (m : FinMap nat_cmp X) (k : ℕ) (v : X)
     → map_values f (finite.insert m k v) ≡ finite.insert (map_values f m) k (f v)
-map_values-insert f m k v = search (rules, maps_alike, get-map_values, get-insert, mapped)
+map_values-insert f m k v = search (rules, maps_alike, get-map_values, get-insert)
 
 pub map_values-remove : {X Y : Type 0} (f : X → Y) (m : FinMap nat_cmp X) (k : ℕ)
     → map_values f (finite.remove m k) ≡ finite.remove (map_values f m) k
-map_values-remove f m k = search (rules, maps_alike, get-map_values, get-remove, mapped_none)
+map_values-remove f m k = search (rules, maps_alike, get-map_values, get-remove)
 
 pub map_values-empty : {X Y : Type 0} (f : X → Y) → map_values f finite.empty ≡ finite.empty
 map_values-empty f = search (rules, maps_alike, get-map_values, get-empty)

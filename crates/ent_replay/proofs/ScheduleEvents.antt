@@ -1,6 +1,6 @@
 -- An event is read from its own text and from no other.
-use Rattle.std.proofs.Common.{rules, ◌≡◌, ◌≢◌, ℕ, ◌^◌, ◌<◌, ◌⊎◌, Bool, true, false, not, cond, eqb}
-use Rattle.std.proofs.Common.{List, [], ◌∷◌, ◌++◌, All, Result, Ok, Err, refl, sym, ap, subst, ◌∙◌}
+use Rattle.std.proofs.Common.{rules, ◌≡◌, ◌≢◌, ℕ, ◌^◌, ◌<◌, Bool, true, false, not, cond, eqb, List}
+use Rattle.std.proofs.Common.{[], ◌∷◌, ◌++◌, All, Result, Ok, Err, refl, sym, ap, subst, ◌∙◌}
 use Rattle.std.proofs.Common.{append_assoc, arith}
 use Rattle.std.proofs.lemmas.Grind.{common_steps}
 use Rattle.std.specs.Prelude.{codes}
@@ -33,10 +33,6 @@ bind_ok : {A B : Type 0} (r : Result A Cause) (f : A → Result B Cause) (y : B)
     → (x : A) × (r ≡ Ok x) × (f x ≡ Ok y)
 bind_ok it f y e = search rules
 
-chosen : {A : Type 0} (b : Bool) (x y z : A) → cond b x y ≡ z → ((b ≡ true) × (x ≡ z))
-    ⊎ ((b ≡ false) × (y ≡ z))
-chosen b x y z e = search rules
-
 abbrev done : {A : Type 0} → A → Result A Cause
 done x = Ok x
 
@@ -46,13 +42,6 @@ ok_is x y e = cc
 or_cause_ok : {A : Type 0} (c : Cause) (r : Result A TextFault) (x : A) → or_cause c r ≡ Ok x → r
     ≡ Ok x
 or_cause_ok c it x e = search (rules, ok_is)
-
-none_ok : (event : Event) (words : List (List ℕ)) (e : Event) → none event words ≡ Ok e
-    → (words ≡ []) × (event ≡ e)
-none_ok event more e h = search (rules, ok_is)
-
-one_ok : (words : List (List ℕ)) (word : List ℕ) → one words ≡ Ok word → words ≡ word ∷ []
-one_ok more word h = search (rules, ok_is)
 
 two_ok : (words : List (List ℕ)) (pair : List ℕ × List ℕ) → two words ≡ Ok pair → words ≡ pair.0
     ∷ pair.1 ∷ []
@@ -100,17 +89,13 @@ decimal_lacks : (separator n : ℕ) → is_ascii_digit separator ≡ false → n
 decimal_lacks separator n h small = digits_lack separator (decimal n) h
     (plain_from_decimal (decimal n) (decimal_is_decimal n small)).digits
 
-append_lacks : (separator : ℕ) (xs ys : List ℕ) → lacks separator xs ≡ true → lacks separator ys
-    ≡ true → lacks separator (xs ++ ys) ≡ true
-append_lacks separator xs ys x y = grind (arith, common_steps)
-
 handle_lacks : (separator : ℕ) (h : Handle) → is_ascii_digit separator ≡ false
     → not (eqb 118 separator) ≡ true → IsHandle h → lacks separator (handle_text h) ≡ true
-handle_lacks separator h digit letter is = search (rules, append_lacks, decimal_lacks, and_from)
+handle_lacks separator h digit letter is = grind (arith, common_steps, decimal_lacks, and_from)
 
 -- no text of an event has a line feed
 pub event_lacks : (event : Event) → IsEvent event → lacks 10 (event_text event) ≡ true
-event_lacks it is = search (rules, handle_lacks, append_lacks, decimal_lacks)
+event_lacks it is = grind (arith, common_steps, handle_lacks, decimal_lacks)
 
 lacks_all : (separator : ℕ) (bytes : List ℕ) → lacks separator bytes ≡ true
     → All (λ byte. eqb byte separator ≡ false) bytes
@@ -145,21 +130,20 @@ word_is word text e = (bytes_eq-Decides word text).0 e
 
 alone_found : (word : List ℕ) (others : List (List ℕ)) (event e : Event) → word ≡ event_text event
     → IsEvent event → none event others ≡ Ok e → IsRead (word ∷ others) e
-alone_found word others event e is fits h = search (rules, none_ok)
+alone_found word others event e is fits h = search (rules, ok_is)
 
 free_found : (word : List ℕ) (others : List (List ℕ)) (e : Event) → word ≡ codes "free"
     → (one others >>= handle_word >>= λ h. Ok (Free h)) ≡ Ok e → IsRead (word ∷ others) e
 free_found word others e is h =
     let b = bind_ok (one others >>= handle_word) (λ h. Ok (Free h)) e h in
-    search (rules, bind_ok, handle_ok, ok_is, one_ok)
+    search (rules, bind_ok, handle_ok, ok_is)
 
 -- a keyword with one number after it
 caller_found : (make : ℕ → Event) (keyword : List ℕ) → ((n : ℕ) → n < 2 ^ 32 → IsEvent (make n))
     → ((n : ℕ) → event_text (make n) ≡ keyword ++ 32 ∷ decimal n)
     → (word : List ℕ) (others : List (List ℕ)) (e : Event) → word ≡ keyword
     → (one others >>= number_word >>= λ caller. Ok (make caller)) ≡ Ok e → IsRead (word ∷ others) e
-caller_found make keyword fits text word others e is h =
-    search (rules, bind_ok, number_ok, ok_is, one_ok)
+caller_found make keyword fits text word others e is h = search (rules, bind_ok, number_ok, ok_is)
 
 begin_found : (word : List ℕ) (others : List (List ℕ)) (e : Event) → word ≡ codes "begin"
     → begin_of others ≡ Ok e → IsRead (word ∷ others) e
@@ -187,7 +171,7 @@ tested : (word : List ℕ) (others : List (List ℕ)) (e : Event) (keyword : Lis
     (x y : Result Event Cause) → cond (bytes_eq word keyword) x y ≡ Ok e
     → (word ≡ keyword → x ≡ Ok e → IsRead (word ∷ others) e) → (y ≡ Ok e → IsRead (word ∷ others) e)
     → IsRead (word ∷ others) e
-tested word others e keyword x y h found goes_on = search (rules, chosen, word_is)
+tested word others e keyword x y h found goes_on = search (rules, word_is)
 
 pub event_found : (words : List (List ℕ)) (e : Event) → event_of words ≡ Ok e → IsRead words e
 unfolding event_with
@@ -234,8 +218,3 @@ event_again (Answer caller) is =
       split_lacking 32 (decimal caller) (decimal_lacks 32 caller refl (omega (arith, is))),
       number_again caller is,
     ) refl
-
--- a line that is refused is no event's text
-pub event_refused : (line : List ℕ) (c : Cause) → event_of (words_of line) ≡ Err c → (e : Event)
-    → IsEvent e → line ≢ event_text e
-event_refused line c refused e is spelled = search (rules, event_again)

@@ -18,7 +18,7 @@ use Rattle.ent_replay.specs.ScheduleText.{event_text, AreEvents, schedule_text, 
 use Rattle.ent_replay.specs.ScheduleText.{without_empty_end, lines_of, words_of, event_of, goes_on}
 use Rattle.ent_replay.specs.ScheduleText.{events_of, schedule_of, ExplainsFault}
 use Rattle.ent_replay.proofs.ScheduleEvents.{split_at_lacking, event_lacks, event_found}
-use Rattle.ent_replay.proofs.ScheduleEvents.{event_again, event_refused}
+use Rattle.ent_replay.proofs.ScheduleEvents.{event_again}
 use Rattle.ent_replay.proofs.ScheduleWords.{parts_nonempty, without_empty_end-cons}
 
 -- ---- lines of events
@@ -219,7 +219,7 @@ schedule_again text events fits spelled = ap (events_of 1) (lines_from_spelling 
 
 first_fault : (text : List ℕ) (fault : ReadFault) → FaultAt 1 (lines_of text) fault
     → ExplainsFault text fault
-first_fault text fault f = search (rules, event_refused)
+first_fault text fault f = search (rules, event_again)
 
 pub schedule_refused : (text : List ℕ) (fault : ReadFault) → schedule_of text ≡ Err fault
     → ExplainsFault text fault
