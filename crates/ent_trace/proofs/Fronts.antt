@@ -1,4 +1,5 @@
 -- The front of the pool at a position, handle by handle.
+use Rattle.std.proofs.lemmas.Grind.{common_steps}
 use Rattle.std.proofs.Common.{rules, ◌≡◌, refl, ap, ◌∙◌, ℕ, suc, ◌+◌, ◌-◌, ◌<◌, ◌≤◌, ℤ, pos, ◌+ℤ◌}
 use Rattle.std.proofs.Common.{◌-ℤ◌, ◌≤ℤ◌, List, [], ◌∷◌, ◌++◌, length, take, drop, slice_get, Some}
 use Rattle.std.proofs.Common.{None, append-nil, arith}
@@ -18,10 +19,6 @@ asked_below high p below = search (rules, ints)
 pool_below : (s : Allocator) (p : ℤ) → p ≤ℤ pos (top s) → pool_at s (p -ℤ pos 1)
     ≡ drop 1 (pool_at s p)
 pool_below s p below = search (rules, asked_below, drop-drop)
-
--- nothing of an empty list
-none_of : (k : ℕ) → take {A = Handle} k [] ≡ []
-none_of k = search rules
 
 empty : (pool : List Handle) → slice_get pool 0 ≡ None → pool ≡ []
 empty [] is = refl
@@ -47,7 +44,7 @@ module _ (s : Allocator) (start next : ℤ) (front : List Handle)
   Listed-full full = search (rules, append-nil)
 
   pub Listed-all : slice_get (pool_at s next) 0 ≡ None → front ≡ take 8 (pool_at s start)
-  Listed-all out = search (rules, append-nil, none_of, empty)
+  Listed-all out = grind (arith, common_steps, append-nil, empty)
 
 -- at the cursor it is the front of the pool
 pub front_here : (s : Allocator) (at : ℤ) → IsSound s → at ≡ cursor s

@@ -76,12 +76,6 @@ module _ (latest : finite.FinMap nat_cmp ℕ) (p : Placed)
       let more = requested-push run p in
       search (rules, steady_push, all_push, all_kept, latest_own, keyed_push, last_push, after_push)
 
--- no run
-pub IsChecking-none : (s : Allocator) (wanted : ℕ) (latest : finite.FinMap nat_cmp ℕ)
-    → wanted ≡ s.asked → wanted ≤ 2 ^ 50 → ((q : ℕ) → unwrap_or (finite.get latest q) 0 ≡ 0)
-    → IsChecking s wanted [] latest
-IsChecking-none s wanted latest is few none = search (rules)
-
 -- an empty map keeps nothing
 pub empty_keeps : (latest : finite.FinMap nat_cmp ℕ) → latest ≡ finite.empty → (q : ℕ)
     → unwrap_or (finite.get latest q) 0 ≡ 0
@@ -97,5 +91,4 @@ no_run (p ∷ run) is = absurd (let no : p.reservation ∷ reservations_of run �
 pub IsChecking-called : (s t : Allocator) (wanted next : ℕ) (run : List Placed)
     (latest : finite.FinMap nat_cmp ℕ) → reservations_of run ≡ [] → IsChecking s wanted run latest
     → next ≡ t.asked → next ≤ 2 ^ 50 → IsChecking t next run latest
-IsChecking-called s t wanted next run latest none before is few =
-    search (rules, no_run, IsChecking-none)
+IsChecking-called s t wanted next run latest none before is few = search (rules, no_run)

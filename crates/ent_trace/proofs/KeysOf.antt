@@ -26,11 +26,6 @@ use Rattle.ent_trace.specs.Trace.{FitsReserved}
 use Rattle.ent_trace.specs.Checker.{KeyOf, IsKeyed, AreKeyed, raised}
 use Rattle.ent_trace.proofs.Legal.{asks, Answers}
 
--- no handle stands at two places
-same_place : (given : List Handle) (h : Handle) (i j : ℕ) → AllPairs AreApart given
-    → i < length given → j < length given → get_or given i h ≡ h → get_or given j h ≡ h → i ≡ j
-same_place given h i j apart i_in j_in i_is j_is = grind (arith, common_steps)
-
 module _ (given : List Handle) (s : Allocator) (sound : IsSound s) (is : available s ≡ given)
     (n own : ℕ) where
   -- a served reply's key lies among the places that the request passed
@@ -60,7 +55,7 @@ module _ (given : List Handle) (s : Allocator) (sound : IsSound s) (is : availab
         | inl own_at ↦
             let own_in = slice_get_within given own h own_at in
             let own_is = get_or_from_slice_get given own h h own_at in
-            search (rules, same_place)
+            search rules
         | inr nowhere ↦
             absurd (true≢false (sym (stands_in-from_Contains given h (s.asked + i, there, found))
             ∙ nowhere))

@@ -1,6 +1,5 @@
 -- Orders that lines may have come in: of a front and a rest, and what they are answered.
-use Rattle.std.proofs.Common.{arith, rules, append-nil, ◌≡◌, ℕ, List, [], ◌∷◌, ◌++◌, refl, ap}
-use Rattle.std.proofs.Common.{subst}
+use Rattle.std.proofs.Common.{arith, rules, ◌≡◌, ℕ, List, [], ◌∷◌, ◌++◌, refl, ap, subst}
 use Rattle.std.proofs.lemmas.Grind.{common_steps}
 use Rattle.std.proofs.lemmas.List.{append_assoc}
 use Rattle.ent_alloc.specs.Sequential.{Allocator}
@@ -36,11 +35,6 @@ pub run_more : (run : List Reservation) (r : Reservation) (rest : List Line)
     → reserve_lines (run ++ r ∷ []) ++ rest ≡ reserve_lines run ++ line.Reserve r ∷ rest
 run_more [] r rest = refl
 run_more (q ∷ run) r rest = ap (λ (lines : List Line). line.Reserve q ∷ lines) (run_more run r rest)
-
--- a reservation is added
-pub added-Follows : (c : Checked) (r : Reservation)
-    → Follows c (line.Reserve r) (record c { run = c.run ++ r ∷ [] })
-added-Follows c r = search (rules, run_more)
 
 answered_front : (s : Allocator) (first second : List Line) → AreAnswered s (first ++ second)
     → AreAnswered s first
@@ -127,9 +121,6 @@ called-None c l after alone settled unlike rest agrees =
 -- no order of the run is answered so
 pub settled-None : (c : Checked) (l : Line) → IsAlone l → HasNoOrder c → NoneFollows c l
 settled-None c l alone none rest agrees = grind (arith, common_steps, told c l rest alone agrees)
-
-pub finished-None : (c : Checked) → HasNoOrder c → AgreesWith c [] → ⊥
-finished-None c none agrees = search (rules, append-nil)
 
 -- the run isn't answered so in this order
 pub fails_none : (s : Allocator) (n : ℕ) (order : List Line) (d : Difference) → Fails s n order d

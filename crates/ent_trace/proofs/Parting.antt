@@ -68,13 +68,10 @@ module _ {X : Type 0} where
 not_passed : (l x : Line) → IsAlone x → MayPass l x → ⊥
 not_passed l other alone p = search rules
 
-passes_none : (x y : Line) → IsAlone x → MayPass x y → ⊥
-passes_none other y alone p = search rules
-
 none_before : (x : Line) (front : List Line) → IsAlone x → AllByRecursion (MayPass x) front
     → front ≡ []
 none_before x [] alone all = refl
-none_before x (y ∷ front) alone all = absurd (passes_none x y alone all.0)
+none_before x (y ∷ front) alone all = absurd (grind (arith, common_steps))
 
 pub record Parts (front rest order : List Line) (x : Line) : Type 0 where
   pub first : List Line

@@ -1,11 +1,10 @@
 -- The reservations of a run one after the other: what is left to be placed.
 use Rattle.std.proofs.Common.{rules, ◌≡◌, ℕ, ◌+◌, ◌^◌, ◌<◌, ◌≤◌, List, [], ◌∷◌, length, drop}
-use Rattle.std.proofs.Common.{get_or, ap, arith, IsPermutation}
+use Rattle.std.proofs.Common.{get_or, ap, arith}
 use Rattle.std.proofs.lemmas.Grind.{common_steps}
 use Rattle.std.proofs.Math.Seq.{drop-cons}
 use Rattle.std.proofs.lemmas.List.{drop_all}
 use Rattle.std.proofs.lemmas.List.Sums.{sum_by-cons}
-use Rattle.std.proofs.lemmas.List.Sorted.{IsPermutation-map, sum_by-IsPermutation}
 use Rattle.ent_alloc.specs.Sequential.{Allocator, after_take, reply_to}
 use Rattle.ent_alloc.proofs.PoolLaw.{asked-after_take}
 use Rattle.ent_trace.specs.declared.line.Reservation.{Reservation}
@@ -27,11 +26,6 @@ asked-lines s [] = omega arith
 asked-lines s (p ∷ run) =
     grind (arith, common_steps, asked-lines (after_take s p.reservation.requested) run)
 
--- in any order
-pub requested-sorted : (run sorted : List Placed) → IsPermutation run sorted
-    → requested_in (reservations_of sorted) ≡ requested_in (reservations_of run)
-requested-sorted run sorted moved = search (rules, sum_by-IsPermutation, IsPermutation-map)
-
 -- Those before an index are placed.
 pub record Rest (old s : Allocator) (run : List Placed) (i : ℕ) : Type 0 where
   pub answered : AreAnswered s (lines (drop i run)) → AreAnswered old (lines run)
@@ -41,13 +35,9 @@ pub record Rest (old s : Allocator) (run : List Placed) (i : ℕ) : Type 0 where
   pub asked : s.asked + requested_in (reservations_of (drop i run)) ≤ 2 ^ 50
 
 module _ (old s : Allocator) (run : List Placed) (i : ℕ) where
-  -- the next one requests no more than all that are left
-  next_is : (p : Placed) → i < length run → p ≡ get_or run i p → drop i run ≡ p ∷ drop (i + 1) run
-  next_is p within is = search (rules, drop-cons)
-
   pub Rest-few : Rest old s run i → (p : Placed) → i < length run → p ≡ get_or run i p
       → s.asked + p.reservation.requested ≤ 2 ^ 50
-  Rest-few rest p within is = grind (arith, common_steps, next_is, sum_by-cons)
+  Rest-few rest p within is = grind (arith, common_steps, drop-cons, sum_by-cons)
 
   -- a line that fits comes before
   fails_later : (p : Placed) → FitsReserved p.reservation.reply (reply_to s p.reservation.requested)
@@ -67,15 +57,14 @@ module _ (old s : Allocator) (run : List Placed) (i : ℕ) where
   pub Rest-fails : Rest old s run i → (p : Placed) → i < length run → p ≡ get_or run i p
       → (d : Difference) → Differs s 0 (line.Reserve p.reservation) d → (n : ℕ)
       → Fails old n (lines run) d
-  Rest-fails rest p within is d differs n =
-      rest.fails n d (grind (arith, common_steps, lines, next_is))
+  Rest-fails rest p within is d differs n = grind (arith, common_steps, lines, drop-cons)
 
   pub Rest-next : Rest old s run i → (p : Placed) → i < length run → p ≡ get_or run i p
       → (t : Allocator) → t ≡ after_take s p.reservation.requested
       → FitsReserved p.reservation.reply (reply_to s p.reservation.requested)
       → Rest old t run (i + 1)
   Rest-next rest p within is t after fits =
-      grind (arith, common_steps, lines, next_is, sum_by-cons, asked-after_take, fails_later)
+      grind (arith, common_steps, lines, drop-cons, sum_by-cons, asked-after_take, fails_later)
 
   pub Rest-last : Rest old s run i → length run ≤ i → AreAnswered old (lines run)
       × (s ≡ after_lines old (lines run))

@@ -4,7 +4,7 @@ use Rattle.std.proofs.Common.{[], ◌∷◌, ◌++◌, length, take, All, refl, 
 use Rattle.std.proofs.lemmas.Grind.{common_steps}
 use Rattle.std.specs.List.{before_first, position_or_len, filter}
 use Rattle.std.proofs.lemmas.Bool.{ne_eqb}
-use Rattle.std.proofs.lemmas.List.{append-nil, nil_from_length}
+use Rattle.std.proofs.lemmas.List.{append-nil}
 use Rattle.std.proofs.lemmas.List.Splits.{slice_split_none, slice_split_at}
 use Rattle.ent_trace.specs.Text.{is_blank, words_in, before_comment}
 
@@ -79,14 +79,6 @@ words_in-last word all long = search (rules, slice_split_none, kept)
 pub words_in-word : (word : List ℕ) (y : ℕ) (ys : List ℕ) → AreNoBlank word → 0 < length word
     → is_blank y ≡ true → words_in (word ++ y ∷ ys) ≡ word ∷ words_in (y ∷ ys)
 words_in-word word y ys all long passes = search (rules, slice_split_at, kept, words_in-blank)
-
-pub is_long : (xs : List ℕ) → eqb (length xs) 0 ≡ false → 0 < length xs
-is_long xs lacks = search rules
-
--- the parts that a reader takes off the front of a text
-pub first_word_none : (text front rest : List ℕ) → text ≡ front ++ rest → AreBlank front
-    → length rest ≡ 0 → words_in text ≡ []
-first_word_none text front rest whole all none = search (rules, words_in-blanks, nil_from_length)
 
 word_first : (word rest : List ℕ) → AreNoBlank word → AreBlank (take 1 rest)
     → 0 < length word → words_in (word ++ rest) ≡ word ∷ words_in rest

@@ -1,10 +1,11 @@
+use Rattle.std.proofs.lemmas.List.{nil_from_length}
+use Rattle.ent_trace.proofs.WordParts.{words_in-blanks, first_word_found}
 use Rattle.std.proofs.Common.{rules}
 use Rattle.std.proofs.lemmas.Bool.{eqb-true}
-use Rattle.ent_trace.proofs.WordParts.{first_word_none, first_word_found, is_long}
 use Rattle.ent_trace.proofs.words.first_word.Goals as goal
 
 pub returns-then-is_empty-clause-none : goal.returns-then-is_empty-clause-none
-returns-then-is_empty-clause-none c = search (rules, first_word_none, eqb-true)
+returns-then-is_empty-clause-none c = search (rules, words_in-blanks, nil_from_length, eqb-true)
 
 pub returns-clause-found : goal.returns-clause-found
-returns-clause-found c = search (rules, first_word_found, is_long)
+returns-clause-found c = search (rules, first_word_found)

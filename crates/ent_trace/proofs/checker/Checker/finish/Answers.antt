@@ -1,6 +1,5 @@
-use Rattle.std.proofs.Common.{arith, rules}
+use Rattle.std.proofs.Common.{append-nil, arith, rules}
 use Rattle.std.proofs.lemmas.Grind.{common_steps}
-use Rattle.ent_trace.proofs.Orders.{finished-None}
 use Rattle.ent_trace.proofs.Stops.{on_differs, on_err}
 use Rattle.ent_trace.proofs.checker.Checker.finish.Goals as goal
 
@@ -11,4 +10,4 @@ pub returns-clause-differs : goal.returns-clause-differs
 returns-clause-differs c = search (rules, on_err, on_differs)
 
 pub returns-clause-none : goal.returns-clause-none
-returns-clause-none c = search (rules, on_err, on_differs, finished-None)
+returns-clause-none c = search (rules, on_err, on_differs, append-nil)

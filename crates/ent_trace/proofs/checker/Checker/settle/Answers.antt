@@ -1,12 +1,13 @@
-use Rattle.std.proofs.Common.{◌≡◌, ℕ, List, [], sym, subst, ◌∙◌, rules}
+use Rattle.std.proofs.lemmas.List.Sorted.{IsPermutation-map, sum_by-IsPermutation}
 use Rattle.std.proofs.lemmas.List.Sorted.{IsNonDecreasingBy-from_sort_by_key, answers_always}
+use Rattle.std.proofs.Common.{◌≡◌, ℕ, List, [], sym, subst, ◌∙◌, rules}
 use Rattle.std.proofs.lemmas.Result.{err_from_is_err_and}
 use Rattle.ent_trace.specs.Trace.{AreAnswered, after_lines, IsOrderOf}
 use Rattle.ent_trace.specs.Checker.{Checked, IsSettled, Fails, Shows, reservations_of, requested_in}
 use Rattle.ent_trace.specs.Checker.{HasNoOrder}
 use Rattle.ent_trace.proofs.Sorted.{lines, key, rising, TieAlike, IsRising, sorted-IsOrderOf}
-use Rattle.ent_trace.proofs.Runs.{asked-lines, requested-sorted}
-use Rattle.ent_trace.proofs.Keys.{IsChecking-none, empty_keeps}
+use Rattle.ent_trace.proofs.Runs.{asked-lines}
+use Rattle.ent_trace.proofs.Keys.{empty_keeps}
 use Rattle.ent_trace.specs.declared.line.Line.{Line}
 use Rattle.ent_trace.proofs.Lifted.{sorted_run}
 use Rattle.ent_trace.proofs.Orders.{ordered-Shows, fails_none}
@@ -17,7 +18,7 @@ use Rattle.ent_trace.proofs.checker.Checker.settle.Goals as goal
 -- the sorted run requests as much
 requests : (c : After-deref) → requested_in (reservations_of c.deref.result.now)
     ≡ requested_in (reservations_of c.self.inside.run.items)
-requests c = search (rules, requested-sorted)
+requests c = search (rules, sum_by-IsPermutation, IsPermutation-map)
 
 -- it is an order of the run
 ordered : (c : After-deref) → IsOrderOf (lines c.self.inside.run.items) (lines c.deref.result.now)
@@ -48,7 +49,7 @@ best c other is all =
     subst (λ ps. AreAnswered s (lines ps) × (after_lines s other ≡ after_lines s (lines ps)))
     (sym c.deref.ensures.value)
     (sorted_run s sorted run other c.cursor.ensures.sound c.self.invariant.keyed up alike
-    (requested-sorted run sorted c.in_ok-sort_by_cached_key.ensures.permutation) is all)
+    (search (rules, sum_by-IsPermutation, IsPermutation-map)) is all)
 
 pub place_all-requires : goal.place_all-requires
 place_all-requires c = search (rules, requests)
@@ -83,7 +84,7 @@ returns-in_err-place_all-clause-none c =
     (best at other is all).0)) c.in_err-place_all.ensures.differs)
 
 pub invariant_of-result : goal.invariant_of-result
-invariant_of-result c = search (rules, requests, asked-lines, IsChecking-none, empty_keeps)
+invariant_of-result c = search (rules, requests, asked-lines, empty_keeps)
 
 pub returns-clause-settled : goal.returns-clause-settled
 returns-clause-settled c =
