@@ -1,4 +1,6 @@
--- What the events of a call do to the fields of a `Machine`, and that they keep them in order.
+use Rattle.std.specs.FinMap.{get-remove, FinMap}
+use Rattle.ent_replay.proofs.Maps.{maps_alike, get-inserted, get-insert_other, get-removed}
+use Rattle.ent_replay.proofs.Maps.{get-remove_other, get-map_values, map_values-insert}
 use Rattle.std.proofs.Common.{rules, ◌≡◌, sym, ap, subst, ◌∙◌, ℕ, ◌+◌, ◌^◌, ◌<◌, ◌≤◌, pos, ◌-ℤ◌}
 use Rattle.std.proofs.Common.{◌≤ℤ◌, true, nat_lt, length, drop, filter, Option, Some, None, Ok, Err}
 use Rattle.std.proofs.Common.{arith}
@@ -6,7 +8,6 @@ use Rattle.std.proofs.lemmas.Int.{ints}
 use Rattle.std.specs.Option.{option_map, unwrap_or}
 use Rattle.std.specs.Ordering.{nat_cmp}
 use Rattle.std.specs.FinMap as finite
-use Rattle.std.specs.FinMap.{FinMap}
 use Rattle.std.proofs.lemmas.Bool.Decides.{nat_tests}
 use Rattle.std.proofs.lemmas.Option.{same_Some}
 use native.Mathlib.Decide.{ℕ_discrete}
@@ -31,9 +32,9 @@ use Rattle.ent_replay.specs.Machine.{AreConsistent}
 use Rattle.ent_replay.proofs.Conditions.{when, unless}
 use Rattle.ent_replay.proofs.Giving.{all_held-next}
 use Rattle.ent_replay.proofs.Totals.{sum_below-changed, sum_below-part}
-use Rattle.ent_replay.proofs.Maps.{get-inserted, get-insert_other, get-removed, get-remove_other}
-use Rattle.ent_replay.proofs.Maps.{get-map_values, map_values-insert, map_values-remove}
 use Rattle.ent_replay.proofs.ExclusiveEvents.{asked-bound}
+
+-- What the events of a call do to the fields of a `Machine`, and that they keep them in order.
 
 module _ (s : Allocator) (spent : FinMap nat_cmp ℕ) (calls : FinMap nat_cmp StoredCall) where
   module _ (caller : ℕ) (below : caller < callers) where
@@ -267,15 +268,14 @@ module _ (s : Allocator) (spent : FinMap nat_cmp ℕ) (calls : FinMap nat_cmp St
             Ok (reported (reply_from s.made (pool_at s span.high) call.requested)),
             machine_state s spent (finite.remove calls caller),
           )
-      answer-answered span passed =
-          when (nat_lt caller callers) _ _ is_caller
+      answer-answered span passed = when (nat_lt caller callers) _ _ is_caller
           ∙ ap (answer_open (machine_state s spent calls) caller) (opened (Some call) is)
           ∙ ap (λ o. answer_with (machine_state s spent calls) caller
           (option_map (λ span. reply_from s.made (pool_at s span.high) call.requested) o)) passed
           ∙ ap (λ m. (
             Ok (reported (reply_from s.made (pool_at s span.high) call.requested)),
             record { allocator = s; spent = spent; calls = m },
-          )) (sym (map_values-remove (open_call_of s) calls caller))
+          )) (sym (search (rules, maps_alike, get-map_values, get-remove)))
 
       pub answer-consistent : AreConsistent s spent calls → (span : Span) → call.span ≡ Some span
           → AreConsistent s spent (finite.remove calls caller)

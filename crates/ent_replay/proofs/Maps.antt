@@ -97,11 +97,6 @@ pub get-remove_other : {X : Type 0} (m : FinMap nat_cmp X) (k : ℕ) (q : ℕ) �
 get-remove_other m k q other = get-remove nat_cmp_total m k q
     ∙ ap (λ b. cond b None (finite.get m q)) (apart q k other)
 
--- to take out what was put where nothing was is to change nothing
-pub insert-remove : {X : Type 0} (m : FinMap nat_cmp X) (k : ℕ) (v : X) → finite.get m k ≡ None
-    → finite.remove (finite.insert m k v) k ≡ m
-insert-remove {X} m k v none = search (rules, maps_alike, nat_tests, get-remove, get-insert)
-
 -- ---- the values under a function
 
 find-values : {X Y : Type 0} (f : X → Y) (q : ℕ) (es : List (ℕ × X))
@@ -117,10 +112,6 @@ get-map_values f m q = get-from_entries nat_cmp_total (map (λ e. (e.0, f e.1)) 
 pub map_values-insert : {X Y : Type 0} (f : X → Y) (m : FinMap nat_cmp X) (k : ℕ) (v : X)
     → map_values f (finite.insert m k v) ≡ finite.insert (map_values f m) k (f v)
 map_values-insert f m k v = search (rules, maps_alike, get-map_values, get-insert)
-
-pub map_values-remove : {X Y : Type 0} (f : X → Y) (m : FinMap nat_cmp X) (k : ℕ)
-    → map_values f (finite.remove m k) ≡ finite.remove (map_values f m) k
-map_values-remove f m k = search (rules, maps_alike, get-map_values, get-remove)
 
 pub map_values-empty : {X Y : Type 0} (f : X → Y) → map_values f finite.empty ≡ finite.empty
 map_values-empty f = search (rules, maps_alike, get-map_values, get-empty)

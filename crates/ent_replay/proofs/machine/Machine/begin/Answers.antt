@@ -1,3 +1,6 @@
+use Rattle.std.specs.FinMap.{get-insert, get-remove}
+use Rattle.std.proofs.lemmas.Bool.Decides.{nat_tests}
+use Rattle.ent_replay.proofs.Maps.{maps_alike}
 use Rattle.std.proofs.Common.{rules, ◌≡◌, ◌+◌, ◌-◌, refl, sym, ap, subst, ◌∙◌, Ok, Err, None, arith}
 use Rattle.std.specs.FinMap as finite
 use Rattle.ent_replay.specs.Schedule.{on_begin, event_takes_memory, left_of}
@@ -6,7 +9,6 @@ use Rattle.ent_alloc.specs.Limits.{credit}
 use Rattle.ent_replay.specs.Machine.{machine_state, AreConsistent}
 use Rattle.ent_replay.specs.declared.outcome.Outcome.TheVariants as outcome
 use Rattle.ent_replay.specs.declared.fault.ReplayFault.TheVariants as fault
-use Rattle.ent_replay.proofs.Maps.{insert-remove}
 use Rattle.ent_replay.proofs.MachineAnswers.{done, faulty, refused, some_of, none_of, on_ok, on_err}
 use Rattle.ent_replay.proofs.CallEvents.{begin-open, begin-quota, begin-begun, begin-consistent}
 use Rattle.ent_replay.proofs.machine.Machine.begin.Goals.{Else-is_some, After-unwrap_or-spent}
@@ -70,7 +72,7 @@ kept c = on_err c.insert-2.result c.if-is_err-2.ensures.value c.insert-2.ensures
 -- and so are the calls
 undone : (c : After-remove) → finite.get c.self.inside.calls c.args.caller ≡ None
     → c.remove.new.self ≡ c.self.inside.calls
-undone c none = search (rules, on_ok, insert-remove, none)
+undone c none = search (rules, on_ok, maps_alike, nat_tests, get-remove, get-insert, none)
 
 pub invariant_of-self-then-is_err-2 : goal.invariant_of-self-then-is_err-2
 invariant_of-self-then-is_err-2 c = search (rules, kept, undone, none)

@@ -1,10 +1,14 @@
+use Rattle.ent_replay.proofs.Giving.{all_held-none}
+use Rattle.std.proofs.lemmas.List.Elements.{All-nil}
+use Rattle.ent_replay.proofs.Totals.{sum_below-none}
+use Rattle.std.specs.FinMap.{get-empty}
 use Rattle.ent_replay.proofs.Maps.{map_values-empty}
 use Rattle.std.proofs.Common.{rules}
-use Rattle.ent_replay.proofs.MachineStart.{starting-consistent}
 use Rattle.ent_replay.proofs.machine.Machine.new.Goals as goal
 
 pub invariant_of-result : goal.invariant_of-result
-invariant_of-result c = search (rules, starting-consistent)
+invariant_of-result c =
+    search (rules, get-empty, sum_below-none, All-nil, all_held-none, map_values-empty)
 
 pub returns : goal.returns
 returns c = search (rules, map_values-empty)
