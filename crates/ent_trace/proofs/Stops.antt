@@ -10,9 +10,6 @@ pub on_differs : (s : Stop) (P Q : Difference → Type 0) → ((d : Difference) 
 on_differs it P Q each h = search rules
 
 module _ {X E : Type 0} where
-  pub on_ok : (r : Result X E) (P Q : X → Type 0) → ((x : X) → P x → Q x) → IfOk r P → IfOk r Q
-  on_ok it P Q each h = search rules
-
   pub on_both : (r : Result X E) (F : Type 0) (P Q : X → Type 0) → (F → (x : X) → P x → Q x)
       → OnOk r F → IfOk r P → IfOk r Q
   on_both it F P Q each f h = search rules
