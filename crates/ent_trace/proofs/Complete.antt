@@ -1,7 +1,6 @@
 -- If any order of a run is answered so, the sorted one is.
 use Rattle.std.proofs.Common.{rules, ◌≡◌, ℕ, zero, suc, ◌+◌, ◌^◌, ◌<◌, ◌≤◌, List, [], ◌∷◌, ◌++◌}
-use Rattle.std.proofs.Common.{length, filter, Err, All, refl, sym, ap, subst, ◌∙◌, arith, inl, inr}
-use Rattle.std.proofs.Common.{◌⊎◌}
+use Rattle.std.proofs.Common.{length, filter, Err, refl, sym, ap, subst, ◌∙◌, arith, inl, inr, ◌⊎◌}
 use Rattle.std.proofs.lemmas.Grind.{common_steps}
 use Rattle.std.specs.List.{AllByRecursion}
 use Rattle.std.proofs.lemmas.Bool.{cases_lt}
@@ -66,8 +65,7 @@ all_right P (x ∷ xs) ys all = all_right P xs ys all.1
 pub all_alike : (P : Placed → Type 0) (sorted run : List Placed) → TieAlike sorted run
     → AllByRecursion P run → AllByRecursion P sorted
 all_alike P sorted run alike all =
-    whole P sorted (λ x. subst (All P) (sym (alike x))
-    (All-filter (tie x) P run (All-from_recursion P run all)))
+    whole P sorted (λ x. search (rules, All-filter (tie x) P run (All-from_recursion P run all)))
 
 nothing_sorted : (sorted : List Placed) → TieAlike sorted [] → sorted ≡ []
 nothing_sorted [] alike = refl

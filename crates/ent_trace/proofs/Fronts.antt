@@ -5,11 +5,9 @@ use Rattle.std.proofs.Common.{◌-ℤ◌, ◌≤ℤ◌, List, [], ◌∷◌, ◌
 use Rattle.std.proofs.Common.{None, append-nil, arith}
 use Rattle.std.proofs.lemmas.Int.{ints}
 use Rattle.std.proofs.lemmas.List.{drop-drop, append_assoc, length-append}
-use Rattle.std.proofs.lemmas.Option.{slice_get_within}
 use Rattle.ent_handle.specs.Handle.{Handle}
 use Rattle.ent_alloc.specs.Sequential.{Allocator, top, cursor, asked_at, pool_at, after_take}
 use Rattle.ent_alloc.specs.Sound.{IsSound}
-use Rattle.ent_alloc.proofs.Listing.{drop_at}
 use Rattle.ent_alloc.proofs.PoolLaw.{pool_at-cursor, pool_at-later, top-after_take}
 
 -- one position below, one more was asked for
@@ -36,7 +34,6 @@ module _ (s : Allocator) (start next : ℤ) (front : List Handle)
       → slice_get (pool_at s next) 0 ≡ Some h → Listed s start (next -ℤ pos 1) (front ++ h ∷ [])
   Listed-next below more h is =
       let pool = pool_at s next in
-      let whole : pool ≡ h ∷ drop 1 pool = drop_at pool 0 h (slice_get_within pool 0 h is) is in
       let left : 8 - length front ≡ suc (7 - length front) = omega arith in
       search (rules, length-append, append_assoc, pool_below, ints)
 

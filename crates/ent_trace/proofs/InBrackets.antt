@@ -26,8 +26,7 @@ other_end count x others = search rules
 longer : (count : Word) (x : ℕ) (xs : List ℕ) → count_in (count ∷ parts (x ∷ xs)) ≡ no_count
 longer count x xs = elim (cases_Bool (eqb x 41)) [
   | inl closes ↦ search (rules, more_parts count (parts xs) (parts_nonempty 41 xs))
-  | inr other ↦ ap (λ (ws : List Word). count_in (count ∷ ws)) (cond-false (eqb x 41) _ _ other)
-      ∙ other_end count x (parts xs)
+  | inr other ↦ search (rules, cond-false, other_end)
 ]
 
 not_last : (count : Word) (others : List ℕ) → eqb (length others) 0 ≡ false

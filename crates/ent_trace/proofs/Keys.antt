@@ -72,7 +72,6 @@ module _ (latest : finite.FinMap nat_cmp ℕ) (p : Placed)
       → IsKeyed (available s) (unwrap_or (finite.get latest p.reservation.caller) 0) p
       → IsChecking s (wanted + p.reservation.requested) (run ++ p ∷ []) now
   IsChecking-push s wanted run is few keyed =
-      let before = is.wanted_is in
       let more = requested-push run p in
       search (rules, steady_push, all_push, all_kept, latest_own, keyed_push, last_push, after_push)
 

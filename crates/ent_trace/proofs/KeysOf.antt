@@ -46,9 +46,7 @@ module _ (given : List Handle) (s : Allocator) (sound : IsSound s) (is : availab
       let long : length s.pool ≡ length given - s.asked =
       ap length pool_is ∙ length-drop s.asked given in
       let there : s.asked + i < length given = omega arith in
-      let found : get_or given (s.asked + i) h ≡ h =
-      sym (get_or-drop s.asked given i h) ∙ ap (λ (hs : List Handle). get_or hs i h) (sym pool_is)
-      ∙ sym (get_or-take n s.pool i h short) ∙ at in
+      let found : get_or given (s.asked + i) h ≡ h = search (rules, get_or-drop, get_or-take) in
       let small = key.0 in
       let apart = subst (AllPairs AreApart) is sound.apart in
       elim key.1 [
@@ -64,8 +62,7 @@ module _ (given : List Handle) (s : Allocator) (sound : IsSound s) (is : availab
   some_listed : 0 < n → n ≤ length s.pool → [] ≡ listed s.made (take n s.pool) → ⊥
   some_listed some enough none =
       let long : length (listed s.made (take n s.pool)) ≡ length (take n s.pool) =
-      length_permutation (take n s.pool) (listed s.made (take n s.pool))
-      (listed-IsPermutation s.made (take n s.pool)) in
+      search (rules, length_permutation, listed-IsPermutation) in
       search (rules, length-take)
 
   served_by : (reply : ReserveReply) → 0 < n → n ≤ length s.pool

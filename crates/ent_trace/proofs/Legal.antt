@@ -136,6 +136,4 @@ after-empty (p ∷ run) s none some =
     let empty : length s.pool ≡ 0 = ap length none in
     let one : after_take s n ≡ record s { asked = s.asked + n } =
     search (rules, after_take-refused, append-nil) in
-    let sum : s.asked + n + total run ≡ s.asked + (n + total run) = omega arith in
-    ap (λ t. after_run t run) one ∙ after-empty run (record s { asked = s.asked + n }) none some.1
-    ∙ (λ i. record s { asked = sum i })
+    search (rules, after-empty run (record s { asked = s.asked + n }) none some.1)

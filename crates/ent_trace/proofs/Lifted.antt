@@ -158,9 +158,7 @@ order_filtered (p ∷ order) run (before, after, parts, others, more) =
     let split_here = ap (filter asks_some) parts ∙ filter-append asks_some before (p ∷ after) in
     elim (some_or_none (asks p)) [
       | inl some ↦ search (rules, IsPlacedOrder, asks_some, kept, all_filtered, IsOfOther)
-      | inr none ↦ subst (IsPlacedOrder (filter asks_some run)) (sym (left_out p order none.0))
-          (subst (λ ps. IsPlacedOrder ps (filter asks_some order)) (joined ∙ sym (split_here
-          ∙ ap (λ ps. filter asks_some before ++ ps) (left_out p after none.0))) rest)
+      | inr none ↦ search (rules, IsPlacedOrder, asks_some, left_out)
     ]
 
 nothing_key : (given : List Handle) (n own : ℕ) (reply : ReserveReply) → FitsReserved reply (Ok [])

@@ -71,14 +71,7 @@ called-Follows c l after alone settled fits = record {
     answered = AreAnswered-append c.allocator settled.order (l ∷ agrees.order) settled.answered
         (subst (λ s. AreAnswered s (l ∷ agrees.order)) settled.after_is (fits, agrees.answered));
   };
-  complete = λ rest agrees.
-      let t = told c l rest alone agrees in
-      record {
-        order = t.second;
-        is_order = t.rest_is_order;
-        answered = subst (λ s. AreAnswered (after_line s l) t.second)
-            (settled.only t.first t.is_order t.answered) t.rest_answered;
-      };
+  complete = λ rest agrees. search (rules, told c l rest alone agrees);
 }
 
 -- ---- where a trace doesn't agree

@@ -1,8 +1,8 @@
 -- An order of lines of which one overlaps nothing: an order of those before it, that line, and an
 -- order of those after it.
 use Rattle.std.proofs.lemmas.Grind.{common_steps}
-use Rattle.std.proofs.Common.{rules, arith, ◌≡◌, List, [], ◌∷◌, ◌++◌, refl, sym, ap, subst, ◌∙◌}
-use Rattle.std.proofs.Common.{◌⊎◌, inl, inr}
+use Rattle.std.proofs.Common.{rules, arith, ◌≡◌, List, [], ◌∷◌, ◌++◌, refl, sym, ap, subst, ◌⊎◌}
+use Rattle.std.proofs.Common.{inl, inr}
 use Rattle.std.specs.List.{AllByRecursion}
 use Rattle.std.proofs.lemmas.List.{append_assoc}
 use Rattle.ent_trace.specs.declared.line.Line.{Line}
@@ -44,14 +44,7 @@ module _ {X : Type 0} where
       let first : x ≡ l = cc in
       let others : rest ≡ after = cc in
       inr (inl (record { before_is = refl; is = sym first; after_is = sym others }))
-  parted [] rest (b ∷ before) after x l e =
-      let first : x ≡ b = cc in
-      let others : rest ≡ before ++ l ∷ after = cc in
-      inr (inr (record {
-        more = before;
-        before_is = ap (λ y. y ∷ before) (sym first);
-        rest_is = others;
-      }))
+  parted [] rest (b ∷ before) after x l e = search rules
   parted (f ∷ front) rest [] after x l e =
       let first : f ≡ l = cc in
       let others : front ++ x ∷ rest ≡ after = cc in
@@ -87,8 +80,7 @@ parts front rest x (l ∷ order) reserves alone (before, after, is, passes, more
     elim (parted front rest before after x l is) [
       | inl p ↦
           let here = subst (λ (ls : List Line). IsOrderOf ls order)
-          (ap (λ (ls : List Line). before ++ ls) p.after_is
-          ∙ sym (append_assoc before p.more (x ∷ rest))) more in
+          (grind (arith, common_steps, append_assoc)) more in
           let left = all_without IsReserve before p.more l
           (subst (AllByRecursion IsReserve) p.front_is reserves) in
           let next = parts (before ++ p.more) rest x order left alone here in

@@ -171,7 +171,6 @@ sorted-IsOrderOf [] run up alike steady = ap lines (nothing_left run alike)
 sorted-IsOrderOf (h ∷ sorted) run up alike steady =
     let s = split (tie h) h (filter (tie h) sorted) run (begins h sorted run alike) in
     let low = least h sorted run up.0 alike in
-    let steady_here = subst AreSteady s.is steady in
     let alike_here = subst (TieAlike (h ∷ sorted)) s.is alike in
     let low_here = subst (AllByRecursion (λ (p : Placed). h.key ≤ p.key)) s.is low in (
       lines s.before,
@@ -181,5 +180,5 @@ sorted-IsOrderOf (h ∷ sorted) run up alike steady =
       subst (λ (ls : List Line). IsOrderOf ls (lines sorted)) (lines_append s.before s.after)
           (sorted-IsOrderOf sorted (s.before ++ s.after) up.1
           (alike_rest h sorted s.before s.after s.none alike_here)
-          (steady_without s.before s.after h steady_here)),
+          (steady_without s.before s.after h (subst AreSteady s.is steady))),
     )

@@ -1,8 +1,8 @@
 -- Words: what stands before a comment, blanks that part words, and the front of a text's words.
-use Rattle.std.proofs.Common.{rules, ◌≡◌, ◌≢◌, ℕ, ◌+◌, ◌<◌, Bool, true, false, not, cond, eqb, List}
-use Rattle.std.proofs.Common.{[], ◌∷◌, ◌++◌, length, take, All, refl, ap, ◌∙◌, arith, suc}
+use Rattle.std.proofs.Common.{rules, ◌≡◌, ◌≢◌, ℕ, ◌+◌, ◌<◌, Bool, true, false, not, eqb, List, []}
+use Rattle.std.proofs.Common.{◌∷◌, ◌++◌, length, take, All, refl, ap, ◌∙◌, arith, suc}
 use Rattle.std.proofs.lemmas.Grind.{common_steps}
-use Rattle.std.specs.List.{before_first, position_or_len, filter}
+use Rattle.std.specs.List.{before_first, filter}
 use Rattle.std.proofs.lemmas.Bool.{ne_eqb}
 use Rattle.std.proofs.lemmas.List.{append-nil}
 use Rattle.std.proofs.lemmas.List.Splits.{slice_split_none, slice_split_at}
@@ -23,11 +23,9 @@ cut p x xs fails = search (rules)
 
 pub before_first_at : (p : ℕ → Bool) (xs : List ℕ) (y : ℕ) (ys : List ℕ)
     → All (λ x. p x ≡ false) xs → p y ≡ true → before_first p (xs ++ y ∷ ys) ≡ xs
-before_first_at p [] y ys none passes =
-    ap (λ b. take (cond (not b) (1 + position_or_len p ys) 0) (y ∷ ys)) passes
+before_first_at p [] y ys none passes = search rules
 before_first_at p (x ∷ xs) y ys none passes =
-    cut p x (xs ++ y ∷ ys) (first_of (λ x. p x ≡ false) x xs none)
-    ∙ ap (λ (zs : List ℕ). x ∷ zs)
+    cut p x (xs ++ y ∷ ys) (first_of (λ x. p x ≡ false) x xs none) ∙ ap (λ (zs : List ℕ). x ∷ zs)
     (before_first_at p xs y ys (rest_of (λ x. p x ≡ false) x xs none) passes)
 
 pub before_first_none : (p : ℕ → Bool) (xs : List ℕ) → All (λ x. p x ≡ false) xs

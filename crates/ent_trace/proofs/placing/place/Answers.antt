@@ -1,6 +1,5 @@
-use Rattle.std.proofs.Common.{◌+◌, ◌^◌, ◌≤◌, arith, rules}
+use Rattle.std.proofs.Common.{arith, rules}
 use Rattle.std.proofs.lemmas.Int.{ints}
-use Rattle.ent_trace.specs.declared.line.Line.TheVariants as line
 use Rattle.ent_trace.proofs.Fronts.{front_before, top_before}
 use Rattle.ent_trace.proofs.placing.place.Goals as goal
 
@@ -10,7 +9,6 @@ front_at-requires-clause-least c =
     let top = top_before s c.reserve.new.entities.allocator c.args.reservation.now.requested
     c.cursor-cursor.ensures.sound c.in_ok-given.ensures.after in
     let at = c.cursor-cursor.ensures.value in
-    let few : s.asked + c.args.reservation.now.requested ≤ 2 ^ 50 = c.requires in
     omega (arith, ints)
 
 pub front_at-requires-clause-passed : goal.front_at-requires-clause-passed

@@ -1,4 +1,4 @@
-use Rattle.std.proofs.Common.{◌≡◌, ℕ, pos, ◌-ℤ◌, List, [], ◌∷◌, Ok, sym, ap, ◌∙◌, Result}
+use Rattle.std.proofs.Common.{rules, ◌≡◌, ℕ, pos, ◌-ℤ◌, List, [], ◌∷◌, Ok, sym, ◌∙◌, Result}
 use Rattle.ent_handle.specs.Handle.{Handle}
 use Rattle.ent_alloc.specs.declared.space.Space.{Space}
 use Rattle.ent_alloc.specs.declared.span.Span.{Span}
@@ -12,10 +12,7 @@ told : (s t : Allocator) (n : ℕ) (span : Span) (result : Result (List Handle) 
     → t ≡ after_take s n → span ≡ record { high = cursor s; low = cursor s -ℤ pos n }
     → ((m : ℕ) → span.low ≡ span.high -ℤ pos m
     → result ≡ reply_from t.made (pool_at t span.high) m) → result ≡ reply_to s n
-told s t n span result sound after is says =
-    says n (ap (λ (x : Span). x.low) is ∙ sym (ap (λ (x : Span). x.high -ℤ pos n) is))
-    ∙ (λ i. reply_from (after i).made (pool_at (after i) (is i).high) n)
-    ∙ reply-later s (n ∷ []) n sound
+told s t n span result sound after is says = search (rules, reply-later s (n ∷ []) n sound)
 
 pub returns-in_ok-listed-in-Ok-clause-reply : goal.returns-in_ok-listed-in-Ok-clause-reply
 returns-in_ok-listed-in-Ok-clause-reply c =

@@ -1,11 +1,10 @@
-use Rattle.std.proofs.Common.{◌≡◌, ◌+◌, ◌^◌, ◌≤◌, [], ◌∷◌, ◌++◌, sym, ap, subst, ◌∙◌, arith}
+use Rattle.std.proofs.Common.{rules, ◌≡◌, ◌+◌, ◌^◌, ◌≤◌, [], ◌∷◌, ◌++◌, sym, ap, subst, ◌∙◌, arith}
 use Rattle.std.specs.Option.{unwrap_or}
 use Rattle.std.specs.FinMap as finite
 use Rattle.ent_trace.specs.declared.placed.Placed.{Placed}
 use Rattle.ent_trace.specs.Checker.{IsChecking, IsKeyed}
 use Rattle.ent_alloc.specs.Sequential.{available}
 use Rattle.std.proofs.lemmas.Bool.{cases_lt}
-use Rattle.std.proofs.Common.{inl, inr}
 use Rattle.ent_trace.proofs.Keys.{IsChecking-push}
 use Rattle.ent_trace.proofs.checker.Checker.add.Goals as goal
 
@@ -25,10 +24,7 @@ invariant_of-result c =
       key_of = c.own_key.ensures.key;
       least = omega arith;
       floor = greatest;
-      either = elim (cases_lt c.own_key.result (unwrap_or (finite.get e.latest r.caller) 0)) [
-        | inl less ↦ inr (omega arith)
-        | inr more ↦ inl (omega arith)
-      ];
+      either = search (rules, cases_lt, c.own_key.result);
       small = c.own_key.ensures.small;
     } in
     let base = IsChecking-push e.latest p greatest s e.wanted e.run.items c.self.invariant few keyed

@@ -29,8 +29,7 @@ ordered c =
     c.in_ok-sort_by_cached_key.ensures.sorted (λ a r q k. search rules)) in
     let alike : TieAlike sorted run = c.in_ok-sort_by_cached_key.ensures.stable key
     (answers_always _ _ _ (λ f a r q k. search rules)) in
-    subst (λ ps. IsOrderOf (lines run) (lines ps)) (sym c.deref.ensures.value)
-    (sorted-IsOrderOf sorted run up alike c.self.invariant.steady)
+    search (rules, lines, c.deref.ensures.value, sorted-IsOrderOf, c.self.invariant.steady)
 
 -- if any order of the run is answered so, this one is, and leaves the same state
 best : (c : After-deref) (other : List Line) → IsOrderOf (lines c.self.inside.run.items) other
@@ -74,7 +73,6 @@ returns-in_err-place_all-clause-none c =
     let at = (goal.at.returns-in_err-place_all-clause-none c).After-deref in
     let e = c.self.inside in
     let s = e.entities.allocator in
-    let here : Checked = record { allocator = s; run = reservations_of e.run.items } in
     let p = err_from_is_err_and c.from_residual-in_err-place_all.result
     c.from_residual-in_err-place_all.ensures.1 in
     rw (p.1, p.2) (on_differs c.in_err-place_all.field-0.0
@@ -89,8 +87,7 @@ invariant_of-result c = search (rules, requests, asked-lines, empty_keeps)
 pub returns-clause-settled : goal.returns-clause-settled
 returns-clause-settled c =
     let at = (goal.at.returns-clause-settled c).After-deref in
-    let after = c.place_all.new.entities.allocator in
-    subst (λ v. IsSettled v after) c.self.view_is (record {
+    subst (λ v. IsSettled v c.place_all.new.entities.allocator) c.self.view_is (record {
       order = lines c.deref.result.now;
       is_order = ordered at;
       answered = c.in_ok-place_all.ensures.answered;
