@@ -52,8 +52,7 @@ module _ (s : Allocator) (spent : FinMap nat_cmp ℕ) (calls : FinMap nat_cmp St
         let all = asked-bound s spent calls h in
         let one : awaited (finite.get calls caller) ≤ sum_below (λ q. awaited (finite.get calls q))
         callers = sum_below-part (λ q. awaited (finite.get calls q)) caller callers below in
-        let here = ap awaited is in
-        omega arith
+        search rules
 
     pub begin-open : (n : ℕ) (call : StoredCall) → finite.get calls caller ≡ Some call
         → on_begin (machine_state s spent calls) caller n
@@ -233,15 +232,7 @@ module _ (s : Allocator) (spent : FinMap nat_cmp ℕ) (calls : FinMap nat_cmp St
               let at_span : record { high = cursor s; low = cursor s -ℤ pos call.requested }
               ≡ span = same_Some _ span (ap (λ c. c.span) alike ∙ passed) in
               let requested : call.requested ≡ other_call.requested = ap (λ c. c.requested) alike in
-              let high : cursor s ≡ span.high = ap (λ x. x.high) at_span in
-              let low : cursor s -ℤ pos call.requested ≡ span.low = ap (λ x. x.low) at_span in
-              let limit = asked-bound s spent calls h in
-              let tops = top-after_take s call.requested h.sound in
-              record {
-                least = omega (arith, ints);
-                high = omega (arith, ints);
-                low = omega (arith, ints);
-              }
+              search (rules, asked-bound, top-after_take, ints)
           | no other ↦
               let old = h.spans q other_call span
               (sym (get-insert_other calls caller stepped q other) ∙ at) passed in

@@ -94,8 +94,7 @@ module _ (P : ℕ → ℕ → Reply → Type 0) (calls : FinMap nat_cmp OpenCall
       ≡ Some call → call.reply ≡ Some r → P q call.requested r
   on_inserted new here q call r at told = elim (ℕ_discrete q caller) [
     | yes same ↦
-        let is : new ≡ call = same_Some new call (sym (get-inserted calls caller new)
-        ∙ ap (finite.get (finite.insert calls caller new)) (sym same) ∙ at) in
+        let is : new ≡ call = search (rules, same_Some, get-inserted) in
         subst (λ k. P k call.requested r) (sym same)
         (subst (λ n. P caller n r) (ap (λ c. c.requested) is)
         (here r (ap (λ c. c.reply) is ∙ told)))

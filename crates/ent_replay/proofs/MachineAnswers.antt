@@ -1,14 +1,14 @@
 -- What a test of a machine's answer tells, and what a refusal for want of memory has to be.
-use Rattle.std.proofs.Common.{rules, ◌≡◌, refl, sym, ap, ◌∙◌, ℕ, ◌<◌, Bool, true, false, nat_lt}
-use Rattle.std.proofs.Common.{List, [], ◌∷◌, length, drop, filter, slice_get, Option, Some, None}
-use Rattle.std.proofs.Common.{Result, Ok, Err, arith, inr, subst}
+use Rattle.std.proofs.Common.{rules, ◌≡◌, sym, ◌∙◌, ℕ, ◌<◌, Bool, true, false, nat_lt, List, []}
+use Rattle.std.proofs.Common.{◌∷◌, length, drop, filter, slice_get, Option, Some, None, Result, Ok}
+use Rattle.std.proofs.Common.{Err, arith, subst}
 use Rattle.std.proofs.lemmas.Grind.{common_steps}
 use Rattle.std.specs.Option.{option_map, is_some}
 use Rattle.std.specs.Result.{OnOk, OnErr, is_err}
 use Rattle.std.proofs.lemmas.Bool.Decides.{nat_tests}
 use Rattle.std.specs.FinMap as finite
 use Rattle.ent_handle.specs.Handle.{Handle}
-use Rattle.ent_alloc.specs.Sequential.{next, is_old, is_fresh, Allocator}
+use Rattle.ent_alloc.specs.Sequential.{next, is_old, Allocator}
 use Rattle.ent_replay.specs.declared.outcome.Outcome.{Outcome}
 use Rattle.ent_replay.specs.declared.outcome.Outcome.TheVariants as outcome
 use Rattle.ent_replay.specs.declared.fault.ReplayFault.{ReplayFault}
@@ -29,15 +29,13 @@ done on inside now view result answer is after next is_next step = search (rules
 -- It found a fault, and changed nothing.
 pub faulty : (on : MachineState → Returned) (inside now : MachineState) → inside ≡ now
     → (why : ReplayFault) → on inside ≡ (Err why, inside) → Makes (on now) now (Err why) now
-faulty on inside now view why =
-    done on inside now view (Err why) (Err why) refl now inside (sym view)
+faulty on inside now view why = search (rules, done)
 
 pub refused : (on : MachineState → Returned) (inside now : MachineState) → inside ≡ now
     → (result : Result Outcome ReplayFault) → result ≡ Err fault.Memory → (after : MachineState)
     → after ≡ inside
     → event_takes_memory inside (on inside).0 ≡ true → Makes (on now) now result after
-refused on inside now view result is after unchanged takes =
-    inr (is, unchanged ∙ view, ap (λ v. event_takes_memory v (on v).0) (sym view) ∙ takes)
+refused on inside now view result is after unchanged takes = search rules
 
 -- The same of an event that the allocator alone decides.
 module _ (on : MachineState → Returned) (s : Allocator) (spent : finite.FinMap nat_cmp ℕ)
@@ -47,17 +45,12 @@ module _ (on : MachineState → Returned) (s : Allocator) (spent : finite.FinMap
   pub allocator_did : (answer : Result Outcome ReplayFault) → result ≡ answer → (next : Allocator)
       → new ≡ next → on (machine_state s spent calls) ≡ (answer, machine_state next spent calls)
       → Makes (on now) now result (machine_state new spent calls)
-  allocator_did answer is next is_next step =
-      done on (machine_state s spent calls) now view result answer is
-      (machine_state new spent calls) (machine_state next spent calls)
-      (ap (λ t. machine_state t spent calls) is_next) step
+  allocator_did answer is next is_next step = search rules
 
   pub allocator_refused : result ≡ Err fault.Memory → new ≡ s
       → event_takes_memory (machine_state s spent calls) (on (machine_state s spent calls)).0
       ≡ true → Makes (on now) now result (machine_state new spent calls)
-  allocator_refused is unchanged takes =
-      refused on (machine_state s spent calls) now view result is (machine_state new spent calls)
-      (ap (λ t. machine_state t spent calls) unchanged) takes
+  allocator_refused is unchanged takes = search rules
 
 -- what is consistent of an allocator is so under another name
 pub consistent_as : {s t : Allocator} {spent : finite.FinMap nat_cmp ℕ}
@@ -67,20 +60,16 @@ consistent_as {s} {t} {spent} {calls} is h = subst (λ a. AreConsistent a spent 
 
 -- what a test of an answer tells
 pub some_of : {X : Type 0} (o : Option X) → true ≡ is_some o → (x : X) × (o ≡ Some x)
-some_of None is = absurd (no_test (sym is))
-some_of (Some x) is = (x, refl)
+some_of it is = search (rules, no_test)
 
 pub none_of : {X : Type 0} (o : Option X) → false ≡ is_some o → o ≡ None
-none_of None is = refl
-none_of (Some x) is = absurd (no_test is)
+none_of it is = search (rules, no_test)
 
 pub on_ok : {T E : Type 0} {P : Type 0} (r : Result T E) → false ≡ is_err r → OnOk r P → P
-on_ok (Ok x) is holds = holds
-on_ok (Err e) is holds = absurd (no_test is)
+on_ok it is holds = search (rules, no_test)
 
 pub on_err : {T E : Type 0} {P : Type 0} (r : Result T E) → true ≡ is_err r → OnErr r P → P
-on_err (Ok x) is holds = absurd (no_test (sym is))
-on_err (Err e) is holds = holds
+on_err it is holds = search (rules, no_test)
 
 -- nothing was asked for
 pub flushed : {asked : ℕ} → ¬ (0 < asked) → asked ≡ 0
@@ -99,19 +88,16 @@ pub not_other : {T E : Type 0} (x why other : E) → x ≡ why → ¬ (why ≡ o
 not_other x why other is differ same = let also : x ≡ other = cc in differ (sym is ∙ also)
 
 pub front : {X : Type 0} (xs : List X) (x : X) → slice_get xs 0 ≡ Some x → xs ≡ x ∷ drop 1 xs
-front [] x is = absurd cc
-front (y ∷ ys) x is = let same : y ≡ x = cc in ap (λ z. z ∷ ys) same
+front ys x is = search rules
 
 pub none_is_none : {X Y : Type 0} (f : X → Y) (o : Option X) → option_map f o ≡ None → o ≡ None
-none_is_none f None is = refl
-none_is_none f (Some x) is = absurd cc
+none_is_none f it is = search rules
 
 -- to take the front of a pool takes memory if it makes a slot
 pub front_takes_memory : (s : MachineState) (pool : List Handle) → ¬ (pool ≡ [])
     → length (filter (is_old s.allocator.made) pool) ≡ 0
     → event_takes_memory s (alloc_front s pool).0 ≡ true
-front_takes_memory s [] some none = absurd (some refl)
-front_takes_memory s (h ∷ rest) some none = grind (arith, common_steps)
+front_takes_memory s rest some none = grind (arith, common_steps)
 
 -- a list that is not empty
 pub some_handles : (hs : List Handle) → 0 < length hs → nat_lt 0 (length hs) ≡ true
@@ -123,5 +109,4 @@ pub listed-takes_memory : (s : MachineState) (hs : List Handle) → 0 < length h
 listed-takes_memory s hs some = some_handles hs some
 
 pub not_false : (b : Bool) → ¬ (b ≡ false) → b ≡ true
-not_false true other = refl
-not_false false other = absurd (other refl)
+not_false b other = search rules

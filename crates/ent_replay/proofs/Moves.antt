@@ -194,8 +194,7 @@ step_at : (s : MachineState) (caller : ℕ) → nat_lt caller callers ≡ true �
     → finite.get s.calls caller ≡ o → Move s (event.Step caller)
 step_at s caller below None none =
     faulty s (event.Step caller) fault.NotOpen refl (when (nat_lt caller callers) _ _ below
-    ∙ ap (step_open s caller) none) (when (nat_lt caller callers) _ _ below
-    ∙ ap (reserved_by_call s caller) none)
+    ∙ ap (step_open s caller) none) (search rules)
 step_at s caller below (Some call) some = step_call s caller below call some call.reply refl
 
 step_by : (s : MachineState) (caller : ℕ) (b : Bool) → nat_lt caller callers ≡ b

@@ -72,8 +72,7 @@ fault_after number line event lines fault named f =
       refused = f.refused;
       following = f.following;
       c = f.c;
-      parts = ap (λ (l : List ℕ). l ∷ lines) text ∙ ap (λ (ls : List (List ℕ)). event_text event
-          ∷ ls) f.parts;
+      parts = search rules;
       numbered = f.numbered ∙ ap (λ (n : ℕ). Line n f.c) later;
       fits = (first.0, f.fits);
       why = f.why;

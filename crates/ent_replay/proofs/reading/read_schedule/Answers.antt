@@ -1,6 +1,5 @@
-use Rattle.std.proofs.Common.{rules, ◌+◌, sym, ap, ◌∙◌, vec_len, Err, ℕ}
+use Rattle.std.proofs.Common.{rules, sym, vec_len}
 use Rattle.std.proofs.lemmas.Bool.{eqb-true}
-use Rattle.ent_replay.specs.declared.read_fault.ReadFault.TheVariants.{Line}
 use Rattle.ent_replay.specs.ScheduleText.{schedule_of}
 use Rattle.ent_replay.proofs.ScheduleLoop.{stops, ends}
 use Rattle.ent_replay.proofs.ScheduleLaws.{schedule_found, schedule_again, schedule_refused}
@@ -25,5 +24,4 @@ returns-in-Err-clause-refused c =
     let e = stops c.loop-rest.events.items (vec_len c.loop-rest.events) c.loop-rest.rest.now
     c.first_line.result.0.now c.first_line.result.1.now c.in-Err.cause (schedule_of text)
     c.first_line.ensures.lines (sym c.in-Err.ensures) c.loop-rest.invariant in
-    schedule_refused text (Line (c.len.result + 1) c.in-Err.cause)
-    (e ∙ ap (λ (n : ℕ). Err (Line (n + 1) c.in-Err.cause)) (sym c.len.ensures))
+    search (rules, schedule_refused, c.len.result, c.in-Err.cause, c.len.ensures)

@@ -16,22 +16,15 @@ pub returns-in_err-append-clause-full : goal.returns-in_err-append-clause-full
 returns-in_err-append-clause-full c =
     let fits = fits (goal.at.returns-in_err-append-clause-full c).After-append in
     let p = err_from_is_err_and c.from_residual.result c.from_residual.ensures.1 in
-    rw p.1 (omega (
-      arith,
-      fits,
-      c.in_err-append.ensures.full,
-      c.loop-handle.out.ok,
-      c.args.out.now.ok,
-    ))
+    search (rules, fits, c.in_err-append.ensures.full, c.loop-handle.out.ok, c.args.out.now.ok)
 
 pub returns-in_err-write_text-clause-full : goal.returns-in_err-write_text-clause-full
 returns-in_err-write_text-clause-full c =
-    let fits = fits (goal.at.returns-in_err-write_text-clause-full c).After-append in
     let p = err_from_is_err_and c.from_residual-in_err-write_text.result
     c.from_residual-in_err-write_text.ensures.1 in
     rw p.1 (omega (
       arith,
-      fits,
+      fits (goal.at.returns-in_err-write_text-clause-full c).After-append,
       c.in_err-write_text.ensures.full,
       c.loop-handle.out.ok,
       c.args.out.now.ok,

@@ -3,13 +3,13 @@ use Rattle.std.proofs.lemmas.Grind.{common_steps}
 use Rattle.std.specs.FinMap as finite
 use Rattle.std.proofs.lemmas.Int.{ints}
 use Rattle.ent_alloc.specs.Sequential.{reply_from, pool_at}
-use Rattle.ent_replay.specs.Schedule.{Reply, on_answer, event_takes_memory, reported}
+use Rattle.ent_replay.specs.Schedule.{on_answer, reported}
 use Rattle.ent_replay.specs.Machine.{machine_state, AreConsistent}
 use Rattle.ent_replay.specs.declared.machine.Machine.TheInside.{Inside}
 use Rattle.ent_replay.specs.declared.outcome.Outcome.{Outcome}
 use Rattle.ent_replay.specs.declared.outcome.Outcome.TheVariants as outcome
 use Rattle.ent_replay.specs.declared.fault.ReplayFault.TheVariants as fault
-use Rattle.ent_replay.proofs.MachineAnswers.{done, faulty, refused, listed-takes_memory}
+use Rattle.ent_replay.proofs.MachineAnswers.{done, faulty, refused}
 use Rattle.ent_replay.proofs.CallEvents.{answer-not_open, answer-not_stepped, answer-answered}
 use Rattle.ent_replay.proofs.CallEvents.{answer-consistent}
 use Rattle.ent_replay.proofs.machine.Machine.answer.Goals as goal
@@ -28,13 +28,7 @@ reply-requires c =
     (sym c.get.ensures ∙ c.in-Some.is) c.in-Some-span.is in
     let small = c.self.invariant.requests c.args.caller c.in-Some.call (sym c.get.ensures
     ∙ c.in-Some.is) in
-    let low = passed.low in
-    record {
-      least = passed.least;
-      passed = passed.high;
-      short = omega (arith, ints);
-      ordered = omega (arith, ints);
-    }
+    search (rules, ints)
 
 -- the reply is what the positions tell that the call passed
 told : (c : After-reply) → c.reply.result ≡ reply_from c.self.inside.entities.allocator.made
@@ -62,9 +56,7 @@ returns-in-Err-listed c =
     let at = (goal.at.returns-in-Err-listed c).After-reply in
     refused (λ v. on_answer v c.args.caller) before c.args.self.now c.self.view_is
     (Err fault.Memory) refl c.args.self.now (sym c.self.view_is)
-    (ap (λ p. event_takes_memory before p.0) (reports at)
-    ∙ ap (λ (r : Reply). event_takes_memory before (Ok (reported r))) (sym (told at) ∙ c.in-Ok.is)
-    ∙ listed-takes_memory before _ c.in-Err-listed.ensures.memory)
+    (search (rules, reports, told, c.in-Ok.is, c.in-Err-listed.ensures.memory, before, at))
 
 -- nothing but the call is taken out
 unchanged : (c : After-remove) → c.match-reply.self-inside ≡ c.self.inside
@@ -96,15 +88,10 @@ returns c =
     let same = unchanged at.After-remove in
     let outcome_is : c.match-reply.outcome ≡ reported (reply_from s.made
     (pool_at s c.in-Some-span.span.high) c.in-Some.call.requested) =
-    elim c.match-reply.branch [
-      | in-Ok+in-Ok-listed w ↦ w.outcome-is ∙ ap outcome.Handles w.in-Ok-listed.ensures.ok
-          ∙ ap reported (sym w.in-Ok.is ∙ says)
-      | in-Err w ↦ w.outcome-is ∙ ap reported (sym w.in-Err.is ∙ says)
-    ] in
+    search (rules, c.match-reply.branch) in
     done (λ v. on_answer v c.args.caller) (machine_state s e.spent e.calls)
     c.args.self.now c.self.view_is (Ok c.match-reply.outcome) _
     (ap (λ (o : Outcome). Ok o) outcome_is)
     (machine_state c.match-reply.self-inside.entities.allocator c.match-reply.self-inside.spent
-    c.remove.new.self)
-    _ (λ i. machine_state (same i).entities.allocator (same i).spent
+    c.remove.new.self) _ (λ i. machine_state (same i).entities.allocator (same i).spent
     (calls_are at.After-remove same i)) (reports at.After-reply)

@@ -1,9 +1,7 @@
-use Rattle.std.proofs.Common.{rules, ◌<◌, Bool, List, [], ◌∷◌, length, arith}
+use Rattle.std.proofs.lemmas.Grind.{common_steps}
+use Rattle.std.proofs.Common.{rules, ◌<◌, Bool, List, length, arith}
 use Rattle.std.specs.List.{filter}
-use Rattle.std.specs.FinMap as finite
 use Rattle.ent_alloc.proofs.Meaning.{allocator_is}
-use Rattle.ent_replay.specs.declared.outcome.Outcome.TheVariants as outcome
-use Rattle.ent_replay.specs.declared.fault.ReplayFault.TheVariants as fault
 use Rattle.ent_replay.proofs.Maps.{no_test}
 use Rattle.ent_replay.proofs.MachineAnswers.{done, faulty, refused, on_ok, on_err}
 use Rattle.ent_replay.proofs.ExclusiveEvents.{busy-flush, flush-flushed, flush-takes_memory}
@@ -16,8 +14,7 @@ returns-then-not-is_empty c = search (rules, faulty, busy-flush, no_test)
 -- what has an element that passes has an element
 some_of_filter : {X : Type 0} (p : X → Bool) (xs : List X) → 0 < length (filter p xs) → 0
     < length xs
-some_of_filter p [] some = some
-some_of_filter p (x ∷ xs) some = omega arith
+some_of_filter p xs some = grind (arith, common_steps)
 
 pub returns-then-is_err : goal.returns-then-is_err
 returns-then-is_err c =

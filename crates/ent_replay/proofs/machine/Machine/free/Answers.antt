@@ -1,8 +1,6 @@
 use Rattle.std.proofs.Common.{rules, refl}
 use Rattle.ent_alloc.specs.declared.fault.FreeFault.TheVariants as why
 use Rattle.ent_alloc.proofs.Meaning.{allocator_is}
-use Rattle.ent_replay.specs.declared.outcome.Outcome.TheVariants as outcome
-use Rattle.ent_replay.specs.declared.fault.ReplayFault.TheVariants as fault
 use Rattle.ent_replay.proofs.Maps.{no_test}
 use Rattle.ent_replay.proofs.MachineAnswers.{flushed, ok_not_err, faulty, allocator_did}
 use Rattle.ent_replay.proofs.MachineAnswers.{allocator_refused, consistent_as, not_other}
@@ -18,12 +16,10 @@ returns-then-not-is_empty c = search (rules, faulty, busy-free, no_test)
 pub invariant_of-self : goal.invariant_of-self
 invariant_of-self c =
     let e = c.self.inside in
-    let s = e.entities.allocator in
     let none = c.if-not-is_empty.ensures.0 refl in
     elim c.match-free.branch [
-      | in-Ok w ↦
-          consistent_as w.in-Ok.ensures.ok
-          (free-consistent s e.spent e.calls none c.args.handle c.self.invariant
+      | in-Ok w ↦ consistent_as w.in-Ok.ensures.ok
+          (free-consistent e.entities.allocator e.spent e.calls none c.args.handle c.self.invariant
           (λ some. ok_not_err w.in-Ok.freed why.NeedsFlush (w.in-Ok.ensures.needs_flush.1 some))
           w.in-Ok.ensures.lived)
       | in-Err-NeedsFlush w ↦

@@ -1,10 +1,9 @@
+use Rattle.std.proofs.Common.{rules, ℕ, ◌≤◌, List, Result, ◌≡◌, ◌≢◌, ◌+◌, ◌++◌, ◌∷◌, [], sym, ap}
+use Rattle.std.proofs.Common.{subst, ◌∙◌, Err, length, take, arith}
 use Rattle.std.proofs.lemmas.Grind.{common_steps}
-use Rattle.std.proofs.Common.{ℕ, ◌≤◌, List, Result, ◌≡◌, ◌≢◌, ◌+◌, ◌++◌, ◌∷◌, [], sym, ap, subst}
-use Rattle.std.proofs.Common.{◌∙◌, Err, length, take, arith}
 use Rattle.std.proofs.lemmas.List.{take_more, take_all}
 use Rattle.ent_replay.specs.declared.outcome.Outcome.{Outcome}
 use Rattle.ent_replay.specs.declared.fault.ReplayFault.{ReplayFault}
-use Rattle.ent_replay.specs.Machine.{machine_state}
 use Rattle.ent_replay.specs.Histories.{given_by_all}
 use Rattle.ent_alloc.specs.History.{AreGivenOnce}
 use Rattle.ent_replay.proofs.Linear.{linear}
@@ -35,8 +34,7 @@ returns-clause-given_once c =
     subst (λ results. AreGivenOnce (given_by_all results)) (sym all)
     (subst (λ (s : MachineState). AreGivenOnce (given_by_all (outcomes_of s c.args.events.now)))
     c.self.view_is
-    (given_once (machine_state s e.spent e.calls) c.args.events.now c.self.invariant.sound
-    c.self.invariant.once))
+    (search (rules, given_once, c.args.events.now, c.self.invariant.sound, c.self.invariant.once)))
 
 pub loop-done-preserved : goal.loop-done-preserved
 loop-done-preserved c =
@@ -44,20 +42,16 @@ loop-done-preserved c =
     let other : c.step-outcome.result ≢ Err fault.Memory = λ is.
     no_test (c.if-is_out_of_memory.ensures.1 is) in
     let more : take (c.loop-done.done + 1) c.args.events.now
-    ≡ take c.loop-done.done c.args.events.now ++ event ∷ [] = take_more c.args.events.now
-    c.loop-done.done event (omega arith)
-    ∙ ap (λ (x : Event). take c.loop-done.done c.args.events.now ++ x ∷ [])
-    (sym c.index-events-done.is) in (
+    ≡ take c.loop-done.done c.args.events.now ++ event ∷ [] =
+    search (rules, take_more, c.args.events.now, c.loop-done.done, c.index-events-done.is) in (
       c.step-outcome.ensures.state other ∙ ap (λ s. after_event s event) c.loop-done.invariant.0
           ∙ sym (after_events-append c.args.self.now (take c.loop-done.done c.args.events.now)
-          (event ∷ []))
-          ∙ ap (after_events c.args.self.now) (sym more),
+          (event ∷ [])) ∙ ap (after_events c.args.self.now) (sym more),
       c.push_reserved.ensures.items
           ∙ (λ i. c.loop-done.invariant.1 i ++ (c.step-outcome.ensures.outcome other
           ∙ ap (λ s. outcome_of s event) c.loop-done.invariant.0) i ∷ [])
           ∙ sym (outcomes_of-append c.args.self.now (take c.loop-done.done c.args.events.now) (event
-          ∷ []))
-          ∙ ap (outcomes_of c.args.self.now) (sym more),
+          ∷ [])) ∙ ap (outcomes_of c.args.self.now) (sym more),
       omega arith,
       omega arith,
     )

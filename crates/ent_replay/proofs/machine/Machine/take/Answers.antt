@@ -1,10 +1,7 @@
-use Rattle.std.proofs.Common.{rules, ◌≡◌, pos, ◌-ℤ◌, sym, ap, ◌∙◌, Some, arith}
+use Rattle.std.proofs.Common.{rules, ◌≡◌, pos, ◌-ℤ◌, sym, ◌∙◌, Some, arith}
 use Rattle.std.specs.FinMap as finite
 use Rattle.std.proofs.lemmas.Int.{ints}
 use Rattle.ent_alloc.specs.Sequential.{cursor}
-use Rattle.ent_replay.specs.Machine.{unasked}
-use Rattle.ent_replay.specs.declared.outcome.Outcome.TheVariants as outcome
-use Rattle.ent_replay.specs.declared.fault.ReplayFault.TheVariants as fault
 use Rattle.ent_replay.proofs.MachineAnswers.{done, faulty, some_of, none_of}
 use Rattle.ent_replay.proofs.CallEvents.{awaited-bound, step-not_open, step-stepped, step-taken}
 use Rattle.ent_replay.proofs.CallEvents.{step-consistent}
@@ -24,9 +21,7 @@ lower-span-requires c =
     let waits = none_of c.in-Some.call.span c.if-is_some.ensures in
     let bound = awaited-bound s e.spent e.calls c.args.caller (omega arith)
     c.self.invariant c.in-Some.call (sym c.get.ensures ∙ c.in-Some.is) in
-    let asks : unasked c.in-Some.call.requested c.in-Some.call.span ≡ c.in-Some.call.requested =
-    ap (unasked c.in-Some.call.requested) waits in
-    omega arith
+    search (rules, c.in-Some.call.requested, c.in-Some.call.span)
 
 -- the call keeps what its step passed
 stepped : (c : After-replace) → c.replace.new.self ≡ finite.insert c.self.inside.calls c.args.caller
