@@ -1,7 +1,7 @@
 -- The calls of lines that follow others, and what follows after them.
+use Rattle.std.proofs.Common.{rules, ◌≡◌, ℕ, ◌+◌, List, [], ◌∷◌, ◌++◌, length, Option, Some, None}
+use Rattle.std.proofs.Common.{Result, Ok, Err, sym, ap, ◌∙◌, arith}
 use Rattle.std.proofs.lemmas.Grind.{common_steps}
-use Rattle.std.proofs.Common.{◌≡◌, ℕ, ◌+◌, List, [], ◌∷◌, ◌++◌, length, Option, Some, None, Result}
-use Rattle.std.proofs.Common.{Ok, Err, refl, sym, ap, ◌∙◌, arith}
 use Rattle.ent_trace.specs.Checker.{Checked, Follows}
 use Rattle.ent_trace.specs.Text.{line_of, words_of}
 use Rattle.ent_trace.specs.declared.line.Line.{Line}
@@ -18,13 +18,11 @@ abbrev read : List Line → Result (List Line) Refused
 read calls = Ok calls
 
 front_of_none : (r : Result (List Line) Refused) → with_front [] r ≡ r
-front_of_none (Ok calls) = refl
-front_of_none (Err refused) = refl
+front_of_none it = search rules
 
 one_more : (number : ℕ) (l : Line) (front : List Line) (r : Result (List Line) Refused)
     → goes_on number (Ok (Some l)) (with_front front r) ≡ with_front (l ∷ front) r
-one_more number l front (Ok calls) = refl
-one_more number l front (Err refused) = refl
+one_more number l front it = search rules
 
 step : (number : ℕ) (r : Result (Option Line) Cause) (others all rest : Result (List Line) Refused)
     (calls : List Line) → ((front : List Line) → others ≡ Ok front → all ≡ with_front front rest)
@@ -33,10 +31,7 @@ step number (Err c) others all rest calls later e = absurd cc
 step number (Ok None) others all rest calls later e = later calls e
 step number (Ok (Some l)) (Err refused) all rest calls later e = absurd cc
 step number (Ok (Some l)) (Ok front) all rest calls later e =
-    let is : read (l ∷ front) ≡ read calls = e in
-    let same : l ∷ front ≡ calls = cc in
-    ap (goes_on number (Ok (Some l))) (later front refl) ∙ one_more number l front rest
-    ∙ ap (λ (ls : List Line). with_front ls rest) same
+    search (rules, one_more number l front rest)
 
 pub calls_from-append : (number : ℕ) (texts more : List (List ℕ)) (calls : List Line)
     → calls_from number texts ≡ Ok calls

@@ -1,27 +1,21 @@
 -- From the program's words to its limits: clap's matches, and the faults.
-use Rattle.std.proofs.Common.{arith, ◌≡◌, ◌∙◌, ◌^◌, ◌<◌, ◌≤◌, ℕ, List, [], ◌∷◌, true, refl, sym, ap}
-use Rattle.std.proofs.Common.{subst, inl, inr, Option, Some}
-use Rattle.std.proofs.lemmas.Grind.{common_steps}
-use Rattle.std.specs.Prelude.{◌≢◌, IfErr, IsErrAnd, Result, Ok, Err, option_map}
+use Rattle.std.proofs.Common.{rules, ◌≡◌, ◌∙◌, ◌^◌, ◌<◌, ◌≤◌, ℕ, List, [], true, refl, ap, Option}
+use Rattle.std.proofs.Common.{Some}
+use Rattle.std.specs.Prelude.{◌≢◌, IfErr, IsErrAnd, Result}
 use Rattle.std.specs.Str.Parse.{ExplainsUnsignedError, HasUnsignedDigitsIfOk, ParsesUnsigned}
-use Rattle.std.specs.Str.Parse.{digits_value, without_leading_plus}
 use Rattle.std.specs.declared.num.ParseIntError.{ParseIntError}
 use Rattle.clap.specs.Matches.{ReadsOne, one_text}
-use Rattle.clap.specs.Words.{App, HasKind, HasMatchesOf, IsAmong, Kinds, Text, fault_of, is_simple}
+use Rattle.clap.specs.Words.{App, HasKind, IsAmong, Kinds, Text, fault_of, is_simple}
 use Rattle.clap.specs.Words.{is_simple_and_free, kind_of, rows_of, without_minus}
 use Rattle.clap.specs.declared.error.Error.{Error}
 use Rattle.clap.specs.declared.error.ErrorKind.{ErrorKind}
 use Rattle.clap.specs.declared.error.ErrorKind.TheVariants.{OutOfMemory}
-use Rattle.clap.specs.declared.parser.ArgMatches.{ArgMatches}
 use Rattle.clap.specs.declared.parser.matches.Found.{Found}
-use Rattle.clap.proofs.CallerReads.{signed_reads}
 use Rattle.clap.proofs.OnLiterals.{clap_on_literals}
 use Rattle.clap.proofs.WalkLemmas.{one_text-rows}
-use Rattle.ent_alloc.specs.Limits.{Limits}
-use Rattle.tracecheck.specs.CommandLine.{AreGiven, AsksFor, HasNumber, IsFaultIn, IsFaultOf, given}
-use Rattle.tracecheck.specs.CommandLine.{option_number, program}
+use Rattle.tracecheck.specs.CommandLine.{HasNumber, IsFaultIn, IsFaultOf, option_number, program}
 use Rattle.tracecheck.specs.declared.command_line.LineFault.{LineFault}
-use Rattle.tracecheck.specs.declared.command_line.LineFault.TheVariants.{Line, Memory}
+use Rattle.tracecheck.specs.declared.command_line.LineFault.TheVariants.{Memory}
 
 -- ---- the numbers of the options
 
@@ -38,16 +32,7 @@ pub number_read : (bits : ℕ) (option : Text) (most : ℕ) (found : Found) (r :
     ≡ Some n)
 number_read bits option most found r fits number reads =
     let read = reads (without_minus number.text) (one_text-rows found option ∙ number.is) in
-    let known = signed_reads _ (number_gives bits) bits 1 most number.text r read
-    (λ text given gives. gives.0) fits number.within in
-    let given = subst (ReadsOne (number_gives bits) (without_minus number.text)) known.1 read in (
-      known.0,
-      known.1,
-      known.2,
-      known.3,
-      ap (option_map (λ text. digits_value 10 (without_leading_plus text))) number.is
-          ∙ ap (λ n. Some n) (sym given.0.1),
-    )
+    search (rules, read)
 
 -- ---- the program's command
 
@@ -68,21 +53,14 @@ is_free app is = ap is_simple_and_free is ∙ program-free
 pub only_memory : {T : Type 0} (r : Result T LineFault) (error : Error) (admitted : Type 0)
     → IsErrAnd r (IsFaultOf error) → (admitted → kind_of error ≡ OutOfMemory)
     → IfErr r (λ fault. admitted → fault ≡ Memory)
-only_memory (Ok limits) error admitted fault kind = tt
-only_memory (Err Memory) error admitted fault kind = λ _. refl
-only_memory (Err (Line same)) error admitted fault kind = λ yes. absurd (fault.1 (kind yes))
+only_memory it error admitted fault kind = search rules
 
 -- and clap's rules find it
 pub found_fault : {T : Type 0} (r : Result T LineFault) (error : Error) (words : List Text)
     → IsErrAnd r (IsFaultOf error) → HasKind (fault_of program words) error
     → IfErr r (IsFaultIn words)
-found_fault (Ok limits) error words fault kind = tt
-found_fault (Err Memory) error words fault kind = tt
-found_fault (Err (Line same)) error words fault (inl memory) = absurd (fault.1 memory)
-found_fault (Err (Line same)) error words fault (inr among) =
-    subst (λ (e : Error). IsAmong (kind_of e) (fault_of program words)) (sym fault.0) among
+found_fault it error words fault kind = search rules
 
 -- words of which a fault is found are faulty
 pub some_fault : (kind : ErrorKind) (kinds : Kinds) → IsAmong kind kinds → kinds ≢ []
-some_fault kind [] among = absurd among
-some_fault kind (k ∷ ks) among = λ e. cc
+some_fault kind ks among = search rules

@@ -19,23 +19,20 @@ IsUnended bytes = All (λ byte. byte ≢ 10) bytes
 pub without_return-return : (front : List ℕ) → without_return (front ++ 13 ∷ []) ≡ front
 without_return-return [] = refl
 without_return-return (byte ∷ []) = refl
-without_return-return (byte ∷ next ∷ more) =
-    ap (λ (bs : List ℕ). byte ∷ bs) (without_return-return (next ∷ more))
+without_return-return (byte ∷ next ∷ more) = search (rules, without_return-return (next ∷ more))
 
 pub without_return-other : (front : List ℕ) (last : ℕ) → last ≢ 13
     → without_return (front ++ last ∷ []) ≡ front ++ last ∷ []
 without_return-other [] last other = cond-false (eqb last 13) [] (last ∷ []) (ne_eqb last 13 other)
-without_return-other (byte ∷ []) last other =
-    ap (λ (bs : List ℕ). byte ∷ bs) (without_return-other [] last other)
+without_return-other (byte ∷ []) last other = search (rules, without_return-other [] last other)
 without_return-other (byte ∷ next ∷ more) last other =
-    ap (λ (bs : List ℕ). byte ∷ bs) (without_return-other (next ∷ more) last other)
+    search (rules, without_return-other (next ∷ more) last other)
 
 -- ---- lines
 
 ended-cons : (part : List ℕ) (parts : List (List ℕ)) → 0 < length parts
     → ended (part ∷ parts) ≡ without_return part ∷ ended parts
-ended-cons part [] long = absurd (omega arith)
-ended-cons part (next ∷ more) long = refl
+ended-cons part more long = search rules
 
 pub lines_first : (line others : List ℕ) → IsUnended line
     → lines_of (line ++ 10 ∷ others) ≡ without_return line ∷ lines_of others
@@ -79,13 +76,7 @@ HasRead-line limits text old new pending bytes all h taken = record {
 pub HasRead-bytes : (limits : Limits) (text : List ℕ) (old : Checking)
     (pending bytes : List ℕ) → IsUnended bytes → HasRead limits text old pending
     → HasRead limits (text ++ bytes) old (pending ++ bytes)
-HasRead-bytes limits text old pending bytes all h = record {
-  texts = h.texts;
-  taken = h.taken;
-  unended = All-append (λ byte. byte ≢ 10) pending bytes h.unended all;
-  lines = λ more. ap lines_of (append_assoc text bytes more) ∙ h.lines (bytes ++ more)
-      ∙ ap (λ (bs : List ℕ). h.texts ++ lines_of bs) (sym (append_assoc pending bytes more));
-}
+HasRead-bytes limits text old pending bytes all h = grind (arith, common_steps)
 
 -- all lines of the text, if nothing comes any more
 pub lines_now : (limits : Limits) (text : List ℕ) (old : Checking) (pending : List ℕ)

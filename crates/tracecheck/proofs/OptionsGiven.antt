@@ -1,30 +1,28 @@
 -- What clap's facts of a parse say of an option with a default: it has a number in its range.
-use Rattle.std.proofs.Common.{◌≡◌, ◌∙◌, ◌⊎◌, ◌<◌, ◌≤◌, ℕ, Bool, true, false, List, [], ◌∷◌, cond}
-use Rattle.std.proofs.Common.{length, zero, suc, refl, sym, ap, subst, inl, inr, codes, arith, map}
-use Rattle.std.proofs.Common.{Option, Some, None, is_some}
+use Rattle.std.proofs.lemmas.Grind.{common_steps}
+use Rattle.std.proofs.Common.{rules, ◌≡◌, ◌∙◌, ◌⊎◌, ◌<◌, ◌≤◌, ℕ, Bool, true, false, List, [], ◌∷◌}
+use Rattle.std.proofs.Common.{cond, length, zero, suc, refl, sym, ap, subst, inl, inr, codes, arith}
+use Rattle.std.proofs.Common.{map, Option, Some, None, is_some}
 use Rattle.std.proofs.lemmas.Bool.{false≢true}
 use Rattle.std.proofs.lemmas.Slice.Eq.{bytes_eq-Decides}
 use Rattle.std.specs.Borrow.{Bor}
 use Rattle.std.specs.List.{All, find, list_all, slice_index_or}
-use Rattle.std.specs.Prelude.{option_and_then, option_map, pos, slice_get, unwrap_or}
+use Rattle.std.specs.Prelude.{option_map, pos}
 use Rattle.std.specs.Str.{bytes_eq}
 use Rattle.clap.specs.Built.{IsAuto, IsParsedFrom, SameRules}
 use Rattle.clap.specs.Facts.{Entry, EntryPasses, HasId, HasReading, IsCountArg, IsFilledEntry}
 use Rattle.clap.specs.Facts.{IsKnownGroup, MayBeEmpty, PassesArg, ValuesPass, WantsDefault, args_of}
-use Rattle.clap.specs.Facts.{groups_of, least_values, parser_of, parser_of_value, unwrap_or_range}
+use Rattle.clap.specs.Facts.{groups_of, least_values, unwrap_or_range}
 use Rattle.clap.specs.Matches.{found_of, matched_of}
-use Rattle.clap.specs.Simple.{App, IsSimple, IsSimpleArg, app_of, is_ready}
-use Rattle.clap.specs.Simple.{is_ready_leaf}
-use Rattle.clap.specs.Values.{Accepts, IsSignedIn, read_as, reading_of}
+use Rattle.clap.specs.Simple.{App, IsSimple, IsSimpleArg, app_of, is_ready, is_ready_leaf}
+use Rattle.clap.specs.Values.{IsSignedIn}
 use Rattle.clap.specs.Walk.{Rule, Text, rows_of, rule_of, texts}
 use Rattle.clap.specs.Texts.{items_of}
-use Rattle.clap.specs.declared.builder.ArgAction.{ArgAction}
-use Rattle.clap.specs.declared.builder.ArgAction.TheVariants.{Count, Set}
+use Rattle.clap.specs.declared.builder.ArgAction.TheVariants.{Set}
 use Rattle.clap.specs.declared.builder.arg.Arg.{Arg}
 use Rattle.clap.specs.declared.builder.command.Command.{Command}
 use Rattle.clap.specs.declared.builder.value_parser.Reading.{Reading}
 use Rattle.clap.specs.declared.builder.value_parser.Reading.TheVariants.{WithoutMinus}
-use Rattle.clap.specs.declared.builder.value_parser.ValueParser.{ValueParser}
 use Rattle.clap.specs.declared.builder.value_parser.ValueParser.TheVariants.{Signed}
 use Rattle.clap.specs.declared.parser.ArgMatches.{ArgMatches}
 use Rattle.clap.specs.declared.parser.matches.Found.{Found}
@@ -52,8 +50,7 @@ first_arg [] some = absurd (omega arith)
 first_arg (x ∷ xs) some = x
 
 some_text : (vs : List (Bor Text)) (text : Text) → texts vs ≡ text ∷ [] → 0 < length vs
-some_text [] text e = cc
-some_text (v ∷ vs) text e = omega arith
+some_text vs text e = grind (arith, common_steps)
 
 -- ---- an entry of clap's matches
 
@@ -88,60 +85,32 @@ module _ (c : Command) (id : Text) (most : ℕ) (no_groups : groups_of c ≡ [])
     (only : (j : ℕ) (a : Arg) → j < length (args_of c) → slice_index_or (args_of c) j a ≡ a
     → bytes_eq a.id.now id ≡ true → TakesNumber most a) where
   no_group : IsKnownGroup c id → ⊥
-  no_group (inl empty) = named empty
-  no_group (inr some) =
-      let none : 0 < 0 = rw no_groups at some in
-      absurd (omega arith)
+  no_group which = search rules
 
   no_count : IsCountArg c id → ⊥
-  no_count any =
-      let a = only any.0 any.1 any.2 any.3 any.4.0 in
-      let counts : unwrap_or any.1.action Set ≡ Count = any.4.1 in
-      let sets : Set ≡ Count = sym (ap (λ (o : Option ArgAction). unwrap_or o Set) a.action) ∙ counts in
-      cc
+  no_count any = search rules
 
   not_empty : (a : Arg) → TakesNumber most a → MayBeEmpty a → ⊥
-  not_empty a takes (inl none) =
-      let least = takes.least in
-      absurd (omega arith)
-  not_empty a takes (inr delimits) =
-      absurd (false≢true (sym (ap is_some takes.delimiter) ∙ delimits))
+  not_empty a takes which = search (rules, false≢true)
 
   -- the entry of the id has a value
   filled : (e : Entry) → e.0.now ≡ id → IsFilledEntry c e → 0 < length e.1.vals.items
-  filled e key (inl group) = absurd (no_group (subst (IsKnownGroup c) key group.1))
-  filled e key (inr (inl some)) = some
-  filled e key (inr (inr (inl counts))) = absurd (no_count (subst (IsCountArg c) key counts.1))
-  filled e key (inr (inr (inr any))) =
-      let same : bytes_eq any.1.id.now id ≡ true =
-      subst (λ (text : Text). bytes_eq any.1.id.now text ≡ true) key any.4.0 in
-      absurd (not_empty any.1 (only any.0 any.1 any.2 any.3 same) any.4.1)
+  filled e key which = search (rules, no_group, no_count, not_empty)
 
   -- which is read without its minus
   read : (reading : Reading) → HasReading c id reading → reading ≡ WithoutMinus
-  read reading any =
-      let a = only any.0 any.1 any.2 any.3 any.4.0 in
-      sym any.4.1 ∙ ap (λ (o : Option ValueParser). reading_of (parser_of_value o)) a.parser
+  read reading any = search rules
 
   -- and in the range
   accepted : (text : Text) → PassesArg c id text → IsSignedIn (pos 1) (pos most) text
-  accepted text any =
-      let a = only any.0 any.1 any.2 any.3 any.4.0 in
-      subst (λ (o : Option ValueParser). Accepts false (parser_of_value o) text) a.parser
-      (subst (λ (b : Bool). Accepts b (parser_of any.1) text) a.ignore_case any.4.1)
+  accepted text any = search rules
 
   number_in : (f : Found) (x : MatchedArg) → matched_of f id ≡ Some x → x.reading ≡ WithoutMinus
       → (vs : List (Bor Text)) → x.vals.items ≡ vs → All (λ v. PassesArg c id v.now) vs
       → 0 < length vs → HasNumber id most (rows_of f)
   number_in f x found reading [] is all some = absurd (omega arith)
-  number_in f x found reading (v ∷ vs) is all some = record {
-    text = v.now;
-    is = sym (one_text-rows f id)
-        ∙ (ap (option_and_then (λ (a : MatchedArg). option_map (λ (s : Bor Text). read_as a.reading s.now)
-        (slice_get a.vals.items 0))) found
-        ∙ (λ i. option_map (λ (s : Bor Text). read_as (reading i) s.now) (slice_get (is i) 0)));
-    within = accepted v.now (all 0 v (omega arith));
-  }
+  number_in f x found reading (v ∷ vs) is all some =
+      search (rules, one_text-rows f id, accepted v.now (all 0 v (omega arith)))
 
   entry-number : (f : Found) (x : MatchedArg) → matched_of f id ≡ Some x
       → ((e : Entry) × (e.1 ≡ x) × (bytes_eq e.0.now id ≡ true) × EntryPasses c e)
@@ -252,8 +221,7 @@ differs a b other same e = false≢true (sym other ∙ (ap (λ text. bytes_eq te
 not_auto : (option : Text) → bytes_eq option (codes "help") ≡ false
     → bytes_eq option (codes "version") ≡ false
     → (option ≡ codes "help") ⊎ (option ≡ codes "version") → ⊥
-not_auto option help version (inl e) = differs option (codes "help") help refl e
-not_auto option help version (inr e) = differs option (codes "version") version refl e
+not_auto option help version which = search (rules, differs)
 
 slots-alone : Alone 0 (codes "slots")
 slots-alone zero e lt same = refl

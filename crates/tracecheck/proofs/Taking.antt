@@ -9,7 +9,6 @@ use Rattle.ent_alloc.specs.Sequential.{opening}
 use Rattle.ent_trace.specs.Checker.{AgreesWith, Follows, IsTooMany, NoneFollows, OnDiffers}
 use Rattle.ent_trace.specs.Checker.{OnTooMany, Shows}
 use Rattle.ent_trace.specs.declared.difference.Stop.{Stop}
-use Rattle.ent_trace.specs.declared.difference.Stop.TheVariants as stop
 use Rattle.tracecheck.specs.Verdict.{MayEnd, end_of, IsVerdict, StandsAt, agrees, asks_too_many}
 use Rattle.tracecheck.specs.Verdict.{differs, differs_in_all, is_none}
 use Rattle.ent_trace.specs.Trace.{Agrees}
@@ -92,14 +91,8 @@ pub asks_here : (limits : Limits) (texts after : List (List ℕ)) (text : List �
     → line_of number (words_of text) ≡ Ok (Some l) → IsTooMany old.checker l
     → HasTaken limits texts old
     → IsVerdict limits (texts ++ text ∷ after) (verdict.Refused number refusal.Requests)
-asks_here limits texts after text l old number next named many h = asks_too_many number (record {
-  calls = h.calls;
-  next = l;
-  stands = stands limits texts after text l old number next named h;
-  checked = old.checker;
-  follow = h.follow;
-  many = many;
-})
+asks_here limits texts after text l old number next named many h = asks_too_many number
+    (search (rules, stands limits texts after text l old number next named h))
 
 pub none_here : (limits : Limits) (texts after : List (List ℕ)) (text : List ℕ) (c : Cause)
     (old : Checking) (number : ℕ) → number ≡ old.lines + 1
@@ -142,8 +135,5 @@ pub ends_at : (limits : Limits) (texts after : List (List ℕ)) (text : List ℕ
     → line_of number (words_of text) ≡ Ok (Some l) → OnDiffers s (Shows old.checker number (l ∷ []))
     → OnDiffers s (λ d. NoneFollows old.checker l) → OnTooMany s (IsTooMany old.checker l)
     → HasTaken limits texts old → MayEnd limits (texts ++ text ∷ after) (end_of number s)
-ends_at limits texts after text l old number (stop.Differs d) next named shows none many h =
-    differs_here limits texts after text l old number d next named shows none h
-ends_at limits texts after text l old number stop.TooMany next named shows none many h =
-    asks_here limits texts after text l old number next named many h
-ends_at limits texts after text l old number stop.Memory next named shows none many h = tt
+ends_at limits texts after text l old number it next named shows none many h =
+    search (rules, differs_here, asks_here)
