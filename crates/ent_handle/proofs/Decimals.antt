@@ -1,8 +1,9 @@
 -- A decimal is what std's `decimal` writes of its value, and reading gives the value of nothing
 -- else.
+use Rattle.std.proofs.lemmas.Grind.{common_steps}
 use Rattle.std.proofs.Common.{◌≡◌, ℕ, ◌^◌, ◌<◌, ◌≤◌, ◌↔◌, true, false, eqb, List, [], ◌∷◌, length}
-use Rattle.std.proofs.Common.{get_or, Option, Some, None, Result, Ok, Err, IsSome, IfSome, IfOk}
-use Rattle.std.proofs.Common.{IsErrOf, refl, sym, ap, subst, ◌∙◌, lit<, inl, inr, arith, rules}
+use Rattle.std.proofs.Common.{get_or, Option, Result, Ok, Err, IsSome, IfSome, IfOk, IsErrOf, refl}
+use Rattle.std.proofs.Common.{sym, ap, subst, ◌∙◌, inl, inr, arith, rules}
 use Rattle.std.specs.Char.{is_ascii_digit}
 use Rattle.std.specs.Fmt.{decimal}
 use Rattle.std.specs.List.{list_all}
@@ -11,9 +12,8 @@ use Rattle.std.specs.Result.{OkIff, result_ok}
 use Rattle.std.specs.Str.{IsUtf8}
 use Rattle.std.specs.Str.Parse.{digits_value, ParsesUnsigned}
 use Rattle.std.proofs.lemmas.Str.{IsUtf8-from_ascii}
-use Rattle.std.proofs.lemmas.Bool.{false≢true, cases_Bool, cases_eq, false_from_ne_true, cases_lt}
-use Rattle.std.proofs.lemmas.Bool.{cond-true, cond-false, eqb-true, eqb-false, eq-eqb, ne_eqb}
-use Rattle.std.proofs.lemmas.Bool.{lt-ltb, le-ltb}
+use Rattle.std.proofs.lemmas.Bool.{false≢true, cases_Bool, cases_eq, cases_lt, cond-true}
+use Rattle.std.proofs.lemmas.Bool.{cond-false, eqb-true, eq-eqb, ne_eqb, lt-ltb, le-ltb}
 use Rattle.std.proofs.lemmas.List.{nil_from_length}
 use Rattle.std.proofs.lemmas.Str.Parse.{IsNumeralModel, numerals_by_value, parse_digits}
 use Rattle.std.proofs.lemmas.Fmt.{decimal_is_IsNumeral, decimal-digits_value, digits_decimal}
@@ -33,32 +33,18 @@ pub record IsPlain (ds : List ℕ) : Type 0 where
   pub no_leading_zero : get_or ds 0 0 ≡ 48 → length ds ≡ 1
 
 zero_is_plain : (c : ℕ) (cs : List ℕ) → c ≡ 48 → cs ≡ [] → IsPlain (c ∷ cs)
-zero_is_plain c cs e n =
-    let P : List ℕ → Type 0 = IsPlain in
-    subst P (ap (λ (d : ℕ). d ∷ []) (sym e) ∙ ap (λ (ds : List ℕ). c ∷ ds) (sym n))
-    (record { digits = refl; nonempty = omega arith; no_leading_zero = λ _. refl })
+zero_is_plain c cs e n = search rules
 
 pub plain_from_decimal : (ds : List ℕ) → IsDecimal ds → IsPlain ds
 plain_from_decimal [] h = absurd cc
-plain_from_decimal (c ∷ cs) h =
-    elim (cases_Bool (eqb c 48)) [
-      | inl zero ↦ zero_is_plain c cs (eqb-true c 48 zero)
-          (nil_from_length cs (eqb-true _ _ (sym (cond-true (eqb c 48) _ _ zero) ∙ h)))
-      | inr other ↦ record {
-        digits = sym (cond-false (eqb c 48) _ _ other) ∙ h;
-        nonempty = omega arith;
-        no_leading_zero = λ e. absurd (eqb-false c 48 other e);
-      }
-    ]
+plain_from_decimal (c ∷ cs) h = elim (cases_Bool (eqb c 48)) [
+  | inl zero ↦ zero_is_plain c cs (eqb-true c 48 zero)
+      (nil_from_length cs (eqb-true _ _ (sym (cond-true (eqb c 48) _ _ zero) ∙ h)))
+  | inr other ↦ search rules
+]
 
 pub decimal_from_plain : (ds : List ℕ) → IsPlain ds → IsDecimal ds
-decimal_from_plain [] h = absurd (omega (arith, h.nonempty))
-decimal_from_plain (c ∷ cs) h =
-    elim (cases_Bool (eqb c 48)) [
-      | inl zero ↦ cond-true (eqb c 48) _ _ zero
-          ∙ eq-eqb _ _ (omega (arith, h.no_leading_zero (eqb-true c 48 zero)))
-      | inr other ↦ cond-false (eqb c 48) _ _ other ∙ h.digits
-    ]
+decimal_from_plain cs h = search (rules, cases_Bool, cond-true, eq-eqb, eqb-true, cond-false)
 
 -- a decimal is the text of its value
 pub decimal-value : (ds : List ℕ) → IsDecimal ds → digits_value 10 ds < 2 ^ 64
@@ -68,23 +54,14 @@ decimal-value ds h small =
     decimal-digits_value digit_texts ds p.digits p.nonempty p.no_leading_zero small
 
 one_digit : (n : ℕ) → n ≡ 0 → IsPlain (decimal n)
-one_digit n e =
-    let P : List ℕ → Type 0 = IsPlain in
-    subst P (sym (ap decimal e ∙ decimal_digit 0 (lit< tt)))
-    (record { digits = refl; nonempty = omega arith; no_leading_zero = λ _. refl })
+one_digit n e = search (rules, decimal_digit)
 
 -- the text of a number is a decimal
 pub decimal_is_decimal : (n : ℕ) → n < 2 ^ 64 → IsDecimal (decimal n)
-decimal_is_decimal n small =
-    decimal_from_plain (decimal n)
-    (elim (cases_eq n 0) [
-      | inl e ↦ one_digit n e
-      | inr above ↦ record {
-        digits = digits_decimal digit_texts n small;
-        nonempty = decimal_nonempty n small;
-        no_leading_zero = λ e. absurd (omega (arith, first_decimal n (omega arith) small));
-      }
-    ])
+decimal_is_decimal n small = decimal_from_plain (decimal n) (elim (cases_eq n 0) [
+  | inl e ↦ one_digit n e
+  | inr above ↦ search (rules, digits_decimal, digit_texts, decimal_nonempty, first_decimal)
+])
 
 pub value-decimal : (n : ℕ) → n < 2 ^ 64 → digits_value 10 (decimal n) ≡ n
 value-decimal n small = (decimal_is_IsNumeral n small).1
@@ -93,8 +70,7 @@ value-decimal n small = (decimal_is_IsNumeral n small).1
 
 pub is_decimal_unless_zero : (ds : List ℕ) → 0 < length ds → (get_or ds 0 0 ≡ 48 → ⊥)
     → is_decimal ds ≡ list_all is_ascii_digit ds
-is_decimal_unless_zero [] long other = absurd (omega arith)
-is_decimal_unless_zero (c ∷ cs) long other = cond-false (eqb c 48) _ _ (ne_eqb c 48 other)
+is_decimal_unless_zero cs long other = search (rules, cond-false, ne_eqb)
 
 pub number_in_range : (ds : List ℕ) → IsDecimal ds → digits_value 10 ds < 2 ^ 32 → number_of ds
     ≡ Ok (digits_value 10 ds)
@@ -108,10 +84,7 @@ pub number_of_none : (ds : List ℕ) → is_decimal ds ≡ false → number_of d
 number_of_none ds h = rw h refl
 
 pub number_of-decimal : (n : ℕ) → n < 2 ^ 32 → number_of (decimal n) ≡ Ok n
-number_of-decimal n small =
-    let value = value-decimal n (omega arith) in
-    number_in_range (decimal n) (decimal_is_decimal n (omega arith)) (omega (arith, value))
-    ∙ ap (λ (m : ℕ). Ok m) value
+number_of-decimal n small = search (rules, value-decimal, number_in_range, decimal_is_decimal)
 
 -- ---- what reading gives, in plain facts
 
@@ -121,11 +94,7 @@ number_found ds r e =
     let P : Result ℕ TextFault → Type 0 = λ x. IfOk x (λ n. ds ≡ decimal n) in
     elim (cases_Bool (is_decimal ds)) [
       | inr none ↦ subst P (sym (e ∙ number_of_none ds none)) tt
-      | inl is ↦ elim (cases_lt (digits_value 10 ds) (2 ^ 32)) [
-        | inl small ↦ subst P (sym (e ∙ number_in_range ds is small))
-            (sym (decimal-value ds is (omega arith)))
-        | inr large ↦ subst P (sym (e ∙ number_too_large ds is large)) tt
-      ]
+      | inl is ↦ search (rules, cases_lt, number_in_range, decimal-value, number_too_large)
     ]
 
 pub number_only : (ds : List ℕ) (r : Result ℕ TextFault) → r ≡ number_of ds → (n : ℕ) → n < 2 ^ 32
@@ -134,26 +103,12 @@ number_only ds r e n small is = e ∙ ap number_of is ∙ number_of-decimal n sm
 
 pub number_shape : (ds : List ℕ) (r : Result ℕ TextFault) → r ≡ number_of ds
     → IsErrOf r Shape ↔ (¬ IsDecimal ds)
-number_shape ds r e = (
-  λ shape is. elim (cases_lt (digits_value 10 ds) (2 ^ 32)) [
-    | inl small ↦ let f = e ∙ number_in_range ds is small in absurd cc
-    | inr large ↦ let f = e ∙ number_too_large ds is large in absurd cc
-  ],
-  λ none. e ∙ number_of_none ds (false_from_ne_true _ none),
-)
+number_shape ds r e = search (rules, cases_lt (digits_value 10 ds) (2 ^ 32))
 
 pub number_range : (ds : List ℕ) (r : Result ℕ TextFault) → r ≡ number_of ds
     → IsErrOf r Range ↔ (IsDecimal ds × (2 ^ 32 ≤ digits_value 10 ds))
-number_range ds r e = (
-  λ range. elim (cases_Bool (is_decimal ds)) [
-    | inr none ↦ let f = e ∙ number_of_none ds none in absurd cc
-    | inl is ↦ elim (cases_lt (digits_value 10 ds) (2 ^ 32)) [
-      | inl small ↦ let f = e ∙ number_in_range ds is small in absurd cc
-      | inr large ↦ (is, large)
-    ]
-  ],
-  λ p. e ∙ number_too_large ds p.0 p.1,
-)
+number_range ds r e =
+    search (rules, cases_Bool, number_of_none, cases_lt, number_in_range, number_too_large)
 
 -- digits are ASCII
 pub decimal_is_text : (ds : List ℕ) → IsDecimal ds → IsUtf8 ds
@@ -168,31 +123,14 @@ pub record IsValue (ds : List ℕ) (o : Option ℕ) : Type 0 where
 by_cases : {E : Type 0} (ds : List ℕ) (r : Result ℕ E) (o : Option ℕ) → 0 < length ds
     → OkIff r ((0 < length ds) × (digits_value 10 ds < 2 ^ 32)) (digits_value 10 ds) → o
     ≡ result_ok r → IsValue ds o
-by_cases ds (Ok n) o long whole e =
-    subst (IsValue ds) (sym e) (record { value = whole.1; in_range = (λ _. whole.0.1, λ _. refl) })
-by_cases ds (Err d) o long none e =
-    subst (IsValue ds) (sym e)
-    (record {
-      value = tt;
-      in_range = (
-        λ some. absurd (false≢true some),
-        λ small.
-            absurd (none (long, small)),
-      );
-    })
+by_cases ds it o long whole e = search rules
 
 pub parsed : {E : Type 0} (ds text : List ℕ) (r : Result ℕ E) (o : Option ℕ) → IsDecimal ds → text
     ≡ ds → ParsesUnsigned 32 10 text r → o ≡ result_ok r → IsValue ds o
 parsed ds text r o is same parses given =
-    let p = plain_from_decimal ds is in
-    by_cases ds r o p.nonempty (parse_digits digit_texts 32 ds r (rw same at parses) p.digits) given
+    grind (arith, common_steps, plain_from_decimal, by_cases, parse_digits, digit_texts)
 
 pub number_from_value : (ds : List ℕ) (o : Option ℕ) → IsDecimal ds → IsValue ds o → ok_or o Range
     ≡ number_of ds
-number_from_value ds (Some n) is v = ap (λ (m : ℕ). Ok m) v.value
-    ∙ sym (number_in_range ds is (v.in_range.0 refl))
-number_from_value ds None is v =
-    elim (cases_lt (digits_value 10 ds) (2 ^ 32)) [
-      | inl small ↦ absurd (false≢true (v.in_range.1 small))
-      | inr large ↦ sym (number_too_large ds is large)
-    ]
+number_from_value ds it is v =
+    search (rules, number_in_range, cases_lt, false≢true, number_too_large)
