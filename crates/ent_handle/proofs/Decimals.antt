@@ -8,7 +8,7 @@ use Rattle.std.specs.Char.{is_ascii_digit}
 use Rattle.std.specs.Fmt.{decimal}
 use Rattle.std.specs.List.{list_all}
 use Rattle.std.specs.Option.{ok_or}
-use Rattle.std.specs.Result.{OkIff, result_ok}
+use Rattle.std.specs.Result.{result_ok}
 use Rattle.std.specs.Str.{IsUtf8}
 use Rattle.std.specs.Str.Parse.{digits_value, ParsesUnsigned}
 use Rattle.std.proofs.lemmas.Str.{IsUtf8-from_ascii}
@@ -120,15 +120,10 @@ pub record IsValue (ds : List ℕ) (o : Option ℕ) : Type 0 where
   pub value : IfSome o (λ n. n ≡ digits_value 10 ds)
   pub in_range : IsSome o ↔ (digits_value 10 ds < 2 ^ 32)
 
-by_cases : {E : Type 0} (ds : List ℕ) (r : Result ℕ E) (o : Option ℕ) → 0 < length ds
-    → OkIff r ((0 < length ds) × (digits_value 10 ds < 2 ^ 32)) (digits_value 10 ds) → o
-    ≡ result_ok r → IsValue ds o
-by_cases ds it o long whole e = search rules
-
 pub parsed : {E : Type 0} (ds text : List ℕ) (r : Result ℕ E) (o : Option ℕ) → IsDecimal ds → text
     ≡ ds → ParsesUnsigned 32 10 text r → o ≡ result_ok r → IsValue ds o
 parsed ds text r o is same parses given =
-    grind (arith, common_steps, plain_from_decimal, by_cases, parse_digits, digit_texts)
+    grind (arith, common_steps, plain_from_decimal, parse_digits, digit_texts)
 
 pub number_from_value : (ds : List ℕ) (o : Option ℕ) → IsDecimal ds → IsValue ds o → ok_or o Range
     ≡ number_of ds
