@@ -1,14 +1,12 @@
 -- From the program's words to its limits: clap's matches, and the faults.
-use Rattle.std.proofs.Common.{rules, ◌≡◌, ◌∙◌, ◌^◌, ◌<◌, ◌≤◌, ℕ, List, [], true, refl, ap, Option}
-use Rattle.std.proofs.Common.{Some}
-use Rattle.std.specs.Prelude.{◌≢◌, IfErr, IsErrAnd, Result}
+use Rattle.std.proofs.Common.{rules, ◌≡◌, ◌∙◌, ◌^◌, ◌<◌, ◌≤◌, ℕ, List, true, refl, ap, Option, Some}
+use Rattle.std.specs.Prelude.{IfErr, IsErrAnd, Result}
 use Rattle.std.specs.Str.Parse.{ExplainsUnsignedError, HasUnsignedDigitsIfOk, ParsesUnsigned}
 use Rattle.std.specs.declared.num.ParseIntError.{ParseIntError}
 use Rattle.clap.specs.Matches.{ReadsOne, one_text}
-use Rattle.clap.specs.Words.{App, HasKind, IsAmong, Kinds, Text, fault_of, is_simple}
-use Rattle.clap.specs.Words.{is_simple_and_free, kind_of, rows_of, without_minus}
+use Rattle.clap.specs.Words.{App, HasKind, Text, fault_of, is_simple, is_simple_and_free, kind_of}
+use Rattle.clap.specs.Words.{rows_of, without_minus}
 use Rattle.clap.specs.declared.error.Error.{Error}
-use Rattle.clap.specs.declared.error.ErrorKind.{ErrorKind}
 use Rattle.clap.specs.declared.error.ErrorKind.TheVariants.{OutOfMemory}
 use Rattle.clap.specs.declared.parser.matches.Found.{Found}
 use Rattle.clap.proofs.OnLiterals.{clap_on_literals}
@@ -60,7 +58,3 @@ pub found_fault : {T : Type 0} (r : Result T LineFault) (error : Error) (words :
     → IsErrAnd r (IsFaultOf error) → HasKind (fault_of program words) error
     → IfErr r (IsFaultIn words)
 found_fault it error words fault kind = search rules
-
--- words of which a fault is found are faulty
-pub some_fault : (kind : ErrorKind) (kinds : Kinds) → IsAmong kind kinds → kinds ≢ []
-some_fault kind ks among = search rules

@@ -73,11 +73,6 @@ HasRead-line limits text old new pending bytes all h taken = record {
       ∙ sym (append_assoc h.texts (without_return (pending ++ bytes) ∷ []) (lines_of more));
 }
 
-pub HasRead-bytes : (limits : Limits) (text : List ℕ) (old : Checking)
-    (pending bytes : List ℕ) → IsUnended bytes → HasRead limits text old pending
-    → HasRead limits (text ++ bytes) old (pending ++ bytes)
-HasRead-bytes limits text old pending bytes all h = grind (arith, common_steps)
-
 -- all lines of the text, if nothing comes any more
 pub lines_now : (limits : Limits) (text : List ℕ) (old : Checking) (pending : List ℕ)
     → (h : HasRead limits text old pending) → lines_of text ≡ h.texts ++ lines_of pending
@@ -90,10 +85,6 @@ lines_now limits text old pending h =
 pub piece_front : (piece front rest line others : List ℕ) → piece ≡ front ++ rest
     → rest ≡ line ++ 10 ∷ others → piece ≡ (front ++ line ++ 10 ∷ []) ++ others
 piece_front piece front rest line others whole parts = grind (arith, common_steps)
-
-pub text_front : (text front line : List ℕ)
-    → text ++ (front ++ line ++ 10 ∷ []) ≡ text ++ front ++ line ++ 10 ∷ []
-text_front text front line = grind (arith, common_steps)
 
 -- what comes after a line of a piece
 pub piece_rest : (text piece front rest line others more : List ℕ) → piece ≡ front ++ rest

@@ -218,11 +218,6 @@ number-given cmd m is p k option most default below at alone named own =
 differs : (a b : Text) → bytes_eq a b ≡ false → bytes_eq b b ≡ true → a ≡ b → ⊥
 differs a b other same e = false≢true (sym other ∙ (ap (λ text. bytes_eq text b) e ∙ same))
 
-not_auto : (option : Text) → bytes_eq option (codes "help") ≡ false
-    → bytes_eq option (codes "version") ≡ false
-    → (option ≡ codes "help") ⊎ (option ≡ codes "version") → ⊥
-not_auto option help version which = search (rules, differs)
-
 slots-alone : Alone 0 (codes "slots")
 slots-alone zero e lt same = refl
 slots-alone (suc zero) e lt same = absurd (false≢true same)
@@ -237,10 +232,10 @@ pub slots-given : (cmd : Command) (m : ArgMatches) → app_of cmd ≡ program �
     → HasNumber (codes "slots") 4294967295 (given m)
 slots-given cmd m is p = number-given cmd m is p 0 (codes "slots") 4294967295 (codes "4294967295")
     (omega arith) (λ e. refl) slots-alone (differs (codes "slots") [] refl refl)
-    (not_auto (codes "slots") refl refl)
+    (search (rules, differs))
 
 pub generations-given : (cmd : Command) (m : ArgMatches) → app_of cmd ≡ program
     → IsParsedFrom cmd m → HasNumber (codes "generations") 2147483647 (given m)
 generations-given cmd m is p = number-given cmd m is p 1 (codes "generations") 2147483647
     (codes "2147483647") (omega arith) (λ e. refl) generations-alone
-    (differs (codes "generations") [] refl refl) (not_auto (codes "generations") refl refl)
+    (differs (codes "generations") [] refl refl) (search (rules, differs))

@@ -6,11 +6,9 @@ use Rattle.std.proofs.lemmas.List.{append-nil}
 use Rattle.std.proofs.lemmas.List.Sums.{sum_by_push}
 use Rattle.ent_alloc.specs.Limits.{Limits}
 use Rattle.ent_alloc.specs.Sequential.{opening}
-use Rattle.ent_trace.specs.Checker.{AgreesWith, Follows, IsTooMany, NoneFollows, OnDiffers}
-use Rattle.ent_trace.specs.Checker.{OnTooMany, Shows}
-use Rattle.ent_trace.specs.declared.difference.Stop.{Stop}
-use Rattle.tracecheck.specs.Verdict.{MayEnd, end_of, IsVerdict, StandsAt, agrees, asks_too_many}
-use Rattle.tracecheck.specs.Verdict.{differs, differs_in_all, is_none}
+use Rattle.ent_trace.specs.Checker.{AgreesWith, Follows, IsTooMany, NoneFollows, Shows}
+use Rattle.tracecheck.specs.Verdict.{IsVerdict, StandsAt, agrees, asks_too_many, differs}
+use Rattle.tracecheck.specs.Verdict.{differs_in_all, is_none}
 use Rattle.ent_trace.specs.Trace.{Agrees}
 use Rattle.ent_trace.specs.Text.{line_of, words_of}
 use Rattle.ent_trace.specs.declared.difference.Difference.{Difference}
@@ -128,12 +126,3 @@ differs_at_end limits texts old d shows none h = differs_in_all d (record {
   none = λ a. none (h.follow.complete [] (subst (Agrees (opening limits))
       (sym (append-nil h.calls)) a));
 })
-
--- what a stop at a call says
-pub ends_at : (limits : Limits) (texts after : List (List ℕ)) (text : List ℕ) (l : Line)
-    (old : Checking) (number : ℕ) (s : Stop) → number ≡ old.lines + 1
-    → line_of number (words_of text) ≡ Ok (Some l) → OnDiffers s (Shows old.checker number (l ∷ []))
-    → OnDiffers s (λ d. NoneFollows old.checker l) → OnTooMany s (IsTooMany old.checker l)
-    → HasTaken limits texts old → MayEnd limits (texts ++ text ∷ after) (end_of number s)
-ends_at limits texts after text l old number it next named shows none many h =
-    search (rules, differs_here, asks_here)

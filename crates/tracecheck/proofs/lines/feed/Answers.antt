@@ -1,9 +1,10 @@
-use Rattle.std.proofs.Common.{rules, ◌++◌, ◌∷◌, [], List, ℕ, subst, sym, append_assoc}
+use Rattle.std.proofs.lemmas.Grind.{common_steps}
+use Rattle.std.proofs.Common.{arith, rules, ◌++◌, ◌∷◌, [], List, ℕ, subst, sym, append_assoc}
 use Rattle.std.proofs.lemmas.Result.{err_from_is_err_and}
 use Rattle.ent_trace.specs.Text.{lines_of}
 use Rattle.tracecheck.specs.Checking.{HasRead}
 use Rattle.tracecheck.specs.Verdict.{MayEnd}
-use Rattle.tracecheck.proofs.LinesRead.{HasRead-bytes, piece_front, piece_rest, text_front}
+use Rattle.tracecheck.proofs.LinesRead.{piece_front, piece_rest}
 use Rattle.tracecheck.proofs.lines.feed.Goals as goal
 
 pub returns-in_err-checking-clause-ends : goal.returns-in_err-checking-clause-ends
@@ -25,9 +26,9 @@ loop-line-preserved c =
           c.in-Some.others.now before.1 c.in-Some.ensures.found,
       λ limits text read. subst (λ (bs : List ℕ).
           HasRead limits bs c.in_ok-checking.checking c.end_line.new.pending.items)
-          (sym (text_front text before.0 c.in-Some.line.now))
+          (sym (grind (arith, common_steps)))
           (c.in_ok-checking.ensures.taken limits (text ++ before.0) (before.2 limits text read)),
     )
 
 pub returns-clause-taken : goal.returns-clause-taken
-returns-clause-taken c = search (rules, append_assoc, HasRead-bytes)
+returns-clause-taken c = search (rules, append_assoc)

@@ -1,6 +1,6 @@
+use Rattle.tracecheck.proofs.Taking.{asks_here, differs_here, HasTaken-call}
 use Rattle.std.proofs.Common.{rules, sym, subst}
 use Rattle.tracecheck.specs.Verdict.{MayEnd}
-use Rattle.tracecheck.proofs.Taking.{HasTaken-call, ends_at}
 use Rattle.tracecheck.proofs.checking.Checking.take_call.Goals as goal
 
 pub returns-in-Ok-clause-taken : goal.returns-in-Ok-clause-taken
@@ -8,6 +8,4 @@ returns-in-Ok-clause-taken c = search (rules, HasTaken-call)
 
 pub returns-in-Err-clause-ends : goal.returns-in-Err-clause-ends
 returns-in-Err-clause-ends c = λ limits texts after text named taken.
-    subst (MayEnd limits _) (sym c.end_of.ensures) (ends_at limits texts after text c.args.line
-    c.args.self c.args.number c.in-Err.stop c.requires named c.in-Err.ensures.differs
-    c.in-Err.ensures.none c.in-Err.ensures.too_many taken)
+    subst (MayEnd limits _) (sym c.end_of.ensures) (search (rules, differs_here, asks_here))
