@@ -1,7 +1,7 @@
 -- A decimal is what std's `decimal` writes of its value, and reading gives the value of nothing
 -- else.
 use Rattle.std.proofs.lemmas.Grind.{common_steps}
-use Rattle.std.proofs.Common.{◌≡◌, ℕ, ◌^◌, ◌<◌, ◌≤◌, ◌↔◌, true, false, eqb, List, [], ◌∷◌, length}
+use Rattle.std.proofs.Common.{◌≡◌, ℕ, ◌^◌, ◌<◌, ◌≤◌, ◌↔◌, true, false, List, [], ◌∷◌, length}
 use Rattle.std.proofs.Common.{get_or, Option, Result, Ok, Err, IsSome, IfSome, IfOk, IsErrOf, refl}
 use Rattle.std.proofs.Common.{sym, ap, subst, ◌∙◌, inl, inr, arith, rules}
 use Rattle.std.specs.Char.{is_ascii_digit}
@@ -36,12 +36,8 @@ zero_is_plain : (c : ℕ) (cs : List ℕ) → c ≡ 48 → cs ≡ [] → IsPlain
 zero_is_plain c cs e n = search rules
 
 pub plain_from_decimal : (ds : List ℕ) → IsDecimal ds → IsPlain ds
-plain_from_decimal [] h = absurd cc
-plain_from_decimal (c ∷ cs) h = elim (cases_Bool (eqb c 48)) [
-  | inl zero ↦ zero_is_plain c cs (eqb-true c 48 zero)
-      (nil_from_length cs (eqb-true _ _ (sym (cond-true (eqb c 48) _ _ zero) ∙ h)))
-  | inr other ↦ search rules
-]
+plain_from_decimal cs h =
+    search (rules, cases_Bool, zero_is_plain, eqb-true, nil_from_length, cond-true)
 
 pub decimal_from_plain : (ds : List ℕ) → IsPlain ds → IsDecimal ds
 decimal_from_plain cs h = search (rules, cases_Bool, cond-true, eq-eqb, eqb-true, cond-false)

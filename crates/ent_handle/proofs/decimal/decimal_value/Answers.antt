@@ -1,11 +1,9 @@
-use Rattle.std.proofs.Common.{◌≡◌, arith}
+use Rattle.std.proofs.Common.{rules, ◌≡◌, arith}
 use Rattle.ent_handle.proofs.Decimals.{decimal_is_text, parsed}
 use Rattle.ent_handle.proofs.decimal.decimal_value.Goals as goal
 
 pub unwrap-text-requires : goal.unwrap-text-requires
-unwrap-text-requires c =
-    let text = decimal_is_text c.args.bytes.now c.requires in
-    grind arith
+unwrap-text-requires c = search (rules, decimal_is_text, c.args.bytes.now, c.requires)
 
 pub returns : goal.returns
 returns c =

@@ -1,4 +1,4 @@
-use Rattle.std.proofs.Common.{◌≡◌, ◌⊎◌, false, sym, ◌∙◌, inl, inr}
+use Rattle.std.proofs.Common.{rules, ◌≡◌, ◌⊎◌, false, sym, ◌∙◌, inl, inr}
 use Rattle.ent_handle.specs.Text.{is_decimal}
 use Rattle.ent_handle.proofs.HandleTexts.{handle_of_whole, read_parts, shapeless_parts}
 use Rattle.ent_handle.proofs.HandleTexts.{handle_found, handle_only, handle_shape, handle_range}
@@ -10,14 +10,7 @@ pub returns-in_default : goal.returns-in_default
 returns-in_default c =
     let text = c.args.bytes.now in
     let e = sym (handle_of_whole text c.in_default.ensures.none) in
-    record {
-      found = tt;
-      only = handle_only text _ e;
-      shape = handle_shape text _ e;
-      range =
-          handle_range text _ e;
-      exact = e;
-    }
+    search (rules, handle_only, handle_shape, handle_range)
 
 pub returns-then-not-is_decimal : goal.returns-then-not-is_decimal
 returns-then-not-is_decimal c =
@@ -33,14 +26,7 @@ returns-then-not-is_decimal c =
     ] in
     let e = sym (shapeless_parts text index generation c.in-Some.ensures.found
     c.in-Some.ensures.first which) in
-    record {
-      found = tt;
-      only = handle_only text _ e;
-      shape = handle_shape text _ e;
-      range =
-          handle_range text _ e;
-      exact = e;
-    }
+    search (rules, handle_only, handle_shape, handle_range)
 
 pub returns : goal.returns
 returns c =
@@ -51,11 +37,4 @@ returns c =
     c.in-Some.ensures.first (sym c.is_decimal.ensures ∙ c.if-not-is_decimal.false)
     (sym c.is_decimal-else-not-is_decimal.ensures ∙ c.if-not-is_decimal-2.false)
     c.of_decimals.result c.of_decimals.ensures.value c.of_decimals.ensures.in_range in
-    record {
-      found = handle_found text _ e;
-      only = handle_only text _ e;
-      shape = handle_shape text _
-          e;
-      range = handle_range text _ e;
-      exact = e;
-    }
+    search (rules, handle_found, handle_only, handle_shape, handle_range)
