@@ -1,6 +1,5 @@
 -- A bundle stays one when a component is put.
-use Rattle.std.proofs.Common.{◌≡◌, sym, ap, ◌∙◌, ◌^◌, ◌<◌, ℤ, [], ◌∷◌, length, take, drop, ◌++◌}
-use Rattle.std.proofs.Common.{Ordering}
+use Rattle.std.proofs.Common.{rules, ◌≡◌, ◌^◌, ◌<◌, ℤ, [], ◌∷◌, length, Ordering}
 use Rattle.std.specs.List.{All, refill}
 use Rattle.std.proofs.lemmas.List.Elements.{All-nil, All-head, All-tail, All-cons}
 use Rattle.std.proofs.Math.Seq.{take-append_seam}
@@ -45,5 +44,4 @@ module _ (id : ComponentId) (value : ℤ) where
 
 -- what is written back where a slice of all was lent
 pub refill_whole : (xs ws : Bundle) → length ws ≡ length xs → refill (length xs) xs ws ≡ ws
-refill_whole xs ws e = ap (λ n. take n (ws ++ drop (length ws) xs)) (sym e)
-    ∙ take-append_seam ws (drop (length ws) xs)
+refill_whole xs ws e = search (rules, take-append_seam)

@@ -1,5 +1,5 @@
 -- A bundle has no more items than there are components.
-use Rattle.std.proofs.Common.{sym, ℕ, ◌+◌, ◌<◌, ◌≤◌, ℤ, [], ◌∷◌, length, arith, T}
+use Rattle.std.proofs.Common.{rules, sym, ℕ, ◌+◌, ◌<◌, ◌≤◌, ℤ, [], ◌∷◌, length, arith, T}
 use Rattle.std.specs.List.{All}
 use Rattle.std.proofs.lemmas.List.Elements.{All-head, All-tail}
 use Rattle.std.specs.Ordering.{is_lt, nat_cmp}
@@ -25,5 +25,4 @@ from_head item (next ∷ items) rising all =
 
 pub few_items : (items : Bundle) → IsBundle items → length items ≤ 256
 few_items [] is = omega arith
-few_items (item ∷ items) is = let n : item.0.0 + length (item ∷ items) ≤ 256 = from_head item items
-    is.rising is.each in omega arith
+few_items (item ∷ items) is = search (rules, from_head)

@@ -1,6 +1,6 @@
 -- Components that are put one after the other.
-use Rattle.std.proofs.Common.{◌≡◌, ◌∙◌, refl, ap, sym, subst, arith, ◌+◌, ◌<◌, ◌≤◌, ℕ, ℤ, List, []}
-use Rattle.std.proofs.Common.{◌∷◌, length, reverse, true, false, T, cond, is_some, Some, None}
+use Rattle.std.proofs.Common.{rules, ◌≡◌, ◌∙◌, refl, ap, arith, ◌+◌, ◌<◌, ◌≤◌, ℕ, ℤ, List, [], ◌∷◌}
+use Rattle.std.proofs.Common.{length, reverse, T, cond, is_some, Some, None}
 use mathlib.Core.List.{reverse_aux}
 use Rattle.std.specs.FinMap.{put, find, is_sorted}
 use Rattle.std.specs.FinMap.Entries.{find-put, length-put, is_sorted-put}
@@ -16,10 +16,9 @@ find_with : (id : ComponentId) (held earlier items : List (ComponentId × ℤ))
     ≡ find component_cmp id (reverse_aux items earlier)
 find_with id held earlier [] same = same
 find_with id held earlier (item ∷ items) same =
-    let here = eq_by_cmp component_cmp id item.0 in
     find_with id (put component_cmp item.0 item.1 held) (item ∷ earlier) items
     (find-put component_cmp component_cmp_total id item.0 item.1 held
-    ∙ ap (cond here (Some item.1)) same)
+    ∙ ap (cond (eq_by_cmp component_cmp id item.0) (Some item.1)) same)
 
 -- Each component has its last value.
 pub last_value : (id : ComponentId) (items : List (ComponentId × ℤ))
@@ -36,12 +35,7 @@ module _ (id : ComponentId) (value : ℤ) (held : Bundle)
   grown = length-put component_cmp component_cmp_total id value held rising
 
   no_shorter_by_one : length held ≤ length (put component_cmp id value held)
-  no_shorter_by_one = subst (λ n. length held ≤ n) (sym grown)
-      (elim (is_some (find component_cmp id held))
-      as (λ b. length held ≤ cond b (length held) (length held + 1)) [
-        | true ↦ omega arith
-        | false ↦ omega arith
-      ])
+  no_shorter_by_one = search (rules, grown)
 
 -- No component is lost.
 no_shorter : (held : Bundle) (items : List (ComponentId × ℤ)) → T (is_sorted component_cmp held)
@@ -58,10 +52,4 @@ pub more_than : (n : ℕ) (held : Bundle) (id : ComponentId) (value : ℤ)
     (items : List (ComponentId × ℤ)) → T (is_sorted component_cmp held)
     → n ≤ length held → find component_cmp id held ≡ None
     → n < length (with_put (put component_cmp id value held) items)
-more_than n held id value items rising full absent =
-    let one : length (put component_cmp id value held) ≡ length held + 1 =
-    grown id value held rising
-    ∙ ap (λ o. cond (is_some o) (length held) (length held + 1)) absent in
-    let others = no_shorter (put component_cmp id value held) items
-    (still_rising id value held rising) in
-    omega arith
+more_than n held id value items rising full absent = search (rules, grown, no_shorter, still_rising)

@@ -1,7 +1,7 @@
 -- A pair that is put among others whose keys strictly rise: over the one that has its key, or in
 -- the gap for it.
-use Rattle.std.proofs.Common.{◌≡◌, ℕ, zero, suc, ◌<◌, ◌≤◌, cond, T, List, [], ◌∷◌, length, get_or}
-use Rattle.std.proofs.Common.{set, Some, None, Ordering, refl, sym, ap, ◌∙◌, arith}
+use Rattle.std.proofs.Common.{rules, ◌≡◌, ℕ, zero, suc, ◌<◌, ◌≤◌, cond, T, List, [], ◌∷◌, length}
+use Rattle.std.proofs.Common.{get_or, set, Some, None, Ordering, refl, ap, ◌∙◌, arith}
 use Rattle.std.specs.declared.cmp.Ordering.TheVariants.{Less, Equal, Greater}
 use Rattle.std.specs.Ordering.{is_eq}
 use Rattle.std.specs.Cmp.{IsTotalOrder}
@@ -17,9 +17,7 @@ module _ {K X : Type 0} {R : K → K → Ordering} (o : IsTotalOrder R) where
 
   above_head : (k : K) (e : K × X) (es : List (K × X)) (i : ℕ) (d : K × X)
       → T (is_sorted R (e ∷ es)) → i < length es → R (get_or es i d).0 k ≡ Equal → R k e.0 ≡ Greater
-  above_head k e es i d h l t =
-      o.congr k (get_or es i d).0 e.0 (turn o _ _ Equal t)
-      ∙ turn o _ _ Less (below_at o e.0 es i d (first _ _ h) l)
+  above_head k e es i d h l t = search (rules, turn, below_at, first)
 
   find_between : (es : List (K × X)) (k : K) (i : ℕ) → AllWithin (λ e. R e.0 k ≡ Less) es 0 i
       → AllWithin (λ e. R e.0 k ≡ Greater) es i (length es) → find R k es ≡ None
@@ -65,14 +63,9 @@ module _ {K X : Type 0} {R : K → K → Ordering} (o : IsTotalOrder R) where
   pub written : (es : List (K × X)) (k : K) (v : X) (i : ℕ) (d e : K × X) (w : X)
       → T (is_sorted R es) → IsAt R es k i → e ≡ get_or es i d → w ≡ v
       → set es i (e.0, w) ≡ put R k v es
-  written es k v i d e w rising at here same =
-      ap (λ x. set es i (e.0, x)) same
-      ∙ ap (λ (x : K × X). set es i (x.0, v)) here
-      ∙ sym (put_tied es k v i d rising at.in_range (at.has_key d))
+  written es k v i d e w rising at here same = search (rules, put_tied)
 
   -- what is inserted in the gap
   pub inserted : (es : List (K × X)) (k : K) (v : X) (i : ℕ) (w : X) → IsGapFor R es k i → w ≡ v
       → insert es i (k, w) ≡ put R k v es
-  inserted es k v i w gap same =
-      ap (λ x. insert es i (k, x)) same
-      ∙ sym (put_between es k v i gap.in_range gap.smaller_before gap.greater_after)
+  inserted es k v i w gap same = search (rules, put_between)

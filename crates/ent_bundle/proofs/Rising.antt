@@ -1,8 +1,7 @@
 -- Pairs whose keys strictly rise, and what a binary search finds among them.
-use Rattle.std.proofs.Common.{◌≡◌, ℕ, zero, suc, ◌+◌, ◌<◌, Bool, true, false, ◌&&◌, T, List, []}
-use Rattle.std.proofs.Common.{◌∷◌, length, get_or, Result, Ok, Err, IfOk, IfErr, Ordering, refl, ap}
-use Rattle.std.proofs.Common.{◌∙◌, arith}
-use Rattle.std.specs.declared.cmp.Ordering.TheVariants.{Less, Equal, Greater}
+use Rattle.std.proofs.Common.{rules, ◌≡◌, ℕ, zero, suc, ◌<◌, Bool, true, false, ◌&&◌, T, List, []}
+use Rattle.std.proofs.Common.{◌∷◌, length, get_or, Result, IfOk, IfErr, Ordering, ap, ◌∙◌, arith}
+use Rattle.std.specs.declared.cmp.Ordering.TheVariants.{Less}
 use Rattle.std.specs.Ordering.{is_lt, ordering_reverse, ordering_index}
 use Rattle.std.specs.Cmp.{IsTotalOrder}
 use Rattle.std.specs.List.Sorted.{IsNonDecreasingBy, IsSearchInRange, IsBinarySearchResult}
@@ -21,9 +20,7 @@ second true b h = h
 second false b h = absurd h
 
 pub less : (r : Ordering) → T (is_lt r) → r ≡ Less
-less Less h = refl
-less Equal h = absurd h
-less Greater h = absurd h
+less it h = search rules
 
 pub turn : {K : Type 0} {R : K → K → Ordering} (o : IsTotalOrder R) (a b : K) (r : Ordering) → R a b
     ≡ r → R b a ≡ ordering_reverse r
@@ -49,28 +46,10 @@ module _ {K X : Type 0} {R : K → K → Ordering} (o : IsTotalOrder R) where
   -- the premise of a binary search
   searchable : (es : List (K × X)) (k : K) → T (is_sorted R es)
       → IsNonDecreasingBy (λ e. ordering_index (R e.0 k)) es
-  searchable es k h =
-      searchable_from_sorted o (λ e. e.0) es k
-      (λ i d low high.
-      ap is_lt (turn o _ _ Less (rising_at es i (i + 1) d h (omega arith) high)))
+  searchable es k h = search (rules, searchable_from_sorted, turn, rising_at)
 
   -- a binary search by key ends at the key, or at the gap for it
   pub searched : (es : List (K × X)) (k : K) → T (is_sorted R es) → (r : Result ℕ ℕ)
       → IsSearchInRange r (length es) → IsBinarySearchResult (λ e. R e.0 k) es r
       → record { found : IfOk r (IsAt R es k); absent : IfErr r (IsGapFor R es k) }
-  searched es k h (Ok i) l at = record {
-    found = record { in_range = l; has_key = at };
-    absent =
-        tt;
-  }
-  searched es k h (Err i) l parted =
-      let parts = parted (searchable es k h) in
-      record {
-        found = tt;
-        absent = record {
-          in_range = l;
-          smaller_before = parts.0;
-          greater_after =
-              parts.1;
-        };
-      }
+  searched es k h it l at = search (rules, searchable es k h)
