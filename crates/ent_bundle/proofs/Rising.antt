@@ -2,9 +2,9 @@
 use Rattle.std.proofs.Common.{rules, ◌≡◌, ℕ, zero, suc, ◌<◌, Bool, true, false, ◌&&◌, T, List, []}
 use Rattle.std.proofs.Common.{◌∷◌, length, get_or, Result, IfOk, IfErr, Ordering, ap, ◌∙◌, arith}
 use Rattle.std.specs.declared.cmp.Ordering.TheVariants.{Less}
-use Rattle.std.specs.Ordering.{is_lt, ordering_reverse, ordering_index}
+use Rattle.std.specs.Ordering.{is_lt, ordering_reverse}
 use Rattle.std.specs.Cmp.{IsTotalOrder}
-use Rattle.std.specs.List.Sorted.{IsNonDecreasingBy, IsSearchInRange, IsBinarySearchResult}
+use Rattle.std.specs.List.Sorted.{IsSearchInRange, IsBinarySearchResult}
 use Rattle.std.proofs.lemmas.List.Sorted.{searchable_from_sorted}
 use Rattle.std.specs.FinMap.{is_sorted}
 use Rattle.std.specs.FinMap.Entries.{below_all}
@@ -43,13 +43,8 @@ module _ {K X : Type 0} {R : K → K → Ordering} (o : IsTotalOrder R) where
   rising_at (e ∷ es) (suc i) (suc j) d h l k = rising_at es i j d (second _ _ h) (omega arith)
       (omega arith)
 
-  -- the premise of a binary search
-  searchable : (es : List (K × X)) (k : K) → T (is_sorted R es)
-      → IsNonDecreasingBy (λ e. ordering_index (R e.0 k)) es
-  searchable es k h = search (rules, searchable_from_sorted, turn, rising_at)
-
   -- a binary search by key ends at the key, or at the gap for it
   pub searched : (es : List (K × X)) (k : K) → T (is_sorted R es) → (r : Result ℕ ℕ)
       → IsSearchInRange r (length es) → IsBinarySearchResult (λ e. R e.0 k) es r
       → record { found : IfOk r (IsAt R es k); absent : IfErr r (IsGapFor R es k) }
-  searched es k h it l at = search (rules, searchable es k h)
+  searched es k h it l at = search (rules, searchable_from_sorted, turn, rising_at)
