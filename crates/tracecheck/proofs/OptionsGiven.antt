@@ -10,9 +10,9 @@ use Rattle.std.specs.List.{All, find, list_all, slice_index_or}
 use Rattle.std.specs.Prelude.{option_map, pos}
 use Rattle.std.specs.Str.{bytes_eq}
 use Rattle.clap.specs.Built.{IsAuto, IsParsedFrom, SameRules}
-use Rattle.clap.specs.Facts.{Entry, EntryPasses, HasId, HasReading, IsCountArg, IsFilledEntry}
-use Rattle.clap.specs.Facts.{IsKnownGroup, MayBeEmpty, PassesArg, ValuesPass, WantsDefault, args_of}
-use Rattle.clap.specs.Facts.{groups_of, least_values, unwrap_or_range}
+use Rattle.clap.specs.Facts.{Entry, EntryPasses, HasId, HasReading, IsFilledEntry, IsKnownGroup}
+use Rattle.clap.specs.Facts.{MayBeEmpty, PassesArg, ValuesPass, WantsDefault, args_of, groups_of}
+use Rattle.clap.specs.Facts.{least_values, unwrap_or_range}
 use Rattle.clap.specs.Matches.{found_of, matched_of}
 use Rattle.clap.specs.Simple.{App, IsSimple, IsSimpleArg, app_of, is_ready, is_ready_leaf}
 use Rattle.clap.specs.Values.{IsSignedIn}
@@ -87,15 +87,12 @@ module _ (c : Command) (id : Text) (most : ℕ) (no_groups : groups_of c ≡ [])
   no_group : IsKnownGroup c id → ⊥
   no_group which = search rules
 
-  no_count : IsCountArg c id → ⊥
-  no_count any = search rules
-
   not_empty : (a : Arg) → TakesNumber most a → MayBeEmpty a → ⊥
   not_empty a takes which = search (rules, false≢true)
 
   -- the entry of the id has a value
   filled : (e : Entry) → e.0.now ≡ id → IsFilledEntry c e → 0 < length e.1.vals.items
-  filled e key which = search (rules, no_group, no_count, not_empty)
+  filled e key which = search (rules, no_group, not_empty)
 
   -- which is read without its minus
   read : (reading : Reading) → HasReading c id reading → reading ≡ WithoutMinus
