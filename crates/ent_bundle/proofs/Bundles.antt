@@ -28,8 +28,7 @@ module _ (id : ComponentId) (value : ℤ) where
       elim (component_cmp id item.0) as (λ r. All IsItem (putting item items r)) [
         | Less ↦ All-cons IsItem (id, value) (item ∷ items) (record { id = small; value = fits })
             all
-        | Equal ↦ All-cons IsItem (item.0, value) items (record { id = first.id; value = fits })
-            others
+        | Equal ↦ search (rules, All-cons)
         | Greater ↦ All-cons IsItem item (put component_cmp id value items) first
             (all_put small fits items others)
       ]

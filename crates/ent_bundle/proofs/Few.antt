@@ -9,7 +9,7 @@ use Rattle.std.specs.FinMap.{is_sorted}
 use Rattle.ent_handle.specs.Component.{component_cmp}
 use Rattle.ent_handle.specs.declared.component.ComponentId.{ComponentId}
 use Rattle.ent_bundle.specs.Bundle.{Bundle, IsItem, IsBundle}
-use Rattle.ent_bundle.proofs.Rising.{first, second, less}
+use Rattle.ent_bundle.proofs.Rising.{second, less}
 
 below : (m n : ℕ) → T (is_lt (nat_cmp m n)) → m < n
 below m n h = ranked m n Less (sym (less (nat_cmp m n) h))
@@ -20,8 +20,7 @@ from_head item [] rising all = let id = (All-head IsItem item [] all).id in omeg
 from_head item (next ∷ items) rising all =
     let more : next.0.0 + length (next ∷ items) ≤ 256 = from_head next items (second _ _ rising)
     (All-tail IsItem item (next ∷ items) all) in
-    let step : item.0.0 < next.0.0 = below item.0.0 next.0.0 (first _ _ (first _ _ rising)) in
-    omega arith
+    search rules
 
 pub few_items : (items : Bundle) → IsBundle items → length items ≤ 256
 few_items [] is = omega arith

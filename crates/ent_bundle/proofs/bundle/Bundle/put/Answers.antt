@@ -1,16 +1,15 @@
 use Rattle.std.proofs.Common.{◌≡◌, ◌+◌, ◌≤◌, ap, sym, subst, ◌∙◌, arith, length, get_or, set, pos}
-use Rattle.std.proofs.Common.{inl, inr, None, T, refl, rules}
+use Rattle.std.proofs.Common.{inl, inr, refl, rules}
 use Rattle.std.specs.List.{refill}
 use Rattle.std.specs.Int.{w64, cast_signed, cast_unsigned}
 use Rattle.std.proofs.Math.ListN.{length-set}
 use Rattle.std.proofs.lemmas.Int.{to_z-of_z}
-use Rattle.std.specs.FinMap.{put, find, is_sorted}
+use Rattle.std.specs.FinMap.{put}
 use Rattle.ent_handle.specs.Component.{component_cmp, component_cmp_total as total}
 use Rattle.ent_bundle.specs.Bundle.{Bundle, IsBundle}
 use Rattle.ent_bundle.specs.Position.{IsAt, IsGapFor}
 use Rattle.ent_bundle.proofs.Putting.{find_in_gap, written, inserted}
 use Rattle.std.proofs.lemmas.Bool.{cases_lt, false≢true}
-use Rattle.ent_bundle.proofs.Results.{OnErr-always}
 use Rattle.ent_bundle.proofs.Bundles.{bundle_put, refill_whole}
 use Rattle.ent_bundle.proofs.bundle.Bundle.put.Goals as goal
 use Rattle.ent_bundle.proofs.bundle.Bundle.put.Given.{Over}
@@ -50,19 +49,17 @@ returns-in-Ok-clause-ok g c = over g c ∙ ap (put component_cmp c.args.id c.arg
 added : (g : Over) (c : goal.In_ok-insert-in-Err g) → c.insert.new.self.items ≡ put component_cmp c.args.id
     c.args.value c.self.inside.items.items
 added g c =
-    let es = c.self.inside.items.items in
     let gap = subst (λ (b : Bundle). IsGapFor component_cmp b c.args.id c.in-Err.index)
     c.as_slice.ensures c.in-Err.ensures.absent in
     c.in_ok-insert-in-Err.ensures.ok
-    ∙ inserted total es c.args.id c.args.value c.in-Err.index _ gap
+    ∙ inserted total c.self.inside.items.items c.args.id c.args.value c.in-Err.index _ gap
     (to_z-of_z w64 c.args.value c.ranges.value)
 
 pub invariant_of-self-in-Continue-1 : goal.invariant_of-self-in-Continue-1
 invariant_of-self-in-Continue-1 g c = (
   subst IsBundle (sym (added g c)) (bundle_put c.args.id c.args.value (search rules)
       c.ranges.value c.self.inside.items.items c.self.invariant.0),
-  omega
-      (arith, c.insert.ensures.capacity, c.self.invariant.1),
+  search (rules, c.insert.ensures.capacity, c.self.invariant.1),
 )
 
 pub returns-in_ok-insert-in-Err-clause-ok : goal.returns-in_ok-insert-in-Err-clause-ok
@@ -80,10 +77,7 @@ returns-in_err-insert-in-Err-clause-memory g c =
       | inl below ↦ omega (arith, below, c.self.invariant.1)
       | inr room ↦ absurd (false≢true (c.in_err-insert-in-Err.ensures.succeeds room))
     ] in
-    OnErr-always c.from_residual.result
-    (subst (λ xs. (g.row.INLINE ≤ length xs) × (find component_cmp c.args.id xs ≡ None)) c.self.view_is
-    (full, none))
+    search (rules, c.from_residual.result, c.args.id, c.self.view_is, none, full)
 
 pub search-requires : goal.search-requires
-search-requires g c = subst (λ (b : Bundle). T (is_sorted component_cmp b)) (sym c.as_slice.ensures)
-    c.self.invariant.0.rising
+search-requires g c = search (rules, c.as_slice.ensures, c.self.invariant.0.rising)
