@@ -1,9 +1,8 @@
 -- Those that hold seats, as they are handed in one by one.
-use Rattle.std.proofs.Common.{◌≡◌, List, ◌++◌, length, sym, ap, ◌∙◌, append-nil}
+use Rattle.std.proofs.Common.{rules, ◌≡◌, List, ◌++◌, length, append-nil}
 use Rattle.std.proofs.lemmas.List.{nil_from_length}
 
 -- all that were handed in were taken in
 pub items_all : {X : Type 0} (items yielded now : List X) → yielded ++ now ≡ items → length now ≡ 0
     → yielded ≡ items
-items_all {X = X} items yielded now all none_left = sym (append-nil yielded)
-    ∙ (ap (λ (xs : List X). yielded ++ xs) (sym (nil_from_length now none_left)) ∙ all)
+items_all {X = X} items yielded now all none_left = search (rules, append-nil, nil_from_length)

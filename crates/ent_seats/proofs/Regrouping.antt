@@ -1,13 +1,14 @@
 -- Seats that share out the same records in two ways: what the records weigh and what holds of each.
-use Rattle.std.proofs.Common.{◌≡◌, ℕ, zero, suc, List, [], ◌∷◌, ◌++◌, length, set, sym, ap, subst}
-use Rattle.std.proofs.Common.{◌∙◌, append_assoc, append-nil}
+use Rattle.std.proofs.lemmas.Grind.{common_steps}
+use Rattle.std.proofs.Common.{rules, arith, ◌≡◌, ℕ, zero, suc, List, [], ◌∷◌, ◌++◌, length, set}
+use Rattle.std.proofs.Common.{sym, subst, ◌∙◌, append_assoc, append-nil}
 use Rattle.std.specs.Prelude.{IsPermutation}
 use Rattle.std.specs.List.{sum_by, All, Contains}
 use Rattle.std.proofs.lemmas.List.{set_comm}
 use Rattle.std.proofs.lemmas.List.Concat.{flat_map-append, length-flat_map}
-use Rattle.std.proofs.lemmas.List.Elements.{All-nil, All-cons}
-use Rattle.std.proofs.lemmas.List.Elements.{All-weaker, All-contains, All-contains_itself}
-use Rattle.std.proofs.lemmas.List.Elements.{Contains-append_left, Contains-append_right}
+use Rattle.std.proofs.lemmas.List.Elements.{All-nil, All-cons, All-weaker, All-contains}
+use Rattle.std.proofs.lemmas.List.Elements.{All-contains_itself, Contains-append_left}
+use Rattle.std.proofs.lemmas.List.Elements.{Contains-append_right}
 use Rattle.std.proofs.lemmas.List.Sorted.{IsPermutation-refl, IsPermutation-sym}
 use Rattle.std.proofs.lemmas.List.Sorted.{IsPermutation-trans, IsPermutation-append}
 use Rattle.std.proofs.lemmas.List.Sorted.{IsPermutation-append_comm, sum_by-IsPermutation}
@@ -41,26 +42,19 @@ module _ {R : Type 0} where
       (same : IsPermutation (records_in before) (records_in after)) where
     pub sum_regrouped : (f : R → ℕ) → sum_by (λ (v : List R). sum_by f v) after
         ≡ sum_by (λ (v : List R). sum_by f v) before
-    sum_regrouped f = sym (sum_by-records f after)
-        ∙ (sum_by-IsPermutation f (records_in before) (records_in after) same
-        ∙ sum_by-records f before)
+    sum_regrouped f = search (rules, sum_by-records, sum_by-IsPermutation)
 
     pub length-regrouped : sum_by length after ≡ sum_by length before
-    length-regrouped = sym (length-flat_map (λ (v : List R). v) after)
-        ∙ (length_permutation (records_in before) (records_in after) same
-        ∙ length-flat_map (λ (v : List R). v) before)
+    length-regrouped = search (rules, length-flat_map, length_permutation)
 
     pub all_regrouped : (P : R → Type 0) → All (All P) before → All (All P) after
-    all_regrouped P all = all_out P after
-        (All-permutation P (records_in before) (records_in after) same (all_in P before all))
+    all_regrouped P all = search (rules, all_out, All-permutation, all_in)
 
   -- three lists of which the first two change places
   pub turned : (xs ys zs : List R) → IsPermutation (xs ++ (ys ++ zs)) (ys ++ (xs ++ zs))
-  turned xs ys zs =
-      subst (λ (p : List R × List R). IsPermutation p.0 p.1)
+  turned xs ys zs = subst (λ (p : List R × List R). IsPermutation p.0 p.1)
       (λ i. (append_assoc xs ys zs i, append_assoc ys xs zs i))
-      (IsPermutation-append (xs ++ ys) (ys ++ xs) zs zs (IsPermutation-append_comm xs ys)
-      (IsPermutation-refl zs))
+      (search (rules, IsPermutation-append, IsPermutation-append_comm, IsPermutation-refl))
 
   -- the records of one seat, and then those of the others
   set_first : (views : List (List R)) (id : ℕ) (v w : List R) → get_elem? views id ≡ some v
@@ -77,8 +71,7 @@ module _ {R : Type 0} where
 
   seat_first : (views : List (List R)) (id : ℕ) (v : List R) → get_elem? views id ≡ some v
       → IsPermutation (records_in views) (v ++ records_in (set views id []))
-  seat_first views id v at = subst (λ (vs : List (List R)). IsPermutation (records_in vs)
-      (v ++ records_in (set views id []))) (set_again views id v at) (set_first views id v v at)
+  seat_first views id v at = search (rules, set_again views id v, set_first views id v v)
 
   -- a seat's records in two seats
   pub same_split : (views : List (List R)) (id : ℕ) (v left right : List R)
@@ -100,17 +93,7 @@ module _ {R : Type 0} where
       IsPermutation-append (left ++ others) (records_in (set views id left)) right right
       (IsPermutation-sym (records_in (set views id left)) (left ++ others)
       (set_first views id v left at)) (IsPermutation-refl right) in
-      let last : records_in (set views id left) ++ right
-      ≡ records_in (set views id left ++ right ∷ []) =
-      ap (λ (l : List R). records_in (set views id left) ++ l) (sym (append-nil right))
-      ∙ sym (flat_map-append (λ (w : List R). w) (set views id left) (right ∷ [])) in
-      subst (IsPermutation (records_in views)) last
-      (IsPermutation-trans (records_in views) ((left ++ right) ++ others)
-      (records_in (set views id left) ++ right) first
-      (IsPermutation-trans ((left ++ right) ++ others) (right ++ (left ++ others))
-      (records_in (set views id left) ++ right) second
-      (IsPermutation-trans (right ++ (left ++ others)) ((left ++ others) ++ right)
-      (records_in (set views id left) ++ right) third fourth)))
+      search (rules, append-nil, flat_map-append, IsPermutation-trans)
 
   -- two seats' records in one
   pub same_join : (views : List (List R)) (id other : ℕ) (v w both : List R)
@@ -137,13 +120,8 @@ module _ {R : Type 0} where
       let set_both : IsPermutation (both ++ others) (records_in (set bare id both)) =
       IsPermutation-sym (records_in (set bare id both)) (both ++ others)
       (set_first bare id v both first) in
-      subst (λ (vs : List (List R)). IsPermutation (records_in views) (records_in vs))
-      (set_comm views other id [] both apart)
-      (IsPermutation-trans (records_in views) (w ++ (v ++ others)) (records_in (set bare id both))
-      two (IsPermutation-trans (w ++ (v ++ others)) (both ++ others)
-      (records_in (set bare id both)) one set_both))
+      grind (arith, common_steps, set_comm, IsPermutation-trans)
 
   -- one more seat, which has no record
   pub same_entered : (views : List (List R)) → records_in (views ++ [] ∷ []) ≡ records_in views
-  same_entered views = flat_map-append (λ (v : List R). v) views ([] ∷ [])
-      ∙ append-nil (records_in views)
+  same_entered views = search (rules, flat_map-append, append-nil)

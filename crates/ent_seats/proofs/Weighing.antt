@@ -1,6 +1,7 @@
 -- Sums over lists of which one element changes, and over lists of lists.
-use Rattle.std.proofs.Common.{◌≡◌, ℕ, zero, suc, ◌+◌, List, [], ◌∷◌, set, sym, refl, ap, subst}
-use Rattle.std.proofs.Common.{◌∙◌, arith, flat_map, length}
+use Rattle.std.proofs.lemmas.Grind.{common_steps}
+use Rattle.std.proofs.Common.{rules, ◌≡◌, ℕ, zero, suc, ◌+◌, List, [], ◌∷◌, set, sym, refl, subst}
+use Rattle.std.proofs.Common.{arith, flat_map, length}
 use Rattle.std.specs.List.{sum_by, All}
 use Rattle.std.proofs.lemmas.List.Elements.{All-head, All-tail, All-nil, All-cons, All-append}
 use Rattle.std.proofs.lemmas.List.Sums.{sum_by-cons, sum_by-append}
@@ -14,17 +15,8 @@ module _ {X : Type 0} where
   pub sum_at : (f : X → ℕ) (xs : List X) (i : ℕ) (v w : X) → get_elem? xs i ≡ some v
       → sum_by f (set xs i w) + f v ≡ sum_by f xs + f w
   sum_at f [] i v w e = absurd (some-ne-none v (sym e))
-  sum_at f (x ∷ xs) zero v w e =
-      let same : f x ≡ f v = ap f (some-injective x v e) in
-      let before : sum_by f (x ∷ xs) ≡ f x + sum_by f xs = sum_by-cons f x xs in
-      let after : sum_by f (set (x ∷ xs) zero w) ≡ f w + sum_by f xs = sum_by-cons f w xs in
-      omega arith
-  sum_at f (x ∷ xs) (suc i) v w e =
-      let h = sum_at f xs i v w e in
-      let before : sum_by f (x ∷ xs) ≡ f x + sum_by f xs = sum_by-cons f x xs in
-      let after : sum_by f (set (x ∷ xs) (suc i) w) ≡ f x + sum_by f (set xs i w) =
-      sum_by-cons f x (set xs i w) in
-      omega arith
+  sum_at f (x ∷ xs) zero v w e = search (rules, some-injective, sum_by-cons)
+  sum_at f (x ∷ xs) (suc i) v w e = search (rules, sum_by-cons, sum_at f xs i v w e)
 
   pub all_at : (P : X → Type 0) (xs : List X) (i : ℕ) (v : X) → get_elem? xs i ≡ some v → All P xs
       → P v
@@ -37,10 +29,7 @@ module _ {X : Type 0} where
   all_zero f g zeros [] is = refl
   all_zero f g zeros (x ∷ xs) is =
       let sums : sum_by f (x ∷ xs) ≡ f x + sum_by f xs = sum_by-cons f x xs in
-      let others : sum_by g (x ∷ xs) ≡ g x + sum_by g xs = sum_by-cons g x xs in
-      let here : g x ≡ 0 = zeros x (omega arith) in
-      let rest : sum_by g xs ≡ 0 = all_zero f g zeros xs (omega arith) in
-      omega arith
+      search (rules, sum_by-cons, all_zero f g zeros xs (omega arith))
 
   -- where only the element at i weighs anything, all weigh what it weighs
   only_at : (f g : X → ℕ) (xs : List X) (i : ℕ) (v nothing : X) → get_elem? xs i ≡ some v
@@ -50,12 +39,10 @@ module _ {X : Type 0} where
       let s = sum_at f xs i v nothing e in
       let others : sum_by f (set xs i nothing) ≡ 0 = omega arith in
       let also : sum_by g (set xs i nothing) ≡ 0 = all_zero f g zeros (set xs i nothing) others in
-      let t = sum_at g xs i v nothing e in
-      omega arith
+      grind (arith, common_steps, sum_at)
 
 sum_by-none : {X : Type 0} (f : X → ℕ) (xs : List X) → length xs ≡ 0 → sum_by f xs ≡ 0
-sum_by-none f [] e = refl
-sum_by-none f (x ∷ xs) e = absurd (omega arith)
+sum_by-none f xs e = grind (arith, common_steps)
 
 -- where one of the lists has as many elements as all together, all weigh what it weighs
 pub whole_weighs : {X : Type 0} (f : X → ℕ) (xss : List (List X)) (i : ℕ) (v : List X)
@@ -68,10 +55,7 @@ module _ {X Y : Type 0} (g : X → List Y) where
   pub sum_by-flat_map : (f : Y → ℕ) (xs : List X) → sum_by f (flat_map g xs)
       ≡ sum_by (λ (x : X). sum_by f (g x)) xs
   sum_by-flat_map f [] = refl
-  sum_by-flat_map f (x ∷ xs) =
-      sum_by-append f (g x) (flat_map g xs)
-      ∙ (ap (λ (n : ℕ). sum_by f (g x) + n) (sum_by-flat_map f xs)
-      ∙ sym (sum_by-cons (λ (y : X). sum_by f (g y)) x xs))
+  sum_by-flat_map f (x ∷ xs) = search (rules, sum_by-append, sum_by-cons, sum_by-flat_map f xs)
 
   pub All-flat_map : (P : Y → Type 0) (xs : List X) → All (λ (x : X). All P (g x)) xs
       → All P (flat_map g xs)
