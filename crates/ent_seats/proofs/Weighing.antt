@@ -41,15 +41,12 @@ module _ {X : Type 0} where
       let also : sum_by g (set xs i nothing) ≡ 0 = all_zero f g zeros (set xs i nothing) others in
       grind (arith, common_steps, sum_at)
 
-sum_by-none : {X : Type 0} (f : X → ℕ) (xs : List X) → length xs ≡ 0 → sum_by f xs ≡ 0
-sum_by-none f xs e = grind (arith, common_steps)
-
 -- where one of the lists has as many elements as all together, all weigh what it weighs
 pub whole_weighs : {X : Type 0} (f : X → ℕ) (xss : List (List X)) (i : ℕ) (v : List X)
     → get_elem? xss i ≡ some v → sum_by length xss ≡ length v
     → sum_by (λ (xs : List X). sum_by f xs) xss ≡ sum_by f v
 whole_weighs {X = X} f xss i v at whole = only_at length (λ (xs : List X). sum_by f xs) xss i v []
-    at refl refl (sum_by-none f) whole
+    at refl refl (grind (arith, common_steps)) whole
 
 module _ {X Y : Type 0} (g : X → List Y) where
   pub sum_by-flat_map : (f : Y → ℕ) (xs : List X) → sum_by f (flat_map g xs)
