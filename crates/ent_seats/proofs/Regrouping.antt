@@ -90,9 +90,7 @@ module _ {R : Type 0} where
       IsPermutation-append_comm right (left ++ others) in
       let fourth : IsPermutation ((left ++ others) ++ right)
       (records_in (set views id left) ++ right) =
-      IsPermutation-append (left ++ others) (records_in (set views id left)) right right
-      (IsPermutation-sym (records_in (set views id left)) (left ++ others)
-      (set_first views id v left at)) (IsPermutation-refl right) in
+      search (rules, IsPermutation-append, IsPermutation-sym, set_first, IsPermutation-refl) in
       search (rules, append-nil, flat_map-append, IsPermutation-trans)
 
   -- two seats' records in one
@@ -108,10 +106,7 @@ module _ {R : Type 0} where
       let first : get_elem? bare id ≡ some v = set_else views other id [] (λ e. apart (sym e)) ∙ at
       in
       let two : IsPermutation (records_in views) (w ++ (v ++ others)) =
-      IsPermutation-trans (records_in views) (w ++ records_in bare) (w ++ (v ++ others))
-      (seat_first views other w second)
-      (IsPermutation-append w w (records_in bare) (v ++ others) (IsPermutation-refl w)
-      (seat_first bare id v first)) in
+      search (rules, IsPermutation-trans, seat_first, IsPermutation-append, IsPermutation-refl) in
       let one : IsPermutation (w ++ (v ++ others)) (both ++ others) =
       IsPermutation-trans (w ++ (v ++ others)) ((v ++ w) ++ others) (both ++ others)
       (subst (IsPermutation (w ++ (v ++ others))) (sym (append_assoc v w others))

@@ -38,8 +38,7 @@ module _ {X : Type 0} where
   only_at f g xs i v nothing e f_none g_none zeros is =
       let s = sum_at f xs i v nothing e in
       let others : sum_by f (set xs i nothing) ≡ 0 = omega arith in
-      let also : sum_by g (set xs i nothing) ≡ 0 = all_zero f g zeros (set xs i nothing) others in
-      grind (arith, common_steps, sum_at)
+      grind (arith, common_steps, all_zero f g zeros (set xs i nothing) others, sum_at)
 
 -- where one of the lists has as many elements as all together, all weigh what it weighs
 pub whole_weighs : {X : Type 0} (f : X → ℕ) (xss : List (List X)) (i : ℕ) (v : List X)

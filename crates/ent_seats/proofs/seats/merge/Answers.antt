@@ -3,10 +3,4 @@ use Rattle.ent_seats.proofs.Moving.{merges}
 use Rattle.ent_seats.proofs.seats.merge.Goals as goal
 
 pub join_seat-requires : goal.join_seat-requires
-join_seat-requires g c = (
-  search rules,
-  search rules,
-  search rules,
-  search rules,
-  merges _ c.requires.rule _ _ _ _,
-)
+join_seat-requires g c = search (rules, merges, c.requires.rule)
