@@ -29,8 +29,7 @@ pub number_read : (bits : ℕ) (option : Text) (most : ℕ) (found : Found) (r :
     → (n : ℕ) × (r ≡ Some n) × (1 ≤ n) × (n ≤ most) × (option_number option (rows_of found)
     ≡ Some n)
 number_read bits option most found r fits number reads =
-    let read = reads (without_minus number.text) (one_text-rows found option ∙ number.is) in
-    search (rules, read)
+    search (rules, reads (without_minus number.text) (one_text-rows found option ∙ number.is))
 
 -- ---- the program's command
 

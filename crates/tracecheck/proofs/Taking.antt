@@ -5,7 +5,6 @@ use Rattle.std.proofs.lemmas.Grind.{common_steps}
 use Rattle.std.proofs.lemmas.List.{append-nil}
 use Rattle.std.proofs.lemmas.List.Sums.{sum_by_push}
 use Rattle.ent_alloc.specs.Limits.{Limits}
-use Rattle.ent_alloc.specs.Sequential.{opening}
 use Rattle.ent_trace.specs.Checker.{AgreesWith, Follows, IsTooMany, NoneFollows, Shows}
 use Rattle.tracecheck.specs.Verdict.{IsVerdict, StandsAt, agrees, asks_too_many, differs}
 use Rattle.tracecheck.specs.Verdict.{differs_in_all, is_none}
@@ -98,10 +97,7 @@ pub none_here : (limits : Limits) (texts after : List (List ℕ)) (text : List �
     → IsVerdict limits (texts ++ text ∷ after) (verdict.Refused number (refusal.Line c))
 none_here limits texts after text c old number next named h =
     let here : number ≡ 1 + length texts = omega (arith, h.lines) in
-    is_none number c (calls_from-append 1 texts (text ∷ after) h.calls h.read
-    ∙ ap (λ n. with_front h.calls (calls_from n (text ∷ after))) (sym here)
-    ∙ ap (λ (r : Result (Option Line) Cause). with_front h.calls (goes_on number r
-    (calls_from (number + 1) after))) named)
+    is_none number c (search (rules, calls_from-append 1 texts (text ∷ after) h.calls h.read, here))
 
 -- ---- the end
 
@@ -111,8 +107,7 @@ pub agrees_in_all : (limits : Limits) (texts : List (List ℕ)) (old : Checking)
 agrees_in_all limits texts old a h =
     subst (λ n. IsVerdict limits texts (verdict.Agrees n old.given)) (sym h.lines)
     (subst (λ n. IsVerdict limits texts (verdict.Agrees (length texts) n)) (sym h.given)
-    (agrees h.calls h.read (subst (Agrees (opening limits)) (append-nil h.calls)
-    (h.follow.sound [] a))))
+    (agrees h.calls h.read (search (rules, append-nil))))
 
 pub differs_at_end : (limits : Limits) (texts : List (List ℕ)) (old : Checking) (d : Difference)
     → Shows old.checker 0 [] d → (AgreesWith old.checker [] → ⊥) → HasTaken limits texts old
@@ -123,6 +118,5 @@ differs_at_end limits texts old d shows none h = differs_in_all d (record {
   checked = old.checker;
   follow = h.follow;
   shows = shows;
-  none = λ a. none (h.follow.complete [] (subst (Agrees (opening limits))
-      (sym (append-nil h.calls)) a));
+  none = search (rules, append-nil);
 })

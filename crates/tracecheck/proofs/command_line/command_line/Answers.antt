@@ -1,8 +1,8 @@
-use Rattle.std.proofs.Common.{arith, ◌≡◌, ◌∙◌, ℕ, List, true, sym, ap, map}
+use Rattle.std.proofs.Common.{rules, arith, ◌≡◌, ◌∙◌, ℕ, List, true, ap, map}
 use Rattle.std.proofs.lemmas.Grind.{common_steps}
-use Rattle.clap.specs.Words.{App, fault_of, takes}
+use Rattle.clap.specs.Words.{App, takes}
 use Rattle.tracecheck.specs.CommandLine.{program}
-use Rattle.tracecheck.proofs.LimitsOfWords.{is_free, only_memory}
+use Rattle.tracecheck.proofs.LimitsOfWords.{only_memory}
 use Rattle.tracecheck.proofs.OptionsGiven.{generations-given, slots-given}
 use Rattle.tracecheck.proofs.command_line.command_line.Goals as goal
 
@@ -29,6 +29,4 @@ returns-clause-asked g c = grind (arith, common_steps)
 
 pub returns-clause-taken : goal.returns-clause-taken
 returns-clause-taken g c =
-    let words : List (List ℕ) = map g.S.AsStr.text c.args.words.now in
-    sym (ap (λ (a : App). fault_of a words) c.in_ok-program.ensures)
-    ∙ c.in_ok-matches.ensures.kinds (is_free _ c.in_ok-program.ensures)
+    search (rules, c.args.words.now, c.in_ok-program.ensures, c.in_ok-matches.ensures.kinds)

@@ -1,8 +1,7 @@
-use Rattle.std.proofs.Common.{rules, ◌≡◌, ◌++◌, ◌∷◌, [], List, ℕ, subst, sym}
+use Rattle.std.proofs.Common.{rules, ◌≡◌, ◌++◌, List, ℕ, subst, sym}
 use Rattle.std.proofs.lemmas.Result.{err_from_is_err_and}
-use Rattle.tracecheck.specs.Checking.{HasTaken}
 use Rattle.tracecheck.specs.Verdict.{MayEnd}
-use Rattle.ent_trace.specs.Text.{without_return, lines_of}
+use Rattle.ent_trace.specs.Text.{without_return}
 use Rattle.tracecheck.proofs.LinesRead.{cut_line, HasRead-line}
 use Rattle.tracecheck.proofs.lines.end_line.Goals.{After-without_return}
 use Rattle.tracecheck.proofs.lines.end_line.Goals as goal
@@ -20,15 +19,11 @@ returns-in_err-checking-clause-ends c =
     rw (p.1, p.2) (λ limits text more read.
     subst (λ (ls : List (List ℕ)). MayEnd limits ls c.in_err-checking.field-0.0)
     (sym (cut_line limits text c.args.checking c.args.pending.now.items c.args.bytes.now c.requires
-    read more))
-    (subst (λ (bs : List ℕ). MayEnd limits (read.texts ++ bs ∷ lines_of more)
-    c.in_err-checking.field-0.0) is
-    (c.in_err-checking.ensures.ends limits read.texts (lines_of more) read.taken)))
+    read more)) (search (rules, c.in_err-checking.field-0.0, c.in_err-checking.ensures.ends)))
 
 pub returns-clause-taken : goal.returns-clause-taken
 returns-clause-taken c = λ limits text read.
     let is = taken_is (goal.at.returns-clause-taken c).After-without_return in
     rw c.clear.ensures.items (HasRead-line limits text c.args.checking c.in_ok-checking.checking
     c.args.pending.now.items c.args.bytes.now c.requires read
-    (subst (λ (bs : List ℕ). HasTaken limits (read.texts ++ bs ∷ []) c.in_ok-checking.checking) is
-    (c.in_ok-checking.ensures.taken limits read.texts read.taken)))
+    (search (rules, c.in_ok-checking.checking, c.in_ok-checking.ensures.taken)))

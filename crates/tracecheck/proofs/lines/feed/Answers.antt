@@ -15,8 +15,7 @@ returns-in_err-checking-clause-ends c =
     subst (λ (bs : List ℕ). MayEnd limits (lines_of bs) c.in_err-checking.field-0.0)
     (sym (piece_rest text c.args.piece.now before.0 c.loop-line.rest.now c.in-Some.line.now
     c.in-Some.others.now more before.1 c.in-Some.ensures.found))
-    (c.in_err-checking.ensures.ends limits (text ++ before.0) (c.in-Some.others.now ++ more)
-    (before.2 limits text read)))
+    (search (rules, c.in_err-checking.ensures.ends, c.in-Some.others.now)))
 
 pub loop-line-preserved : goal.loop-line-preserved
 loop-line-preserved c =

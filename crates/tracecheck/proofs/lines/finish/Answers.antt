@@ -1,4 +1,4 @@
-use Rattle.std.proofs.Common.{◌++◌, ◌∷◌, [], List, ℕ, subst, sym, ap, ◌∙◌}
+use Rattle.std.proofs.Common.{rules, ◌++◌, List, ℕ, subst, sym, ap, ◌∙◌}
 use Rattle.std.proofs.lemmas.Bool.{eqb-true}
 use Rattle.std.proofs.lemmas.List.{append-nil}
 use Rattle.tracecheck.specs.Verdict.{MayEnd}
@@ -11,8 +11,7 @@ returns-then-is_empty c = λ limits text read.
     let all = lines_now limits text c.args.checking c.args.pending.now read
     ∙ ap (λ (ls : List (List ℕ)). read.texts ++ ls) (lines_none c.args.pending.now none)
     ∙ append-nil read.texts in
-    subst (λ (ls : List (List ℕ)). MayEnd limits ls c.finish.result) (sym all)
-    (c.finish.ensures limits read.texts read.taken)
+    search (rules, c.finish.result, c.finish.ensures)
 
 pub returns-in-Ok : goal.returns-in-Ok
 returns-in-Ok c = λ limits text read.
@@ -20,13 +19,11 @@ returns-in-Ok c = λ limits text read.
     ∙ ap (λ (ls : List (List ℕ)). read.texts ++ ls) (lines_last c.args.pending.now
     (sym c.is_empty.ensures ∙ c.if-is_empty.false) read.unended) in
     subst (λ (ls : List (List ℕ)). MayEnd limits ls c.finish-in-Ok.result) (sym all)
-    (c.finish-in-Ok.ensures limits (read.texts ++ c.args.pending.now ∷ [])
-    (c.in-Ok.ensures.taken limits read.texts read.taken))
+    (search (rules, c.finish-in-Ok.ensures, c.args.pending.now, c.in-Ok.ensures.taken))
 
 pub returns-in-Err : goal.returns-in-Err
 returns-in-Err c = λ limits text read.
     let all = lines_now limits text c.args.checking c.args.pending.now read
     ∙ ap (λ (ls : List (List ℕ)). read.texts ++ ls) (lines_last c.args.pending.now
     (sym c.is_empty.ensures ∙ c.if-is_empty.false) read.unended) in
-    subst (λ (ls : List (List ℕ)). MayEnd limits ls c.in-Err.end) (sym all)
-    (c.in-Err.ensures.ends limits read.texts [] read.taken)
+    search (rules, c.in-Err.end, c.in-Err.ensures.ends)

@@ -1,4 +1,4 @@
-use Rattle.std.proofs.Common.{rules, ◌≡◌, ◌++◌, ◌∷◌, [], List, ℕ, sym, ap, ◌∙◌}
+use Rattle.std.proofs.Common.{rules, ◌≡◌, ◌++◌, ◌∷◌, [], List, ℕ}
 use Rattle.ent_trace.specs.Text.{without_return}
 use Rattle.tracecheck.proofs.LinesRead.{without_return-return, without_return-other}
 use Rattle.tracecheck.proofs.lines.without_return.Goals as goal
@@ -9,8 +9,7 @@ cut line front last is return = search (rules, without_return-return)
 
 whole : (line front : List ℕ) (last : ℕ) → line ≡ front ++ last ∷ [] → (last ≡ 13 → ⊥)
     → line ≡ without_return line
-whole line front last is other =
-    is ∙ sym (ap without_return is ∙ without_return-other front last other)
+whole line front last is other = search (rules, without_return-other)
 
 pub returns-then-last-eq13 : goal.returns-then-last-eq13
 returns-then-last-eq13 c = search (rules, cut)

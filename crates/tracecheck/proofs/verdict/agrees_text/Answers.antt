@@ -1,8 +1,5 @@
-use Rattle.std.proofs.Common.{append_assoc}
+use Rattle.std.proofs.Common.{rules, append_assoc}
 use Rattle.tracecheck.proofs.verdict.agrees_text.Goals as goal
 
 pub returns : goal.returns
-returns c =
-    let text = c.in_ok-text.ensures.ok in
-    let bytes = c.into_bytes.ensures.value in
-    simp append_assoc (cc)
+returns c = search (rules, c.in_ok-text.ensures.ok, c.into_bytes.ensures.value, append_assoc)
