@@ -49,7 +49,8 @@ last_of-append q (c ∷ calls) call own = search (rules, last_of-append q calls 
 last_of-append_other : (q : ℕ) (calls : List Call) (call : Call) → call.caller ≢ q
     → last_of q (calls ++ call ∷ []) ≡ last_of q calls
 last_of-append_other q [] call other = unless (call.caller == q) _ _ (grind (arith, nat_tests))
-last_of-append_other q (c ∷ calls) call other = search (rules, last_of-append_other q calls call other)
+last_of-append_other q (c ∷ calls) call other = search
+    (rules, last_of-append_other q calls call other)
 
 -- ---- what is kept from event to event
 

@@ -191,7 +191,8 @@ without_empty_end-events (Flush ∷ []) = last_line _ _
 without_empty_end-events (Begin caller n ∷ []) = last_line _ _
 without_empty_end-events (Step caller ∷ []) = last_line _ _
 without_empty_end-events (Answer caller ∷ []) = last_line _ _
-without_empty_end-events (event ∷ next ∷ events) = search (rules, without_empty_end-events (next ∷ events))
+without_empty_end-events (event ∷ next ∷ events) = search
+    (rules, without_empty_end-events (next ∷ events))
 
 lines_from_spelling : (text : List ℕ) (events : List Event) → AreEvents events → Spells events text
     → lines_of text ≡ map event_text events

@@ -143,7 +143,8 @@ module _ (given : List Handle) where
   sorted_is [] sorted run s f sound is low keyed none some answered up alike sum =
       let empty = nothing_sorted sorted (subst (TieAlike sorted) none alike) in
       (subst (Answers s) (sym empty) tt, ap (after_run s) (sym empty))
-  sorted_is (c ∷ order) [] run s f sound is low keyed (before, after, parts, others, more) some answered
+  sorted_is (c ∷ order) [] run s f sound is low keyed (before, after, parts, others, more) some
+      answered
       up alike sum = absurd (no_middle before after c (sym parts ∙ nothing_left run alike))
   sorted_is (c ∷ order) (h ∷ sorted) run s f sound is low keyed (before, after, parts, others, more)
       some answered up alike sum =
@@ -196,7 +197,8 @@ module _ (given : List Handle) where
                   let rest_sum : total sorted ≡ total order = omega arith in
                   let rest = sorted_is order sorted (before ++ after) (after_take s n) (raised f c)
                   t_sound t_is (low_next f s c low (omega arith) (omega arith)) rest_keyed more
-                  some.1 answered.1 up.1 (subst (TieAlike sorted) same_rest alike_here) rest_sum in (
+                  some.1 answered.1 up.1 (subst (TieAlike sorted) same_rest alike_here) rest_sum
+                  in (
                     subst (λ (y : Placed). Answers s (y ∷ sorted)) (sym p.is) (answered.0, rest.0),
                     rest.1
                         ∙ ap (λ (y : Placed). after_run (after_take s (asks y)) sorted) (sym p.is),
@@ -209,7 +211,8 @@ module _ (given : List Handle) where
             ]
         | inl short ↦
             let left = length s.pool in
-            let fits = subst (FitsReserved c.reservation.reply) (reply-refused s n short) answered.0 in
+            let fits = subst (FitsReserved c.reservation.reply) (reply-refused s n short)
+            answered.0 in
             let emptied = ap (λ (t : Allocator). t.pool) (after_take-refused s n short) in
             let order_none = empty-Answers order (after_take s n) emptied some.1 answered.1 in
             let rest_none = all_unordered FindsNone (before ++ after) order more order_none in
@@ -245,7 +248,8 @@ module _ (given : List Handle) where
                   let first = takes_place given n (asks h) left head.own h_key.own
                   c.reservation.reply h.reservation.reply fits c_later short head.key_of
                   h_none.fits h_none.some h_key.key_of (omega arith) in
-                  ends first.1 first.0 (all_alike FindsNone sorted (sp.before ++ sp.after) alike_here
+                  ends first.1 first.0
+                  (all_alike FindsNone sorted (sp.before ++ sp.after) alike_here
                   (all_without FindsNone sp.before sp.after h h_all))
               | inr only ↦
                   let own : head.own ≡ 2 ^ 32 = only head.own head.key_of in

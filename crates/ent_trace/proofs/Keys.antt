@@ -20,7 +20,8 @@ abbrev requested : Reservation → ℕ
 requested r = r.requested
 
 -- one more is requested
-pub requested-push : (run : List Placed) (p : Placed) → requested_in (reservations_of (run ++ p ∷ []))
+pub requested-push : (run : List Placed) (p : Placed) → requested_in
+    (reservations_of (run ++ p ∷ []))
     ≡ requested_in (reservations_of run) + p.reservation.requested
 requested-push [] p = grind (arith, common_steps)
 requested-push (q ∷ run) p = grind (arith, common_steps, requested-push run p)

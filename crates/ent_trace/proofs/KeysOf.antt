@@ -138,11 +138,13 @@ later_keys given (p ∷ run) s k sound is low few some keys answered =
     let here : k ≤ p.key = elim (cases_lt (length s.pool) n) [
       | inl short ↦
           let high = refused_key given n key.own (length s.pool) p.reservation.reply key.small
-          (subst (FitsReserved p.reservation.reply) (reply-refused s n short) answered.0) key.key_of in
+          (subst (FitsReserved p.reservation.reply) (reply-refused s n short) answered.0)
+          key.key_of in
           let least = key.least in
           omega arith
       | inr enough ↦
-          let place = served_key given s sound is n key.own p.reservation.reply some.0 enough answered.0
+          let place = served_key given s sound is n key.own p.reservation.reply some.0 enough
+          answered.0
           key.key_of in
           let from = place.from in
           let least = key.least in

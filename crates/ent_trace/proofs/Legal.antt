@@ -73,7 +73,8 @@ after-some (p ∷ run) s = elim (some_or_none (asks p)) [
 pub nothing-fits : (run : List Placed) (s : Allocator) → Answers s run
     → AllByRecursion FitsNothing run
 nothing-fits [] s answered = tt
-nothing-fits (p ∷ run) s answered = search (rules, nothing-fits run (after_take s (asks p)) answered.1)
+nothing-fits (p ∷ run) s answered = search
+    (rules, nothing-fits run (after_take s (asks p)) answered.1)
 
 pub Answers-from_some : (run : List Placed) (s : Allocator) → AllByRecursion FitsNothing run
     → Answers s (filter asks_some run) → Answers s run

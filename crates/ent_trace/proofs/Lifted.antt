@@ -189,7 +189,8 @@ keyed_filtered given f (p ∷ run) keyed fits = elim (some_or_none (asks p)) [
 
 total_filtered : (run : List Placed) → total (filter asks_some run) ≡ total run
 total_filtered [] = refl
-total_filtered (p ∷ run) = search (rules, some_or_none, asks, total, kept, left_out, total_filtered run)
+total_filtered (p ∷ run) = search
+    (rules, some_or_none, asks, total, kept, left_out, total_filtered run)
 
 total_append : (xs ys : List Placed) → total (xs ++ ys) ≡ total xs + total ys
 total_append [] ys = omega arith
@@ -224,7 +225,8 @@ sorted_run s sorted run order sound keyed up alike sum is answered =
     let sums : total (some sorted) ≡ total (some l.placed) =
     total_filtered sorted ∙ total_is sorted ∙ sum ∙ sym (total_is run)
     ∙ sym (total_ordered l.placed run l.is_order) ∙ sym (total_filtered l.placed) in
-    let ends = sorted_is (available s) (some l.placed) (some sorted) (some run) s (λ _. 0) sound refl
+    let ends = sorted_is (available s) (some l.placed) (some sorted) (some run) s (λ _. 0) sound
+    refl
     (λ q. (omega arith, omega arith)) (keyed_filtered (available s) (λ _. 0) run keyed fits_run)
     (order_filtered l.placed run l.is_order) (some_filtered l.placed)
     (Answers-some l.placed s order_yes) (rising_filtered asks_some sorted up)

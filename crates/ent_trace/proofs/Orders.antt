@@ -39,7 +39,8 @@ run_more (q ∷ run) r rest = ap (λ (lines : List Line). line.Reserve q ∷ lin
 answered_front : (s : Allocator) (first second : List Line) → AreAnswered s (first ++ second)
     → AreAnswered s first
 answered_front s [] second all = tt
-answered_front s (l ∷ first) second all = (all.0, answered_front (after_line s l) first second all.1)
+answered_front s (l ∷ first) second all =
+    (all.0, answered_front (after_line s l) first second all.1)
 
 answered_back : (s : Allocator) (first second : List Line) → AreAnswered s (first ++ second)
     → AreAnswered (after_lines s first) second

@@ -72,7 +72,8 @@ module _ (Q : Placed → Type 0) where
   rest_of d x run true all = All-tail Q d (filter (tie x) run) all
   rest_of d x run false all = all
 
-  pub whole : (run : List Placed) → ((x : Placed) → All Q (filter (tie x) run)) → AllByRecursion Q run
+  pub whole : (run : List Placed) → ((x : Placed) → All Q (filter (tie x) run)) → AllByRecursion Q
+      run
   whole [] each = tt
   whole (d ∷ run) each = (
     All-head Q d (filter (tie d) run)

@@ -40,12 +40,15 @@ calls_from-append number [] more calls e =
     let is : read [] ≡ read calls = e in
     let same : [] ≡ calls = cc in
     let here : number ≡ number + length {A = List ℕ} [] = omega arith in
-    ap (λ n. calls_from n more) here ∙ sym (front_of_none (calls_from (number + length {A = List ℕ} []) more))
-    ∙ ap (λ (ls : List Line). with_front ls (calls_from (number + length {A = List ℕ} []) more)) same
+    ap (λ n. calls_from n more) here ∙ sym
+    (front_of_none (calls_from (number + length {A = List ℕ} []) more))
+    ∙ ap (λ (ls : List Line). with_front ls (calls_from (number + length {A = List ℕ} []) more))
+    same
 calls_from-append number (text ∷ texts) more calls e =
     let later : number + 1 + length texts ≡ number + length (text ∷ texts) = omega arith in
     step number (line_of number (words_of text)) (calls_from (number + 1) texts)
-    (calls_from (number + 1) (texts ++ more)) (calls_from (number + length (text ∷ texts)) more) calls
+    (calls_from (number + 1) (texts ++ more)) (calls_from (number + length (text ∷ texts)) more)
+    calls
     (λ front is. calls_from-append (number + 1) texts more front is
     ∙ ap (λ n. with_front front (calls_from n more)) later) e
 

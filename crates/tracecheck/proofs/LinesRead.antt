@@ -58,7 +58,8 @@ cut_line limits text old pending bytes all h more =
     ap lines_of (append_assoc text bytes (10 ∷ more)) ∙ h.lines (bytes ++ 10 ∷ more)
     ∙ ap (λ (bs : List ℕ). h.texts ++ lines_of bs) (sym (append_assoc pending bytes (10 ∷ more)))
     ∙ ap (λ (ls : List (List ℕ)). h.texts ++ ls)
-    (lines_first (pending ++ bytes) more (All-append (λ byte. byte ≢ 10) pending bytes h.unended all))
+    (lines_first (pending ++ bytes) more
+    (All-append (λ byte. byte ≢ 10) pending bytes h.unended all))
 
 pub HasRead-line : (limits : Limits) (text : List ℕ) (old new : Checking)
     (pending bytes : List ℕ) → IsUnended bytes → (h : HasRead limits text old pending)

@@ -65,7 +65,8 @@ record TakesNumber (most : ℕ) (a : Arg) : Type 0 where
 -- an id is found where an entry has it
 has-found : (xs : List Entry) (id : Text) (i : ℕ) → i < length xs
     → ((d : Entry) → bytes_eq (slice_index_or xs i d).0.now id ≡ true)
-    → is_some (option_map (λ (e : Entry). e.1) (find (λ (e : Entry). bytes_eq e.0.now id) xs)) ≡ true
+    → is_some (option_map (λ (e : Entry). e.1) (find (λ (e : Entry). bytes_eq e.0.now id) xs)) ≡
+    true
 has-found [] id i lt at = absurd (omega arith)
 has-found (x ∷ xs) id i lt at = go (bytes_eq x.0.now id) refl i lt at (has-found xs id)
   where
@@ -73,7 +74,8 @@ has-found (x ∷ xs) id i lt at = go (bytes_eq x.0.now id) refl i lt at (has-fou
         → ((d : Entry) → bytes_eq (slice_index_or (x ∷ xs) i d).0.now id ≡ true)
         → ((j : ℕ) → j < length xs
         → ((d : Entry) → bytes_eq (slice_index_or xs j d).0.now id ≡ true)
-        → is_some (option_map (λ (e : Entry). e.1) (find (λ (e : Entry). bytes_eq e.0.now id) xs)) ≡ true)
+        → is_some (option_map (λ (e : Entry). e.1) (find (λ (e : Entry). bytes_eq e.0.now id) xs))
+        ≡ true)
         → is_some (option_map (λ (e : Entry). e.1)
         (cond same (Some x) (find (λ (e : Entry). bytes_eq e.0.now id) xs))) ≡ true
     go true is i lt at rest = refl
@@ -164,7 +166,8 @@ number-given cmd m is p k option most default below at alone named own =
     let rule : rule_of a ≡ number_option option most default = rule_at (args_of cmd) k d lt
     ∙ (ap (λ (rs : List Rule). slice_index_or rs k (rule_of d)) rules ∙ at (rule_of d)) in
     let id : a.id.now ≡ option = ap (λ (r : Rule). r.id) rule in
-    let simple : IsSimple cmd = ready_simple cmd (ap (λ (a : App). is_ready a.top) is ∙ program-ready)
+    let simple : IsSimple cmd = ready_simple cmd
+    (ap (λ (a : App). is_ready a.top) is ∙ program-ready)
     (ap (λ (a : App). list_all is_ready_leaf a.subs) is) in
     let simple_arg : IsSimpleArg a = simple.args k d lt in
     let set : a.action ≡ Some Set = ap (λ (r : Rule). r.action) rule in

@@ -20,7 +20,8 @@ use Rattle.tracecheck.specs.declared.verdict.Verdict.TheVariants as verdict
 use Rattle.tracecheck.specs.declared.verdict.Refusal.TheVariants as refusal
 use Rattle.tracecheck.proofs.Joined.{AllFollow-call, calls_from-append, with_front}
 
-next_call : (texts : List (List ℕ)) (text : List ℕ) (calls : List Line) (r : Result (Option Line) Cause)
+next_call : (texts : List (List ℕ)) (text : List ℕ) (calls : List Line)
+    (r : Result (Option Line) Cause)
     (more : Result (List Line) Refused)
     → calls_from 1 texts ≡ Ok calls → line_of (1 + length texts) (words_of text) ≡ r
     → goes_on (1 + length texts) r (Ok []) ≡ more

@@ -17,13 +17,15 @@ told s t n span result sound after is says = search (rules, reply-later s (n ∷
 pub returns-in_ok-listed-in-Ok-clause-reply : goal.returns-in_ok-listed-in-Ok-clause-reply
 returns-in_ok-listed-in-Ok-clause-reply c =
     (λ i. Ok (c.in_ok-listed-in-Ok.ensures i)) ∙ sym c.in-Ok.is
-    ∙ told c.args.entities.now.allocator c.lower-span.new.self.allocator c.args.n c.lower-span.result
+    ∙ told c.args.entities.now.allocator c.lower-span.new.self.allocator c.args.n
+    c.lower-span.result
     c.reply.result c.cursor-high.ensures.sound c.lower-span.ensures.step c.lower-span.ensures.span
     c.reply.ensures
 
 pub returns-in-Err-clause-reply : goal.returns-in-Err-clause-reply
 returns-in-Err-clause-reply c =
     sym c.in-Err.is
-    ∙ told c.args.entities.now.allocator c.lower-span.new.self.allocator c.args.n c.lower-span.result
+    ∙ told c.args.entities.now.allocator c.lower-span.new.self.allocator c.args.n
+    c.lower-span.result
     c.reply.result c.cursor-high.ensures.sound c.lower-span.ensures.step c.lower-span.ensures.span
     c.reply.ensures

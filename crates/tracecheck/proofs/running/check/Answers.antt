@@ -12,7 +12,8 @@ returns-then-count-eq0-clause-ends g c =
     let before = c.loop.invariant.read in
     let last = ap (λ n. before.0 ++ take n c.take.new.buffer) c.if-count-eq0.true
     ∙ append-nil before.0 in
-    ended_at_end c.args.limits (device.remaining c.args.input.now) (device.remaining c.take.new.self)
+    ended_at_end c.args.limits (device.remaining c.args.input.now)
+    (device.remaining c.take.new.self)
     before.0 c.loop.pending.items c.loop.checking c.finish.result
     (subst (λ (bs : List ℕ). Consumes (device.remaining c.args.input.now)
     (device.remaining c.take.new.self) bs) last

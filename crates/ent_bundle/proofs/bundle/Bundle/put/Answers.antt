@@ -15,7 +15,8 @@ use Rattle.ent_bundle.proofs.bundle.Bundle.put.Goals as goal
 use Rattle.ent_bundle.proofs.bundle.Bundle.put.Given.{Over}
 
 -- what is written over
-over : (g : Over) (c : goal.After-self-1 g) → refill (length c.self.inside.items.items) c.self.inside.items.items
+over : (g : Over) (c : goal.After-self-1 g) → refill (length c.self.inside.items.items)
+    c.self.inside.items.items
     (set c.deref_mut.result.now c.in-Ok.index (
       (get_or c.deref_mut.result.now c.in-Ok.index (record { 0 = 0 }, pos 0)).0,
       cast_signed w64
@@ -43,10 +44,12 @@ invariant_of-self g c = (
 )
 
 pub returns-in-Ok-clause-ok : goal.returns-in-Ok-clause-ok
-returns-in-Ok-clause-ok g c = over g c ∙ ap (put component_cmp c.args.id c.args.value) c.self.view_is
+returns-in-Ok-clause-ok g c = over g c ∙ ap (put component_cmp c.args.id c.args.value)
+    c.self.view_is
 
 -- what is added
-added : (g : Over) (c : goal.In_ok-insert-in-Err g) → c.insert.new.self.items ≡ put component_cmp c.args.id
+added : (g : Over) (c : goal.In_ok-insert-in-Err g) → c.insert.new.self.items ≡ put component_cmp
+    c.args.id
     c.args.value c.self.inside.items.items
 added g c =
     let gap = subst (λ (b : Bundle). IsGapFor component_cmp b c.args.id c.in-Err.index)
@@ -63,7 +66,8 @@ invariant_of-self-in-Continue-1 g c = (
 )
 
 pub returns-in_ok-insert-in-Err-clause-ok : goal.returns-in_ok-insert-in-Err-clause-ok
-returns-in_ok-insert-in-Err-clause-ok g c = added g c ∙ ap (put component_cmp c.args.id c.args.value)
+returns-in_ok-insert-in-Err-clause-ok g c = added g c ∙ ap
+    (put component_cmp c.args.id c.args.value)
     c.self.view_is
 
 pub returns-in_err-insert-in-Err-clause-memory : goal.returns-in_err-insert-in-Err-clause-memory

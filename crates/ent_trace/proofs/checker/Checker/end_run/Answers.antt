@@ -1,8 +1,8 @@
 use Rattle.std.proofs.Common.{◌≡◌, ℕ, [], ◌∷◌, sym, subst}
 use Rattle.std.proofs.lemmas.Result.{err_from_is_err_and}
 use Rattle.ent_trace.specs.Trace.{Fits, after_line}
-use Rattle.ent_trace.specs.Checker.{Checked, Follows, Reaches, Differs, Shows, OnDiffers, HasNoOrder}
-use Rattle.ent_trace.specs.Checker.{NoneFollows}
+use Rattle.ent_trace.specs.Checker.{Checked, Follows, Reaches, Differs, Shows, OnDiffers}
+use Rattle.ent_trace.specs.Checker.{HasNoOrder, NoneFollows}
 use Rattle.ent_trace.proofs.Orders.{called-Follows, called-Shows, called-None, settled-None}
 use Rattle.ent_trace.proofs.Orders.{Shows-more, alone_Reaches}
 use Rattle.ent_trace.proofs.Stops.{on_differs, on_both, on_err}
@@ -39,7 +39,8 @@ returns c =
           (called-Follows self l at alone c.in_ok-settle.ensures.settled fits))
           c.call.ensures.fits c.call.ensures.next;
       reaches = on_both c.call.result (Fits at l) (λ next. next ≡ next_is) (Reaches self l)
-          (λ fits next is. alone_Reaches self l next at alone c.in_ok-settle.ensures.settled fits is)
+          (λ fits next is. alone_Reaches self l next at alone c.in_ok-settle.ensures.settled fits
+          is)
           c.call.ensures.fits c.call.ensures.next;
       differs = on_err c.call.result (λ stop. OnDiffers stop (Differs at c.args.number l))
           (λ stop. OnDiffers stop (Shows self c.args.number (l ∷ [])))

@@ -7,5 +7,6 @@ returns-in-Ok-None-clause-taken c = search (rules, HasTaken-none)
 
 pub returns-in-Err-Cause-clause-ends : goal.returns-in-Err-Cause-clause-ends
 returns-in-Err-Cause-clause-ends c = λ limits texts after taken.
-    none_here limits texts after c.args.text.now c.in-Err-Cause.cause c.args.self c.in-Some.number (grind arith)
+    none_here limits texts after c.args.text.now c.in-Err-Cause.cause c.args.self c.in-Some.number
+    (grind arith)
     (rw c.in-Err-Cause.field-0-is at c.in-Err-Cause.ensures.exact) taken
