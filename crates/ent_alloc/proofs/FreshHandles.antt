@@ -1,7 +1,7 @@
 -- Laws of `fresh`, the first occupants of slots that were never made. Nothing here computes it at a
 -- number.
-use Rattle.std.proofs.Common.{rules, ◌≡◌, refl, ap, ◌∙◌, ℕ, zero, suc, ◌+◌, ◌-◌, ◌<◌, ◌≤◌, true}
-use Rattle.std.proofs.Common.{false, List, [], ◌∷◌, ◌++◌, length, get_or, take, drop, filter, All}
+use Rattle.std.proofs.Common.{rules, ◌≡◌, refl, ap, ℕ, zero, suc, ◌+◌, ◌-◌, ◌<◌, ◌≤◌, true, false}
+use Rattle.std.proofs.Common.{List, [], ◌∷◌, ◌++◌, length, get_or, take, drop, filter, All}
 use Rattle.std.proofs.Common.{AllPairs, arith, lt-ltb, le-ltb, le-leb, append-nil}
 use Rattle.std.proofs.lemmas.Bool.{lt-leb}
 use Rattle.std.proofs.lemmas.List.Elements.{All-weaker, filter-append}
@@ -39,18 +39,14 @@ get_or-fresh index zero k d lt = absurd (omega arith)
 get_or-fresh index (suc slots) zero d lt = ap first_of_slot (omega arith)
 get_or-fresh index (suc slots) (suc k) d lt =
     let shift : index + 1 + k ≡ index + suc k = omega arith in
-    get_or-fresh (index + 1) slots k d (omega arith) ∙ ap first_of_slot shift
+    rw (← shift) (get_or-fresh (index + 1) slots k d (omega arith))
 
 -- what is left of them
 pub drop-fresh : (k index slots : ℕ) → drop k (fresh index slots) ≡ fresh (index + k) (slots - k)
 unfolding fresh
-drop-fresh zero index slots = let same : index + 0 ≡ index = omega arith in let all : slots - 0
-    ≡ slots = omega arith in rw (same, all)
-drop-fresh (suc k) index zero = let none : 0 - suc k ≡ 0 = omega arith in rw none
-drop-fresh (suc k) index (suc slots) =
-    let shift : index + 1 + k ≡ index + suc k = omega arith in
-    let fewer : suc slots - suc k ≡ slots - k = omega arith in
-    rw (← shift, fewer) (drop-fresh k (index + 1) slots)
+drop-fresh zero index slots = search rules
+drop-fresh (suc k) index zero = search rules
+drop-fresh (suc k) index (suc slots) = search (rules, drop-fresh k (index + 1) slots)
 
 -- the front of them
 pub take-fresh : (k index slots : ℕ) → k ≤ slots → take k (fresh index slots) ≡ fresh index k
@@ -63,9 +59,7 @@ take-fresh (suc k) index (suc slots) le = ap (first_of_slot index ∷◌)
 -- each is of a slot in the range, and its first occupant
 pub All-fresh : (P : Handle → Type 0) (index slots : ℕ)
     → ((k : ℕ) → k < slots → P (first_of_slot (index + k))) → All P (fresh index slots)
-All-fresh P index slots each k d lt =
-    let within : k < slots = omega (arith, length-fresh index slots) in
-    rw (get_or-fresh index slots k d within) (each k within)
+All-fresh P index slots each k d lt = search (rules, length-fresh, get_or-fresh, each)
 
 -- their indexes rise
 pub AllPairs-fresh : (index slots : ℕ) → AllPairs (λ g h. g.index < h.index) (fresh index slots)
@@ -116,11 +110,9 @@ module _ (made slots : ℕ) (old : List Handle) (below : All (λ h. h.index < ma
   -- the front of both
   pub take_joined : (k : ℕ) → k ≤ length old + slots → take k (old ++ fresh made slots) ≡ take k old
       ++ fresh made (k - length old)
-  take_joined k enough = take-append k old (fresh made slots)
-      ∙ ap (take k old ++◌) (take-fresh (k - length old) made slots (omega arith))
+  take_joined k enough = search (rules, take-append, take-fresh)
 
   -- what is left of both
   pub drop_joined : (k : ℕ) → drop k (old ++ fresh made slots) ≡ drop k old
       ++ fresh (made + (k - length old)) (slots - (k - length old))
-  drop_joined k = drop-append k old (fresh made slots)
-      ∙ ap (drop k old ++◌) (drop-fresh (k - length old) made slots)
+  drop_joined k = search (rules, drop-append, drop-fresh)

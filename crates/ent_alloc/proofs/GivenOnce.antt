@@ -1,11 +1,11 @@
 -- No handle is given twice: each step keeps the list of all given handles free of repetitions.
-use Rattle.std.proofs.Common.{rules, le_of_eq, append-nil, ◌≡◌, ◌≢◌, refl, sym, ap, subst, ℕ, ◌<◌}
-use Rattle.std.proofs.Common.{◌≤◌, List, [], ◌∷◌, ◌++◌, length, get_or, take, drop, All, Contains}
+use Rattle.std.proofs.Common.{rules, le_of_eq, append-nil, ◌≡◌, ◌≢◌, refl, sym, subst, ℕ, ◌<◌, ◌≤◌}
+use Rattle.std.proofs.Common.{List, [], ◌∷◌, ◌++◌, length, get_or, take, drop, All, Contains}
 use Rattle.std.proofs.Common.{IsPermutation, Ok, arith, inl, inr}
 use Rattle.std.proofs.lemmas.Bool.{cases_lt}
-use Rattle.std.proofs.lemmas.List.Elements.{Contains-get_or, All-push, All-nil, All-append}
-use Rattle.std.proofs.lemmas.List.Elements.{All-head, All-contains, All-contains_itself, All-weaker}
-use Rattle.std.proofs.lemmas.List.Elements.{All-take, All-drop, Contains-append_left}
+use Rattle.std.proofs.lemmas.List.Elements.{All-push, All-nil, All-append, All-head, All-contains}
+use Rattle.std.proofs.lemmas.List.Elements.{All-contains_itself, All-weaker, All-take, All-drop}
+use Rattle.std.proofs.lemmas.List.Elements.{Contains-append_left}
 use Rattle.std.proofs.lemmas.List.Quantifiers.{all_pairs_push}
 use Rattle.std.proofs.lemmas.List.Sorted.{All-permutation}
 use Rattle.ent_handle.specs.Handle.{Handle}
@@ -46,16 +46,12 @@ not_before_if_after h g after same = let later = after same in omega arith
 pub taken-spent : (s : Allocator) (h : Handle) → IsSound s → Contains s.taken h → IsSpent s h
 taken-spent s h sound in_taken =
     let across = AllPairs-across AreApart s.taken (s.aside ++ s.pool) sound.apart in
+    let among = AllPairs-left AreApart s.taken (s.aside ++ s.pool) sound.apart in
     record {
       left = All-weaker (AreApart h) (After h) (after_if_apart h) (s.aside ++ s.pool)
           (All-contains (λ g. All (AreApart g) (s.aside ++ s.pool)) s.taken h across in_taken);
       taken = λ k d lt same.
-          let is : get_or s.taken k d ≡ h =
-          same_from_AllPairs AreApart s.taken (get_or s.taken k d) h
-          (AllPairs-left AreApart s.taken (s.aside ++ s.pool) sound.apart)
-          (Contains-get_or s.taken k d lt) in_taken (λ apart. apart same)
-          (λ apart. apart (sym same)) in
-          le_of_eq (ap (λ g. g.generation) (sym is));
+          search (rules, same_from_AllPairs AreApart s.taken (get_or s.taken k d) h among);
       live = λ g alive same.
           absurd (All-contains (AreApart g) (available s) h (sound.live g alive).apart
           (Contains-append_left s.taken (s.aside ++ s.pool) h in_taken) same);
@@ -111,13 +107,12 @@ alloc-stays_spent : (s : Allocator) (x : Handle) (rest : List Handle) (h : Handl
     ∷ rest → IsSpent s h → IsSpent (after_alloc s x) h
 alloc-stays_spent s x rest h front spent =
     let in_pool : All (After h) s.pool = All-right (After h) s.aside s.pool spent.left in
+    let first : After h x = All-head (After h) x rest (subst (All (After h)) front in_pool) in
     record {
       left = All-append (After h) s.aside (drop 1 s.pool) (All-left (After h) s.aside s.pool
           spent.left) (All-drop (After h) 1 s.pool in_pool);
       taken = spent.taken;
-      live = of_inserted (NotBefore h) s.live x
-          (not_before_if_after h x
-          (All-head (After h) x rest (subst (All (After h)) front in_pool))) spent.live;
+      live = of_inserted (NotBefore h) s.live x (not_before_if_after h x first) spent.live;
     }
 
 -- after a free: the slot goes on with the next generation, or gives nothing more
@@ -141,20 +136,17 @@ free-stays_spent s x h alive spent =
 -- a served request gives what was never given
 pub take-given : (s : Allocator) (n : ℕ) (given more : List Handle) → IsSound s → reply_to s n
     ≡ Ok more → AreSpent s given → AreSpent (after_take s n) (given ++ more)
-take-given s n given more sound served once = record {
-  distinct = AllPairs-append (λ g h. g ≢ h) given more once.distinct
-      (reply-distinct s n more served sound)
-      (λ i d lt j e lt_j. spent_not_in_pool s (get_or given i d) (get_or more j e)
-      (once.spent i d lt) (All-from_pool j e lt_j));
-  spent = All-append (IsSpent (after_take s n)) given more
-      (All-weaker (IsSpent s) (IsSpent (after_take s n)) (take-stays_spent s n) given once.spent)
-      (All-weaker (Contains (after_take s n).taken) (IsSpent (after_take s n))
-      (λ h in_taken. taken-spent (after_take s n) h (after_take-sound s n sound) in_taken) more
-      (reply-taken s n more served));
-}
-  where
-    All-from_pool : All (Contains s.pool) more
-    All-from_pool = of_reply s n more served (Contains s.pool) (All-contains_itself s.pool)
+take-given s n given more sound served once =
+    let from_pool = of_reply s n more served (Contains s.pool) (All-contains_itself s.pool) in
+    let sound_then = after_take-sound s n sound in
+    record {
+      distinct = AllPairs-append (λ g h. g ≢ h) given more once.distinct
+          (reply-distinct s n more served sound)
+          (λ i d lt j e lt_j. spent_not_in_pool s (get_or given i d) (get_or more j e)
+          (once.spent i d lt) (from_pool j e lt_j));
+      spent =
+          search (rules, All-append, All-weaker, take-stays_spent, taken-spent, reply-taken);
+    }
 
 -- a refused request gives nothing
 pub refused-given : (s : Allocator) (n : ℕ) (given : List Handle) → AreSpent s given
@@ -173,11 +165,8 @@ alloc-given s x rest given sound flushed front once = record {
   distinct = all_pairs_push (λ g h. g ≢ h) given x once.distinct
       (λ k d lt. spent_not_in_pool s (get_or given k d) x (once.spent k d lt)
       (subst (λ pool. Contains pool x) (sym front) (0, omega arith, refl)));
-  spent = All-push (IsSpent (after_alloc s x)) given x
-      (All-weaker (IsSpent s) (IsSpent (after_alloc s x)) (λ h. alloc-stays_spent s x rest h front)
-      given once.spent)
-      (live-spent (after_alloc s x) x (after_alloc-sound s x rest sound flushed front)
-      (inserted s.live x));
+  spent = let sound_then = after_alloc-sound s x rest sound flushed front in
+      search (rules, All-push, All-weaker, alloc-stays_spent, live-spent, inserted);
 }
 
 -- a free gives nothing
@@ -191,7 +180,6 @@ free-given s x given alive once = search (rules, All-weaker, free-stays_spent)
 pub given-IsPermutation : (s : Allocator) (given same : List Handle) → IsPermutation given same
     → AreSpent s given → AreSpent s same
 given-IsPermutation s given same moved once = record {
-  distinct = AllPairs-IsPermutation (λ g h. g ≢ h) (λ g h apart is. apart (sym is)) given same moved
-      once.distinct;
+  distinct = AllPairs-IsPermutation (λ g h. g ≢ h) (search rules) given same moved once.distinct;
   spent = All-permutation (IsSpent s) given same moved once.spent;
 }

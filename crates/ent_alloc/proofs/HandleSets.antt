@@ -1,7 +1,6 @@
 -- Which handles a set or a list of handles has after a change.
-use Rattle.std.proofs.Common.{arith, rules, ◌≡◌, ◌≢◌, refl, sym, ap, ◌∙◌, Bool, true, false, not}
-use Rattle.std.proofs.Common.{◌&&◌, ◌||◌, true≢false, List, IsTrue, ◌⊎◌, inl, inr, Contains, All}
-use Rattle.std.proofs.Common.{AllPairs}
+use Rattle.std.proofs.Common.{arith, rules, ◌≡◌, ◌≢◌, refl, ap, ◌∙◌, Bool, true, ◌&&◌, ◌||◌, List}
+use Rattle.std.proofs.Common.{IsTrue, ◌⊎◌, Contains, All, AllPairs}
 use Rattle.std.proofs.lemmas.Grind.{common_steps}
 use Rattle.std.specs.FinSet as set
 use Rattle.std.specs.Ordering.{eq_by_cmp}
@@ -13,6 +12,7 @@ use Rattle.ent_handle.specs.Handle.{handle_cmp-IsAntisymmetric}
 use Rattle.ent_alloc.specs.Sequential.{stands_in}
 use Rattle.ent_alloc.specs.Sound.{AreApart}
 use Rattle.ent_alloc.proofs.ListLaws.{same_from_AllPairs}
+use Rattle.std.proofs.lemmas.Bool.{and_parts}
 
 -- a set of handles
 abbrev Handles : Type 0
@@ -20,18 +20,15 @@ Handles = set.FinSet handle_cmp
 
 -- one of the two holds
 either_true : (a b : Bool) → (a || b) ≡ true → (a ≡ true) ⊎ (b ≡ true)
-either_true true b e = inl refl
-either_true false b e = inr e
+either_true a b e = grind (arith)
 
 -- what holds anyhow
 or_true : (a : Bool) → (a || true) ≡ true
-or_true true = refl
-or_true false = refl
+or_true a = search rules
 
 -- both hold
 both_true : (a b : Bool) → (a && b) ≡ true → (a ≡ true) × (b ≡ true)
-both_true true b e = (refl, e)
-both_true false b e = absurd (true≢false (sym e))
+both_true a b e = and_parts a b e
 
 -- the order's test tells handles apart
 pub same_handle : (g h : Handle) → eq_by_cmp handle_cmp g h ≡ true → g ≡ h
@@ -40,10 +37,6 @@ same_handle g h e = tells_apart handle_cmp-IsAntisymmetric g h e
 -- a handle ties with itself
 pub itself : (h : Handle) → eq_by_cmp handle_cmp h h ≡ true
 itself h = (eq_by_cmp_equiv handle_cmp_total).refl h
-
--- and with no other
-pub other_handle : (g h : Handle) → g ≢ h → eq_by_cmp handle_cmp g h ≡ false
-other_handle g h apart = grind (arith, common_steps)
 
 -- a list as the specifications ask it
 pub Contains-from_stands_in : (handles : List Handle) (h : Handle) → IsTrue (stands_in handles h)
@@ -58,31 +51,23 @@ stands_in-from_Contains handles h has = grind (arith, common_steps)
 -- what is there after an insert was inserted or was there
 pub in_inserted : (s : Handles) (h x : Handle) → IsTrue (set.contains (set.insert s h) x) → (x ≡ h)
     ⊎ IsTrue (set.contains s x)
-in_inserted s h x e = elim (either_true _ _
-    (sym (set.contains-insert handle_cmp_total s h x) ∙ e)) [
-      | inl here ↦ inl (same_handle x h here)
-      | inr before ↦ inr before
-    ]
+in_inserted s h x e =
+    search (rules, either_true, set.contains-insert, handle_cmp_total, same_handle)
 
 -- what was inserted is there
 pub inserted : (s : Handles) (h : Handle) → IsTrue (set.contains (set.insert s h) h)
-inserted s h = set.contains-insert handle_cmp_total s h h ∙ ap (λ b. b || set.contains s h)
-    (itself h)
+inserted s h = search (rules, set.contains-insert, handle_cmp_total, itself)
 
 -- what is there after a remove was there, and is another
 pub in_removed : (s : Handles) (h x : Handle) → IsTrue (set.contains (set.remove s h) x) → (x ≢ h)
     × IsTrue (set.contains s x)
-in_removed s h x e =
-    let both = both_true _ _ (sym (set.contains-remove handle_cmp_total s h x) ∙ e) in (
-      λ same. true≢false (sym both.0 ∙ ap not (ap (eq_by_cmp handle_cmp x) (sym same) ∙ itself x)),
-      both.1,
-    )
+in_removed s h x e = search (rules, both_true, set.contains-remove, handle_cmp_total, itself)
 
 -- what a set has after all of a list
 pub contains-union_list : (s : Handles) (more : List Handle) (x : Handle)
     → set.contains (set.union s (set.from_list more)) x ≡ (set.contains s x || stands_in more x)
-contains-union_list s more x = set.contains-union handle_cmp_total s (set.from_list more) x
-    ∙ ap (λ b. set.contains s x || b) (set.contains-from_list handle_cmp_total more x)
+contains-union_list s more x =
+    search (rules, set.contains-union, handle_cmp_total, set.contains-from_list)
 
 -- what is there was there or is in the list
 pub in_union_list : (s : Handles) (more : List Handle) (x : Handle)
@@ -116,15 +101,8 @@ pub one_occupant_joined : (live : set.FinSet handle_cmp) (more : List Handle)
     → (g h : Handle) → IsTrue (set.contains (set.union live (set.from_list more)) g)
     → IsTrue (set.contains (set.union live (set.from_list more)) h) → g.index ≡ h.index → g ≡ h
 one_occupant_joined live more apart among one g h in_g in_h same =
-    elim (in_union_list live more g in_g) [
-      | inl g_before ↦ search (rules, in_union_list, All-contains)
-      | inr g_new ↦ elim (in_union_list live more h in_h) [
-        | inl h_before ↦ absurd (All-contains (AreApart h) more g (apart h h_before) g_new
-            (sym same))
-        | inr h_new ↦ same_from_AllPairs AreApart more g h among g_new h_new
-            (λ not_same. not_same same) (λ not_same. not_same (sym same))
-      ]
-    ]
+    let same_new = same_from_AllPairs AreApart more g h among in
+    search (rules, in_union_list, All-contains)
 
 -- what holds of the new occupant and of those before
 pub of_inserted : (P : Handle → Type 0) (live : set.FinSet handle_cmp) (x : Handle) → P x

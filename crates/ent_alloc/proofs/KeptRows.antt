@@ -1,7 +1,7 @@
 -- The rows that the records keep with their occupants.
-use Rattle.std.proofs.Common.{rules, ◌≡◌, ℕ, ◌+◌, ◌-◌, ◌<◌, Bool, true, false, cond, ◌&&◌, eqb, leb}
-use Rattle.std.proofs.Common.{List, [], ◌∷◌, ◌++◌, length, get_or, set, refl, sym, ◌∙◌, arith, suc}
-use Rattle.std.proofs.Common.{zero, replicate, Option, None, Some}
+use Rattle.std.proofs.Common.{rules, ◌≡◌, ℕ, ◌+◌, ◌-◌, ◌<◌, Bool, cond, ◌&&◌, eqb, leb, List, []}
+use Rattle.std.proofs.Common.{◌∷◌, ◌++◌, length, get_or, set, refl, suc, zero, replicate, Option}
+use Rattle.std.proofs.Common.{None}
 use Rattle.std.specs.Ordering.{eq_by_cmp}
 use Rattle.std.specs.FinMap as maps
 use Rattle.std.proofs.lemmas.Bool.{le-leb}
@@ -31,24 +31,16 @@ abbrev nothing : Option ℕ
 nothing = None
 
 cond-none : (b c : Bool) → cond b (cond c nothing nothing) nothing ≡ nothing
-cond-none true true = refl
-cond-none true false = refl
-cond-none false c = refl
+cond-none b c = search rules
 
 found : (h q : Handle) (row : Option ℕ) (entries : List (Handle × ℕ))
     → find handle_cmp q (with_row h row entries) ≡ cond (eq_by_cmp handle_cmp q h)
     (cond (is_some row) row (find handle_cmp q entries)) (find handle_cmp q entries)
-found h q None entries = search (rules)
-found h q (Some row) entries = refl
-
-row_here : (row : Option ℕ) → cond (is_some row) row None ≡ row
-row_here None = refl
-row_here (Some x) = refl
+found h q row entries = search rules
 
 row_split : (g : Bool) (row : Option ℕ) → cond g (cond (is_some row) row None) None
     ≡ cond g row None
-row_split true row = row_here row
-row_split false row = refl
+row_split g row = search rules
 
 row_head : (index : ℕ) (r : SlotRecord) (records : List SlotRecord) (q : Handle)
     → cond (eqb q.index index && eqb q.generation r.generation) (cond (is_some (row_of r.occupancy))
@@ -58,23 +50,14 @@ row_head index r records q = search (rules, tests_of, row_split, eqb_sym)
 
 find-rows_from : (index : ℕ) (records : List SlotRecord) (q : Handle)
     → find handle_cmp q (rows_from index records) ≡ row_from index records q
-find-rows_from index [] q = sym (cond-none (leb index q.index) (eqb 0 q.generation))
+find-rows_from index [] q = search (rules, cond-none)
 find-rows_from index (r ∷ records) q =
-    found (record { index = index; generation = r.generation }) q (row_of r.occupancy)
-    (rows_from (index + 1) records)
-    ∙ (λ i. cond (ties q (record { index = index; generation = r.generation }) i)
-    (cond (is_some (row_of r.occupancy)) (row_of r.occupancy)
-    (find-rows_from (index + 1) records q i)) (find-rows_from (index + 1) records q i))
-    ∙ row_head index r records q
+    search (rules, found, ties, find-rows_from (index + 1) records, row_head)
 
 -- the map of the rows returns with these
 pub get_rows : (records : List SlotRecord) (q : Handle)
     → maps.get {R = handle_cmp} (maps.from_entries (rows_from 0 records)) q ≡ row_at records q
-get_rows records q =
-    let all : leb 0 q.index ≡ true = le-leb 0 q.index (omega arith) in
-    let off : q.index - 0 ≡ q.index = omega arith in
-    maps.get-from_entries handle_cmp_total (rows_from 0 records) q ∙ find-rows_from 0 records q
-    ∙ (λ i. cond (all i) (row_in (get_or records (off i) no_slot) q.generation) None)
+get_rows records q = search (rules, maps.get-from_entries, handle_cmp_total, find-rows_from, le-leb)
 
 -- ---- one record set
 

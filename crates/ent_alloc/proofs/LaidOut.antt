@@ -1,6 +1,6 @@
 -- A sound allocator that is flushed, by the old handles of its pool.
-use Rattle.std.proofs.Common.{rules, ◌≡◌, sym, ap, ◌∙◌, subst, ℕ, ◌+◌, ◌-◌, ◌<◌, ◌≤◌, List, []}
-use Rattle.std.proofs.Common.{◌++◌, length, get_or, drop, filter, All, AllPairs, arith}
+use Rattle.std.proofs.Common.{rules, ◌≡◌, sym, ap, ◌∙◌, ℕ, ◌+◌, ◌-◌, ◌<◌, ◌≤◌, List, [], ◌++◌}
+use Rattle.std.proofs.Common.{length, get_or, drop, filter, All, AllPairs, arith}
 use Rattle.std.proofs.lemmas.List.{nil_from_length, length-append}
 use Rattle.std.proofs.lemmas.List.Elements.{All-append, All-weaker, filter_passes, All-filter}
 use Rattle.std.proofs.lemmas.List.Kept.{AllPairs-filter}
@@ -62,11 +62,10 @@ laid_out-sound s old h =
       limits = h.limits;
       made = h.made;
       order = all ∙ ap (◌++ news) (sym olds);
-      within = subst (All (IsWithin s.limits)) (sym all) (All-append (IsWithin s.limits) old news
-          h.within
+      within = rw all (All-append (IsWithin s.limits) old news h.within
           (never_made s.made s.limits.slots (IsWithin s.limits) (λ index from below.
           record { index = below; least = omega arith; greatest = h.limits.some_generation })));
-      apart = subst (AllPairs AreApart) (sym all) (AllPairs-append AreApart old news h.apart
+      apart = rw all (AllPairs-append AreApart old news h.apart
           (fresh_apart s.made (s.limits.slots - s.made))
           (λ i d lt. below_never_made s.made s.limits.slots (get_or old i d) (h.below i d lt)));
       pool = rw (h.taken, h.aside, h.asked);
@@ -74,7 +73,7 @@ laid_out-sound s old h =
       live = λ x alive. record {
         within = h.live_within x alive;
         made = h.live_below x alive;
-        apart = subst (All (AreApart x)) (sym all)
+        apart = rw all
             (All-append (AreApart x) old news (h.live_apart x alive)
             (below_never_made s.made s.limits.slots x (h.live_below x alive)));
       };

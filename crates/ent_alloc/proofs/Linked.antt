@@ -2,9 +2,8 @@
 -- roster gains the occupants.
 use Rattle.std.proofs.Common.{rules, ◌≡◌, ℕ, ◌+◌, ◌-◌, ◌<◌, ◌≤◌, List, [], ◌∷◌, ◌++◌, length}
 use Rattle.std.proofs.Common.{get_or, set, take, drop, map, replicate, slice_get, refl, sym, ap}
-use Rattle.std.proofs.Common.{subst, ◌∙◌, arith, inl, inr, Some}
+use Rattle.std.proofs.Common.{◌∙◌, arith, Some}
 use Rattle.std.specs.FinSet as sets
-use Rattle.std.specs.FinMap as maps
 use Rattle.std.proofs.lemmas.Bool.{cases_lt}
 use Rattle.std.proofs.lemmas.Option.{slice_get_read}
 use Rattle.std.proofs.lemmas.List.{take_at, drop_at, get_or-map, length-map, get_or-take}
@@ -12,7 +11,6 @@ use Rattle.std.proofs.lemmas.List.{get_or-drop, length-drop, length-take-le, len
 use Rattle.std.proofs.lemmas.List.{length-replicate, length_push, drop-map, take-map}
 use Rattle.std.proofs.lemmas.List.{get_or_append_left, get_or-append_right, get_or-replicate}
 use Rattle.std.proofs.lemmas.List.{get_or_push}
-use Rattle.ent_handle.specs.Handle.{Handle, handle_cmp}
 use Rattle.ent_alloc.specs.Limits.{Limits}
 use Rattle.ent_alloc.specs.Sequential.{fresh}
 use Rattle.ent_alloc.specs.declared.slot_record.SlotRecord.{SlotRecord}
@@ -57,34 +55,9 @@ module _ (limits : Limits) (records : List SlotRecord) (pending : List ℕ) (liv
       let few : length (take from pending) ≡ from = length-take-le from pending within in
       let more = length-occupants-reused records from (drop from pending) Wait-drop in
       let rest = length-drop from pending in
-      let before = linked.each_once in
-      let counted = linked.counted in
-      let slots = linked.few in
-      record {
-        limited = linked.limited;
-        few = omega arith;
-        counted = omega arith;
-        each_once = omega arith;
-        least = λ index made. let h = linked.least index (omega arith) in
-            omega (arith, same_generation index);
-        greatest = λ index made. let h = linked.greatest index (omega arith) in
-            omega (arith, same_generation index);
-        made = λ position below. let h = linked.made position (omega arith) in
-            omega (arith, get_or-take from pending position 0 (omega arith));
-        forward = λ position below.
-            ap (λ n. (record_at alive n).occupancy) (get_or-take from pending position 0
-            (omega arith))
-            ∙ waiting-reused records from (drop from pending) (get_or pending position 0) position
-            Wait-drop (linked.forward position (omega arith)) (omega arith);
-        listed = λ index position made is. let h = position_below index position (omega arith) is in
-            omega arith;
-        back = λ index position made is.
-            let below = position_below index position (omega arith) is in
-            let still = waited-reused records from (drop from pending) index position Wait-drop is
-            in
-            get_or-take from pending position 0 below ∙ linked.back index position (omega arith)
-            still.before;
-      }
+      let waits = waiting-reused records from (drop from pending) in
+      let waited = waited-reused records from (drop from pending) in
+      search (rules, same_generation, position_below, get_or-take, waits, waited, Wait-drop)
 
   same_map : (is : List ℕ) → map (handle_at alive) is ≡ map (handle_at records) is
   same_map [] = refl
@@ -97,10 +70,8 @@ module _ (limits : Limits) (records : List SlotRecord) (pending : List ℕ) (liv
         pending = take from (roster_of limits records pending).pending;
       }
   roster_of-reuse =
-      let live_is = live-reused records from (drop from pending) Wait-drop
-      ∙ ap (λ (hs : List Handle). sets.union (sets.from_list (occupants 0 records))
-      (sets.from_list hs)) (sym (drop-map (handle_at records) from pending)) in
-      search (rules, rows_from-reused, Wait-drop, same_map, take-map, length-reused)
+      let live_is = live-reused records from (drop from pending) Wait-drop in
+      search (rules, drop-map, rows_from-reused, Wait-drop, same_generation, take-map, length-reused)
 
 -- one slot, which waits last
 module _ (limits : Limits) (records : List SlotRecord) (pending rest : List ℕ) (live index : ℕ)
@@ -125,10 +96,8 @@ module _ (limits : Limits) (records : List SlotRecord) (pending rest : List ℕ)
 
   pub reuse_last_keeps_links : AreLinked limits
       (set records index (reuse (record_at records index))) rest (live + 1)
-  reuse_last_keeps_links =
-      let P : List ℕ × List ℕ × ℕ → Type 0 = λ p. AreLinked limits (reused records p.0) p.1 (live
-      + p.2) in
-      subst P (λ i. (dropped i, taken i, one_less i)) (reuse_keeps_links limits records pending live
+  reuse_last_keeps_links = rw (dropped, taken, one_less) at
+      (reuse_keeps_links limits records pending live
       (length rest) linked within)
 
   pub roster_of-reuse_last : roster_of limits (set records index (reuse (record_at records index)))
@@ -139,19 +108,10 @@ module _ (limits : Limits) (records : List SlotRecord) (pending rest : List ℕ)
             (roster_of limits records pending).pending;
       }
   roster_of-reuse_last =
-      let r = roster_of limits records pending in
-      let handles : drop (length rest) r.pending ≡ handle_at records index
-      ∷ [] = drop-map (handle_at records) (length rest) pending ∙ ap (map (handle_at records))
-      dropped in
-      let more = long in
-      let at : length rest ≡ length r.pending
-      - 1 = omega (arith, length-map pending (handle_at records)) in
-      (λ i. roster_of limits (reused records (sym dropped i)) (sym taken i))
-      ∙ roster_of-reuse limits records pending live (length rest) linked within
-      ∙ (λ i. record r {
-        live = sets.union r.live (sets.from_list (handles i));
-        pending = take (at i) r.pending;
-      })
+      let at : length (map (handle_at records) pending) - 1 ≡ length rest =
+      omega (arith, long, length-map pending (handle_at records)) in
+      rw at (rw (drop-map (handle_at records) (length rest) pending, dropped, taken) at
+      (roster_of-reuse limits records pending live (length rest) linked within))
 
   pub last_handle : slice_get (map (handle_at records) pending)
       (length (map (handle_at records) pending) - 1) ≡ Some (handle_at records index)
@@ -181,71 +141,23 @@ module _ (limits : Limits) (records : List SlotRecord) (pending : List ℕ) (liv
     new_is : (index : ℕ) → length records ≤ index → index < length grown → record_at grown index
         ≡ new_record
     new_is index past within =
-        let below : index - length records
-        < count = omega (
-          arith,
-          length-append records (replicate count new_record),
-          length-replicate count new_record,
-        ) in
-        get_or-append_right records (replicate count new_record) (length records) index no_slot refl
-        past
-        ∙ get_or-replicate count (index - length records) new_record no_slot below
+        search (rules, length-append, length-replicate, get_or-append_right, get_or-replicate)
 
     -- what is so of the generation of each old slot, and of the first one, is so of each slot's
     generation_in : (P : ℕ → Type 0)
         → ((index : ℕ) → index < length records → P (record_at records index).generation) → P 1
         → (index : ℕ) → index < length grown → P (record_at grown index).generation
-    generation_in P each first index within =
-        elim (cases_lt index (length records)) [
-          | inl made ↦ subst (λ (r : SlotRecord). P r.generation) (sym (old_stays index made))
-              (each index made)
-          | inr past ↦ subst (λ (r : SlotRecord). P r.generation) (sym (new_is index past within))
-              first
-        ]
+    generation_in P each first index within = search (rules, cases_lt, old_stays, new_is)
 
-    waits_in_old : (index position : ℕ) → index < length grown → (record_at grown index).occupancy
-        ≡ Pending position → index < length records
-    waits_in_old index position within is =
-        elim (cases_lt index (length records)) [
-          | inl made ↦ made
-          | inr past ↦ absurd
-              (Alive≢Pending (sym (ap (λ (r : SlotRecord). r.occupancy) (new_is index past within))
-              ∙ is))
-        ]
+    grown_long : length grown ≡ length records + count
+    grown_long = search (rules, length-append, length-replicate)
 
     pub make_keeps_links : AreLinked limits grown pending (live + count)
     make_keeps_links =
-        let long : length grown ≡ length records + count = length-append records
-        (replicate count new_record) ∙ ap (λ n. length records + n)
-        (length-replicate count new_record) in
+        let long = grown_long in
         let more : length (occupants 0 grown) ≡ length (occupants 0 records) + count =
-        ap length (occupants-append 0 records (replicate count new_record)
-        ∙ ap (λ hs. occupants 0 records ++ hs) (occupants-new (0 + length records) count))
-        ∙ length-append (occupants 0 records) (fresh (0 + length records) count)
-        ∙ ap (λ n. length (occupants 0 records) + n) (length-fresh (0 + length records) count) in
-        let counted = linked.counted in
-        let each = linked.each_once in
-        let some = linked.limited.some_generation in
-        record {
-          limited = linked.limited;
-          few = omega arith;
-          counted = omega arith;
-          each_once = omega arith;
-          least = generation_in (λ g. 1 ≤ g) linked.least (omega arith);
-          greatest = generation_in (λ g. g ≤ limits.generations) linked.greatest some;
-          made = λ position below. let h = linked.made position below in omega arith;
-          forward = λ position below. ap (λ (r : SlotRecord). r.occupancy)
-              (old_stays (get_or pending position 0) (linked.made position below))
-              ∙ linked.forward position below;
-          listed = λ index position within is.
-              let made = waits_in_old index position within is in
-              linked.listed index position made
-              (sym (ap (λ (r : SlotRecord). r.occupancy) (old_stays index made)) ∙ is);
-          back = λ index position within is.
-              let made = waits_in_old index position within is in
-              linked.back index position made
-              (sym (ap (λ (r : SlotRecord). r.occupancy) (old_stays index made)) ∙ is);
-        }
+        simp (occupants-append, occupants-new, length-append, length-fresh) in
+        search (rules, cases_lt, new_is, Alive≢Pending, old_stays)
 
     pub roster_of-make : roster_of limits grown pending
         ≡ record (roster_of limits records pending) {
@@ -254,29 +166,6 @@ module _ (limits : Limits) (records : List SlotRecord) (pending : List ℕ) (liv
           made = (roster_of limits records pending).made + count;
         }
     roster_of-make =
-        let zero_plus : 0 + length records ≡ length records = omega arith in
-        let live_is =
-        ap (λ (hs : List Handle). sets.from_list {R = handle_cmp} hs)
-        (occupants-append 0 records (replicate count new_record)
-        ∙ ap (λ hs. occupants 0 records ++ hs) (occupants-new (0 + length records) count
-        ∙ ap (λ n. fresh n count) zero_plus))
-        ∙ from_list-append (occupants 0 records) (fresh (length records) count) in
-        let rows_is = ap (λ (es : List (Handle × ℕ)). maps.from_entries {R = handle_cmp} es)
-        (rows_from-made 0 count records) in
-        let pending_is = map_alike (handle_at grown) (handle_at records) pending
-        (λ k below i. record {
-          index = get_or pending k 0;
-          generation =
-              (old_stays (get_or pending k 0) (linked.made k below) i).generation;
-        }) in
-        let made_is : length grown ≡ length records + count = length-append records
-        (replicate count new_record) ∙ ap (λ n. length records + n)
-        (length-replicate count new_record) in
-        λ i. record {
-          limits = limits;
-          live = live_is i;
-          rows = rows_is i;
-          pending =
-              pending_is i;
-          made = made_is i;
-        }
+        let long = grown_long in
+        let rows = rows_from-made 0 count records in
+        search (rules, occupants-append, occupants-new, from_list-append, map_alike, old_stays)

@@ -1,13 +1,13 @@
 -- Laws of lists: filters that keep all or nothing, parts of joined lists, pairs, and functions that
 -- agree on a list.
-use Rattle.std.proofs.Common.{rules, ◌≡◌, refl, sym, ap, ◌∙◌, ℕ, zero, suc, ◌+◌, ◌-◌, ◌<◌, Bool}
-use Rattle.std.proofs.Common.{true, false, eqb, List, [], ◌∷◌, ◌++◌, length, get_or, take, drop}
-use Rattle.std.proofs.Common.{filter, All, AllPairs, Contains, arith, cond, ◌==◌, ◌≢◌, swap}
-use Rattle.std.proofs.Common.{IsPermutation, eq-eqb, ne_eqb, inl, inr, subst₂, map, leb, ◌⊎◌}
+use Rattle.std.proofs.Common.{rules, ◌≡◌, refl, ap, ℕ, zero, suc, ◌+◌, ◌-◌, ◌<◌, Bool, true, false}
+use Rattle.std.proofs.Common.{eqb, List, [], ◌∷◌, ◌++◌, length, get_or, take, drop, filter, All}
+use Rattle.std.proofs.Common.{AllPairs, Contains, arith, cond, ◌==◌, ◌≢◌, swap, IsPermutation, map}
+use Rattle.std.proofs.Common.{leb, ◌⊎◌}
 use Rattle.std.proofs.lemmas.Grind.{common_steps}
 use Rattle.std.proofs.lemmas.List.{get_or-take, get_or-drop, get_or_append_left, length-append}
-use Rattle.std.proofs.lemmas.List.{length-take, length-drop, get_or_default}
-use Rattle.std.proofs.lemmas.Bool.{cases_lt, cases_eq}
+use Rattle.std.proofs.lemmas.List.{length-take, length-drop, get_or_default, get_or-append-add}
+use Rattle.std.proofs.lemmas.Bool.{cases_lt}
 use Rattle.std.proofs.lemmas.Bool.Decides.{nat_tests}
 use Rattle.std.proofs.lemmas.List.Edits.{Swapped, length-swap, swapped_from_swap}
 use Rattle.std.proofs.lemmas.List.Sorted.{IsPermutation-keeps}
@@ -54,31 +54,28 @@ pub filter_none : {X : Type 0} (p : X → Bool) (xs : List X) → All (λ x. p x
 filter_none p [] h = refl
 filter_none p (x ∷ xs) h =
     let here : p x ≡ false = h 0 x (omega arith) in
-    let rest = filter_none p xs (All-tail (λ x. p x ≡ false) x xs h) in
-    rw here rest
+    rw here (filter_none p xs (All-tail (λ x. p x ≡ false) x xs h))
 
 -- nothing is left of nothing
 pub drop-nil : {X : Type 0} (n : ℕ) → drop {A = X} n [] ≡ []
-drop-nil zero = refl
-drop-nil (suc n) = refl
+drop-nil n = search (rules)
 
 -- nothing has an empty front
 pub take-nil : {X : Type 0} (n : ℕ) → take {A = X} n [] ≡ []
-take-nil zero = refl
-take-nil (suc n) = refl
+take-nil n = search (rules)
 
 -- what is left of two joined lists
 pub drop-append : {X : Type 0} (n : ℕ) (xs ys : List X) → drop n (xs ++ ys) ≡ drop n xs
     ++ drop (n - length xs) ys
-drop-append n [] ys = let e : n - 0 ≡ n = omega arith in rw (drop-nil n, e)
-drop-append zero (x ∷ xs) ys = let e : 0 - suc (length xs) ≡ 0 = omega arith in rw e
+drop-append n [] ys = search (rules, drop-nil)
+drop-append zero (x ∷ xs) ys = search rules
 drop-append (suc n) (x ∷ xs) ys = search (rules, drop-append n xs ys)
 
 -- the front of two joined lists
 pub take-append : {X : Type 0} (n : ℕ) (xs ys : List X) → take n (xs ++ ys) ≡ take n xs
     ++ take (n - length xs) ys
-take-append n [] ys = let e : n - 0 ≡ n = omega arith in rw (take-nil n, e)
-take-append zero (x ∷ xs) ys = let e : 0 - suc (length xs) ≡ 0 = omega arith in rw e
+take-append n [] ys = search (rules, take-nil)
+take-append zero (x ∷ xs) ys = search rules
 take-append (suc n) (x ∷ xs) ys = search (rules, take-append n xs ys)
 
 -- what holds of two joined lists holds of each
@@ -87,18 +84,14 @@ All-left P xs ys h i d lt = search (rules, get_or_append_left, length-append)
 
 -- the other half
 pub All-right : {X : Type 0} (P : X → Type 0) (xs ys : List X) → All P (xs ++ ys) → All P ys
-All-right P [] ys h = h
-All-right P (x ∷ xs) ys h = All-right P xs ys (All-tail P x (xs ++ ys) h)
+All-right P xs ys h i d lt =
+    simp get_or-append-add at (h (length xs + i) d (omega (arith, length-append xs ys)))
 
 -- pairs of a list and of its parts
 module _ {X : Type 0} (R : X → X → Type 0) where
   -- the front
   pub AllPairs-take : (n : ℕ) (xs : List X) → AllPairs R xs → AllPairs R (take n xs)
-  AllPairs-take n xs h i j d lt in_part =
-      let j_taken : j < n = omega (arith, length-take n xs) in
-      let i_taken : i < n = omega arith in
-      rw (get_or-take n xs i d i_taken, get_or-take n xs j d j_taken)
-      (h i j d lt (omega (arith, length-take n xs)))
+  AllPairs-take n xs h i j d lt in_part = search (rules, get_or-take, length-take)
 
   -- the rest
   pub AllPairs-drop : (n : ℕ) (xs : List X) → AllPairs R xs → AllPairs R (drop n xs)
@@ -115,15 +108,13 @@ module _ {X : Type 0} (R : X → X → Type 0) where
 
   -- the second of two joined lists
   pub AllPairs-right : (xs ys : List X) → AllPairs R (xs ++ ys) → AllPairs R ys
-  AllPairs-right [] ys h = h
-  AllPairs-right (x ∷ xs) ys h = AllPairs-right xs ys (AllPairs-tail x (xs ++ ys) h)
+  AllPairs-right xs ys h i j d lt within =
+      simp get_or-append-add at
+      (h (length xs + i) (length xs + j) d (omega arith) (omega (arith, length-append xs ys)))
 
   -- the first of them
   pub AllPairs-left : (xs ys : List X) → AllPairs R (xs ++ ys) → AllPairs R xs
-  AllPairs-left [] ys h = λ i j d lt in_part. absurd (omega arith)
-  AllPairs-left (x ∷ xs) ys h =
-      AllPairs-cons R x xs (All-left (R x) xs ys (AllPairs-head x (xs ++ ys) h))
-      (AllPairs-left xs ys (AllPairs-tail x (xs ++ ys) h))
+  AllPairs-left xs ys h i j d lt in_part = search (rules, get_or_append_left, length-append)
 
   -- each element of the one list stands before each of the other
   pub AllPairs-across : (xs ys : List X) → AllPairs R (xs ++ ys) → All (λ x. All (R x) ys) xs
@@ -144,25 +135,13 @@ module _ {X : Type 0} (R : X → X → Type 0) where
   -- two elements at their positions
   AllPairs-at : (xs : List X) (x y : X) (i j : ℕ) → AllPairs R xs → i < j → j < length xs
       → get_or xs i x ≡ x → get_or xs j y ≡ y → R x y
-  AllPairs-at xs x y i j h lt within at_i at_j = subst₂ R at_i (get_or_default xs j x y within
-      ∙ at_j) (h i j x lt within)
+  AllPairs-at xs x y i j h lt within at_i at_j = search (rules, h i j x lt within, get_or_default)
 
   -- of two elements of which neither stands before the other in the relation, one is the other
   pub same_from_AllPairs : (xs : List X) (x y : X) → AllPairs R xs → Contains xs x → Contains xs y
       → ¬ (R x y) → ¬ (R y x) → x ≡ y
   same_from_AllPairs xs x y h in_x in_y not_before not_behind =
-      elim (cases_lt in_x.0 in_y.0) [
-        | inl before ↦ absurd (not_before (AllPairs-at xs x y in_x.0 in_y.0 h before in_y.1 in_x.2
-            in_y.2))
-        | inr here_or_behind ↦ elim (cases_lt in_y.0 in_x.0) [
-          | inl behind ↦ absurd (not_behind (AllPairs-at xs y x in_y.0 in_x.0 h behind in_x.1 in_y.2
-              in_x.2))
-          | inr here ↦
-              let same : in_x.0 ≡ in_y.0 = omega arith in
-              sym in_x.2 ∙ ap (λ i. get_or xs i x) same ∙ get_or_default xs in_y.0 x y in_y.1
-              ∙ in_y.2
-        ]
-      ]
+      search (rules, cases_lt in_x.0 in_y.0, cases_lt in_y.0 in_x.0, AllPairs-at, get_or_default)
 
 -- the position from which a swap of two positions brings the element at a position
 swapped_from : ℕ → ℕ → ℕ → ℕ
@@ -185,17 +164,7 @@ unfolding swapped_from
 get_or-swapped {X} xs a b k d la lb =
     let moved : Swapped (λ i. get_or xs i d) (λ i. get_or (swap xs a b) i d) a b = swapped_from_swap
     xs (swap xs a b) a b d la lb refl in
-    elim (cases_eq k a) [
-      | inl at_a ↦ let test : (k == a) ≡ true = eq-eqb k a at_a in
-          rw test (ap (λ i. get_or (swap xs a b) i d) at_a ∙ moved.0)
-      | inr not_a ↦ let test_a : (k == a) ≡ false = ne_eqb k a not_a in
-          elim (cases_eq k b) [
-            | inl at_b ↦ let test_b : (k == b) ≡ true = eq-eqb k b at_b in rw (test_a, test_b)
-                (ap (λ i. get_or (swap xs a b) i d) at_b ∙ moved.1)
-            | inr not_b ↦ let test_b : (k == b) ≡ false = ne_eqb k b not_b in rw (test_a, test_b)
-                (moved.2 k not_a not_b)
-          ]
-    ]
+    grind (arith, nat_tests)
 
 module _ {X : Type 0} (R : X → X → Type 0) (both : (x y : X) → R x y → R y x) where
   -- of each two positions
@@ -206,22 +175,14 @@ module _ {X : Type 0} (R : X → X → Type 0) (both : (x y : X) → R x y → R
   -- the earlier of two positions may come second
   positions_from_pairs : (xs : List X) → AllPairs R xs → AtPositions xs
   unfolding AtPositions
-  positions_from_pairs xs h i j d apart li lj = elim (cases_lt i j) [
-    | inl before ↦ h i j d before lj
-    | inr behind ↦ both _ _ (h j i d (omega arith) li)
-  ]
+  positions_from_pairs xs h i j d apart li lj = search (rules, cases_lt i j, both)
 
   -- a swap keeps it
   swap_keeps : (xs : List X) (a b : ℕ) → a < length xs → b < length xs → AtPositions xs
       → AtPositions (swap xs a b)
   unfolding AtPositions
   swap_keeps xs a b la lb h i j d apart li lj =
-      let long : length (swap xs a b) ≡ length xs = length-swap xs a b in
-      rw (get_or-swapped xs a b i d la lb, get_or-swapped xs a b j d la lb) (
-      h (swapped_from a b i) (swapped_from a b j) d (swapped_from_apart a b i j apart)
-      (swapped_from_lt (length xs) a b i la lb (omega arith)) (swapped_from_lt (length xs) a b j la
-      lb (omega arith))
-      )
+      search (rules, get_or-swapped, length-swap, swapped_from_apart, swapped_from_lt)
 
   -- the same list in another order has the same pairs, where the relation goes both ways
   pub AllPairs-IsPermutation : (xs ys : List X) → IsPermutation xs ys → AllPairs R xs

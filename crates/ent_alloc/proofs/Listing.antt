@@ -1,6 +1,6 @@
 -- What a reply that borrows the slots lists, one handle after the other.
 use Rattle.std.proofs.Common.{rules, ◌≡◌, ℕ, ◌+◌, ◌-◌, ◌<◌, ◌≤◌, List, [], ◌∷◌, ◌++◌, length, drop}
-use Rattle.std.proofs.Common.{replicate, slice_get, Some, refl, ap, ◌∙◌, arith, suc, zero, add-zero}
+use Rattle.std.proofs.Common.{replicate, slice_get, Some, refl, arith, suc, zero, add-zero}
 use Rattle.std.proofs.lemmas.Grind.{common_steps}
 use Rattle.std.proofs.lemmas.List.{length-append, length-take-le, length-drop, drop_more}
 use Rattle.std.proofs.lemmas.Option.{get_or_from_slice_get}
@@ -47,13 +47,7 @@ pub fresh-push : (index count : ℕ) → fresh index count
     ++ record { index = index + count; generation = 1 } ∷ [] ≡ fresh index (count + 1)
 unfolding fresh
 fresh-push index zero = λ i. record { index = add-zero index i; generation = 1 } ∷ []
-fresh-push index (suc count) =
-    let at : index + suc count ≡ index + 1 + count = omega arith in
-    let more : suc (count + 1) ≡ suc count + 1 = omega arith in
-    ap (λ rest. record { index = index; generation = 1 } ∷ rest)
-    (ap (λ n. fresh (index + 1) count ++ record { index = n; generation = 1 } ∷ []) at
-    ∙ fresh-push (index + 1) count)
-    ∙ ap (fresh index) more
+fresh-push index (suc count) = search (rules, fresh-push (index + 1) count)
 
 pub replicate-push : {X : Type 0} (count : ℕ) (x : X) → replicate count x ++ x ∷ []
     ≡ replicate (count + 1) x

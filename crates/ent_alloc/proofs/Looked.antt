@@ -2,18 +2,17 @@
 -- the rows.
 use Rattle.std.proofs.lemmas.Grind.{common_steps}
 use Rattle.std.proofs.Common.{rules, ◌≡◌, ◌≢◌, ℕ, ◌+◌, ◌-◌, ◌<◌, ◌≤◌, Bool, true, false, cond, ◌&&◌}
-use Rattle.std.proofs.Common.{eqb, ltb, List, length, get_or, set, drop, map, refl, sym, ap, ◌∙◌}
-use Rattle.std.proofs.Common.{arith, Option, None, Some}
+use Rattle.std.proofs.Common.{eqb, ltb, List, length, get_or, set, drop, map, refl, arith}
 use Rattle.std.specs.List.{Contains}
 use Rattle.std.specs.FinSet as sets
 use Rattle.std.specs.FinMap as maps
-use Rattle.std.proofs.lemmas.Bool.{cases_eq, cases_lt, false≢true, and_parts, and_from, eqb-true}
-use Rattle.std.proofs.lemmas.Bool.{leb-true, ltb-true, eq-eqb, le-leb, lt-ltb, false_from_ne_true}
-use Rattle.std.proofs.lemmas.List.{get_or-drop, get_or-map, get_or_past, length-drop, length-map}
-use Rattle.std.proofs.lemmas.List.{length-set, get_or-set_same, get_or-set_other}
+use Rattle.std.proofs.lemmas.Bool.{cases_eq, false≢true, and_parts, and_from, eqb-true, leb-true}
+use Rattle.std.proofs.lemmas.Bool.{ltb-true, eq-eqb, le-leb, lt-ltb, false_from_ne_true}
+use Rattle.std.proofs.lemmas.List.{get_or-drop, get_or-map, length-drop, length-map, length-set}
+use Rattle.std.proofs.lemmas.List.{get_or-set_same, get_or-set_other}
 use Rattle.ent_handle.specs.Handle.{Handle, handle_cmp, handle_cmp_total}
 use Rattle.ent_handle.specs.Handle.{handle_cmp-IsAntisymmetric}
-use Rattle.ent_alloc.proofs.ListLaws.{eqb_sym, map_alike}
+use Rattle.ent_alloc.proofs.ListLaws.{map_alike}
 use Rattle.ent_alloc.specs.Limits.{Limits}
 use Rattle.ent_alloc.specs.Sequential.{fresh, stands_in}
 use Rattle.ent_alloc.specs.declared.slot_record.SlotRecord.{SlotRecord}
@@ -25,8 +24,8 @@ use Rattle.ent_alloc.specs.Slots.{handle_at, rows_from, is_pending_from, waits_f
 use Rattle.ent_alloc.specs.Slots.{AreLinked}
 use Rattle.ent_alloc.proofs.HandleSets.{Contains-from_stands_in, stands_in-from_Contains}
 use Rattle.ent_alloc.proofs.FreshHandles.{length-fresh, get_or-fresh}
-use Rattle.ent_alloc.proofs.Occupants.{is_occupant, has_occupant, contains_occupants}
-use Rattle.ent_alloc.proofs.Occupants.{is_occupant-set, ties, one, length-occupants-set}
+use Rattle.ent_alloc.proofs.Occupants.{is_occupant, contains_occupants, is_occupant-set, ties, one}
+use Rattle.ent_alloc.proofs.Occupants.{length-occupants-set}
 use Rattle.ent_alloc.proofs.LivingOccupant.{occupant_made, occupant_alive, occupant_generation}
 use Rattle.ent_alloc.proofs.LivingOccupant.{is_occupant-same_slot, row_at-same_slot}
 use Rattle.ent_alloc.proofs.KeptRows.{row_at, row_at-set, get_rows}
@@ -40,28 +39,11 @@ waits_at records h from =
 
 -- ---- one look-up tells all of a handle
 
-and-true : (b : Bool) → (b && true) ≡ b
-and-true true = refl
-and-true false = refl
-
 and-false : (b : Bool) → (b && false) ≡ false
 and-false true = refl
 and-false false = refl
 
-waits_if : (made same : Bool) (o : Occupancy) (from : ℕ)
-    → (made && (is_pending_from o from && same)) ≡ waits_from (cond (made && same) (Some o) None)
-    from
-waits_if true true o from = and-true (is_pending_from o from)
-waits_if true false o from = and-false (is_pending_from o from)
-waits_if false same o from = refl
-
 module _ (records : List SlotRecord) (h : Handle) where
-  abbrev found_record : SlotRecord
-  found_record = record_at records h.index
-
-  absent : ltb h.index (length records) ≡ false → found_record ≡ no_slot
-  absent is = search (rules, cases_lt, false≢true, lt-ltb, get_or_past)
-
   pub is_occupant-occupancy : is_occupant records h ≡ lives (occupancy_of records h)
   is_occupant-occupancy = grind (arith, common_steps)
 
@@ -70,15 +52,9 @@ module _ (records : List SlotRecord) (h : Handle) where
 
   pub waits_at-occupancy : (from : ℕ) → waits_at records h from
       ≡ waits_from (occupancy_of records h) from
-  waits_at-occupancy from = search (rules, waits_if)
+  waits_at-occupancy from = grind (arith, common_steps)
 
 -- ---- who waits
-
--- two tests that imply each other
-same_test : (a b : Bool) → (a ≡ true → b ≡ true) → (b ≡ true → a ≡ true) → a ≡ b
-same_test true b f g = sym (f refl)
-same_test false true f g = g refl
-same_test false false f g = refl
 
 -- the position that a slot waits at
 waiting_position : (t : Occupancy) (from : ℕ) → is_pending_from t from ≡ true → (position : ℕ)
@@ -109,30 +85,18 @@ module _ (limits : Limits) (records : List SlotRecord) (pending : List ℕ) (liv
       let rest = and_parts (is_pending_from (record_at records h.index).occupancy from) _ parts.1 in
       let made = ltb-true h.index (length records) parts.0 in
       let position = waiting_position (record_at records h.index).occupancy from rest.0 in
-      let listed : position.0 < length pending = linked.listed h.index position.0 made position.1 in
-      let back : get_or pending position.0 0 ≡ h.index = linked.back h.index position.0 made
-      position.1 in
-      let there : from + (position.0 - from) ≡ position.0 =
-      (let least : from ≤ position.0 = position.2 in omega arith) in
-      let below : from + (position.0 - from) < length pending = omega arith in
-      let index : get_or pending (from + (position.0 - from)) 0 ≡ h.index =
-      ap (λ n. get_or pending n 0) there ∙ back in
-      let generation : (record_at records h.index).generation ≡ h.generation = eqb-true _ _ rest.1
-      in (
-        position.0 - from,
-        omega (arith, long from),
-        at_position from (position.0 - from) h below
-            ∙ (λ i. record {
-              index = index i;
-              generation = ((ap (λ n. (record_at records n).generation) index) ∙ generation) i;
-            }),
-      )
+      let listed = linked.listed h.index position.0 made position.1 in
+      let back = linked.back h.index position.0 made position.1 in
+      let there : from + (position.0 - from) ≡ position.0 = omega (arith, position.2) in
+      let at = at_position from (position.0 - from) h in
+      let same = eqb-true _ _ rest.1 in
+      (position.0 - from, omega (arith, long from), search (rules, at, there, back, same))
 
   -- who waits after a position is told by the record
   pub stands_in-pending : (h : Handle) (from : ℕ) → waits_at records h from
       ≡ stands_in (drop from (map (handle_at records) pending)) h
   stands_in-pending h from =
-      search (rules, same_test, stands_in-from_Contains, waiting, found, Contains-from_stands_in)
+      grind (arith, common_steps, waiting h from, found h from, Contains-from_stands_in)
 
 -- ---- fresh handles
 
@@ -154,14 +118,7 @@ fresh_no h made count none =
 -- ---- rows
 
 kept_test : (same gen old : Bool) → (same ≡ true → old ≡ gen) → cond same gen old ≡ old
-kept_test true gen old is = sym (is refl)
-kept_test false gen old is = refl
-
-new_row : (same gen : Bool) (row old : Option ℕ) → (same ≡ true → gen ≡ false → old ≡ None)
-    → cond same (cond gen row None) old ≡ cond (same && gen) row old
-new_row true true row old is = refl
-new_row true false row old is = sym (is refl refl)
-new_row false gen row old is = refl
+kept_test same gen old is = grind (arith, common_steps)
 
 module _ (limits : Limits) (records : List SlotRecord) (pending : List ℕ) (live : ℕ) (h : Handle)
     (row : ℕ) (linked : AreLinked limits records pending live) (lives : is_occupant records h
@@ -205,27 +162,21 @@ module _ (limits : Limits) (records : List SlotRecord) (pending : List ℕ) (liv
       ≡ sets.from_list (occupants 0 records)
   same_live =
       sets.same_set handle_cmp_total handle_cmp-IsAntisymmetric _ _ (λ q.
-      contains_occupants relabelled q
-      ∙ is_occupant-set records h.index labelled q slot_made
-      ∙ kept_test (eqb q.index h.index) (has_occupant labelled q.generation) (is_occupant records q)
-      (here q)
-      ∙ sym (contains_occupants records q))
-    where
-      here : (q : Handle) → eqb q.index h.index ≡ true → is_occupant records q
-          ≡ has_occupant labelled q.generation
-      here q e = is_occupant-same_slot records h q lives e
-          ∙ ap (λ n. eqb n q.generation) (sym (occupant_generation records h lives))
+      let tells = is_occupant-same_slot records h q lives in
+      let set_is = is_occupant-set records h.index labelled q slot_made in
+      let was = occupant_generation records h lives in
+      grind (arith, common_steps, contains_occupants relabelled q, contains_occupants records q))
 
   new_rows : maps.from_entries {R = handle_cmp} (rows_from 0 relabelled)
       ≡ maps.insert (maps.from_entries (rows_from 0 records)) h row
   new_rows =
-      maps.same_map handle_cmp_total handle_cmp-IsAntisymmetric _ _ (λ q. get_rows relabelled q
-      ∙ row_at-set records h.index labelled q slot_made
-      ∙ (search (rules, occupant_generation, eqb_sym, row_at))
-      ∙ new_row (eqb q.index h.index) (eqb q.generation h.generation) (Some row) (row_at records q)
-      (row_at-same_slot records h q lives)
-      ∙ (λ i. cond (sym (ties q h) i) (Some row) (sym (get_rows records q) i))
-      ∙ sym (maps.get-insert handle_cmp_total (maps.from_entries (rows_from 0 records)) h row q))
+      maps.same_map handle_cmp_total handle_cmp-IsAntisymmetric _ _ (λ q.
+      let none = row_at-same_slot records h q lives in
+      let set_is = row_at-set records h.index labelled q slot_made in
+      let was = occupant_generation records h lives in
+      let put =
+      maps.get-insert handle_cmp_total (maps.from_entries (rows_from 0 records)) h row q in
+      grind (arith, common_steps, ties q h, get_rows relabelled q, get_rows records q))
 
   pub roster_of-set_row : roster_of limits relabelled pending
       ≡ record (roster_of limits records pending)

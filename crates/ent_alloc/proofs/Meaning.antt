@@ -2,13 +2,13 @@
 -- begins and ends.
 use Rattle.std.proofs.Common.{rules, ◌≡◌, ℕ, ℤ, pos, negsuc, ◌-ℤ◌, ◌≤ℤ◌, ◌+◌, ◌-◌, ◌<◌, ◌≤◌, Bool}
 use Rattle.std.proofs.Common.{false, List, [], ◌∷◌, ◌++◌, length, take, drop, reverse, filter, refl}
-use Rattle.std.proofs.Common.{ap, ◌∙◌, arith, suc, zero, subst, All, IsTrue, ◌↔◌}
+use Rattle.std.proofs.Common.{ap, ◌∙◌, arith, suc, zero, subst, All, IsTrue, ◌↔◌, append_assoc}
 use Rattle.std.proofs.lemmas.Grind.{common_steps}
 use Rattle.std.specs.FinSet as sets
 use Rattle.std.specs.FinMap as maps
 use Rattle.std.proofs.lemmas.Int.{ints}
 use Rattle.std.proofs.lemmas.List.{append_cancel_right, length-append, length-reverse, length-drop}
-use Rattle.std.proofs.lemmas.List.{take-append-drop}
+use Rattle.std.proofs.lemmas.List.{take-append-drop, take-take}
 use Rattle.ent_handle.specs.Handle.{Handle}
 use Rattle.ent_alloc.specs.Limits.{Limits}
 use Rattle.ent_alloc.specs.declared.requests.Requests.{Requests}
@@ -29,13 +29,11 @@ asked_at-is n (negsuc k) within = omega (arith, ints)
 
 -- ---- what is reserved and what is left
 
-append_parts : (given asked : ℕ) (hs : List Handle) → given ≤ asked → take given hs
+pub append_parts : (given asked : ℕ) (hs : List Handle) → given ≤ asked → take given hs
     ++ (drop given (take asked hs) ++ drop asked hs) ≡ hs
-append_parts zero asked hs within = take-append-drop asked hs
-append_parts (suc given) zero hs within = absurd (omega arith)
-append_parts (suc given) (suc asked) [] within = refl
-append_parts (suc given) (suc asked) (h ∷ hs) within = ap (λ rest. h ∷ rest)
-    (append_parts given asked hs (omega arith))
+append_parts given asked hs within =
+    let all = take-append-drop asked hs in
+    search (rules, all, take-append-drop given (take asked hs), append_assoc, take-take)
 
 pub drop_rest : (given asked : ℕ) (hs : List Handle) → given ≤ asked → drop given (take asked hs)
     ++ drop asked hs ≡ drop given hs

@@ -1,8 +1,6 @@
 -- What `alloc` and `free` make of the roster is the allocator's step.
-use Rattle.std.proofs.Common.{rules, ◌≡◌, ◌+◌, ◌-◌, ◌<◌, false, ◌||◌, List, [], ◌∷◌, ◌++◌, length}
-use Rattle.std.proofs.Common.{take, reverse, sym, ap, ◌∙◌, arith, suc, slice_get, Some, None, subst}
-use Rattle.std.proofs.Common.{All, refl}
-use Rattle.std.specs.Ordering.{eq_by_cmp}
+use Rattle.std.proofs.Common.{rules, ◌≡◌, ◌+◌, ◌-◌, ◌<◌, List, [], ◌∷◌, ◌++◌, length, take, reverse}
+use Rattle.std.proofs.Common.{sym, ap, ◌∙◌, arith, suc, slice_get, Some, None, refl}
 use Rattle.std.specs.FinSet as sets
 use Rattle.std.specs.FinMap as maps
 use Rattle.std.proofs.lemmas.Bool.{lt-ltb, le-ltb}
@@ -14,8 +12,7 @@ use Rattle.ent_handle.specs.Handle.{Handle, handle_cmp, handle_cmp_total}
 use Rattle.ent_handle.specs.Handle.{handle_cmp-IsAntisymmetric}
 use Rattle.ent_alloc.specs.Roster.{Roster}
 use Rattle.ent_alloc.specs.declared.requests.Requests.{Requests}
-use Rattle.ent_alloc.specs.Sequential.{Allocator, fresh, after_alloc, after_free, next, following}
-use Rattle.ent_alloc.specs.Sequential.{in_front}
+use Rattle.ent_alloc.specs.Sequential.{Allocator, fresh, after_alloc, following}
 use Rattle.ent_alloc.specs.Sound.{IsSound}
 use Rattle.ent_alloc.specs.Entities.{idle, allocator_of, entities_of, HasRowsOfLiving}
 use Rattle.ent_alloc.proofs.FreshHandles.{fresh-next}
@@ -29,10 +26,7 @@ pub union_one : (live : sets.FinSet handle_cmp) (h : Handle)
     → sets.union live (sets.from_list (h ∷ [])) ≡ sets.insert live h
 union_one live h =
     sets.same_set handle_cmp_total handle_cmp-IsAntisymmetric _ _ (λ q.
-    contains-union_list live (h ∷ []) q
-    ∙ or_comm (sets.contains live q) (eq_by_cmp handle_cmp q h || false)
-    ∙ (λ i. or-false (eq_by_cmp handle_cmp q h) i || sets.contains live q)
-    ∙ sym (sets.contains-insert handle_cmp_total live h q))
+    search (rules, contains-union_list, or_comm, or-false, sets.contains-insert, handle_cmp_total))
 
 -- ---- alloc
 
@@ -42,11 +36,9 @@ last_first : (pending : List Handle) (h : Handle) → 0 < length pending
     ∷ reverse (take (length pending - 1) pending)
 last_first pending h some last =
     let at : length pending - 1 + 1 ≡ length pending = omega arith in
-    ap reverse (sym (take_all (length pending) pending (omega arith))
-    ∙ ap (λ n. take n pending) (sym at) ∙ take_more pending (length pending - 1) h (omega arith)
-    ∙ ap (λ x. take (length pending - 1) pending ++ x ∷ [])
-    (get_or_from_slice_get pending (length pending - 1) h h last))
-    ∙ reverse-append (take (length pending - 1) pending) (h ∷ [])
+    let all = take_all (length pending) pending (omega arith) in
+    let more = take_more pending (length pending - 1) h (omega arith) in
+    search (rules, all, more, get_or_from_slice_get, reverse-append)
 
 pub alloc_old_front : (r : Roster) (h : Handle) → 0 < length r.pending
     → slice_get r.pending (length r.pending - 1) ≡ Some h → idle r ≡ h
@@ -68,10 +60,7 @@ pub alloc_old_is : (r : Roster) (h : Handle) → IsSound (allocator_of r 0 0) �
     → slice_get r.pending (length r.pending - 1) ≡ Some h
     → allocator_of (reused_roster r h) 0 0 ≡ after_alloc (allocator_of r 0 0) h
 alloc_old_is r h sound some last =
-    let below : h.index < r.made = All-head (λ x. x.index < r.made) h
-    (reverse (take (length r.pending - 1) r.pending))
-    (subst (All (λ x. x.index < r.made)) (last_first r.pending h some last)
-    (pending_below r 0 0 (omega arith) sound)) in
+    let below : h.index < r.made = search (rules, pending_below r 0 0, last_first, All-head) in
     search (rules, lt-ltb, union_one, alloc_old_front)
 
 pub alloc_fresh_front : (r : Roster) → length r.pending ≡ 0 → r.made < r.limits.slots → idle r
@@ -121,11 +110,9 @@ module _ (r : Roster) (requests : Requests) (s : Allocator) (rest : IsAtRest r r
       → h ≡ record { index = r.made; generation = 1 } → (new : Roster) → new ≡ made_roster r h
       → IsGiven requests s h new
   made_given h none room first =
-      given h (made_roster r h) _
-      (sym pool_is ∙ alloc_fresh_front r none room
-      ∙ ap (λ (x : Handle). x ∷ fresh (r.made + 1) (r.limits.slots - (r.made + 1))) (sym first))
-      (alloc_fresh_is r h none room first ∙ ap (λ t. after_alloc t h) rest.view)
-      refl (rows-joined r.live (h ∷ []) r.rows rest.rows)
+      given h (made_roster r h) (fresh (r.made + 1) (r.limits.slots - (r.made + 1)))
+      (search (rules, pool_is, alloc_fresh_front)) (search (rules, alloc_fresh_is)) refl
+      (rows-joined r.live (h ∷ []) r.rows rest.rows)
 
 -- ---- free
 
@@ -139,14 +126,3 @@ freed_roster r h = record r {
 
 abbrev pub retired_roster : Roster → Handle → Roster
 retired_roster r h = record r { live = sets.remove r.live h; rows = maps.remove r.rows h }
-
--- what is pending then tells what stands in front of the pool
-ended_is : (r : Roster) (h : Handle) (pending : List Handle)
-    → reverse pending ++ fresh r.made (r.limits.slots - r.made) ≡ in_front (next r.limits h)
-    (idle r)
-    → allocator_of (record r {
-      live = sets.remove r.live h;
-      rows = maps.remove r.rows h;
-      pending = pending;
-    }) 0 0 ≡ after_free (allocator_of r 0 0) h
-ended_is r h pending front = search (rules)

@@ -1,6 +1,6 @@
 -- What `reply` lists of the vectors is the reply in the allocator's pool.
 use Rattle.std.proofs.Common.{rules, ◌≡◌, ℕ, ◌+◌, ◌-◌, ◌<◌, ◌≤◌, List, [], ◌++◌, length, take, drop}
-use Rattle.std.proofs.Common.{reverse, filter, ap, ◌∙◌, arith, All, Ok, Err}
+use Rattle.std.proofs.Common.{reverse, filter, arith, All, Ok, Err}
 use Rattle.std.proofs.lemmas.Grind.{common_steps}
 use Rattle.std.proofs.lemmas.Bool.{le-leb, lt-leb, cond-true, cond-false}
 use Rattle.std.proofs.lemmas.List.{append-nil, length-reverse, length-take-le, length-drop}
@@ -36,27 +36,17 @@ listed_is r asked n below enough =
     let at = r.made + (asked - length r.pending) in
     let room = r.limits.slots - r.made - (asked - length r.pending) in
     let old_is : old ≡ reverse (take front r.pending) = drop-reverse asked r.pending in
-    let long : length old ≡ front = length-drop asked (reverse r.pending)
-    ∙ ap (λ k. k - asked) (length-reverse r.pending) in
+    let long : length old ≡ front = search (rules, length-drop, length-reverse) in
     let left : drop asked (idle r) ≡ old ++ fresh at room =
-    drop_joined r.made (r.limits.slots - r.made) (reverse r.pending) below asked
-    ∙ (λ i. old ++ fresh (r.made + (asked - length-reverse r.pending i)) (r.limits.slots
-    - r.made - (asked - length-reverse r.pending i))) in
+    search (rules, drop_joined, below, length-reverse) in
     let few : take n (drop asked (idle r)) ≡ take n old ++ fresh at (n - front) =
-    ap (take n) left ∙ take-append n old (fresh at room) ∙ ap (λ hs. take n old ++ hs)
-    (ap (λ k. take (n - k) (fresh at room)) long ∙ take-fresh (n - front) at room (omega arith)) in
-    let olds : All (λ h. h.index < r.made) (take n old) = All-take (λ h. h.index < r.made) n old
-    (All-drop (λ h. h.index < r.made) asked (reverse r.pending) below) in
+    search (rules, left, take-append, long, take-fresh) in
+    let olds : All (λ h. h.index < r.made) (take n old) = search (rules, All-take, All-drop) in
     let old_part : filter (is_old r.made) (take n (drop asked (idle r))) ≡ take n old =
-    ap (filter (is_old r.made)) few
-    ∙ filter-append (is_old r.made) (take n old) (fresh at (n - front))
-    ∙ (λ i. all_old_are_old r.made (take n old) olds i ++ no_fresh_is_old r.made at (n - front)
-    (omega arith) i) ∙ append-nil (take n old) in
-    let fresh_part : filter (is_fresh r.made) (take n (drop asked (idle r)))
-    ≡ fresh at (n - front) = ap (filter (is_fresh r.made)) few
-    ∙ filter-append (is_fresh r.made) (take n old) (fresh at (n - front))
-    ∙ (λ i. no_old_is_fresh r.made (take n old) olds i ++ all_fresh_are_fresh r.made at (n - front)
-    (omega arith) i) in
+    search (rules, few, filter-append, all_old_are_old, no_fresh_is_old, append-nil) in
+    let fresh_part : filter (is_fresh r.made) (take n (drop asked (idle r))) ≡ fresh at
+    (n - front) =
+    search (rules, few, filter-append, no_old_is_fresh, all_fresh_are_fresh) in
     search (rules, take-reverse, reverse-reverse, length-take-le, middle)
 
 -- the reply where there is enough, and where there isn't

@@ -93,7 +93,8 @@ after_takes-leave : {A : Type 0} (f : Allocator → A)
     → ((s : Allocator) (n : ℕ) → f (after_take s n) ≡ f s) → (s : Allocator) (requests : List ℕ)
     → f (after_takes s requests) ≡ f s
 after_takes-leave f each s [] = refl
-after_takes-leave f each s (n ∷ requests) = search (rules, after_takes-leave f each (after_take s n) requests)
+after_takes-leave f each s (n ∷ requests) =
+    search (rules, after_takes-leave f each (after_take s n) requests)
 
 -- the limits stay
 pub limits-after_takes : (s : Allocator) (requests : List ℕ) → (after_takes s requests).limits

@@ -1,8 +1,7 @@
 -- A slot whose occupant is freed, and waits for the next one or is retired: the vectors stay
 -- linked, and the roster loses the occupant.
-use Rattle.std.proofs.Common.{rules, ◌≡◌, ◌≢◌, ℕ, ◌+◌, ◌-◌, ◌<◌, ◌≤◌, Bool, true, false, cond, not}
-use Rattle.std.proofs.Common.{◌&&◌, eqb, List, [], ◌∷◌, ◌++◌, length, get_or, set, refl, sym, ap}
-use Rattle.std.proofs.Common.{◌∙◌, arith, Option, None, map}
+use Rattle.std.proofs.Common.{rules, ◌≡◌, ◌≢◌, ℕ, ◌+◌, ◌-◌, ◌<◌, ◌≤◌, true, false, List, [], ◌∷◌}
+use Rattle.std.proofs.Common.{◌++◌, length, get_or, set, refl, ap, ◌∙◌, arith, None, map}
 use Rattle.std.specs.FinSet as sets
 use Rattle.std.specs.FinMap as maps
 use Rattle.std.proofs.lemmas.Bool.{cases_lt, cases_eq, false≢true}
@@ -10,7 +9,7 @@ use Rattle.std.proofs.lemmas.List.{length-set, length_push, map_push, get_or-set
 use Rattle.std.proofs.lemmas.List.{get_or-set_other, get_or_append_left, get_or_push}
 use Rattle.ent_handle.specs.Handle.{Handle, handle_cmp, handle_cmp_total}
 use Rattle.ent_handle.specs.Handle.{handle_cmp-IsAntisymmetric}
-use Rattle.ent_alloc.proofs.ListLaws.{eqb_sym, map_alike}
+use Rattle.ent_alloc.proofs.ListLaws.{map_alike}
 use Rattle.ent_alloc.specs.Limits.{Limits}
 use Rattle.ent_alloc.specs.Sequential.{following}
 use Rattle.ent_alloc.specs.declared.slot_record.SlotRecord.{SlotRecord}
@@ -21,26 +20,8 @@ use Rattle.ent_alloc.proofs.Occupants.{is_occupant, contains_occupants, is_occup
 use Rattle.ent_alloc.proofs.Occupants.{length-occupants-set}
 use Rattle.ent_alloc.proofs.LivingOccupant.{occupant_made, occupant_alive, occupant_generation}
 use Rattle.ent_alloc.proofs.LivingOccupant.{is_occupant-same_slot, row_at-same_slot}
-use Rattle.ent_alloc.proofs.KeptRows.{row_at, row_at-set, get_rows}
-
-gone_test : (same gen old : Bool) → (same ≡ true → old ≡ gen) → cond same false old
-    ≡ (not (same && gen) && old)
-gone_test true true old is = refl
-gone_test true false old is = sym (is refl)
-gone_test false gen old is = refl
-
-gone_row : (same gen : Bool) (old : Option ℕ) → (same ≡ true → gen ≡ false → old ≡ None)
-    → cond same None old ≡ cond (same && gen) None old
-gone_row true true old is = refl
-gone_row true false old is = sym (is refl refl)
-gone_row false gen old is = refl
-
-Retired≢Pending : {position : ℕ} → Retired ≢ Pending position
-Retired≢Pending e = cc
-
-never : (b : Bool) (row : Option ℕ) → row ≡ None → cond b row None ≡ None
-never true row is = is
-never false row is = refl
+use Rattle.ent_alloc.proofs.KeptRows.{row_at-set, get_rows}
+use Rattle.std.proofs.lemmas.Grind.{common_steps}
 
 module _ (limits : Limits) (records : List SlotRecord) (pending : List ℕ) (live : ℕ) (h : Handle)
     (linked : AreLinked limits records pending live) (lives : is_occupant records h ≡ true) where
@@ -77,27 +58,20 @@ module _ (limits : Limits) (records : List SlotRecord) (pending : List ℕ) (liv
         ≡ sets.remove (sets.from_list (occupants 0 records)) h
     live_is =
         sets.same_set handle_cmp_total handle_cmp-IsAntisymmetric _ _ (λ q.
-        contains_occupants changed q
-        ∙ is_occupant-set records h.index left q made_slot
-        ∙ (λ i. cond (eqb q.index h.index) (dead i && eqb left.generation q.generation)
-        (is_occupant records q))
-        ∙ gone_test (eqb q.index h.index) (eqb q.generation h.generation) (is_occupant records q)
-        (at_h q)
-        ∙ (λ i. not (sym (ties q h) i) && sym (contains_occupants records q) i)
-        ∙ sym (sets.contains-remove handle_cmp_total (sets.from_list (occupants 0 records)) h q))
-      where
-        at_h : (q : Handle) → eqb q.index h.index ≡ true → is_occupant records q
-            ≡ eqb q.generation h.generation
-        at_h q e = is_occupant-same_slot records h q lives e ∙ eqb_sym h.generation q.generation
+        let tells = is_occupant-same_slot records h q lives in
+        let set_is = is_occupant-set records h.index left q made_slot in
+        let gone =
+        sets.contains-remove handle_cmp_total (sets.from_list (occupants 0 records)) h q in
+        grind (arith, common_steps, contains_occupants changed q, contains_occupants records q))
 
     rows_is : maps.from_entries {R = handle_cmp} (rows_from 0 changed)
         ≡ maps.remove (maps.from_entries (rows_from 0 records)) h
-    rows_is = maps.same_map handle_cmp_total handle_cmp-IsAntisymmetric _ _ (λ q. get_rows changed q
-        ∙ row_at-set records h.index left q made_slot ∙ (search (rules, never, row_at))
-        ∙ gone_row (eqb q.index h.index) (eqb q.generation h.generation) (row_at records q)
-        (row_at-same_slot records h q lives)
-        ∙ (λ i. cond (sym (ties q h) i) None (sym (get_rows records q) i))
-        ∙ sym (maps.get-remove handle_cmp_total (maps.from_entries (rows_from 0 records)) h q))
+    rows_is =
+        maps.same_map handle_cmp_total handle_cmp-IsAntisymmetric _ _ (λ q.
+        let none = row_at-same_slot records h q lives in
+        let set_is = row_at-set records h.index left q made_slot in
+        let gone = maps.get-remove handle_cmp_total (maps.from_entries (rows_from 0 records)) h q in
+        grind (arith, common_steps, ties q h, get_rows changed q, get_rows records q))
 
     pending_is : map (handle_at changed) pending ≡ map (handle_at records) pending
     pending_is = search (rules, map_alike, other, apart)
@@ -119,7 +93,9 @@ module _ (limits : Limits) (records : List SlotRecord) (pending : List ℕ) (liv
       let less = fewer vacant refl refl in
       let generation = occupant_generation records h lives in
       let greatest = linked.greatest h.index made_slot in
-      search (rules, length-set, length_push, generation_in vacant refl refl, cases_lt, cases_eq, get_or_append_left, get_or_push, other vacant refl refl, same vacant refl refl, same_at vacant refl refl, apart, made_slot)
+      let long = length-set records h.index vacant in
+      let made = made_slot in
+      search (rules, length_push, cases_lt, cases_eq, get_or_append_left, get_or_push, apart)
 
   pub roster_of-release : roster_of limits released (pending ++ h.index ∷ [])
       ≡ record (roster_of limits records pending) {

@@ -1,9 +1,8 @@
 -- All replies to requests in turn, taken together: no handle twice, none alive before, and a flush
 -- brings to life exactly those.
-use Rattle.std.proofs.Common.{rules, get_or, IsTrue, ◌≡◌, refl, sym, subst, ℕ, List, [], ◌∷◌, ◌++◌}
-use Rattle.std.proofs.Common.{All, AllPairs, Contains, IsPermutation, Ok, Err, ◌⊎◌, ◌↔◌, append-nil}
-use Rattle.std.proofs.Common.{append_assoc, inl, inr}
-use Rattle.std.specs.FinSet as set
+use Rattle.std.proofs.Common.{rules, get_or, ◌≡◌, refl, ℕ, List, [], ◌∷◌, ◌++◌, All, AllPairs}
+use Rattle.std.proofs.Common.{Contains, IsPermutation, Ok, Err, ◌⊎◌, ◌↔◌, append-nil, append_assoc}
+use Rattle.std.proofs.Common.{inl, inr}
 use Rattle.std.proofs.lemmas.List.Sorted.{IsPermutation-refl, IsPermutation-sym}
 use Rattle.std.proofs.lemmas.List.Sorted.{IsPermutation-trans, IsPermutation-append_left}
 use Rattle.std.proofs.lemmas.List.Sorted.{All-permutation, Contains-permutation}
@@ -41,7 +40,7 @@ taken-after_takes s (n ∷ requests) =
     let one = handles_in (reply_to s n) in
     let rest = given_by t requests in
     IsPermutation-trans (s.taken ++ (one ++ rest)) (t.taken ++ rest) (after_takes t requests).taken
-    (subst (λ front. IsPermutation front (t.taken ++ rest)) (append_assoc s.taken one rest)
+    (rw append_assoc at
     (IsPermutation-append_left rest (s.taken ++ one) t.taken (taken-after_take s n)))
     (taken-after_takes t requests)
 
@@ -50,8 +49,8 @@ module _ (s : Allocator) (requests : List ℕ) (h : IsSound s) where
   pub given_by-apart : AllPairs AreApart (given_by s requests)
   given_by-apart =
       let t = after_takes s requests in
-      let taken : AllPairs AreApart t.taken = AllPairs-left AreApart t.taken (t.aside ++ t.pool)
-      (after_takes-sound s requests h).apart in
+      let taken =
+      AllPairs-left AreApart t.taken (t.aside ++ t.pool) (after_takes-sound s requests h).apart in
       AllPairs-right AreApart s.taken (given_by s requests)
       (AllPairs-IsPermutation AreApart apart_both t.taken (s.taken ++ given_by s requests)
       (search (rules, IsPermutation-sym, taken-after_takes)) taken)
@@ -60,18 +59,14 @@ module _ (s : Allocator) (requests : List ℕ) (h : IsSound s) where
   pub given_by-not_live : All (λ x. ¬ (IsLive s x)) (given_by s requests)
   given_by-not_live =
       let t = after_takes s requests in
-      let sound = after_takes-sound s requests h in
       let taken_not_live : All (λ x. ¬ (IsLive s x)) t.taken =
-      λ k d lt alive.
-      let x = get_or t.taken k d in
-      let still : IsLive t x = subst (λ live. IsTrue (set.contains live x))
-      (sym (live-after_takes s requests)) alive in
-      not_apart x (All-left (AreApart x) t.taken (t.aside ++ t.pool) (sound.live x still).apart k d
-      lt) in
+      λ k d lt alive. let x = get_or t.taken k d in
+      let still : IsLive t x = rw (live-after_takes s requests) alive in
+      not_apart x (All-left (AreApart x) t.taken (t.aside ++ t.pool)
+      ((after_takes-sound s requests h).live x still).apart k d lt) in
       All-right (λ x. ¬ (IsLive s x)) s.taken (given_by s requests)
       (All-permutation (λ x. ¬ (IsLive s x)) t.taken (s.taken ++ given_by s requests)
-      (IsPermutation-sym (s.taken ++ given_by s requests) t.taken
-      (taken-after_takes s requests)) taken_not_live)
+      (search (rules, IsPermutation-sym, taken-after_takes)) taken_not_live)
 
   -- from a flushed state they are all that is taken
   pub taken-since_flush : s.asked ≡ 0 → IsPermutation (given_by s requests)
@@ -85,16 +80,16 @@ module _ (s : Allocator) (requests : List ℕ) (h : IsSound s) where
   live-since_flush flushed x =
       let t = after_takes s requests in
       let all = taken-since_flush flushed in
+      let back = IsPermutation-sym (given_by s requests) t.taken all in
       let same = live-after_takes s requests in (
         λ alive. elim (live-after_flush t x alive) [
-          | inl was ↦ inl (subst (λ live. IsTrue (set.contains live x)) same was)
-          | inr in_taken ↦ inr (Contains-permutation t.taken (given_by s requests) x
-              (IsPermutation-sym (given_by s requests) t.taken all) in_taken)
+          | inl was ↦ inl (rw same at was)
+          | inr in_taken ↦ inr (Contains-permutation t.taken (given_by s requests) x back in_taken)
         ],
         λ either. elim either [
-          | inl was ↦ live-stays t x (subst (λ live. IsTrue (set.contains live x)) (sym same) was)
-          | inr given ↦ taken-lives t x (Contains-permutation (given_by s requests) t.taken x all
-              given)
+          | inl was ↦ live-stays t x (rw same was)
+          | inr given ↦ taken-lives t x
+              (Contains-permutation (given_by s requests) t.taken x all given)
         ],
       )
 

@@ -1,8 +1,8 @@
 -- How many slots are retired: all that were made but those of the living and those of the old
 -- handles that may be given.
 use Rattle.std.proofs.Common.{rules, ◌≡◌, ℕ, ◌+◌, ◌<◌, ◌≤◌, Bool, true, false, cond, not, ◌||◌, eqb}
-use Rattle.std.proofs.Common.{List, [], ◌∷◌, length, get_or, filter, refl, sym, ap, ◌∙◌, arith, inl}
-use Rattle.std.proofs.Common.{inr, suc, zero, subst, All, AllPairs, Contains, true≢false}
+use Rattle.std.proofs.Common.{List, [], ◌∷◌, length, get_or, filter, refl, sym, ap, ◌∙◌, arith, suc}
+use Rattle.std.proofs.Common.{zero, All, AllPairs, Contains, true≢false}
 use Rattle.std.proofs.lemmas.Grind.{common_steps}
 use Rattle.std.specs.List.{count_by, range_with_len}
 use Rattle.std.specs.FinSet as set
@@ -13,10 +13,12 @@ use Rattle.std.proofs.lemmas.List.Elements.{All-head, All-tail, All-contains, Co
 use Rattle.ent_handle.specs.Handle.{Handle, handle_cmp, handle_cmp_total}
 use Rattle.ent_handle.specs.Handle.{handle_cmp-IsAntisymmetric}
 use Rattle.ent_alloc.specs.Sequential.{Allocator, available, top, is_old, has_slot, retired}
+use Rattle.ent_alloc.specs.Sequential.{stands_in}
 use Rattle.ent_alloc.specs.Sound.{IsSound, AreApart, IsLive}
 use Rattle.ent_alloc.proofs.ListLaws.{AllPairs-head, AllPairs-tail}
 use Rattle.ent_alloc.proofs.HandleSets.{Contains-from_stands_in, stands_in-from_Contains}
 use Rattle.ent_alloc.proofs.LaidOut.{old_ones, old_ones_below}
+use Rattle.std.proofs.lemmas.List.Folds.{Any-from_list_any, list_any_at, list_any_none}
 
 -- ---- counting numbers
 
@@ -37,17 +39,7 @@ count_alike : (p q : ℕ → Bool) (from n : ℕ)
     → ((i : ℕ) → from ≤ i → i < from + n → p i ≡ q i) → count p from n ≡ count q from n
 count_alike p q from zero alike = refl
 count_alike p q from (suc n) alike =
-    count-next p from n
-    ∙ (λ i. weight (alike from (omega arith) (omega arith) i)
-    + count_alike p q (from + 1) n (λ k least below. alike k (omega arith) (omega arith)) i)
-    ∙ sym (count-next q from n)
-
-one_part : (x y : Bool) → (x ≡ true → y ≡ true → ⊥) → weight (not (x || y))
-    + (weight x + weight y) ≡ 1
-one_part true true apart = absurd (apart refl refl)
-one_part true false apart = refl
-one_part false true apart = refl
-one_part false false apart = refl
+    search (rules, count-next, alike from, count_alike p q (from + 1) n)
 
 -- each number passes one of two tests or none, and never both
 count-parts : (p q : ℕ → Bool) (from n : ℕ)
@@ -55,18 +47,17 @@ count-parts : (p q : ℕ → Bool) (from n : ℕ)
     → count (λ i. not (p i || q i)) from n + (count p from n + count q from n) ≡ n
 count-parts p q from zero apart = refl
 count-parts p q from (suc n) apart =
-    let here = one_part (p from) (q from) (apart from (omega arith) (omega arith)) in
-    let rest = count-parts p q (from + 1) n (λ k least below. apart k (omega arith) (omega arith))
-    in
-    search (rules, count-next)
+    let here = apart from (omega arith) (omega arith) in
+    let rest =
+    count-parts p q (from + 1) n (λ k least below. apart k (omega arith) (omega arith)) in
+    grind (arith, common_steps, count-next)
 
 count-none : (from n : ℕ) → count (λ _. false) from n ≡ 0
 count-none from zero = refl
 count-none from (suc n) = search (rules, count-next, count-none (from + 1) n)
 
 either : (a b : Bool) → a ≡ true → (a || b) ≡ true
-either true b is = refl
-either false b is = absurd (true≢false (sym is))
+either a b is = grind (arith, common_steps)
 
 -- one number more that passes
 count-one_more : (p : ℕ → Bool) (k from n : ℕ) → from ≤ k → k < from + n → p k ≡ false
@@ -75,44 +66,25 @@ count-one_more p k from zero least below fails = absurd (omega arith)
 count-one_more p k from (suc n) least below fails =
     let now = count-next (λ i. eqb k i || p i) from n in
     let before = count-next p from n in
-    elim (cases_eq k from) [
-      | inl here ↦ search (rules, either, eq-eqb, count_alike, ne_eqb)
-      | inr later ↦
-          let same : weight (eqb k from || p from) ≡ weight (p from) =
-          ap (λ b. weight (b || p from)) (ne_eqb k from later) in
-          let rest = count-one_more p k (from + 1) n (omega arith) (omega arith) fails in
-          omega arith
-    ]
+    search (rules, cases_eq, eq-eqb, count_alike, ne_eqb, count-one_more p k (from + 1) n)
 
 -- ---- the slots of a list
 
 has_slot-found : (handles : List Handle) (index : ℕ) → has_slot handles index ≡ true
     → (h : Handle) × Contains handles h × (h.index ≡ index)
-has_slot-found [] index is = absurd (true≢false (sym is))
-has_slot-found (x ∷ handles) index is =
-    elim (cases_eq x.index index) [
-      | inl here ↦ (x, (0, omega arith, refl), here)
-      | inr other ↦
-          let found = has_slot-found handles index
-          (sym (ap (λ b. b || has_slot handles index) (ne_eqb x.index index other)) ∙ is) in
-          let below = found.1.1 in
-          (found.0, (suc found.1.0, omega arith, found.1.2), found.2)
-    ]
+has_slot-found handles index is =
+    let h = Any-from_list_any (λ (h : Handle). eqb h.index index) handles is in
+    search (rules, eqb-true)
 
 has_slot-has : (handles : List Handle) (h : Handle) → Contains handles h → has_slot handles h.index
     ≡ true
-has_slot-has [] h (k, below, is) = absurd (omega arith)
-has_slot-has (x ∷ handles) h (zero, below, is) = grind (arith, common_steps)
-has_slot-has (x ∷ handles) h (suc k, below, is) =
-    search (rules, has_slot-has handles h (k, omega arith, is))
+has_slot-has handles h has =
+    search (rules, list_any_at (λ (x : Handle). eqb x.index h.index) handles has.0 h has.1)
 
 has_slot-apart : (handles : List Handle) (h : Handle) → All (AreApart h) handles
     → has_slot handles h.index ≡ false
-has_slot-apart [] h apart = refl
-has_slot-apart (x ∷ handles) h apart =
-    let other : eqb x.index h.index ≡ false = search (rules, ne_eqb, All-head) in
-    ap (λ b. b || has_slot handles h.index) other
-    ∙ has_slot-apart handles h (All-tail (AreApart h) x handles apart)
+has_slot-apart handles h apart =
+    list_any_none (λ (x : Handle). eqb x.index h.index) handles (search (rules, ne_eqb))
 
 -- handles of as many slots
 count-apart : (handles : List Handle) (n : ℕ) → AllPairs AreApart handles
@@ -122,9 +94,9 @@ count-apart (h ∷ handles) n apart below =
     let first : h.index < n = All-head (λ h. h.index < n) h handles below in
     let rest = count-apart handles n (AllPairs-tail AreApart h handles apart)
     (All-tail (λ h. h.index < n) h handles below) in
-    count-one_more (has_slot handles) h.index 0 n (omega arith) (omega arith)
-    (has_slot-apart handles h (AllPairs-head AreApart h handles apart))
-    ∙ omega (arith, rest)
+    let none = has_slot-apart handles h (AllPairs-head AreApart h handles apart) in
+    let more = count-one_more (has_slot handles) h.index 0 n in
+    search (rules)
 
 -- a slot has one of these handles at most
 abbrev AreAlone : List Handle → Type 0
@@ -152,32 +124,20 @@ count-alone (h ∷ handles) n alone below =
     (All-tail (λ h. h.index < n) h handles below) in
     let long = set.len-insert handle_cmp_total (set.from_list handles) h in
     let tells = set.contains-from_list handle_cmp_total handles h in
-    either_of (set.contains {R = handle_cmp} (set.from_list handles) h)
+    either_of (stands_in handles h)
     (count (has_slot (h ∷ handles)) 0 n ≡ set.len {R = handle_cmp} (set.from_list (h ∷ handles)))
     (λ is.
-    let there : has_slot handles h.index ≡ true = has_slot-has handles h
-    (Contains-from_stands_in handles h (sym tells ∙ is)) in
-    count_alike (has_slot (h ∷ handles)) (has_slot handles) 0 n
-    (λ i _ _. again (eqb h.index i) (has_slot handles i)
-    (λ e. ap (has_slot handles) (sym (eqb-true h.index i e)) ∙ there))
-    ∙ rest
-    ∙ sym (long ∙ ap (λ b. cond b (set.len {R = handle_cmp} (set.from_list handles))
-    (set.len {R = handle_cmp} (set.from_list handles) + 1)) is))
+    let there = has_slot-has handles h (Contains-from_stands_in handles h is) in
+    let same = count_alike (has_slot (h ∷ handles)) (has_slot handles) 0 n
+    (λ i _ _. grind (arith, common_steps)) in
+    cc)
     (λ is.
     let none : has_slot handles h.index ≡ false = false_from_ne_true _ (λ one.
     let found = has_slot-found handles h.index one in
-    let same : found.0 ≡ h = alone found.0 h (in_tail h handles found.0 found.1)
-    (0, omega arith, refl) found.2 in
-    true≢false (sym (stands_in-from_Contains handles h (subst (Contains handles) same found.1))
-    ∙ sym tells ∙ is)) in
-    count-one_more (has_slot handles) h.index 0 n (omega arith) (omega arith) none
-    ∙ ap (λ m. m + 1) rest
-    ∙ sym (long ∙ ap (λ b. cond b (set.len {R = handle_cmp} (set.from_list handles))
-    (set.len {R = handle_cmp} (set.from_list handles) + 1)) is))
-  where
-    again : (a b : Bool) → (a ≡ true → b ≡ true) → (a || b) ≡ b
-    again true b is = sym (is refl)
-    again false b is = refl
+    let same = alone found.0 h (in_tail h handles found.0 found.1) (0, omega arith, refl) found.2 in
+    true≢false (search (rules, stands_in-from_Contains, same))) in
+    let more = count-one_more (has_slot handles) h.index 0 n (omega arith) (omega arith) none in
+    cc)
 
 -- of the old slots, the old handles tell
 has_slot-old : (made : ℕ) (handles : List Handle) (index : ℕ) → index < made

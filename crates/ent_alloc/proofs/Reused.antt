@@ -1,7 +1,6 @@
 -- What becomes of the records when pending slots get their next occupants.
-use Rattle.std.proofs.Common.{rules, ◌≡◌, ◌≢◌, ℕ, ◌+◌, ◌<◌, Bool, true, false, cond, ◌&&◌, ◌||◌}
-use Rattle.std.proofs.Common.{eqb, List, [], ◌∷◌, length, get_or, set, map, refl, sym, ap, ◌∙◌}
-use Rattle.std.proofs.Common.{arith, suc}
+use Rattle.std.proofs.Common.{rules, ◌≡◌, ◌≢◌, ℕ, ◌+◌, ◌<◌, ◌||◌, List, [], ◌∷◌, length, get_or}
+use Rattle.std.proofs.Common.{set, map, refl, arith, suc}
 use Rattle.std.proofs.lemmas.Grind.{common_steps}
 use Rattle.std.specs.List.{list_any}
 use Rattle.std.specs.Ordering.{eq_by_cmp}
@@ -9,14 +8,12 @@ use Rattle.std.specs.FinSet as sets
 use Rattle.std.proofs.lemmas.List.{get_or-set_other, length-set}
 use Rattle.ent_handle.specs.Handle.{Handle, handle_cmp, handle_cmp_total}
 use Rattle.ent_handle.specs.Handle.{handle_cmp-IsAntisymmetric}
-use Rattle.ent_alloc.proofs.ListLaws.{eqb_sym}
+use Rattle.ent_alloc.proofs.ListLaws.{map_alike}
 use Rattle.ent_alloc.specs.declared.slot_record.SlotRecord.{SlotRecord}
-use Rattle.ent_alloc.specs.declared.slot_record.Occupancy.{Occupancy}
-use Rattle.ent_alloc.specs.declared.slot_record.Occupancy.TheVariants.{Alive, AliveWithRow, Pending}
-use Rattle.ent_alloc.specs.declared.slot_record.Occupancy.TheVariants.{Retired}
+use Rattle.ent_alloc.specs.declared.slot_record.Occupancy.TheVariants.{Alive, Pending}
 use Rattle.ent_alloc.specs.Slots.{occupants, record_at, rows_from, reuse, reused, handle_at}
 use Rattle.ent_alloc.proofs.Occupants.{is_occupant, contains_occupants, is_occupant-set}
-use Rattle.ent_alloc.proofs.Occupants.{length-occupants-set, ties, one}
+use Rattle.ent_alloc.proofs.Occupants.{length-occupants-set, ties}
 use Rattle.ent_alloc.proofs.KeptRows.{rows_from-set}
 
 -- The slots of these indexes wait at the positions from a first one on.
@@ -24,12 +21,6 @@ pub record Wait (records : List SlotRecord) (from : ℕ) (indices : List ℕ) : 
   pub made : (k : ℕ) → k < length indices → get_or indices k 0 < length records
   pub pending : (k : ℕ) → k < length indices → (record_at records (get_or indices k 0)).occupancy
       ≡ Pending (from + k)
-
-abbrev pub position_of : Occupancy → ℕ
-position_of Alive = 0
-position_of (AliveWithRow row) = 0
-position_of (Pending position) = position
-position_of Retired = 0
 
 -- after the first of them got its occupant, the others still wait
 pub Wait-rest : (records : List SlotRecord) (from index : ℕ) (indices : List ℕ)
@@ -48,7 +39,7 @@ pub length-reused : (records : List SlotRecord) (indices : List ℕ) → length 
     ≡ length records
 length-reused records [] = refl
 length-reused records (index ∷ indices) =
-    search (rules, length-set, length-reused (set records index (reuse (record_at records index))) indices)
+    search (rules, length-reused (set records index (reuse (record_at records index))) indices)
 
 -- the generations stay
 generation-reuse : (records : List SlotRecord) (index at : ℕ) → index < length records
@@ -61,9 +52,9 @@ pub generation-reused : (records : List SlotRecord) (from : ℕ) (indices : List
     ≡ (record_at records at).generation
 generation-reused records from [] at wait = refl
 generation-reused records from (index ∷ indices) at wait =
-    generation-reused (set records index (reuse (record_at records index))) (from + 1) indices at
-    (Wait-rest records from index indices wait)
-    ∙ generation-reuse records index at (wait.made 0 (omega arith))
+    let within = wait.made 0 (omega arith) in
+    let next = set records index (reuse (record_at records index)) in
+    search (rules, generation-reused next (from + 1) indices, Wait-rest)
 
 -- a slot that waits at an earlier position goes on waiting there
 pub waiting-reused : (records : List SlotRecord) (from : ℕ) (indices : List ℕ) (at position : ℕ)
@@ -106,8 +97,9 @@ pub length-occupants-reused : (records : List SlotRecord) (from : ℕ) (indices 
 length-occupants-reused records from [] wait = omega arith
 length-occupants-reused records from (index ∷ indices) wait =
     let here = wait.pending 0 (omega arith) in
-    let step = length-occupants-set 0 records index (reuse (record_at records index)) (wait.made 0 (omega arith)) in
-    search (rules, one, length-occupants-reused (set records index (reuse (record_at records index))) (from + 1) indices, Wait-rest, step)
+    let within = wait.made 0 (omega arith) in
+    let next = set records index (reuse (record_at records index)) in
+    search (rules, length-occupants-reused next (from + 1) indices, Wait-rest, length-occupants-set)
 
 -- the rows stay
 pub rows_from-reused : (records : List SlotRecord) (from : ℕ) (indices : List ℕ)
@@ -115,19 +107,8 @@ pub rows_from-reused : (records : List SlotRecord) (from : ℕ) (indices : List 
 rows_from-reused records from [] wait = refl
 rows_from-reused records from (index ∷ indices) wait =
     let here = wait.pending 0 (omega arith) in
-    search (rules, rows_from-reused (set records index (reuse (record_at records index))) (from + 1) indices, Wait-rest, rows_from-set)
-
-one_reused : (same : Bool) (gen : Bool) (old : Bool) → (same ≡ true → old ≡ false)
-    → cond same gen old ≡ ((same && gen) || old)
-one_reused same gen old f = grind (arith, common_steps)
-
-or_swap : (a b c : Bool) → ((a || b) || c) ≡ (b || (a || c))
-or_swap a b c = grind (arith, common_steps)
-
-slept_no_occupant : (records : List SlotRecord) (index : ℕ) (q : Handle) (position : ℕ)
-    → (record_at records index).occupancy ≡ Pending position → eqb q.index index ≡ true
-    → is_occupant records q ≡ false
-slept_no_occupant records index q position here e = grind (arith, common_steps)
+    let next = set records index (reuse (record_at records index)) in
+    search (rules, rows_from-reused next (from + 1) indices, Wait-rest, rows_from-set)
 
 -- the occupants are those before and the handles that waited
 pub is_occupant-reused : (records : List SlotRecord) (from : ℕ) (indices : List ℕ) (q : Handle)
@@ -135,32 +116,15 @@ pub is_occupant-reused : (records : List SlotRecord) (from : ℕ) (indices : Lis
     ≡ (list_any (eq_by_cmp handle_cmp q) (map (handle_at records) indices) || is_occupant records q)
 is_occupant-reused records from [] q wait = refl
 is_occupant-reused records from (index ∷ indices) q wait =
-    let here : (record_at records index).occupancy ≡ Pending (from + 0) =
-    wait.pending 0 (omega arith) in
+    let here = wait.pending 0 (omega arith) in
     let within : index < length records = wait.made 0 (omega arith) in
     let next = set records index (reuse (record_at records index)) in
-    let rest = list_any (eq_by_cmp handle_cmp q) (map (handle_at records) indices) in
-    let same_handles : list_any (eq_by_cmp handle_cmp q) (map (handle_at next) indices) ≡ rest =
-    ap (list_any (eq_by_cmp handle_cmp q))
-    (same_map indices (λ at. generation-reuse records index at within)) in
-    is_occupant-reused next (from + 1) indices q (Wait-rest records from index indices wait)
-    ∙ (λ i. same_handles i || (is_occupant-set records index (reuse (record_at records index)) q
-    within
-    ∙ one_reused (eqb q.index index) (eqb (record_at records index).generation q.generation)
-    (is_occupant records q) (slept_no_occupant records index q (from + 0) here)
-    ∙ (λ j. (eqb q.index index && eqb_sym (record_at records index).generation q.generation j) ||
-    is_occupant records q)) i)
-    ∙ sym (or_swap (eqb q.index index && eqb q.generation (record_at records index).generation) rest
-    (is_occupant records q))
-    ∙ (λ i. (sym (ties q (handle_at records index)) i || rest) || is_occupant records q)
-  where
-    same_map : (is : List ℕ)
-        → ((at : ℕ) → (record_at (set records index (reuse (record_at records index)))
-        at).generation ≡ (record_at records at).generation)
-        → map (handle_at (set records index (reuse (record_at records index)))) is
-        ≡ map (handle_at records) is
-    same_map [] same = refl
-    same_map (i ∷ is) same = λ k. record { index = i; generation = same i k } ∷ same_map is same k
+    let rest =
+    is_occupant-reused next (from + 1) indices q (Wait-rest records from index indices wait) in
+    let same : map (handle_at next) indices ≡ map (handle_at records) indices =
+    search (rules, map_alike, generation-reuse) in
+    let set_is = is_occupant-set records index (reuse (record_at records index)) q within in
+    grind (arith, common_steps, rest, same, set_is, ties q (handle_at records index))
 
 -- so the set of the occupants is the union
 pub live-reused : (records : List SlotRecord) (from : ℕ) (indices : List ℕ)
@@ -169,17 +133,6 @@ pub live-reused : (records : List SlotRecord) (from : ℕ) (indices : List ℕ)
     (sets.from_list (map (handle_at records) indices))
 live-reused records from indices wait =
     sets.same_set handle_cmp_total handle_cmp-IsAntisymmetric _ _ (λ q.
-    contains_occupants (reused records indices) q
-    ∙ is_occupant-reused records from indices q wait
-    ∙ or_comm (list_any (eq_by_cmp handle_cmp q) (map (handle_at records) indices))
-    (is_occupant records q)
-    ∙ (λ i. sym (contains_occupants records q) i || sym (sets.contains-from_list handle_cmp_total
-    (map (handle_at records) indices) q) i)
-    ∙ sym (sets.contains-union handle_cmp_total (sets.from_list (occupants 0 records))
-    (sets.from_list (map (handle_at records) indices)) q))
-  where
-    or_comm : (a b : Bool) → (a || b) ≡ (b || a)
-    or_comm true true = refl
-    or_comm true false = refl
-    or_comm false true = refl
-    or_comm false false = refl
+    let tells = is_occupant-reused records from indices q wait in
+    let joined = sets.contains-union handle_cmp_total in
+    search (rules, contains_occupants, sets.contains-from_list, joined, handle_cmp_total))

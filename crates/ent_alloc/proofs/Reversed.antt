@@ -1,13 +1,12 @@
 -- A list from its other end.
-use Rattle.std.proofs.Common.{rules, ◌≡◌, ℕ, ◌-◌, Bool, false, ◌||◌, List, [], ◌∷◌, ◌++◌, length}
-use Rattle.std.proofs.Common.{take, drop, reverse, refl, sym, ap, ◌∙◌}
+use Rattle.std.proofs.Common.{rules, ◌≡◌, ℕ, ◌-◌, Bool, List, ◌++◌, length, take, drop, reverse}
+use Rattle.std.proofs.Common.{sym, ap, ◌∙◌}
 use Rattle.std.specs.List.{list_any}
 use Rattle.std.proofs.lemmas.Bool.{cases_lt}
 use Rattle.std.proofs.lemmas.List.{length-reverse, length-drop, take-append-drop, take_all}
 use Rattle.std.proofs.lemmas.List.{drop_all, drop_at, take_at, reverse-append}
-use Rattle.std.proofs.lemmas.List.Folds.{list_any-append}
-use Rattle.std.proofs.Math.Bool.{or_comm, or-false}
 use Rattle.ent_handle.specs.Handle.{Handle}
+use Rattle.std.proofs.lemmas.List.Sorted.{IsPermutation-reverse, list_any-IsPermutation}
 
 module _ {X : Type 0} (n : ℕ) (xs : List X) where
   -- how many stand before the last n
@@ -30,9 +29,4 @@ module _ {X : Type 0} (n : ℕ) (xs : List X) where
 -- a test of the elements doesn't see their order
 pub list_any-reverse : (p : Handle → Bool) (hs : List Handle) → list_any p (reverse hs)
     ≡ list_any p hs
-list_any-reverse p [] = refl
-list_any-reverse p (h ∷ hs) =
-    ap (list_any p) (reverse-append (h ∷ []) hs)
-    ∙ list_any-append p (reverse hs) (h ∷ [])
-    ∙ or_comm (list_any p (reverse hs)) (p h || false)
-    ∙ (λ i. or-false (p h) i || list_any-reverse p hs i)
+list_any-reverse p hs = sym (list_any-IsPermutation p hs (reverse hs) (IsPermutation-reverse hs))

@@ -5,11 +5,10 @@ use Rattle.std.specs.Ordering.{eq_by_cmp}
 use Rattle.std.specs.FinSet as sets
 use Rattle.std.specs.FinMap as maps
 use Rattle.ent_handle.specs.Handle.{Handle, handle_cmp, handle_cmp_total}
-use Rattle.ent_alloc.specs.Sequential.{Allocator, born}
-use Rattle.ent_alloc.specs.Sound.{IsSound, IsLive}
+use Rattle.ent_alloc.specs.Sequential.{born}
+use Rattle.ent_alloc.specs.Sound.{IsSound}
 use Rattle.ent_alloc.specs.Entities.{Entities, HasRowsOfLiving}
 use Rattle.ent_alloc.proofs.HandleSets.{union_list_keeps, same_handle}
-use Rattle.ent_alloc.proofs.Replies.{of_pool}
 use Rattle.ent_alloc.proofs.Flushes.{born-not_live}
 
 -- a set and rows of its handles alone
@@ -50,10 +49,6 @@ rows-inserted live x row rows lives kept h gone =
     ] refl
 
 -- ---- who has just come to life
-
--- what is in the pool is not alive
-pool-not_live : (s : Allocator) → IsSound s → All (λ x. ¬ (IsLive s x)) s.pool
-pool-not_live s h = of_pool (λ x. ¬ (IsLive s x)) s (search rules)
 
 -- nor has what a flush brings to life
 pub born-no_row : (e : Entities) → HasRowsOfLiving e → IsSound e.allocator

@@ -34,21 +34,7 @@ opening-sound limits ok =
     let no_one : (h : Handle) → IsLive (opening limits) h → ⊥ = λ h alive.
     true≢false (sym alive ∙ set.contains-empty handle_cmp h) in
     let all : limits.slots - 0 ≡ limits.slots = omega arith in
-    laid_out-sound (opening limits) [] record {
-      limits = ok;
-      made = omega arith;
-      taken = refl;
-      aside = refl;
-      asked = refl;
-      pool = rw all;
-      within = All-nil (IsWithin limits);
-      below = All-nil (λ h. h.index < 0);
-      apart = λ i j d lt within. absurd (omega arith);
-      live_within = λ h alive. absurd (no_one h alive);
-      live_below = λ h alive. absurd (no_one h alive);
-      live_apart = λ h alive. absurd (no_one h alive);
-      one_occupant = λ g h alive _ _. absurd (no_one g alive);
-    }
+    laid_out-sound (opening limits) [] (search (rules, no_one, All-nil))
 
 -- other lists of the same handles, as far as the requests have reached
 pub IsSound-moved : (s : Allocator) (taken aside pool : List Handle) (asked : ℕ) → IsSound s → taken
@@ -93,13 +79,11 @@ All-in_front P (Some h) handles first all = All-cons P h handles first all
 AllPairs-in_front : (o : Option Handle) (handles : List Handle)
     → IfSome o (λ h. All (AreApart h) handles) → AllPairs AreApart handles
     → AllPairs AreApart (in_front o handles)
-AllPairs-in_front None handles first all = all
-AllPairs-in_front (Some h) handles first all = AllPairs-cons AreApart h handles first all
+AllPairs-in_front o handles first all = search (rules, AllPairs-cons)
 
 append-in_front : (o : Option Handle) (handles more : List Handle) → in_front o (handles ++ more)
     ≡ in_front o handles ++ more
-append-in_front None handles more = refl
-append-in_front (Some h) handles more = refl
+append-in_front o handles more = grind (arith)
 
 -- a living handle goes
 pub after_free-sound : (s : Allocator) (x : Handle) → IsSound s → s.asked ≡ 0 → IsLive s x
@@ -138,17 +122,19 @@ alloc_of_old s x old was = record {
   aside = was.aside;
   asked = was.asked;
   pool = ap (drop 1) was.pool;
-  within = All-tail (IsWithin s.limits) x old was.within;
-  below = All-tail (λ h. h.index < s.made) x old was.below;
+  within = search (rules, All-tail);
+  below = search (rules, All-tail);
   apart = AllPairs-tail AreApart x old was.apart;
-  live_within = of_inserted (IsWithin s.limits) s.live x (search (rules, All-head)) was.live_within;
-  live_below = of_inserted (λ h. h.index < s.made) s.live x (All-head (λ h. h.index < s.made) x old
-      was.below) was.live_below;
+  live_within = of_inserted (IsWithin s.limits) s.live x (was.within 0 x (omega arith))
+      was.live_within;
+  live_below = of_inserted (λ h. h.index < s.made) s.live x (was.below 0 x (omega arith))
+      was.live_below;
   live_apart = of_inserted (λ h. All (AreApart h) old) s.live x
       (AllPairs-head AreApart x old was.apart) (λ y alive. All-tail (AreApart y) x old
       (was.live_apart y alive));
-  one_occupant = one_occupant_inserted s.live x (λ y alive. All-head (AreApart y) x old
-      (was.live_apart y alive)) was.one_occupant;
+  one_occupant = one_occupant_inserted s.live x
+      (λ y alive. was.live_apart y alive 0 x (omega arith))
+      was.one_occupant;
 }
 
 -- where no old handle waits, the first occupant of a new slot does
@@ -167,17 +153,15 @@ alloc_of_fresh s more was some =
       taken = was.taken;
       aside = was.aside;
       asked = was.asked;
-      pool = ap (drop 1) (was.pool ∙ ap (fresh s.made) some ∙ fresh-next s.made more)
-          ∙ ap (fresh (s.made + 1)) (sym fewer);
+      pool = search (rules, was.pool, some, fresh-next, fewer);
       within = All-nil (IsWithin s.limits);
       below = All-nil (λ h. h.index < s.made + 1);
-      apart = λ i j d lt within. absurd (omega arith);
+      apart = search rules;
       live_within = of_inserted (IsWithin s.limits) s.live x (search rules) was.live_within;
       live_below = of_inserted (λ h. h.index < s.made + 1) s.live x (omega arith)
           (λ y alive. let below = was.live_below y alive in omega arith);
       live_apart = λ y alive. All-nil (AreApart y);
-      one_occupant = one_occupant_inserted s.live x (λ y alive. apart_by_made s.made y x
-          (was.live_below y alive) (omega arith)) was.one_occupant;
+      one_occupant = search (rules, one_occupant_inserted, apart_by_made);
     }
 
 -- the handle at the front of the pool comes to life
@@ -185,16 +169,13 @@ pub after_alloc-sound : (s : Allocator) (x : Handle) (rest : List Handle) → Is
     → s.pool ≡ x ∷ rest → IsSound (after_alloc s x)
 after_alloc-sound s x rest h flushed front = by_first (old_ones s) (flushed-laid_out s h flushed)
   where
-    no_handle : [] ≡ x ∷ rest → ⊥
-    no_handle e = cc
-
-    of_new : (more : ℕ) → s.limits.slots - s.made ≡ more → IsLaidOut s []
-        → IsSound (after_alloc s x)
-    of_new zero none was = absurd (no_handle (sym (fresh-none s.made) ∙ ap (fresh s.made) (sym none)
-        ∙ sym was.pool ∙ front))
+    of_new : (more : ℕ) → s.limits.slots - s.made ≡ more → IsLaidOut s [] → IsSound
+        (after_alloc s x)
+    of_new zero none was =
+        let nothing : [] ≡ x ∷ rest = search (rules, fresh-none, none, was.pool, front) in cc
     of_new (suc more) some was =
-        let joined : x ∷ rest ≡ first_of_slot s.made ∷ fresh (s.made + 1) more = sym front
-        ∙ was.pool ∙ ap (fresh s.made) some ∙ fresh-next s.made more in
+        let joined : x ∷ rest ≡ first_of_slot s.made ∷ fresh (s.made + 1) more =
+        search (rules, fresh-next, was.pool, front, some) in
         let is : x ≡ first_of_slot s.made = cc in
         rw (is, after_alloc-fresh s (first_of_slot s.made) (omega arith))
         (laid_out-sound _ [] (alloc_of_fresh s more was some))
@@ -202,8 +183,7 @@ after_alloc-sound s x rest h flushed front = by_first (old_ones s) (flushed-laid
     by_first : (old : List Handle) → IsLaidOut s old → IsSound (after_alloc s x)
     by_first [] was = of_new (s.limits.slots - s.made) refl was
     by_first (y ∷ old) was =
-        let joined : x ∷ rest ≡ y ∷ (old ++ fresh s.made (s.limits.slots - s.made)) = sym front
-        ∙ was.pool in
+        let joined = sym front ∙ was.pool in
         let is : x ≡ y = cc in
         rw (is, after_alloc-old s y (All-head (λ h. h.index < s.made) y old was.below))
         (laid_out-sound _ old (alloc_of_old s y old was))

@@ -1,7 +1,6 @@
 -- What a request does to the lists of a sound allocator, and what is taken by all requests.
 use Rattle.std.proofs.Common.{rules, ◌≡◌, sym, ap, ◌∙◌, subst, ℕ, ◌+◌, ◌-◌, ◌<◌, ◌≤◌, List, []}
-use Rattle.std.proofs.Common.{◌++◌, length, take, drop, filter, All, arith, append-nil, le-leb, ◌⊎◌}
-use Rattle.std.proofs.Common.{inl, inr}
+use Rattle.std.proofs.Common.{◌++◌, length, take, drop, filter, All, arith, le-leb, ◌⊎◌}
 use Rattle.std.proofs.lemmas.Grind.{common_steps}
 use Rattle.std.proofs.lemmas.Bool.{cases_lt, lt-leb}
 use Rattle.std.proofs.Math.Seq.{take-append_seam, drop-append_seam}
@@ -11,7 +10,6 @@ use Rattle.ent_handle.specs.Handle.{Handle}
 use Rattle.ent_alloc.specs.Sequential.{Allocator, top, available, after_take, after_flush, fresh}
 use Rattle.ent_alloc.specs.Sequential.{is_fresh}
 use Rattle.ent_alloc.specs.Sound.{IsSound}
-use Rattle.ent_alloc.proofs.ListLaws.{take-nil, drop-nil}
 use Rattle.ent_alloc.proofs.FreshHandles.{All-fresh, fresh_of_joined, take_joined, drop_joined}
 use Rattle.ent_alloc.proofs.FreshHandles.{length-fresh}
 use Rattle.ent_alloc.proofs.LaidOut.{old_ones, old_ones_below}
@@ -27,8 +25,7 @@ length-pool s h = ap length h.pool ∙ length-drop s.asked (available s)
 -- a request takes nothing out of what may be given, and changes no order
 pub take_moves : (taken aside pool : List Handle) (n : ℕ) → (aside ≡ []) ⊎ (pool ≡ [])
     → (taken ++ take n pool) ++ (aside ++ drop n pool) ≡ taken ++ (aside ++ pool)
-take_moves taken aside pool n (inl none) = grind (arith, common_steps)
-take_moves taken aside pool n (inr none) = rw (none, take-nil n, drop-nil n, append-nil taken)
+take_moves taken aside pool n either = grind (arith, common_steps)
 
 -- a request for no more than the pool has
 pub after_take-served : (s : Allocator) (n : ℕ) → n ≤ length s.pool → after_take s n
@@ -43,11 +40,7 @@ after_take-refused s n short = search (rules, lt-leb)
 -- what there was to give stays
 pub available-after_take : (s : Allocator) (n : ℕ) → IsSound s → available (after_take s n)
     ≡ available s
-available-after_take s n h = elim (cases_lt (length s.pool) n) [
-  | inl short ↦ search (rules, after_take-refused, append-nil)
-  | inr enough ↦ rw (after_take-served s n enough) (take_moves s.taken s.aside s.pool n
-      (aside_or_pool s h))
-]
+available-after_take s n h = search (rules, cases_lt, after_take-served, take_moves, aside_or_pool)
 
 -- how many there are to give, or were since the last flush
 pub length-available : (s : Allocator) → IsSound s → length (available s) ≡ top s
@@ -86,13 +79,9 @@ module _ (s : Allocator) (h : IsSound s) where
   left-parts =
       let fewer : s.limits.slots - s.made - (length s.taken - top s) ≡ s.limits.slots
       - (s.made + (length s.taken - top s)) = omega arith in
-      rw made-after_flush (
-      sym (drop-append_seam s.taken (s.aside ++ s.pool)) ∙ ap (drop (length s.taken)) h.order
-      ∙ drop_joined s.made (s.limits.slots - s.made) (old_ones s) (old_ones_below s)
-      (length s.taken)
-      ∙ ap (λ n. drop (length s.taken) (old_ones s) ++ fresh (s.made + (length s.taken - top s)) n)
-      fewer
-      )
+      let joined = drop_joined s.made (s.limits.slots - s.made) (old_ones s) (old_ones_below s)
+      (length s.taken) in
+      rw made-after_flush (search (rules, drop-append_seam s.taken (s.aside ++ s.pool), joined))
 
   -- and so every slot from which something is taken
   pub taken_below : All (λ h. h.index < (after_flush s).made) s.taken

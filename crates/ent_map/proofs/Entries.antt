@@ -1,16 +1,14 @@
 -- The map that slots stand for: its entries, and what it has at each handle.
 use Rattle.std.proofs.Common.{rules, ◌≡◌, ◌≢◌, ℕ, zero, suc, ◌+◌, ◌-◌, ◌<◌, ◌≤◌, Bool, true, false}
-use Rattle.std.proofs.Common.{cond, ◌&&◌, ◌⊎◌, inl, inr, eqb, T, List, [], ◌∷◌, ◌++◌, length}
-use Rattle.std.proofs.Common.{get_or, set, replicate, Option, None, Some, refl, sym, ap, ◌∙◌, arith}
-use Rattle.std.proofs.Common.{not, All, AllPairs}
+use Rattle.std.proofs.Common.{cond, ◌&&◌, inl, inr, eqb, T, List, [], ◌∷◌, ◌++◌, length, get_or}
+use Rattle.std.proofs.Common.{set, replicate, None, Some, refl, arith, not, All, AllPairs}
 use Rattle.std.proofs.lemmas.Grind.{common_steps}
 use Rattle.std.proofs.lemmas.List.Kept.{AllPairs-cons}
-use Rattle.std.proofs.lemmas.Bool.{cases_eq, eq-eqb, ne_eqb}
+use Rattle.std.proofs.lemmas.Bool.{cases_eq, eq-eqb}
 use Rattle.std.proofs.lemmas.Bool.Decides.{nat_tests}
 use Rattle.std.proofs.lemmas.List.{get_or_past, get_or-set_same, get_or-set_other}
-use Rattle.std.specs.declared.cmp.Ordering.{Ordering}
-use Rattle.std.specs.declared.cmp.Ordering.TheVariants.{Less, Equal, Greater}
-use Rattle.std.specs.Ordering.{nat_cmp, eq_by_cmp, is_eq, is_lt, ordering_then}
+use Rattle.std.specs.declared.cmp.Ordering.TheVariants.{Equal}
+use Rattle.std.specs.Ordering.{eq_by_cmp, is_lt}
 use Rattle.std.specs.FinMap as map
 use Rattle.std.specs.FinMap.{find, is_sorted}
 use Rattle.std.specs.FinMap.Entries.{below_all}
@@ -32,14 +30,6 @@ both false b p q = absurd p
 less_by_index : (g h : Handle) → g.index < h.index → T (is_lt (handle_cmp g h))
 less_by_index g h l = search (rules)
 
-is_eq-then : (x y : Ordering) → is_eq (ordering_then x y) ≡ (is_eq x && is_eq y)
-is_eq-then Less y = refl
-is_eq-then Equal y = refl
-is_eq-then Greater y = refl
-
-is_eq-nat_cmp : (a b : ℕ) → is_eq (nat_cmp a b) ≡ eqb a b
-is_eq-nat_cmp a b = grind (arith, nat_tests)
-
 -- two handles tie where both numbers are equal
 ties : (a b : Handle) → eq_by_cmp handle_cmp a b
     ≡ (eqb a.index b.index && eqb a.generation b.generation)
@@ -48,7 +38,7 @@ ties a b = grind (arith, common_steps)
 -- of count_at slot
 ties_here : (a b : Handle) → a.index ≡ b.index → eq_by_cmp handle_cmp a b
     ≡ eqb a.generation b.generation
-ties_here a b e = ties a b ∙ ap (λ x. x && eqb a.generation b.generation) (eq-eqb a.index b.index e)
+ties_here a b e = search (rules, ties a b, eq-eqb)
 
 -- of two
 ties_apart : (a b : Handle) → a.index ≢ b.index → eq_by_cmp handle_cmp a b ≡ false
@@ -105,12 +95,10 @@ module _ {X : Type 0} where
   find_from : (q : Handle) (index : ℕ) (slots : List (Slot X)) → index ≤ q.index
       → find handle_cmp q (entries_from index slots)
       ≡ value_under (get_or slots (q.index - index) Vacant) q.generation
-  find_from q index [] l = sym (vacant_past (q.index - index) q.generation)
+  find_from q index [] l = search (rules, vacant_past)
   find_from q index (Vacant ∷ slots) l = elim (cases_eq q.index index) [
-    | inl e ↦ find_before q (index + 1) slots (omega (arith, e))
-        ∙ first_one Vacant slots q index e
-    | inr ne ↦ find_from q (index + 1) slots (omega (arith, ne))
-        ∙ later Vacant slots q index (omega (arith, ne))
+    | inl e ↦ search (rules, find_before, first_one)
+    | inr ne ↦ search (rules, later, find_from q (index + 1) slots (omega (arith, ne)))
   ]
   find_from q index (Occupied generation value ∷ slots) l =
       let here : Handle = record { index = index; generation = generation } in
@@ -121,19 +109,18 @@ module _ {X : Type 0} where
       ]
 
   -- what the map has at a handle
-  pub get_map : (slots : List (Slot X)) (q : Handle) → map.get (map_of_slots slots) q ≡ value_in slots q
-  get_map slots q =
-      let off : q.index - 0 ≡ q.index = omega arith in
-      map.get-from_sorted handle_cmp (entries_from 0 slots) q (rising 0 slots)
-      ∙ find_from q 0 slots (omega arith)
-      ∙ ap (λ n. value_under (get_or slots n Vacant) q.generation) off
+  pub get_map : (slots : List (Slot X)) (q : Handle) → map.get (map_of_slots slots) q ≡ value_in
+      slots q
+  get_map slots q = search (rules, map.get-from_sorted, rising, find_from q 0 slots (omega arith))
 
   -- the entries of the map
-  pub entries_map : (slots : List (Slot X)) → map.entries (map_of_slots slots) ≡ entries_from 0 slots
-  entries_map slots = map.entries-from_sorted handle_cmp (entries_from 0 slots) (rising 0 slots)
+  pub entries_map : (slots : List (Slot X)) → map.entries (map_of_slots slots) ≡ entries_from 0
+      slots
+  entries_map slots = search (rules, map.entries-from_sorted, rising)
 
-  pub len_map : (slots : List (Slot X)) → map.len (map_of_slots slots) ≡ length (entries_from 0 slots)
-  len_map slots = map.len-entries (map_of_slots slots) ∙ ap length (entries_map slots)
+  pub len_map : (slots : List (Slot X)) → map.len (map_of_slots slots) ≡ length
+      (entries_from 0 slots)
+  len_map slots = search (rules, map.len-entries, entries_map)
 
   -- no slots have no values
   pub map_none : map_of_slots {T = X} [] ≡ map.empty
@@ -162,27 +149,17 @@ module _ {X : Type 0} where
       ≡ map.insert (without_slot (map_of_slots slots) h.index) h value
   map-put slots h value within =
       map.same_map handle_cmp_total handle_cmp-IsAntisymmetric _ _ (λ q.
-      get_map (set slots h.index (Occupied h.generation value)) q
-      ∙ at q (cases_eq q.index h.index)
-      ∙ sym (map.get-insert handle_cmp_total (without_slot (map_of_slots slots) h.index) h value q
-      ∙ ap (λ o. cond (eq_by_cmp handle_cmp q h) (Some value) o) (get-without (map_of_slots slots) h q)))
-    where
-      at : (q : Handle) → (q.index ≡ h.index) ⊎ (q.index ≢ h.index)
-          → value_in (set slots h.index (Occupied h.generation value)) q
-          ≡ cond (eq_by_cmp handle_cmp q h) (Some value)
-          (cond (not (eqb q.index h.index)) (map.get (map_of_slots slots) q) None)
-      at q (inl e) =
-          ap (λ s. value_under s q.generation)
-          ((slot-set slots h.index (Occupied h.generation value) q.index within).0 e)
-          ∙ here_alone h q value e
-          ∙ sym (ap (λ b. cond (eq_by_cmp handle_cmp q h) (Some value)
-          (cond (not b) (map.get (map_of_slots slots) q) None)) (eq-eqb q.index h.index e))
-      at q (inr ne) =
-          ap (λ s. value_under s q.generation)
-          ((slot-set slots h.index (Occupied h.generation value) q.index within).1 ne)
-          ∙ sym (get_map slots q)
-          ∙ sym (λ i. cond (ties_apart q h ne i) (Some value)
-          (cond (not (ne_eqb q.index h.index ne i)) (map.get (map_of_slots slots) q) None))
+      let slot : Slot X = Occupied h.generation value in
+      let now = get_map (set slots h.index slot) q in
+      let was = get_map slots q in
+      let put = map.get-insert handle_cmp_total (without_slot (map_of_slots slots) h.index) h value
+      q in
+      let less = get-without (map_of_slots slots) h q in
+      let is = slot-set slots h.index slot q.index within in
+      elim (cases_eq q.index h.index) [
+        | inl e ↦ let alone = here_alone h q value e in grind (arith, nat_tests)
+        | inr ne ↦ let tie = ties_apart q h ne in grind (arith, nat_tests)
+      ])
 
   -- a slot has the value of the handle
   abbrev pub HasValue : List (Slot X) → Handle → X → Type 0
@@ -198,64 +175,44 @@ module _ {X : Type 0} where
       ≡ map.insert (map_of_slots slots) h value
   map-write slots h old value within has =
       map.same_map handle_cmp_total handle_cmp-IsAntisymmetric _ _ (λ q.
-      get_map (set slots h.index (Occupied h.generation value)) q
-      ∙ at q (cases_eq q.index h.index)
-      ∙ sym (map.get-insert handle_cmp_total (map_of_slots slots) h value q
-      ∙ ap (λ o. cond (eq_by_cmp handle_cmp q h) (Some value) o) (get_map slots q)))
-    where
-      covered : (b : Bool) (x y : Option X) → cond b x None ≡ cond b x (cond b y None)
-      covered true x y = refl
-      covered false x y = refl
-
-      at : (q : Handle) → (q.index ≡ h.index) ⊎ (q.index ≢ h.index)
-          → value_in (set slots h.index (Occupied h.generation value)) q
-          ≡ cond (eq_by_cmp handle_cmp q h) (Some value) (value_in slots q)
-      at q (inl e) =
-          ap (λ s. value_under s q.generation)
-          ((slot-set slots h.index (Occupied h.generation value) q.index within).0 e)
-          ∙ here_alone h q value e
-          ∙ covered (eq_by_cmp handle_cmp q h) (Some value) (Some old)
-          ∙ sym (ap (λ o. cond (eq_by_cmp handle_cmp q h) (Some value) o)
-          (other_generation slots h q old has e))
-      at q (inr ne) =
-          ap (λ s. value_under s q.generation)
-          ((slot-set slots h.index (Occupied h.generation value) q.index within).1 ne)
-          ∙ sym (ap (λ b. cond b (Some value) (value_in slots q)) (ties_apart q h ne))
+      let slot : Slot X = Occupied h.generation value in
+      let now = get_map (set slots h.index slot) q in
+      let was = get_map slots q in
+      let put = map.get-insert handle_cmp_total (map_of_slots slots) h value q in
+      let is = slot-set slots h.index slot q.index within in
+      elim (cases_eq q.index h.index) [
+        | inl e ↦
+            let alone = here_alone h q value e in
+            let other = other_generation slots h q old has e in
+            grind (arith, nat_tests)
+        | inr ne ↦ let tie = ties_apart q h ne in grind (arith, nat_tests)
+      ])
 
   -- the value of a handle is taken out
   pub map-take : (slots : List (Slot X)) (h : Handle) (value : X) → h.index < length slots
-      → HasValue slots h value → map_of_slots (set slots h.index Vacant) ≡ map.remove (map_of_slots slots) h
+      → HasValue slots h value → map_of_slots (set slots h.index Vacant) ≡ map.remove
+      (map_of_slots slots) h
   map-take slots h value within has =
       map.same_map handle_cmp_total handle_cmp-IsAntisymmetric _ _ (λ q.
-      get_map (set slots h.index Vacant) q
-      ∙ at q (cases_eq q.index h.index)
-      ∙ sym (map.get-remove handle_cmp_total (map_of_slots slots) h q
-      ∙ ap (λ o. cond (eq_by_cmp handle_cmp q h) None o) (get_map slots q)))
-    where
-      covered : (b : Bool) (y : Option X) → None ≡ cond b None (cond b y None)
-      covered true y = refl
-      covered false y = refl
-
-      at : (q : Handle) → (q.index ≡ h.index) ⊎ (q.index ≢ h.index)
-          → value_in (set slots h.index Vacant) q
-          ≡ cond (eq_by_cmp handle_cmp q h) None (value_in slots q)
-      at q (inl e) =
-          ap (λ s. value_under s q.generation) ((slot-set slots h.index Vacant q.index within).0 e)
-          ∙ covered (eq_by_cmp handle_cmp q h) (Some value)
-          ∙ sym (ap (λ o. cond (eq_by_cmp handle_cmp q h) None o)
-          (other_generation slots h q value has e))
-      at q (inr ne) =
-          ap (λ s. value_under s q.generation) ((slot-set slots h.index Vacant q.index within).1 ne)
-          ∙ sym (ap (λ b. cond b None (value_in slots q)) (ties_apart q h ne))
+      let now = get_map (set slots h.index Vacant) q in
+      let was = get_map slots q in
+      let put = map.get-remove handle_cmp_total (map_of_slots slots) h q in
+      let is = slot-set slots h.index Vacant q.index within in
+      elim (cases_eq q.index h.index) [
+        | inl e ↦ let other = other_generation slots h q value has e in grind (arith, nat_tests)
+        | inr ne ↦ let tie = ties_apart q h ne in grind (arith, nat_tests)
+      ])
 
   one_more : (index : ℕ) (slot : Slot X) (slots : List (Slot X))
-      → length (entries_from index (slot ∷ slots)) ≡ count_at slot + length (entries_from (index + 1) slots)
+      → length (entries_from index (slot ∷ slots)) ≡ count_at slot + length
+      (entries_from (index + 1) slots)
   one_more index Vacant slots = omega arith
   one_more index (Occupied generation value) slots = omega arith
 
   -- how many there are after count_at slot is set
   pub length-set_slot : (index : ℕ) (slots : List (Slot X)) (at : ℕ) (slot : Slot X)
-      → at < length slots → length (entries_from index (set slots at slot)) + count_at (slot_at slots at)
+      → at < length slots → length (entries_from index (set slots at slot)) + count_at
+      (slot_at slots at)
       ≡ length (entries_from index slots) + count_at slot
   length-set_slot index [] at slot within = absurd (omega arith)
   length-set_slot index (x ∷ slots) zero slot within = search (rules, one_more)
@@ -279,8 +236,9 @@ module _ {X : Type 0} where
       → entries_from 0 (padded slots count) ≡ entries_from 0 slots
   entries_padded slots count = entries_more 0 slots (count - length slots)
 
-  pub map_padded : (slots : List (Slot X)) (count : ℕ) → map_of_slots (padded slots count) ≡ map_of_slots slots
-  map_padded slots count = ap (λ es. map.from_sorted {R = handle_cmp} es) (entries_padded slots count)
+  pub map_padded : (slots : List (Slot X)) (count : ℕ) → map_of_slots (padded slots count) ≡
+      map_of_slots slots
+  map_padded slots count = search (rules, entries_padded)
 
   -- ---- in pairs
 

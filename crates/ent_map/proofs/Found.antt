@@ -1,9 +1,9 @@
 -- The slot of a handle that has a value.
-use Rattle.std.proofs.Common.{rules, ◌≡◌, ℕ, zero, suc, ◌+◌, ◌-◌, ◌<◌, ◌≤◌, ◌^◌, Bool, true, false}
-use Rattle.std.proofs.Common.{cond, eqb, List, [], ◌∷◌, length, get_or, set, Option, None, Some}
-use Rattle.std.proofs.Common.{is_some, refl, sym, ap, ◌∙◌, arith, true≢false, length-set, eqb-true}
+use Rattle.std.proofs.Common.{rules, ◌≡◌, ℕ, ◌+◌, ◌-◌, ◌<◌, ◌≤◌, ◌^◌, Bool, true, false, List, []}
+use Rattle.std.proofs.Common.{◌∷◌, length, get_or, set, Some, is_some, refl, ap, arith, true≢false}
+use Rattle.std.proofs.Common.{length-set}
 use Rattle.std.proofs.lemmas.Bool.{cases_lt, eq-eqb}
-use Rattle.std.proofs.lemmas.List.{get_or_past, length-append, length-replicate}
+use Rattle.std.proofs.lemmas.List.{get_or_past, length-append, length-replicate, get_or_default}
 use Rattle.std.specs.FinMap as map
 use Rattle.std.specs.Ordering.{eq_by_cmp}
 use Rattle.std.specs.Cmp.{Equal-is}
@@ -22,32 +22,20 @@ module _ {X : Type 0} where
   pub remove_absent : (m : HandleValues X) (h : Handle) → is_some (map.get m h) ≡ false
       → map.remove m h ≡ m
   remove_absent m h none =
-      map.same_map handle_cmp_total handle_cmp-IsAntisymmetric _ _ (λ q.
-      map.get-remove handle_cmp_total m h q ∙ by q (eq_by_cmp handle_cmp q h) refl)
+      map.same_map handle_cmp_total handle_cmp-IsAntisymmetric _ _
+      (λ q. by q (eq_by_cmp handle_cmp q h) refl)
     where
-      no_value : (o : Option X) → is_some o ≡ false → None ≡ o
-      no_value None e = refl
-      no_value (Some x) e = absurd (true≢false e)
-
       by : (q : Handle) (b : Bool) → eq_by_cmp handle_cmp q h ≡ b
-          → cond b None (map.get m q) ≡ map.get m q
-      by q false e = refl
-      by q true e = no_value (map.get m h) none
-          ∙ map.get_tied handle_cmp_total m q h ((Equal-is (handle_cmp q h)).0 e)
-
-  occupied_if : (g wanted : ℕ) (value : X) (b : Bool) → eqb g wanted ≡ b
-      → is_some (cond b (Some value) None) ≡ true
-      → (found : X) × (Occupied g value ≡ Occupied wanted found)
-  occupied_if g wanted value true is some = (value, ap (λ n. Occupied n value) (eqb-true g wanted is))
-  occupied_if g wanted value false is some = absurd (true≢false (sym some))
-
-  occupied : (slot : Slot X) (wanted : ℕ) → is_some (value_under slot wanted) ≡ true
-      → (found : X) × (slot ≡ Occupied wanted found)
-  occupied Vacant wanted some = absurd (true≢false (sym some))
-  occupied (Occupied g value) wanted some = occupied_if g wanted value (eqb g wanted) refl some
+          → map.get (map.remove m h) q ≡ map.get m q
+      by q b e =
+          let left = map.get-remove handle_cmp_total m h q in
+          let tied = map.get_tied handle_cmp_total m q h in
+          let equal = (Equal-is (handle_cmp q h)).0 in
+          grind arith
 
   -- the slot of a handle that the map has
-  pub found : (slots : List (Slot X)) (values : HandleValues X) (h : Handle) → map_of_slots slots ≡ values
+  pub found : (slots : List (Slot X)) (values : HandleValues X) (h : Handle) → map_of_slots slots ≡
+      values
       → is_some (map.get values h) ≡ true → (value : X) × HasValue slots h value
   found slots values h is some = search (rules, get_map slots h)
 
@@ -58,9 +46,10 @@ module _ {X : Type 0} where
 
   -- what the map has at the handle
   pub had : (slots : List (Slot X)) (values : HandleValues X) (h : Handle) (value : X)
-      → map_of_slots slots ≡ values → HasValue slots h value → value_under (slot_at slots h.index) h.generation
+      → map_of_slots slots ≡ values → HasValue slots h value → value_under (slot_at slots h.index)
+      h.generation
       ≡ map.get values h
-  had slots values h value is has = sym (get_map slots h) ∙ ap (λ m. map.get m h) is
+  had slots values h value is has = search (rules, get_map slots h)
 
   -- one value fewer
   pub counted-take : (slots : List (Slot X)) (h : Handle) (value : X) (count : ℕ)
@@ -77,11 +66,10 @@ module _ {X : Type 0} where
   counted-write slots h old value count has are = search (rules, made, length-set_slot, length-set)
 
   -- what an index of the vector reads
-  pub read : (slots : List (Slot X)) (at : ℕ) (x : Slot X) → at < length slots → x ≡ get_or slots at x
+  pub read : (slots : List (Slot X)) (at : ℕ) (x : Slot X) → at < length slots → x ≡ get_or slots
+      at x
       → x ≡ slot_at slots at
-  read [] at x within e = absurd (omega arith)
-  read (y ∷ slots) zero x within e = e
-  read (y ∷ slots) (suc at) x within e = read slots at x (omega arith) e
+  read slots at x within e = search (rules, get_or_default)
 
   pub read_of : (slots : List (Slot X)) (h : Handle) (value : X) (at : ℕ) (x : Slot X)
       → HasValue slots h value → at ≡ h.index → x ≡ get_or slots at x
@@ -95,7 +83,8 @@ module _ {X : Type 0} where
 
   -- ---- a later occupant of the slot
 
-  pub later : (slots : List (Slot X)) (values : HandleValues X) (h : Handle) → map_of_slots slots ≡ values
+  pub later : (slots : List (Slot X)) (values : HandleValues X) (h : Handle) → map_of_slots slots ≡
+      values
       → h.generation < generation_of (slot_at slots h.index) → HasLater values h
   later slots values h is above = by (slot_at slots h.index) refl above
     where
@@ -106,7 +95,8 @@ module _ {X : Type 0} where
           let q : Handle = record { index = h.index; generation = g } in
           (g, l, ap is_some (got slots values q value is e))
 
-  pub no_later : (slots : List (Slot X)) (values : HandleValues X) (h : Handle) → map_of_slots slots ≡ values
+  pub no_later : (slots : List (Slot X)) (values : HandleValues X) (h : Handle) → map_of_slots
+      slots ≡ values
       → generation_of (slot_at slots h.index) ≤ h.generation → HasLater values h → ⊥
   no_later slots values h is least (g, above, some) = search (rules, found)
 
@@ -116,7 +106,8 @@ module _ {X : Type 0} where
       → length (entries_from index slots) ≤ length slots
   length-entries_le index [] = omega arith
   length-entries_le index (Vacant ∷ slots) = omega (arith, length-entries_le (index + 1) slots)
-  length-entries_le index (Occupied g value ∷ slots) = search (rules, length-entries_le (index + 1) slots)
+  length-entries_le index (Occupied g value ∷ slots) = search
+      (rules, length-entries_le (index + 1) slots)
 
   pub few_values : (slots : List (Slot X)) (count : ℕ) → AreCounted 0 slots count → count < 2 ^ 32
   few_values slots count are = omega (arith, are.few, are.counted, length-entries_le 0 slots)
@@ -131,23 +122,22 @@ module _ {X : Type 0} where
     reaches : index < length all
     reaches = omega (arith, ap length is, length-padded slots (index + 1))
 
-    pub put-within : index < length all
-    put-within = reaches
-
     stood : before ≡ slot_at all h.index
-    stood = read all index before reaches was ∙ ap (slot_at all) at
+    stood = search (rules, read, reaches, was)
 
     same : map_of_slots all ≡ map_of_slots slots
-    same = ap map_of_slots is ∙ map_padded slots (index + 1)
+    same = search (rules, map_padded)
 
     entered : set all index after ≡ set all h.index (Occupied h.generation value)
-    entered = λ i. set all (at i) (written i)
+    entered = cc
 
-    pub put-map : (values : HandleValues X) → map_of_slots slots ≡ values → map_of_slots (set all index after)
+    pub put-map : (values : HandleValues X) → map_of_slots slots ≡ values → map_of_slots
+        (set all index after)
         ≡ map.insert (without_slot values h.index) h value
     put-map values stands = search (rules, map_of_slots, entered, map-put, reaches, same)
 
-    pub put-before : (values : HandleValues X) → map_of_slots slots ≡ values → value_under before h.generation
+    pub put-before : (values : HandleValues X) → map_of_slots slots ≡ values → value_under before
+        h.generation
         ≡ map.get values h
     put-before values stands = search (rules, stood, get_map, same)
 

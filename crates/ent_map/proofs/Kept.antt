@@ -1,7 +1,7 @@
 -- How a walk over the slots keeps some of their values.
 use Rattle.std.proofs.Common.{rules, ◌≡◌, ℕ, ◌+◌, ◌<◌, ◌≤◌, Bool, true, false, cond, MutBor, List}
-use Rattle.std.proofs.Common.{[], ◌∷◌, ◌++◌, length, get_or, set, take, drop, Some, refl, sym, ap}
-use Rattle.std.proofs.Common.{subst, ◌∙◌, arith, length-set, is_some, true≢false}
+use Rattle.std.proofs.Common.{[], ◌∷◌, ◌++◌, length, get_or, set, take, drop, Some, refl, ap, ◌∙◌}
+use Rattle.std.proofs.Common.{arith, length-set}
 use Rattle.std.proofs.lemmas.List.{append-nil, append_assoc, take_all, take_more_set, drop_all}
 use Rattle.std.proofs.lemmas.List.{drop_more, drop-set-lt, length-take-le}
 use Rattle.ent_handle.specs.Handle.{Handle}
@@ -44,22 +44,7 @@ module _ {X : Type 0} where
       → left + count_at slot ≡ count + count_at new → AreCounted 0 (set slots index new) left
   counted-slot slots count left index slot new are within e moved =
       search (rules, length-set_slot, read, length-set)
-
   -- ---- one slot
-
-  -- the slot that has this handle and this value
-  pub slot_is : (slot : Slot X) (index : ℕ) (h : Handle) (value : X) → handle_in slot index ≡ Some h
-      → any_value slot ≡ Some value
-      → (slot ≡ Occupied h.generation value) × (record { index = index; generation = h.generation } ≡ h)
-  slot_is Vacant index h value e f = absurd (true≢false (sym (ap is_some e)))
-  slot_is (Occupied generation old) index h value e f =
-      let same = some_is (record { index = index; generation = generation }) h e in (
-        (λ i. Occupied ((same i).generation) (some_is old value f i)),
-        (λ i. record { index = (same i).index; generation = h.generation }),
-      )
-    where
-      some_is : {A : Type 0} (x y : A) → Some x ≡ Some y → x ≡ y
-      some_is x y e = cc
 
 module _ {X F : Type 0} (step : F → Handle → MutBor X → Bool → MutBor X → F → Type 0) where
   pub called_at : (f : F) (h : Handle) (shown : MutBor X) (keep : Bool) (left : MutBor X) (next : F)
@@ -86,11 +71,7 @@ module _ {X F : Type 0} (step : F → Handle → MutBor X → Bool → MutBor X 
       (later : List (Handle × X)) → RetainsSlot step f index slot new next
       → Retains step next (entries_from (index + 1) slots) later
       → Retains step f (entries_from index (slot ∷ slots)) (entries_from index (new ∷ []) ++ later)
-  in_front f next index Vacant new slots later kept rest =
-      subst (λ (s : Slot X).
-      Retains step f (entries_from (index + 1) slots) (entries_from index (s ∷ []) ++ later))
-      (sym kept.0)
-      (subst (λ (x : F). Retains step x (entries_from (index + 1) slots) later) kept.1 rest)
+  in_front f next index Vacant new slots later kept rest = search (rules)
   in_front f next index (Occupied generation old) new slots later (keep, left, called, is) rest = (
     keep,
     left,
@@ -109,16 +90,14 @@ module _ {X F : Type 0} (step : F → Handle → MutBor X → Bool → MutBor X 
 
   -- The walk has come to a slot: those from it on are as they were, and whatever f makes of them
   -- completes its work.
-  pub record RetainedBelow (first : F) (old : List (Slot X)) (f : F) (now : List (Slot X)) (index : ℕ)
+  pub record RetainedBelow (first : F) (old : List (Slot X)) (f : F) (now : List (Slot X))
+      (index : ℕ)
       : Type 0 where
     pub long : length now ≡ length old
     pub rest : drop index now ≡ drop index old
     pub done : (later : List (Handle × X))
         → Retains step f (entries_from index (drop index old)) later
         → Retains step first (entries_from 0 old) (entries_from 0 (take index now) ++ later)
-
-  pub retained-start : (f : F) (slots : List (Slot X)) → RetainedBelow f slots f slots 0
-  retained-start f slots = record { long = refl; rest = refl; done = λ later is. is }
 
   pub retained-more : (first : F) (old now : List (Slot X)) (f next : F) (index : ℕ)
       (slot new : Slot X) → index < length now → slot ≡ get_or now index slot
@@ -133,7 +112,6 @@ module _ {X F : Type 0} (step : F → Handle → MutBor X → Bool → MutBor X 
       → RetainedBelow first old f now index
       → Retains step first (entries_from 0 old) (entries_from 0 now)
   retained-done first old now f index past below =
-      subst (λ (es : List (Handle × X)). Retains step first (entries_from 0 old) es)
-      (append-nil (entries_from 0 (take index now))
-      ∙ ap (entries_from 0) (take_all index now (omega (arith, below.long))))
-      (search (rules, drop_all))
+      let all = take_all index now (omega (arith, below.long)) in
+      let done = below.done [] (search (rules, drop_all)) in
+      rw (append-nil, all) at done

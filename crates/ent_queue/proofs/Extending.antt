@@ -11,5 +11,4 @@ extends_nothing a ready = grind (arith, common_steps)
 
 -- where one call follows another, also over the turns of a loop
 pub extends_then : (a b c : Issued) → Extends a b → Extends b c → Extends a c
-extends_then a b c first second =
-    search (rules, append_assoc, gains_then)
+extends_then a b c first second = search (rules, append_assoc, gains_then)

@@ -1,13 +1,13 @@
 -- What bytes that begin with a command let be read, kind by kind.
-use Rattle.std.proofs.Common.{rules, ◌≡◌, refl, ℕ, ◌+◌, ◌*◌, ◌<◌, ◌≤◌, List, [], ◌∷◌, ◌++◌, length}
-use Rattle.std.proofs.Common.{drop, arith, sym, subst, length-drop, slice_index}
+use Rattle.std.proofs.Common.{rules, ◌≡◌, ℕ, ◌+◌, ◌*◌, ◌<◌, ◌≤◌, List, ◌++◌, length, drop}
+use Rattle.std.proofs.Common.{length-drop, slice_index, refl, [], ◌∷◌, arith, sym, subst}
 use Rattle.std.specs.List.{All, flat_map}
 use Rattle.ent_handle.specs.Handle.{Handle, IsHandle}
 use Rattle.ent_bundle.specs.Bundle.{Bundle, IsBundle}
-use Rattle.ent_queue.specs.Command.{Command, Spawn, SpawnMany, Insert, Remove, Despawn, Refused}
-use Rattle.ent_queue.specs.Command.{IsRefusal, IsCommand}
-use Rattle.ent_queue.specs.Packing.{bytes_4, handle_bytes, bundle_bytes, refusal_bytes}
-use Rattle.ent_queue.specs.Packing.{command_bytes}
+use Rattle.ent_queue.specs.Command.{Command, IsRefusal, IsCommand, Spawn, SpawnMany, Insert, Remove}
+use Rattle.ent_queue.specs.Command.{Despawn, Refused}
+use Rattle.ent_queue.specs.Packing.{command_bytes, bytes_4, handle_bytes, bundle_bytes}
+use Rattle.ent_queue.specs.Packing.{refusal_bytes}
 use Rattle.ent_queue.specs.Unpacking.{number_2, number_4, unpacked_handle, unpacked_handles}
 use Rattle.ent_queue.specs.Unpacking.{unpacked_bundle, unpacked_refusal, after_first, BeginsWith}
 use Rattle.ent_queue.proofs.Parts.{BundleBegins}
@@ -166,9 +166,4 @@ kinds (Refused wanted why) rest is =
 -- the same of any bytes that begin with a command
 pub begins_kinds : (bytes : List ℕ) → Begins bytes → Kinds (slice_index bytes 0) (drop 1 bytes)
     (after_first bytes)
-begins_kinds bytes b =
-    let front = command_bytes b.0 ++ b.1 in
-    let here : Kinds (slice_index front 0) (drop 1 front) (after_first front) =
-    subst (λ rest. Kinds (slice_index front 0) (drop 1 front) rest)
-    (sym (after_first-bytes b.0 b.1 b.2.is)) (kinds b.0 b.1 b.2.is) in
-    subst (λ bs. Kinds (slice_index bs 0) (drop 1 bs) (after_first bs)) (sym b.2.bytes_are) here
+begins_kinds bytes b = search (rules, after_first-bytes, kinds)

@@ -1,13 +1,12 @@
 -- What a call of `Commands` adds.
-use Rattle.std.proofs.Common.{rules, ◌≡◌, refl, ℕ, List, [], ◌∷◌, ◌++◌, length, ap, sym, subst}
-use Rattle.std.proofs.Common.{Result, Ok, Err, IfOk, IfErr, OnOk, OnErr, IsErrOf, Vec, Global, ◌≤◌}
-use Rattle.std.proofs.Common.{◌<◌, arith}
+use Rattle.std.proofs.Common.{rules, ◌≡◌, ℕ, List, [], ◌∷◌, ◌++◌, length, Result, Ok, Err, IfOk}
+use Rattle.std.proofs.Common.{IfErr, OnOk, OnErr, IsErrOf, Vec, Global, ◌<◌, arith, refl, ap, sym}
+use Rattle.std.proofs.Common.{subst, ◌≤◌}
 use Rattle.std.proofs.lemmas.Grind.{common_steps}
 use Rattle.ent_handle.specs.Handle.{Handle}
 use Rattle.ent_handle.specs.declared.memory.Memory.{Memory}
 use Rattle.ent_shared.specs.declared.record.Record.{Record}
 use Rattle.ent_shared.specs.declared.refused.Refused.{Refused as Refusal}
-use Rattle.ent_shared.specs.declared.refused.Refused.TheVariants.{Space, Quota}
 use Rattle.ent_shared.specs.Phase.{Shared, Reserver}
 use Rattle.ent_alloc.specs.Sequential.{listed_alone}
 use Rattle.ent_queue.specs.declared.fault.QueueFault.{QueueFault}
@@ -18,6 +17,7 @@ use Rattle.ent_queue.specs.Commands.{Issued, IsReady, Extends, queue_of, reserve
 use Rattle.ent_queue.specs.Reserving.{stands_for, FitsCredit, Gains, IsReturned, queued, as_list}
 use Rattle.ent_queue.specs.Reserving.{refused_by, as_fault}
 use Rattle.ent_queue.proofs.Gaining.{gains_nothing, gains_none, served_gains, refused_gains}
+use Rattle.ent_shared.specs.declared.refused.Refused.TheVariants.{Space, Quota}
 
 -- the commands that a call added, and that the record has gained them
 pub record Added (old new : List Command) (before after : Record) : Type 0 where
@@ -33,20 +33,17 @@ extends_added a b same shared ready more = search (rules)
 
 many_request : (hs : List Handle) (items : Bundle) (n : ℕ) → length hs ≡ n → 0 < n
     → stands_for (SpawnMany hs items) ≡ (n, Ok hs) ∷ []
-many_request [] items n e some = absurd (omega arith)
-many_request (h ∷ hs) items n e some = ap (λ k. (k, Ok (h ∷ hs)) ∷ []) e
+many_request hs items n e some = search rules
 
 -- a command that reserves nothing, or no command
 pub added_none : (r : Record) (c : Command) (result : Result (Unit {0}) Memory)
     (old new : List Command) → stands_for c ≡ [] → FitsCredit r.left c
     → OnOk result (new ≡ old ++ c ∷ []) → OnErr result (new ≡ old) → Added old new r r
-added_none r c (Ok u) old new none within ok err = search (rules, gains_none)
-added_none r c (Err e) old new none within ok err = grind (arith, common_steps)
+added_none r c it old new none within ok err = grind (arith, common_steps, gains_none)
 
 pub queued_ok : (reply : Result (List Handle) Refusal) (hs : List Handle) → Ok hs ≡ queued reply
     → Ok hs ≡ reply
-queued_ok (Ok gs) hs e = let same : hs ≡ gs = cc in ap Ok same
-queued_ok (Err why) hs e = absurd (cc)
+queued_ok it hs e = search rules
 
 same_fault : (f g : QueueFault) → ◌≡◌ {A = Result (List Handle) QueueFault} (Err f) (Err g) → f ≡ g
 same_fault f g e = cc
@@ -56,28 +53,18 @@ module _ (shared : Shared) (before after : Reserver) (old new : List Command) wh
       → (f ≡ fault.Memory → after ≡ before)
       → ((why : Refusal) → Err f ≡ queued {X = List Handle} (Err why) → IsReturned shared before
       after n (Err why)) → Added old new before.own after.own
-  added_refusal n (fault.Space wanted left) queue memory replied =
-      record {
-        added = Refused n (Space wanted left) ∷ [];
-        queue = queue;
-        gains =
-            refused_gains shared before after n (Space wanted left)
-            (replied (Space wanted left) refl);
-      }
-  added_refusal n (fault.Quota left) queue memory replied =
-      record {
-        added = Refused n (Quota left) ∷ [];
-        queue = queue;
-        gains = refused_gains shared before after n (Quota left) (replied (Quota left) refl);
-      }
-  added_refusal n fault.Memory queue memory replied =
-      record {
-        added = [];
-        queue = queue;
-        gains =
-            subst (λ (r : Reserver). Gains before.own [] r.own) (sym (memory refl))
-            (gains_nothing before.own);
-      }
+  added_refusal n (fault.Space wanted left) queue memory replied = record {
+    added = Refused n (Space wanted left) ∷ [];
+    queue = queue;
+    gains = refused_gains shared before after n (Space wanted left)
+        (replied (Space wanted left) refl);
+  }
+  added_refusal n (fault.Quota left) queue memory replied = record {
+    added = Refused n (Quota left) ∷ [];
+    queue = queue;
+    gains = refused_gains shared before after n (Quota left) (replied (Quota left) refl);
+  }
+  added_refusal n fault.Memory queue memory replied = search (rules, gains_nothing)
 
   pub added_spawn : (items : Bundle) (result : Result Handle QueueFault)
       → IfOk result (λ h. new ≡ old ++ Spawn h items ∷ [])

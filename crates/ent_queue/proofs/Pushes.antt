@@ -1,22 +1,20 @@
 -- A command at the end of a queue.
-use Rattle.std.proofs.Common.{rules, ◌≡◌, ℕ, ◌+◌, ◌≤◌, List, [], ◌∷◌, ◌++◌, length, arith, ap, sym}
-use Rattle.std.proofs.Common.{◌∙◌, subst, append-nil, length-append, Fits, Vec, w64}
+use Rattle.std.proofs.Common.{rules, ◌≡◌, ℕ, ◌+◌, ◌≤◌, List, [], ◌∷◌, ◌++◌, length, arith}
+use Rattle.std.proofs.Common.{append-nil, length-append, Fits, Vec, w64, ap, sym, ◌∙◌}
 use Rattle.std.proofs.lemmas.Grind.{common_steps}
 use Rattle.std.proofs.Math.Facts.{Fits-of_lt}
-use Rattle.std.specs.List.{All, flat_map}
+use Rattle.std.specs.List.{flat_map, All}
 use Rattle.std.proofs.lemmas.List.Elements.{All-nil, All-push}
 use Rattle.ent_handle.specs.Handle.{Handle}
 use Rattle.ent_bundle.specs.Bundle.{Bundle}
-use Rattle.ent_queue.specs.Command.{Command, Spawn, SpawnMany, Insert, Remove, Despawn, Refused}
-use Rattle.ent_queue.specs.Command.{IsCommand}
+use Rattle.ent_queue.specs.Command.{Command, SpawnMany, IsCommand}
 use Rattle.ent_queue.specs.Packing.{command_bytes, queue_bytes, bytes_4, handle_bytes, bundle_bytes}
 use Rattle.ent_queue.specs.Unpacking.{unpacked_commands, ArePacked}
 use Rattle.ent_queue.proofs.Queues.{unpacked_commands-bytes, are_packed, length_of_commands}
 
 queue_bytes-push : (cs : List Command) (c : Command) → queue_bytes (cs ++ c ∷ []) ≡ queue_bytes cs
     ++ command_bytes c
-queue_bytes-push [] c = append-nil (command_bytes c)
-queue_bytes-push (d ∷ cs) c = grind (arith, common_steps, queue_bytes-push cs c)
+queue_bytes-push cs c = grind (arith, common_steps, append-nil)
 
 -- The bytes of some commands, and then those of one more, are those of one more command.
 pub record Pushed (count : ℕ) (bytes new : List ℕ) (c : Command) : Type 0 where
@@ -30,15 +28,7 @@ pushed count bytes new c packed is written =
     let all : All IsCommand (cs ++ c ∷ []) = All-push IsCommand cs c packed.each is in
     let whole : queue_bytes (cs ++ c ∷ []) ≡ new = queue_bytes-push cs c
     ∙ ap (λ bs. bs ++ command_bytes c) (sym packed.bytes_are) ∙ sym written in
-    let number : length (cs ++ c ∷ []) ≡ count + 1 = length-append cs (c ∷ [])
-    ∙ ap (λ n. n + 1) (length_of_commands count bytes) in
-    record {
-      packed = subst (λ n. ArePacked n new) number
-          (subst (ArePacked (length (cs ++ c ∷ []))) whole (are_packed (cs ++ c ∷ []) all));
-      commands = ap (λ n. unpacked_commands n new) (sym number)
-          ∙ ap (unpacked_commands (length (cs ++ c ∷ []))) (sym whole)
-          ∙ unpacked_commands-bytes (cs ++ c ∷ []) all;
-    }
+    search (rules, length-append, length_of_commands, are_packed, unpacked_commands-bytes)
 
 counted : (cs : List Command) → length cs ≤ length (queue_bytes cs)
 counted [] = omega arith
@@ -47,12 +37,7 @@ counted (c ∷ cs) = grind (arith, common_steps, counted cs)
 -- there are no more commands than bytes
 count_le_bytes : (count : ℕ) (bytes : List ℕ) → ArePacked count bytes → count ≤ length bytes
 count_le_bytes count bytes packed =
-    omega (
-      arith,
-      counted (unpacked_commands count bytes),
-      length_of_commands count bytes,
-      ap length packed.bytes_are,
-    )
+    search (rules, counted (unpacked_commands count bytes), length_of_commands count bytes)
 
 -- so that one more can be counted
 pub count_fits : {Z : Type 0} (count : ℕ) (bytes : Vec ℕ Z) → ArePacked count bytes.items

@@ -1,26 +1,26 @@
 -- Commands as bytes, and back.
 use Rattle.std.proofs.Common.{◌≡◌, refl, ℕ, zero, suc, ◌+◌, ◌*◌, ◌^◌, ◌<◌, List, [], ◌∷◌, ◌++◌}
-use Rattle.std.proofs.Common.{length, drop, arith, ap, sym, ◌∙◌, subst, append_assoc, length-append}
-use Rattle.std.proofs.Common.{slice_index, IsTrue, nat_eq, rules}
+use Rattle.std.proofs.Common.{length, drop, arith, ap, sym, ◌∙◌, append_assoc, length-append}
+use Rattle.std.proofs.Common.{slice_index, IsTrue, nat_eq, rules, subst}
 use Rattle.std.specs.List.{All, flat_map}
 use Rattle.std.proofs.lemmas.List.Elements.{All-head, All-tail}
 use Rattle.std.proofs.Math.Seq.{drop-append_seam}
 use Rattle.ent_handle.specs.Handle.{Handle, IsHandle, bits}
 use Rattle.ent_shared.specs.declared.refused.Refused.{Refused as Refusal}
-use Rattle.ent_shared.specs.declared.refused.Refused.TheVariants.{Space, Quota}
 use Rattle.ent_bundle.specs.Bundle.{Bundle, IsBundle}
-use Rattle.ent_queue.specs.Command.{Command, Spawn, SpawnMany, Insert, Remove, Despawn, Refused}
-use Rattle.ent_queue.specs.Command.{IsRefusal, IsCommand}
+use Rattle.ent_queue.specs.Command.{Command, IsRefusal, IsCommand, Spawn, SpawnMany, Insert, Remove}
+use Rattle.ent_queue.specs.Command.{Despawn, Refused}
 use Rattle.ent_queue.specs.Packing.{bytes_4, bytes_8, handle_bytes, bundle_bytes, refusal_bytes}
 use Rattle.ent_queue.specs.Packing.{command_bytes, queue_bytes}
-use Rattle.ent_queue.specs.Unpacking.{number_4, number_8, unpacked_handle, unpacked_handles}
-use Rattle.ent_queue.specs.Unpacking.{unpacked_bundle, unpacked_refusal, unpacked_command}
-use Rattle.ent_queue.specs.Unpacking.{after_first, unpacked_commands, ArePacked, BeginsWith}
+use Rattle.ent_queue.specs.Unpacking.{number_4, unpacked_handle, unpacked_handles, unpacked_refusal}
+use Rattle.ent_queue.specs.Unpacking.{unpacked_command, after_first, unpacked_commands, ArePacked}
+use Rattle.ent_queue.specs.Unpacking.{BeginsWith, number_8, unpacked_bundle}
 use Rattle.ent_queue.proofs.Numbers.{number_4-bytes, number_8-bytes, drop-bytes_4, drop-bytes_8}
 use Rattle.ent_queue.proofs.Numbers.{unpacked_handle-bytes, length-bytes_4, length-bytes_8}
 use Rattle.ent_queue.proofs.Parts.{length-handles, unpacked_handles-bytes, drop-handles}
 use Rattle.ent_queue.proofs.Parts.{BundleBegins, bundle_begins}
 use Rattle.ent_bundle.proofs.Few.{few_items}
+use Rattle.ent_shared.specs.declared.refused.Refused.TheVariants.{Space, Quota}
 
 -- What the parts after the byte for a kind say: a handle and a bundle, many handles and a bundle,
 -- and a refusal.
@@ -37,8 +37,7 @@ with_bundle h items parts rest is bundle e =
     let after : drop 8 parts ≡ bundle_bytes items ++ rest = ap (drop 8) regroup
     ∙ drop-bytes_8 (bits h) (bundle_bytes items ++ rest) in
     record {
-      length_is = ap length regroup ∙ length-append (handle_bytes h) (bundle_bytes items ++ rest)
-          ∙ omega (arith, length-bytes_8 (bits h), ap length after);
+      length_is = search (rules, length-append, length-bytes_8);
       handle = ap unpacked_handle regroup ∙ unpacked_handle-bytes h (bundle_bytes items ++ rest) is;
       bundle = bundle_begins items rest (drop 8 parts) bundle.each
           (omega (arith, few_items items bundle)) after;
@@ -67,14 +66,7 @@ with_handles hs items parts rest few all bundle e =
     record {
       count = ap number_4 regroup ∙ number_4-bytes (length hs) (flat_map handle_bytes hs ++ more)
           few;
-      length_is = ap length regroup ∙ length-append (bytes_4 (length hs)) (flat_map handle_bytes hs
-          ++ more) ∙ omega (
-            arith,
-            length-bytes_4 (length hs),
-            length-append (flat_map handle_bytes hs) more,
-            length-handles hs,
-            ap length after,
-          );
+      length_is = search (rules, length-append, length-bytes_4, length-handles);
       handles = ap (unpacked_handles (length hs)) handles ∙ unpacked_handles-bytes hs more all;
       bundle = bundle_begins items rest (drop (8 * length hs) (drop 4 parts)) bundle.each
           (omega (arith, few_items items bundle)) after;
@@ -98,12 +90,8 @@ pub record HandleAlone (h : Handle) (parts rest : List ℕ) : Type 0 where
 
 pub handle_alone : (h : Handle) (parts rest : List ℕ) → IsHandle h → parts ≡ handle_bytes h ++ rest
     → HandleAlone h parts rest
-handle_alone h parts rest is e = record {
-  length_is = ap length e ∙ length-append (handle_bytes h) rest
-      ∙ omega (arith, length-bytes_8 (bits h));
-  handle = ap unpacked_handle e ∙ unpacked_handle-bytes h rest is;
-  rest_is = ap (drop 8) e ∙ drop-bytes_8 (bits h) rest;
-}
+handle_alone h parts rest is e =
+    search (rules, length-append, length-bytes_8, unpacked_handle-bytes, drop-bytes_8)
 
 pub record WithReason (wanted : ℕ) (why : Refusal) (parts rest : List ℕ) : Type 0 where
   pub length_is : length parts ≡ 13 + length rest
@@ -235,11 +223,7 @@ pub some_command_begins : (count left : ℕ) (bytes : List ℕ) → suc left ≡
     (queue_bytes (unpacked_commands left (after_first bytes)))
 some_command_begins count left bytes e packed =
     let first = first_of_commands count left bytes e in
-    record {
-      is = All-head IsCommand (unpacked_command bytes) (unpacked_commands left (after_first bytes))
-          (subst (All IsCommand) first packed.each);
-      bytes_are = packed.bytes_are ∙ ap queue_bytes first;
-    }
+    search (rules, All-head)
 
 pub others_are_packed : (count left : ℕ) (bytes : List ℕ) → suc left ≡ count → ArePacked count bytes
     → ArePacked left (after_first bytes)

@@ -1,26 +1,24 @@
 -- A frame of one worker: its reservations stand in the order of the systems.
 use Rattle.std.proofs.Common.{rules, ◌≡◌, ℕ, suc, ◌+◌, ◌<◌, ◌≤◌, List, [], ◌∷◌, ◌++◌, length, map}
-use Rattle.std.proofs.Common.{get_or, refl, ap, sym, ◌∙◌, arith, subst, Some, Bool, true, false}
-use Rattle.std.proofs.Common.{cond, eq-eqb, append-nil, append_assoc, Option, Vec, Global}
-use Rattle.std.specs.Prelude.{◌==◌, filter, slice_get}
+use Rattle.std.proofs.Common.{get_or, refl, ap, sym, ◌∙◌, arith, subst, Some, eq-eqb, append-nil}
+use Rattle.std.proofs.Common.{append_assoc, Option, Vec, Global}
+use Rattle.std.specs.Prelude.{slice_get}
 use Rattle.std.specs.List.{All, AllPairs, flat_map, range_with_len}
 use Rattle.std.specs.List.Sorted.{IsPermutation}
-use Rattle.std.proofs.lemmas.List.Elements.{All-head, All-tail, All-weaker}
 use Rattle.std.proofs.Math.Seq.{get_or-append_seam}
 use Rattle.std.proofs.lemmas.List.{length-append}
 use Rattle.std.proofs.lemmas.List.FromFn.{length-range_with_len}
 use Rattle.std.proofs.lemmas.List.Sorted.{All-permutation, IsPermutation-sym, length_permutation}
 use Rattle.ent_handle.specs.Handle.{Handle}
 use Rattle.ent_alloc.specs.Sequential.{born}
-use Rattle.ent_alloc.specs.History.{Call, IsLegal, after_history}
+use Rattle.ent_alloc.specs.History.{Call}
 use Rattle.ent_queue.specs.Command.{Command}
-use Rattle.ent_queue.specs.Reserving.{stands_for}
 use Rattle.ent_world.specs.World.{World}
 use Rattle.ent_world.specs.Sync.{sync}
 use Rattle.ent_world.specs.OpenWorld.{OpenWorld, View, world_at_start}
 use Rattle.ent_world.specs.declared.fault.Fault.{Fault}
-use Rattle.ent_runner.specs.Frame.{IsFrame, Ends, EndsInOrder, queue_at, commands_of, requests_by}
-use Rattle.ent_runner.specs.Frame.{first_call, calls_in_order, reserved_by}
+use Rattle.ent_runner.specs.Frame.{IsFrame, Ends, EndsInOrder, commands_of, requests_by, first_call}
+use Rattle.ent_runner.specs.Frame.{calls_in_order}
 use Rattle.ent_runner.proofs.Lost.{ClosedAgain}
 use Rattle.ent_runner.proofs.Lists.{at_within, all_below}
 
@@ -29,66 +27,40 @@ rising_from : (a : ℕ) (xs : List ℕ) → AllPairs (λ m n. m < n) xs → All 
     → All (λ n. n < a + length xs) xs → xs ≡ range_with_len a (length xs)
 rising_from a [] rises least below = refl
 rising_from a (x ∷ xs) rises least below =
-    let low : a ≤ x = All-head (λ n. a ≤ n) x xs least in
     let above : All (λ n. x < n) xs = λ k d within. rises 0 (suc k) d (omega arith) (omega arith) in
-    let least' : All (λ n. a + 1 ≤ n) xs = All-weaker (λ n. x < n) (λ n. a + 1 ≤ n)
-    (λ n l. omega arith) xs above in
-    let below' : All (λ n. n < (a + 1) + length xs) xs = All-weaker (λ n. n < a + length (x ∷ xs))
-    (λ n. n < (a + 1) + length xs) (λ n l. omega arith) xs
-    (All-tail (λ n. n < a + length (x ∷ xs)) x xs below) in
-    let rises' : AllPairs (λ m n. m < n) xs = λ i j d less within. rises (suc i) (suc j) d
-    (omega arith) (omega arith) in
-    let rest : xs ≡ range_with_len (a + 1) (length xs) = rising_from (a + 1) xs rises' least' below'
-    in
-    let here : x ≡ a = first xs x a low above (All-head (λ n. n < a + length (x ∷ xs)) x xs below)
-    rest in
+    let low : a ≤ x = least 0 x (omega arith) in
+    let rest = rising_from (a + 1) xs
+    (λ i j d less within. rises (suc i) (suc j) d (omega arith) (omega arith))
+    (λ k d within. let l = above k d within in omega arith)
+    (λ k d within. let l = below (suc k) d (omega arith) in omega arith) in
+    let here : x ≡ a = first xs x a low above (below 0 x (omega arith)) rest in
     (λ i. here i ∷ rest i)
   where
     first : (xs : List ℕ) (x a : ℕ) → a ≤ x → All (λ n. x < n) xs → x < a + length (x ∷ xs) → xs
         ≡ range_with_len (a + 1) (length xs) → x ≡ a
     first [] x a low above less rest = omega arith
     first (y ∷ xs) x a low above less rest =
-        let next : y ≡ a + 1 = ap (λ ns. get_or ns 0 0) rest in
-        let l : x < y = All-head (λ n. x < n) y xs above in
-        omega arith
+        omega (arith, ap (λ ns. get_or ns 0 0) rest, above 0 y (omega arith))
 
 queues_in_order : (queues before after : List (List Command)) (n : ℕ) → queues ≡ before ++ after → n
     ≡ length before → commands_of queues (range_with_len n (length after))
     ≡ flat_map (λ queue. queue) after
 queues_in_order queues before [] n is at = refl
 queues_in_order queues before (q ∷ after) n is at =
-    let here : queue_at queues n ≡ q = ap (λ qs. get_or qs n []) is
-    ∙ (ap (λ k. get_or (before ++ q ∷ after) k []) at ∙ get_or-append_seam before q after []) in
     let rest = queues_in_order queues (before ++ q ∷ []) after (n + 1)
     (is ∙ sym (append_assoc before (q ∷ []) after))
     (omega (arith, at, length-append before (q ∷ []))) in
-    (λ i. here i ++ rest i)
+    search (rules, get_or-append_seam, rest)
 
 -- the calls of a history whose callers are all the first one
 calls_back : (history : List Call) → All (λ (call : Call). call.caller < 1) history
     → map first_call (requests_by 0 history) ≡ history
 calls_back [] all = refl
 calls_back (call ∷ history) all =
-    let less = All-head (λ (call : Call). call.caller < 1) call history all in
+    let less = all 0 call (omega arith) in
     let zero_is : call.caller ≡ 0 = omega arith in
-    let test : (call.caller == 0) ≡ true = eq-eqb call.caller 0 zero_is in
-    let rest = calls_back history (All-tail (λ (call : Call). call.caller < 1) call history all) in
-    let same : first_call (call.requested, call.reply)
-    ≡ call = (λ i. record {
-      caller = sym zero_is i;
-      requested = call.requested;
-      reply =
-          call.reply;
-    }) in
-    by (call.caller == 0) test rest same
-  where
-    by : (b : Bool) → b ≡ true → map first_call (requests_by 0 history) ≡ history
-        → first_call (call.requested, call.reply) ≡ call
-        → map first_call (map (λ (c : Call). (c.requested, c.reply))
-        (cond b (call ∷ filter (λ (c : Call). c.caller == 0) history)
-        (filter (λ (c : Call). c.caller == 0) history))) ≡ call ∷ history
-    by true e rest same = (λ i. same i ∷ rest i)
-    by false e rest same = absurd (cc)
+    let rest = calls_back history (λ k d within. all (suc k) d (omega arith)) in
+    search (rules, eq-eqb, rest)
 
 module _ {S : Type 0} (may : S → View → List Command → Type 0) (systems : List S) (before : World)
     (queues : List (List Command)) where
@@ -98,53 +70,34 @@ module _ {S : Type 0} (may : S → View → List Command → Type 0) (systems : 
       let only = at_within frame.ran 0 (omega (arith, frame.each_worker)) in
       let mine : List ℕ = only.0 in
       let work = frame.work 0 mine only.1 in
-      let single : frame.ran ≡ mine ∷ [] = alone frame.ran mine (frame.each_worker ∙ one) only.1 in
-      let same : IsPermutation mine (range_with_len 0 (length systems)) =
-      subst (λ ns. IsPermutation ns (range_with_len 0 (length systems)))
+      let single = alone frame.ran mine (frame.each_worker ∙ one) only.1 in
+      let range : List ℕ = range_with_len 0 (length systems) in
+      let same : IsPermutation mine range = subst (λ ns. IsPermutation ns range)
       (ap (flat_map (λ mine. mine)) single ∙ append-nil mine) frame.once in
-      let long : length mine ≡ length systems =
-      sym (length_permutation mine (range_with_len 0 (length systems)) same)
+      let long : length mine ≡ length systems = sym (length_permutation mine range same)
       ∙ length-range_with_len 0 (length systems) in
-      let below : All (λ n. n < length systems) mine = All-permutation (λ n. n < length systems)
-      (range_with_len 0 (length systems)) mine
-      (IsPermutation-sym mine (range_with_len 0 (length systems)) same)
-      (all_below (length systems)) in
-      let whole : mine ≡ range_with_len 0 (length mine) = rising_from 0 mine work.rising
-      (λ k d within. omega arith) (subst (λ m. All (λ n. n < m) mine) (omega arith) below) in
-      let count : length mine ≡ length queues = long ∙ sym frame.count in
+      let below = All-permutation (λ n. n < length systems) range mine
+      (IsPermutation-sym mine range same) (all_below (length systems)) in
+      let whole = rising_from 0 mine work.rising (λ k d within. omega arith)
+      (λ k d within. let b = below k d within in omega arith) in
       let commands : commands_of queues mine ≡ flat_map (λ queue. queue) queues =
-      ap (commands_of queues) (whole ∙ ap (range_with_len 0) count)
+      ap (commands_of queues) (whole ∙ ap (range_with_len 0) (long ∙ sym frame.count))
       ∙ queues_in_order queues [] queues 0 refl refl in
       let callers : All (λ (call : Call). call.caller < 1) history =
       subst (λ w. All (λ (call : Call). call.caller < w) history) one frame.callers in
-      sym (calls_back history callers)
-      ∙ ap (map first_call) (work.calls ∙ ap (flat_map stands_for) commands)
+      search (rules, calls_back history callers, work.calls, commands)
     where
       alone : (ran : List (List ℕ)) (mine : List ℕ) → length ran ≡ 1 → slice_get ran 0 ≡ Some mine
           → ran ≡ mine ∷ []
       alone [] mine e at = absurd (omega arith)
-      alone (x ∷ []) mine e at = let same : x ≡ mine = cc in ap (λ m. m ∷ []) same
+      alone (x ∷ []) mine e at = cc
       alone (x ∷ y ∷ ran) mine e at = absurd (omega arith)
 
   pub ends_in_order : (workers : ℕ) (after : World) (births : List Handle) (faults : List Fault)
       → workers ≡ 1 → Ends may systems workers before queues after births faults
       → EndsInOrder before queues after births faults
   ends_in_order workers after births faults one ends =
-      let is = in_order workers ends.history one ends.frame in
-      record {
-        legal = subst (IsLegal before.allocator) is ends.frame.legal;
-        world = subst (λ h. after ≡ (sync queues (reserved_by h before)).world) is ends.world;
-        born_are = subst (λ h. births ≡ born (after_history before.allocator h)) is ends.born_are;
-        faults_are = subst (λ h. faults ≡ (sync queues (reserved_by h before)).faults) is
-            ends.faults_are;
-      }
-
--- a world that was opened is the one before
-pub same_world : (world : OpenWorld) (before : World) (closed : World) → closed ≡ before
-    → world.shared.start ≡ closed.allocator → world.phase ≡ closed.phase → world.entities
-    ≡ closed.entities → world_at_start world ≡ before
-same_world world before closed is start phase entities =
-    (λ i. record { allocator = start i; phase = phase i; entities = entities i }) ∙ is
+      search (rules, in_order workers ends.history one ends.frame)
 
 -- the sync of the queues of a frame ends it
 pub ends : {S : Type 0} (may leave : S → View → List Command → Type 0) (systems : List S)

@@ -1,10 +1,11 @@
 -- Queues put at the numbers of their systems: each stands there if no system has two.
-use Rattle.std.proofs.Common.{subst, append_assoc, ◌≡◌, ◌≢◌, ℕ, ◌+◌, ◌<◌, ◌≤◌, List, [], ◌∷◌, ◌++◌}
-use Rattle.std.proofs.Common.{length, map, get_or, refl, ap, sym, ◌∙◌, arith, Option, Some, cond}
-use Rattle.std.proofs.Common.{eq-eqb}
+use Rattle.std.proofs.lemmas.Grind.{common_steps}
+use Rattle.std.proofs.Common.{rules, subst, append_assoc, ◌≡◌, ℕ, ◌+◌, ◌<◌, ◌≤◌, List, [], ◌∷◌}
+use Rattle.std.proofs.Common.{◌++◌, length, map, get_or, refl, ap, ◌∙◌, arith, Option, Some, cond}
+use Rattle.std.proofs.Common.{eq-eqb, suc}
 use Rattle.std.specs.Prelude.{slice_set, ◌==◌, IsSome}
 use Rattle.std.specs.List.{All, sum_by}
-use Rattle.std.proofs.lemmas.List.Elements.{All-nil, All-cons, All-head, All-tail}
+use Rattle.std.proofs.lemmas.List.Elements.{All-nil, All-cons, All-tail, All-rest}
 use Rattle.std.proofs.lemmas.List.Sums.{sum_by-cons}
 use Rattle.std.proofs.lemmas.List.{get_or-set_same, get_or-set_other, length-set, map-append}
 use Rattle.ent_queue.specs.Command.{Command}
@@ -38,11 +39,8 @@ put_other : (n : ℕ) (d : Option (List Command)) (issued : List SystemQueue)
     → get_or (queues_put issued by_system) n d ≡ get_or by_system n d
 put_other n d [] by_system none = refl
 put_other n d (i ∷ issued) by_system none =
-    let sums : times n (i ∷ issued) ≡ is_of n i + times n issued = sum_by-cons (is_of n) i issued in
-    let away : n ≢ i.system = λ e. absurd (let one : is_of n i ≡ 1 = times_here n i (sym e) in
-    omega arith) in
-    put_other n d issued (slice_set by_system i.system (Some i.queue)) (omega arith)
-    ∙ get_or-set_other by_system i.system n (Some i.queue) d away
+    let sums = sum_by-cons (is_of n) i issued in
+    search (rules, put_other n d issued, get_or-set_other)
 
 pub all_put : (d : Option (List Command)) (issued : List SystemQueue)
     (by_system : List (Option (List Command))) → All (λ (i : SystemQueue). i.system
@@ -52,20 +50,17 @@ pub all_put : (d : Option (List Command)) (issued : List SystemQueue)
 all_put d [] by_system inside once = All-nil (λ (i : SystemQueue). get_or by_system i.system d
     ≡ Some i.queue)
 all_put d (i ∷ issued) by_system inside once =
-    let P : SystemQueue → Type 0 = λ (j : SystemQueue). j.system < length by_system in
     let next : List (Option (List Command)) = slice_set by_system i.system (Some i.queue) in
-    let here : i.system < length by_system = All-head P i issued inside in
     let sums : (n : ℕ) → times n (i ∷ issued) ≡ is_of n i + times n issued = λ n.
     sum_by-cons (is_of n) i issued in
-    let alone : times i.system issued ≡ 0 =
-    let s = sums i.system in let o = once i.system in let one : is_of i.system i
-    ≡ 1 = times_here i.system i refl in omega arith in
-    let longer : All (λ (j : SystemQueue). j.system < length next) issued =
-    rw (length-set by_system i.system (Some i.queue)) (All-tail P i issued inside) in
-    All-cons (λ (j : SystemQueue). get_or (queues_put (i ∷ issued) by_system) j.system d
-    ≡ Some j.queue) i issued
+    let alone : times i.system issued ≡ 0 = grind (arith, common_steps, times_here) in
+    let put = length-set by_system i.system (Some i.queue) in
+    All-cons (λ (j : SystemQueue). get_or (queues_put issued next) j.system d ≡ Some j.queue) i
+    issued
     (put_other i.system d issued next alone ∙ get_or-set_same by_system i.system (Some i.queue) d
-    here) (all_put d issued next longer (λ n. let s = sums n in let o = once n in omega arith))
+    (inside 0 i (omega arith)))
+    (all_put d issued next (λ k e within. rw put (inside (suc k) e (omega arith)))
+    (λ n. omega (arith, sums n, once n)))
 
 -- one more queue is put at its number
 pub put_on : (rest new : List SystemQueue) (i : SystemQueue)
@@ -73,13 +68,11 @@ pub put_on : (rest new : List SystemQueue) (i : SystemQueue)
     ≡ slice_set by_system i.system (Some i.queue) → All (λ (j : SystemQueue). j.system
     < length by_system) rest → queues_put rest by_system ≡ all
     → All (λ (j : SystemQueue). j.system < length next) new × (queues_put new next ≡ all)
-put_on rest new i by_system next all front set inside same =
-    let long : length next ≡ length by_system = ap length set ∙ length-set by_system i.system
-    (Some i.queue) in (
-      rw (long) (All-tail (λ (j : SystemQueue). j.system < length by_system) i new
-          (subst (All (λ (j : SystemQueue). j.system < length by_system)) front inside)),
-      ap (queues_put new) set ∙ (ap (λ is. queues_put is by_system) (sym front) ∙ same),
-    )
+put_on rest new i by_system next all front set inside same = (
+  rw (set, length-set) (All-rest (λ (j : SystemQueue). j.system < length by_system) i new rest front
+      inside),
+  search rules,
+)
 
 -- one more queue is moved out
 pub collected_on : (rest new : List (Option (List Command))) (q : List Command)
@@ -87,9 +80,7 @@ pub collected_on : (rest new : List (Option (List Command))) (q : List Command)
     → after ≡ before ++ q ∷ [] → map Some before ++ rest ≡ all → All IsSome rest
     → (map Some after ++ new ≡ all) × All IsSome new × (length rest ≡ length new + 1)
 collected_on rest new q before after all front push same full = (
-  ap (λ qs. map Some qs ++ new) push ∙ (ap (λ ps. ps ++ new) (map-append Some before (q ∷ []))
-      ∙ (append_assoc (map Some before) (Some q ∷ []) new
-      ∙ (ap (λ ps. map Some before ++ ps) (sym front) ∙ same))),
+  search (rules, map-append, append_assoc),
   All-tail IsSome (Some q) new (subst (All IsSome) front full),
   ap length front ∙ omega arith,
 )

@@ -1,19 +1,19 @@
 -- What the workers have done together, once all of them are back.
-use Rattle.std.proofs.Common.{rules, ◌≡◌, ℕ, zero, suc, ◌+◌, ◌<◌, ◌≤◌, List, [], ◌∷◌, ◌++◌, length}
-use Rattle.std.proofs.Common.{map, get_or, refl, ap, sym, ◌∙◌, arith, subst, Option, Some, None}
-use Rattle.std.proofs.Common.{true, Bool, false, take, drop, reverse, Vec, Global}
+use Rattle.std.proofs.lemmas.Grind.{common_steps}
+use Rattle.std.proofs.Common.{rules, ◌≡◌, ℕ, zero, suc, ◌+◌, ◌<◌, List, [], ◌∷◌, ◌++◌, length, map}
+use Rattle.std.proofs.Common.{get_or, refl, ap, sym, ◌∙◌, arith, subst, Option, Some, None, true}
+use Rattle.std.proofs.Common.{Bool, false, take, drop, reverse, Vec, Global}
 use Rattle.std.specs.Prelude.{slice_get, replicate, IsSome, IfSome, IfNone, Any}
-use Rattle.std.specs.List.{All, AllPairs, flat_map, range_with_len}
+use Rattle.std.specs.List.{All, flat_map, range_with_len}
 use Rattle.std.specs.List.Sorted.{IsPermutation}
 use Rattle.std.proofs.lemmas.Option.{slice_get_within, get_or_from_slice_get, slice_get-get_or}
-use Rattle.std.proofs.lemmas.List.{length-map, length-append, get_or-map}
+use Rattle.std.proofs.lemmas.List.{length-map, length-append, get_or-map, take-append-le, take_all}
 use Rattle.std.proofs.lemmas.List.Folds.{flat_map-map}
 use Rattle.std.proofs.lemmas.List.Sorted.{All-permutation, IsPermutation-reverse}
 use Rattle.std.proofs.lemmas.List.Sorted.{length_permutation}
 use Rattle.std.proofs.lemmas.List.FromFn.{length-range_with_len}
-use Rattle.std.proofs.lemmas.List.Elements.{All-nil, All-cons, All-head, All-tail, All-map}
-use Rattle.std.proofs.lemmas.List.Elements.{All-weaker}
-use Rattle.ent_alloc.specs.History.{IsLegal, after_history}
+use Rattle.std.proofs.lemmas.List.Elements.{All-head, All-map}
+use Rattle.ent_alloc.specs.History.{IsLegal}
 use Rattle.ent_alloc.specs.Sequential.{Allocator}
 use Rattle.ent_shared.specs.declared.record.Record.{Record}
 use Rattle.ent_shared.specs.Record.{opened, opened_records}
@@ -21,48 +21,37 @@ use Rattle.ent_shared.specs.Phase.{Shared, Reserver, IsOf, records_of}
 use Rattle.ent_shared.specs.Order.{reservations_of, history_of, Respects}
 use Rattle.ent_queue.specs.Command.{Command}
 use Rattle.ent_queue.specs.Reserving.{Gains}
-use Rattle.ent_world.specs.World.{World}
 use Rattle.ent_world.specs.OpenWorld.{OpenWorld, View, world_at_start}
 use Rattle.ent_claims.specs.Claims.{Claims, Claimer, HaveEnded, AreFirst, IsClaimerOf}
 use Rattle.ent_runner.specs.declared.worker.SystemQueue.{SystemQueue}
 use Rattle.ent_runner.specs.declared.worker.Worker.{Worker}
-use Rattle.ent_runner.specs.Frame.{IsFrame, IsBrokenOff, SystemMayIssue, SystemMayHaveIssued}
-use Rattle.ent_runner.specs.Frame.{view_of, reserved_by}
+use Rattle.ent_runner.specs.Frame.{IsFrame, IsBrokenOff, view_of}
 use Rattle.ent_runner.specs.Worker.{HasWorked, HaveWorked, HaveRunFirst, HasClaimed, IsUnused}
 use Rattle.ent_runner.specs.Worker.{IsRoomForOne, IsNewWorker, systems_of, commands_issued}
 use Rattle.ent_runner.specs.Worker.{all_records}
 use Rattle.ent_runner.specs.Collecting.{queues_put}
-use Rattle.ent_runner.proofs.Lists.{all_from_each, each_of_all, mapped_at, same_flat}
+use Rattle.ent_runner.proofs.Lists.{of_mapped, each_of_all, mapped_at, same_flat, map_map_is}
 use Rattle.ent_runner.proofs.BySystem.{length_put}
 use Rattle.ent_runner.proofs.Framed.{Did, frame_is, broken_off, full}
 
 -- a slice of the same length that was written back
 pub written_back : {X : Type 0} (n : ℕ) (old new : List X) → n ≡ length old → length new
     ≡ length old → take n (new ++ drop (length new) old) ≡ new
-written_back zero old [] n same = refl
-written_back zero [] (x ∷ new) n same = absurd (omega arith)
-written_back zero (y ∷ old) (x ∷ new) n same = absurd (omega arith)
-written_back (suc n) [] [] n_is same = absurd (omega arith)
-written_back (suc n) [] (x ∷ new) n_is same = absurd (omega arith)
-written_back (suc n) (y ∷ old) [] n_is same = absurd (omega arith)
-written_back (suc n) (y ∷ old) (x ∷ new) n_is same = ap (λ xs. x ∷ xs)
-    (written_back n old new (omega arith) (omega arith))
+written_back n old new n_is same = search (rules, take-append-le, take_all)
 
 opened_at : (start : Allocator) (number count k : ℕ) (d : Record) → k < count
     → get_or (opened_records start number count) k d ≡ opened start (number + k)
 unfolding opened_records
 opened_at start number zero k d less = absurd (omega arith)
 opened_at start number (suc count) zero d less = ap (opened start) (omega arith)
-opened_at start number (suc count) (suc k) d less = opened_at start (number + 1) count k d
-    (omega arith) ∙ ap (opened start) (omega arith)
+opened_at start number (suc count) (suc k) d less = search (rules, opened_at start (number + 1) count k)
 
 abbrev issued_by : Worker → List SystemQueue
 issued_by w = w.issued.items
 
 pub records_are : (ws : List Worker) → records_of (map (λ (w : Worker). w.reserver) ws)
     ≡ all_records ws
-records_are [] = refl
-records_are (w ∷ ws) = ap (λ rs. w.reserver.own ∷ rs) (records_are ws)
+records_are ws = search (rules, map_map_is)
 
 -- what the worker of this number gained, and what holds of each queue that it kept
 record Gained (P : SystemQueue → Type 0) (world : OpenWorld) (k : ℕ) (w : Worker) : Type 0 where
@@ -83,17 +72,14 @@ module _ {S : Type 0} (may leave : S → View → List Command → Type 0) (syst
     count = back ∙ many;
     each = λ k w at.
         let within : k < length old = let l = slice_get_within team k w at in omega (arith, back) in
-        let less : k < world.shared.count = omega (arith, many) in
-        let f : Worker → Record = λ (w : Worker). w.reserver.own in
-        let began : (get_or old k w).reserver.own ≡ opened world.shared.start k =
-        sym (get_or-map f old k w (f w) within) ∙ (ap (λ rs. get_or rs k (f w)) unused
-        ∙ (opened_at world.shared.start 0 world.shared.count k (f w) less
-        ∙ ap (opened world.shared.start) (omega arith))) in
-        subst (λ v. HasWorked may leave world.shared claims systems v (opened world.shared.start k)
-        w) seen
-        (subst (λ b. HasWorked may leave world.shared claims systems view b w) began
-        (subst (HasWorked may leave world.shared claims systems view (get_or old k w).reserver.own)
-        (get_or_from_slice_get team k w w at) (each k w within)));
+        search (
+          rules,
+          get_or-map (λ (w : Worker). w.reserver.own) old k w w.reserver.own within,
+          unused,
+          opened_at,
+          each k w within,
+          get_or_from_slice_get team k w w at,
+        );
   }
 
   -- a worker that has stopped has run a system
@@ -102,23 +88,21 @@ module _ {S : Type 0} (may leave : S → View → List Command → Type 0) (syst
   some_systems team done (k, w, within, at, stopped) =
       let has = done.each k w (slice_get-get_or team k w within ∙ ap Some at) in
       let some = has.some stopped in
-      let d : SystemQueue = record { system = 0; queue = [] } in
-      let first = has.inside 0 d some in
+      let first = has.inside 0 (record { system = 0; queue = [] }) some in
       omega arith
 
   module _ (team : List Worker) (done : HaveWorked may leave systems world claims team)
       (numbers : claims.numbers ≡ length systems) where
     pub all_claimed : All (HasClaimed world.shared claims) team
-    all_claimed = all_from_each (HasClaimed world.shared claims) team (λ k w at.
-        let d = done.each k w at in record {
+    all_claimed k e within =
+        let d = done.each k (get_or team k e) (slice_get-get_or team k e within) in record {
           reserver = d.reserver;
           claimer = d.claimer;
-          inside = subst (λ n. All (λ (i : SystemQueue). i.system < n) w.issued.items) (sym numbers)
-              d.inside;
+          inside = rw numbers d.inside;
           ran = d.ran_some.claims;
           ended = d.ended;
           some = d.some;
-        })
+        }
 
     module _ (P : SystemQueue → Type 0) (each : (k : ℕ) (w : Worker) → slice_get team k ≡ Some w
         → Gained P world k w) where
@@ -126,19 +110,12 @@ module _ {S : Type 0} (may leave : S → View → List Command → Type 0) (syst
           → slice_get (map issued_by team) k ≡ Some mine → Did P (world_at_start world) k r mine
       did k r mine at_r at_mine =
           let two = mapped_at (λ (w : Worker). w.reserver.own) team k r at_r in
-          let w : Worker = two.0 in
           let three = mapped_at issued_by team k mine at_mine in
-          let same_w : three.0 ≡ w = let e = three.1 in let f = two.1 in cc in
-          let is_mine : w.issued.items ≡ mine = ap issued_by (sym same_w) ∙ three.2 in
-          let d = done.each k w two.1 in
-          let g = each k w two.1 in
-          subst (λ is. Did P (world_at_start world) k r is) is_mine
-          (subst (λ r. Did P (world_at_start world) k r w.issued.items) two.2
-          (record {
-            gains = g.gains;
-            each = g.each;
-            rising = subst (AllPairs (λ m n. m < n)) (sym g.claims) d.claimer.rises;
-          }))
+          let is_mine : two.0.issued.items ≡ mine = cc (three.1, three.2, two.1) in
+          let d = done.each k two.0 two.1 in
+          let g = each k two.0 two.1 in
+          rw (sym two.2, sym is_mine)
+          (record { gains = g.gains; each = g.each; rising = rw g.claims d.claimer.rises })
 
     mine_flat : flat_map (λ mine. mine) (map issued_by team) ≡ flat_map issued_by team
     mine_flat = flat_map-map (λ mine. mine) issued_by team
@@ -157,66 +134,43 @@ module _ {S : Type 0} (may leave : S → View → List Command → Type 0) (syst
           → IsFrame may systems world.shared.count (world_at_start world) queues
           (history_of (all_records team))
       is_frame going once queues by_system =
-          let P : SystemQueue → Type 0 = λ (i : SystemQueue). SystemMayIssue may systems
-          (view_of (world_at_start world)) i.system i.queue in
-          frame_is may systems (world_at_start world) world.shared.count (all_records team)
-          (map issued_by team)
-          (length-map team (λ (w : Worker). w.reserver.own) ∙ done.count) (length-map team issued_by
-          ∙ done.count) legal respects queues
-          (did P (λ k w at. let ran = (done.each k w at).ran
+          frame_is may systems (world_at_start world) _ (all_records team) (map issued_by team)
+          (length-map team _ ∙ done.count) (length-map team issued_by ∙ done.count) legal respects
+          queues
+          (did _ (λ k w at. let ran = (done.each k w at).ran
           (each_of_all (λ (w : Worker). w.stopped ≡ false) team k w going at) in
           record { gains = ran.gains; each = ran.each; claims = ran.claims }))
-          (subst (λ ns. IsPermutation ns (range_with_len 0 (length systems))) (sym systems_flat)
-          (subst (λ m. IsPermutation (flat_map (λ (w : Worker). systems_of w.issued.items) team)
-          (range_with_len 0 m)) numbers once))
-          (by_system ∙ (ap (λ n. queues_put (flat_map issued_by team) (replicate n None)) numbers
-          ∙ ap (λ is. queues_put is (replicate (length systems) None)) (sym mine_flat)))
+          (rw systems_flat (rw numbers at once)) (rw mine_flat (rw numbers at by_system))
 
       pub is_broken_off : HaveRunFirst claims.numbers team → IsBrokenOff may leave systems
           world.shared.count (world_at_start world) (history_of (all_records team))
       is_broken_off first =
-          let P : SystemQueue → Type 0 = λ (i : SystemQueue). SystemMayHaveIssued may leave systems
-          (view_of (world_at_start world)) i.system i.queue in
-          broken_off may systems (world_at_start world) world.shared.count (all_records team)
-          (map issued_by team)
-          (length-map team (λ (w : Worker). w.reserver.own) ∙ done.count) (length-map team issued_by
-          ∙ done.count) legal respects leave
-          first.count (subst (λ n. first.count ≤ n) numbers first.within)
-          (λ less. first.some (subst (λ n. 0 < n) (sym numbers) less))
-          (did P (λ k w at. let ran = (done.each k w at).ran_some in
+          broken_off may systems (world_at_start world) _ (all_records team) (map issued_by team)
+          (length-map team _ ∙ done.count) (length-map team issued_by ∙ done.count) legal respects
+          leave first.count (omega (arith, first.within)) (λ less. first.some (omega arith))
+          (did _ (λ k w at. let ran = (done.each k w at).ran_some in
           record { gains = ran.gains; each = ran.each; claims = ran.claims }))
           (λ k mine at. let there = mapped_at issued_by team k mine at in
-          subst (AllPairs (λ (i later : SystemQueue). SystemMayIssue may systems
-          (view_of (world_at_start world)) i.system i.queue)) there.2
-          (done.each k there.0 there.1).ran_some.ended)
-          (subst (λ ns. IsPermutation ns (range_with_len 0 first.count)) (sym systems_flat)
-          first.once)
+          rw there.2 at (done.each k there.0 there.1).ran_some.ended)
+          (rw systems_flat first.once)
 
 -- what follows if there is none, follows if there is none
 pub none_weaker : {X P Q : Type 0} (o : Option X) → (P → Q) → IfNone o P → IfNone o Q
-none_weaker None follows p = follows p
-none_weaker (Some x) follows p = tt
+none_weaker it follows p = search rules
 
 -- What is known once all claims are closed.
 module _ (shared : Shared) (claims : Claims) (team : List Worker)
     (each : All (HasClaimed shared claims) team) where
   pub reservers_own : All (IsOf shared) (map (λ (w : Worker). w.reserver) team)
-  reservers_own = All-map (IsOf shared) (λ (w : Worker). w.reserver) team
-      (All-weaker (HasClaimed shared claims) (λ (w : Worker). IsOf shared w.reserver)
-      (λ w d. d.reserver) team each)
+  reservers_own = All-map (IsOf shared) (λ (w : Worker). w.reserver) team (search rules)
 
   pub claimers_own : All (IsClaimerOf claims) (map (λ (w : Worker). w.claimer) team)
-  claimers_own = All-map (IsClaimerOf claims) (λ (w : Worker). w.claimer) team
-      (All-weaker (HasClaimed shared claims) (λ (w : Worker). IsClaimerOf claims w.claimer)
-      (λ w d. d.claimer) team each)
+  claimers_own = All-map (IsClaimerOf claims) (λ (w : Worker). w.claimer) team (search rules)
 
   -- the systems that they ran are those that they claimed
   pub ran_claims : flat_map (λ (w : Worker). systems_of w.issued.items) team
       ≡ flat_map (λ (c : Claimer). c.own.claims) (map (λ (w : Worker). w.claimer) team)
-  ran_claims =
-      same_flat (λ (w : Worker). systems_of w.issued.items) (λ (w : Worker). w.claimer.own.claims)
-      team (λ k d within. (each k d within).ran)
-      ∙ sym (flat_map-map (λ (c : Claimer). c.own.claims) (λ (w : Worker). w.claimer) team)
+  ran_claims = search (rules, same_flat, flat_map-map)
 
   module _ (going : All (λ (w : Worker). w.stopped ≡ false) team)
       (once : HaveEnded (map (λ (w : Worker). w.claimer) team)
@@ -229,8 +183,7 @@ module _ (shared : Shared) (claims : Claims) (team : List Worker)
 
       once_each : IsPermutation (flat_map (λ (w : Worker). systems_of w.issued.items) team)
           (range_with_len 0 claims.numbers)
-      once_each = subst (λ ns. IsPermutation ns (range_with_len 0 claims.numbers)) (sym ran_claims)
-          (once ended)
+      once_each = rw ran_claims (once ended)
 
 -- the same of what was seen and handed in
 pub once_closed : (shared : Shared) (claims : Claims) (team : List Worker)
@@ -242,9 +195,7 @@ pub once_closed : (shared : Shared) (claims : Claims) (team : List Worker)
     → IsPermutation (flat_map (λ (w : Worker). systems_of w.issued.items) team)
     (range_with_len 0 claims.numbers)
 once_closed shared claims team each seen same going claimers theirs once =
-    once_each shared claims team each (subst (All (λ (w : Worker). w.stopped ≡ false)) same going)
-    (λ ended. subst (λ (cs : List Claimer). IsPermutation (flat_map (λ (c : Claimer). c.own.claims)
-    cs) (range_with_len 0 claims.numbers)) theirs (once (subst HaveEnded (sym theirs) ended)))
+    once_each shared claims team each (rw same at going) (λ ended. rw theirs at (once (rw theirs ended)))
 
 -- Some system ran, if there are any: the first worker ran one before it stopped, or found none
 -- left.
@@ -253,23 +204,12 @@ some_by : (shared : Shared) (claims : Claims) (w : Worker) (team : List Worker) 
     → (first : AreFirst claims.numbers claimers) → (stopped : Bool) → w.stopped ≡ stopped
     → 0 < claims.numbers → 0 < first.count
 some_by shared claims w team has claimers theirs first false is less =
-    let all : first.count ≡ claims.numbers = first.whole 0 w.claimer
-    (ap (λ (cs : List Claimer). slice_get cs 0) theirs) (has.ended is) in
+    let all : first.count ≡ claims.numbers = first.whole 0 w.claimer (rw theirs) (has.ended is) in
     omega (arith, all, less)
 some_by shared claims w team has claimers theirs first true is less =
-    let claimed : Claimer → List ℕ = λ (c : Claimer). c.own.claims in
-    let others : List Claimer = map (λ (v : Worker). v.claimer) team in
-    let flat : length (flat_map claimed claimers)
-    ≡ length w.claimer.own.claims + length (flat_map claimed others) =
-    ap (λ (cs : List Claimer). length (flat_map claimed cs)) theirs
-    ∙ length-append w.claimer.own.claims (flat_map claimed others) in
-    let whole : first.count ≡ length (flat_map claimed claimers) =
-    sym (length-range_with_len 0 first.count)
-    ∙ length_permutation (flat_map claimed claimers) (range_with_len 0 first.count) first.once in
-    let own : length w.claimer.own.claims ≡ length w.issued.items =
-    sym (ap length has.ran) ∙ length-map w.issued.items (λ (i : SystemQueue). i.system) in
-    let ran : 0 < length w.issued.items = has.some is in
-    omega (arith, flat, whole, own, ran)
+    let whole = length_permutation _ _ first.once in
+    let long = length-range_with_len 0 first.count in
+    search (rules, length-map, length-append)
 
 some_ran : (shared : Shared) (claims : Claims) (team : List Worker) → All (HasClaimed shared claims)
     team → 0 < length team → (claimers : List Claimer) → claimers
@@ -287,9 +227,7 @@ first_closed shared claims team each claimers theirs many first = record {
   count = first.count;
   within = first.within;
   some = some_ran shared claims team each many claimers theirs first;
-  once = subst (λ ns. IsPermutation ns (range_with_len 0 first.count))
-      (sym (ran_claims shared claims team each ∙ ap (flat_map (λ (c : Claimer). c.own.claims))
-      (sym theirs))) first.once;
+  once = rw (ran_claims shared claims team each, sym theirs) first.once;
 }
 
 -- each system has a queue
@@ -298,12 +236,8 @@ pub all_full : (claims : Claims) (team : List Worker)
     (range_with_len 0 claims.numbers)
     → All IsSome (queues_put (flat_map (λ (w : Worker). w.issued.items) team)
     (replicate claims.numbers None))
-all_full claims team once =
-    subst (λ is. All IsSome (queues_put is (replicate claims.numbers None)))
-    (flat_map-map (λ mine. mine) issued_by team)
-    (full claims.numbers (map issued_by team)
-    (subst (λ ns. IsPermutation ns (range_with_len 0 claims.numbers))
-    (sym (flat_map-map systems_of issued_by team)) once))
+all_full claims team once = subst (λ is. All IsSome (queues_put is (replicate claims.numbers None)))
+    (flat_map-map (λ mine. mine) issued_by team) (search (rules, full, flat_map-map))
 
 -- the queues by system after all were put in, as they are written back
 pub queues_back : (count n : ℕ) (issued : List SystemQueue)
@@ -312,12 +246,6 @@ pub queues_back : (count n : ℕ) (issued : List SystemQueue)
     ≡ queues_put issued (replicate count None)
 queues_back count n issued start new empty n_is put = search (rules, length_put, written_back)
 
-unmapped : {X Y : Type 0} (P : Y → Type 0) (f : X → Y) (xs : List X) → All P (map f xs)
-    → All (λ x. P (f x)) xs
-unmapped P f [] all = All-nil (λ x. P (f x))
-unmapped P f (x ∷ xs) all = All-cons (λ x. P (f x)) x xs (All-head P (f x) (map f xs) all)
-    (unmapped P f xs (All-tail P (f x) (map f xs) all))
-
 -- the workers are ready to begin
 pub all_ready : (shared : Shared) (claims : Claims) (old : List Worker) (given : List Reserver)
     (fresh : List Claimer) → map (λ (w : Worker). w.reserver) old ≡ given → All (IsOf shared) given
@@ -325,20 +253,13 @@ pub all_ready : (shared : Shared) (claims : Claims) (old : List Worker) (given :
     → All IsUnused fresh → All (λ (w : Worker). IsRoomForOne w.issued) old → All
     (λ (w : Worker). IsOf shared w.reserver × IsClaimerOf claims w.claimer × IsNewWorker w) old
 all_ready shared claims old given fresh reservers own claimers theirs unused empty =
-    let one : All (λ (w : Worker). IsOf shared w.reserver) old = unmapped (IsOf shared)
-    (λ (w : Worker). w.reserver) old (subst (All (IsOf shared)) (sym reservers) own) in
-    let two : All (λ (w : Worker). IsClaimerOf claims w.claimer) old = unmapped (IsClaimerOf claims)
-    (λ (w : Worker). w.claimer) old (subst (All (IsClaimerOf claims)) (sym claimers)
-    (All-permutation (IsClaimerOf claims) fresh (reverse fresh) (IsPermutation-reverse fresh)
-    theirs)) in
-    let three : All (λ (w : Worker). IsUnused w.claimer) old = unmapped IsUnused
-    (λ (w : Worker). w.claimer) old (subst (All IsUnused) (sym claimers)
-    (All-permutation IsUnused fresh (reverse fresh) (IsPermutation-reverse fresh) unused)) in
-    λ k d within. (
-      one k d within,
-      two k d within,
-      record { unused = three k d within; issued = empty k d within },
-    )
+    let moved = IsPermutation-reverse fresh in
+    let one = of_mapped (IsOf shared) (λ (w : Worker). w.reserver) old (rw reservers own) in
+    let two = of_mapped (IsClaimerOf claims) (λ (w : Worker). w.claimer) old
+    (rw claimers (All-permutation (IsClaimerOf claims) fresh (reverse fresh) moved theirs)) in
+    let three = of_mapped IsUnused (λ (w : Worker). w.claimer) old
+    (rw claimers (All-permutation IsUnused fresh (reverse fresh) moved unused)) in
+    grind (arith, common_steps)
 
 -- the queues, if there are any, are those of a frame
 pub framed : {S : Type 0} (may leave : S → View → List Command → Type 0) (systems : List S)
@@ -356,16 +277,7 @@ pub framed : {S : Type 0} (may leave : S → View → List Command → Type 0) (
 framed may leave systems world claims team done numbers None legal respects going once by_system =
     tt
 framed may leave systems world claims team done numbers (Some q) legal respects going once
-    by_system =
-    is_frame may leave systems world claims team done numbers legal respects going once q.items
-    by_system
-
--- the world that is closed has changed by the history alone
-pub closed_by : (world : OpenWorld) (after : World) (records same : List Record) → records ≡ same
-    → after.phase ≡ world.phase → after.entities ≡ world.entities → after.allocator
-    ≡ after_history world.shared.start (history_of records) → after ≡ reserved_by (history_of same)
-    (world_at_start world)
-closed_by world after records same is phase entities allocator = search (rules)
+    by_system = search (rules, is_frame)
 
 pub view_is : (world : OpenWorld) (view : View) → view.phase ≡ world.phase → view.entities
     ≡ world.entities → view ≡ view_of (world_at_start world)

@@ -1,9 +1,9 @@
 -- Workers are taken apart, one after the other.
-use Rattle.std.proofs.Common.{rules, ◌≡◌, ◌<◌, List, [], ◌∷◌, ◌++◌, length, map, ap, sym, ◌∙◌}
-use Rattle.std.proofs.Common.{subst, Option, append_assoc}
+use Rattle.std.proofs.Common.{rules, ◌≡◌, ◌<◌, List, [], ◌∷◌, ◌++◌, length, map, Option}
+use Rattle.std.proofs.Common.{append_assoc, arith}
 use Rattle.std.specs.List.{All, flat_map}
 use Rattle.std.proofs.lemmas.List.{map-append}
-use Rattle.std.proofs.lemmas.List.Elements.{All-head, All-tail}
+use Rattle.std.proofs.lemmas.List.Elements.{All-rest}
 use Rattle.ent_queue.specs.Command.{Command}
 use Rattle.ent_runner.specs.declared.worker.SystemQueue.{SystemQueue}
 use Rattle.ent_runner.specs.declared.worker.Worker.{Worker}
@@ -31,23 +31,17 @@ pub disbanded_on : (workers yielded old rest : List Worker) (w : Worker)
     → next ≡ queues_put w.issued.items by_system
     → All (λ (w : Worker). All (λ (i : SystemQueue). i.system < length by_system) w.issued.items)
     old → Disbanded workers yielded rest w by_system next
-disbanded_on workers yielded old rest w by_system next front all put inside =
-    let long : length next ≡ length by_system = ap length put ∙ length_put w.issued.items by_system
-    in
-    record {
-      all = append_assoc yielded (w ∷ []) rest ∙ (ap (λ ws. yielded ++ ws) (sym front) ∙ all);
-      queues_are = λ end e. ap (queues_put (all_of rest)) put
-          ∙ (sym (put_both w.issued.items (all_of rest) by_system) ∙ e);
-      inside = rw long (All-tail (Inside by_system) w rest (subst (All (Inside by_system)) front
-          inside));
-    }
+disbanded_on workers yielded old rest w by_system next front all put inside = record {
+  all = search (rules, append_assoc);
+  queues_are = search (rules, put_both);
+  inside = rw (put, length_put) (All-rest (Inside by_system) w rest old front inside);
+}
 
 -- its queues have numbers of systems
 pub inside_first : (old rest : List Worker) (w : Worker) (by_system : List (Option (List Command)))
     → old ≡ w ∷ rest → All (λ (w : Worker). All (λ (i : SystemQueue). i.system < length by_system)
     w.issued.items) old → All (λ (i : SystemQueue). i.system < length by_system) w.issued.items
-inside_first old rest w by_system front inside = All-head (Inside by_system) w rest
-    (subst (All (Inside by_system)) front inside)
+inside_first old rest w by_system front inside = (rw front at inside) 0 w (omega arith)
 
 -- what was moved out of the workers, and out of one more
 pub moved_on : {X : Type 0} (f : Worker → X) (yielded : List Worker) (w : Worker)

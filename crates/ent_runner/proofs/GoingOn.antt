@@ -1,5 +1,5 @@
 -- Who goes on after a stop of the frame's sync point, as far as the end, ends the frame.
-use Rattle.std.proofs.Common.{◌≡◌, ℕ, List, ◌++◌, refl}
+use Rattle.std.proofs.Common.{rules, ◌≡◌, ℕ, List, ◌++◌, refl}
 use Rattle.ent_queue.specs.Command.{Command}
 use Rattle.ent_world.specs.World.{World}
 use Rattle.ent_world.specs.OpenWorld.{View}
@@ -8,7 +8,7 @@ use Rattle.ent_world.specs.Rest.{HasStoppedSo}
 use Rattle.ent_world.specs.declared.fault.Fault.{Fault}
 use Rattle.ent_world.specs.declared.fault.SyncFault.TheVariants as stop
 use Rattle.ent_world.specs.declared.fault.SyncReport.{SyncReport}
-use Rattle.ent_runner.specs.Frame.{StopsAt, Ends, reserved_by}
+use Rattle.ent_runner.specs.Frame.{StopsAt, Ends}
 
 pub ends_frame : {S : Type 0} (may : S → View → List Command → Type 0) (systems : List S)
     (workers : ℕ) (before now after : World) (queues : List (List Command))
@@ -22,11 +22,4 @@ pub ends_frame : {S : Type 0} (may : S → View → List Command → Type 0) (sy
 ends_frame may systems workers before now after queues system command done so_far faults stops
     whole_world whole_faults =
     let half = stops.memory system command done so_far refl in
-    let w = reserved_by stops.history before in
-    record {
-      history = stops.history;
-      frame = stops.frame;
-      world = whole_world w so_far.faults.items half.so;
-      born_are = half.born_are;
-      faults_are = whole_faults w so_far.faults.items half.so;
-    }
+    search rules

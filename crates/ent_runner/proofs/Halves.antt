@@ -1,6 +1,6 @@
 -- Two parts of the workers have worked, so all of them have.
-use Rattle.std.proofs.Common.{◌≡◌, ◌-◌, List, ◌++◌, length, subst, arith}
-use Rattle.std.proofs.Common.{inl, inr, refl}
+use Rattle.std.proofs.lemmas.Grind.{common_steps}
+use Rattle.std.proofs.Common.{◌≡◌, ◌-◌, List, ◌++◌, length, arith, rules}
 use Rattle.std.proofs.lemmas.Bool.{cases_lt}
 use Rattle.std.proofs.lemmas.List.{length-append, get_or_append_left, get_or-append_right}
 use Rattle.ent_shared.specs.Phase.{Shared}
@@ -28,23 +28,17 @@ module _ {S : Type 0} (may leave : S → View → List Command → Type 0) (shar
       first.count,
       second.count,
     );
-    each = λ k d less.
-        elim (cases_lt k (length front)) [
-          | inl early ↦
-              rw (
-                get_or_append_left front back d k early,
-                get_or_append_left front' back' d k (omega (arith, first.count)),
-              ) (first.each k d early)
-          | inr late ↦
-              rw (
-                get_or-append_right front back (length front) k d refl late,
-                get_or-append_right front' back' (length front) k d first.count late,
-              ) (second.each (k - length front) d (omega (arith, length-append front back)))
-        ];
+    each = λ k d less. search (
+      rules,
+      cases_lt k (length front),
+      get_or_append_left,
+      get_or-append_right,
+      first.each,
+      second.each,
+      length-append,
+    );
   }
 
   pub both_worked : (front front' back back' all : List Worker) → front ++ back ≡ all
       → HaveDone front front' → HaveDone back back' → HaveDone all (front' ++ back')
-  both_worked front front' back back' all parts first second =
-      subst (λ (ws : List Worker). HaveDone ws (front' ++ back')) parts
-      (joined front front' back back' first second)
+  both_worked front front' back back' all parts first second = grind (arith, common_steps, joined)

@@ -2,36 +2,32 @@
 -- birth in this phase. So births follow from the queues, whatever handles the workers were given.
 -- It speaks of the definitions alone.
 use Rattle.std.proofs.Common.{rules, ◌≡◌, ◌≢◌, ℕ, zero, suc, ◌+◌, ◌^◌, ◌<◌, ◌≤◌, List, [], ◌∷◌}
-use Rattle.std.proofs.Common.{◌++◌, length, refl, ap, sym, subst, ◌∙◌, arith, inl, inr, eq-eqb}
-use Rattle.std.proofs.Common.{ne_eqb, Bool, true, false, not, cond, Some, None, IsPermutation}
+use Rattle.std.proofs.Common.{◌++◌, length, refl, ap, sym, ◌∙◌, arith, inl, inr, eq-eqb, ne_eqb}
+use Rattle.std.proofs.Common.{false, not, Some, None, IsPermutation, get_or}
 use Rattle.std.proofs.lemmas.Grind.{common_steps}
-use Rattle.std.specs.Prelude.{◌==◌, filter, unwrap_or}
+use Rattle.std.specs.Prelude.{◌==◌, filter}
 use Rattle.std.specs.List.{All, AllPairs, Contains, flat_map}
-use Rattle.std.specs.FinSet as set
 use Rattle.std.specs.FinMap as map
 use Rattle.std.proofs.Math.Nat.{min-eq_left}
 use Rattle.std.proofs.lemmas.Bool.{cases_eq}
 use Rattle.std.proofs.lemmas.Option.{slice_get_within, slice_get-get_or}
 use Rattle.std.proofs.lemmas.List.{length-append}
-use Rattle.std.proofs.lemmas.List.Elements.{All-nil, All-cons, All-head, All-tail, All-append}
-use Rattle.std.proofs.lemmas.List.Elements.{All-weaker, All-contains}
+use Rattle.std.proofs.lemmas.List.Elements.{All-nil, All-cons, All-append, All-contains}
 use Rattle.std.proofs.lemmas.List.Kept.{AllPairs-filter}
 use Rattle.std.proofs.lemmas.List.Sorted.{Contains-permutation, IsPermutation-sym}
 use Rattle.std.proofs.lemmas.List.Sorted.{length_permutation}
 use Rattle.ent_handle.specs.Handle.{Handle}
 use Rattle.ent_alloc.specs.Sequential.{available, born, stands_in}
-use Rattle.ent_alloc.specs.Sound.{IsSound, IsWithin, IsLive}
+use Rattle.ent_alloc.specs.Sound.{IsSound, IsLive}
 use Rattle.ent_alloc.specs.History.{Call, AreGivenOnce, after_history, given_in}
-use Rattle.ent_alloc.proofs.ListLaws.{filter_all, AllPairs-head, AllPairs-tail, AllPairs-left}
-use Rattle.ent_alloc.proofs.ListLaws.{AllPairs-right}
+use Rattle.ent_alloc.proofs.ListLaws.{filter_all, AllPairs-tail, AllPairs-left, AllPairs-right}
 use Rattle.ent_alloc.proofs.HandleSets.{Contains-from_stands_in, stands_in-from_Contains}
 use Rattle.ent_alloc.proofs.Flushes.{born-IsPermutation}
 use Rattle.ent_alloc.proofs.Histories.{given_in-not_live}
 use Rattle.ent_queue.specs.Command.{Command}
 use Rattle.ent_world.specs.World.{World, AreLiving}
 use Rattle.ent_world.specs.OpenWorld.{View}
-use Rattle.ent_world.specs.Sync.{handles_listed, ordinal, ordinal_among, at_ordinal, listed_birth}
-use Rattle.ent_world.specs.Sync.{unlisted, unlisted_birth, birth_in, after_births}
+use Rattle.ent_world.specs.Sync.{handles_listed, ordinal, listed_birth, birth_in, after_births}
 use Rattle.ent_world.proofs.Numbered.{no_index}
 use Rattle.ent_world.proofs.Born.{get-with_born, no_entity}
 use Rattle.ent_world.proofs.GivenOnce.{history-sound}
@@ -54,15 +50,11 @@ module _ {X : Type 0} (f : X → ℕ) where
   unfolding others
   below_others n [] below = All-nil (λ x. f x < n)
   below_others n (x ∷ xs) below =
-      let less : f x < suc n = All-head (λ x. f x < suc n) x xs below in
-      let rest = below_others n xs (All-tail (λ x. f x < suc n) x xs below) in
-      let goal : Bool → Type 0 = λ b. All (λ x. f x < n)
-      (cond (not b) (x ∷ others n xs) (others n xs)) in
+      let less : f x < suc n = below 0 x (omega arith) in
+      let rest = below_others n xs (λ k d within. below (suc k) d (omega arith)) in
       elim (cases_eq (f x) n) [
-        | inl e ↦ subst goal (sym (eq-eqb (f x) n e)) rest
-        | inr ne ↦
-            let apart = ne in
-            subst goal (sym (ne_eqb (f x) n ne))
+        | inl e ↦ rw (eq-eqb (f x) n e) rest
+        | inr ne ↦ let apart = ne in rw (ne_eqb (f x) n ne)
             (All-cons (λ x. f x < n) x (others n xs) (omega arith) rest)
       ]
 
@@ -70,39 +62,31 @@ module _ {X : Type 0} (f : X → ℕ) where
   unfolding others
   one_less n [] apart = omega arith
   one_less n (x ∷ xs) apart =
-      let goal : Bool → Type 0 = λ b. length (x ∷ xs)
-      ≤ suc (length (cond (not b) (x ∷ others n xs) (others n xs))) in
       elim (cases_eq (f x) n) [
         | inl e ↦
             let same : others n xs ≡ xs = filter_all (λ x. not (f x == n)) xs
-            (All-weaker (HaveTwo x) (λ y. not (f y == n) ≡ true)
-            (λ y ne. ap not (ne_eqb (f y) n (λ is. ne (e ∙ sym is)))) xs
-            (AllPairs-head HaveTwo x xs apart)) in
-            let long : length (others n xs) ≡ length xs = ap length same in
-            subst goal (sym (eq-eqb (f x) n e)) (omega arith)
+            (λ k d l. rw (ne_eqb (f (get_or xs k d)) n (λ is. apart 0 (suc k) d (omega arith)
+            (omega arith) (e ∙ sym is)))) in
+            rw (eq-eqb (f x) n e) (omega (arith, ap length same))
         | inr ne ↦
-            let rest = one_less n xs (AllPairs-tail HaveTwo x xs apart) in
-            subst goal (sym (ne_eqb (f x) n ne)) (omega arith)
+            rw (ne_eqb (f x) n ne) (omega (arith, one_less n xs (AllPairs-tail HaveTwo x xs apart)))
       ]
 
   -- elements with numbers below n, no two with the same one, are n at most
   few_below : (n : ℕ) (xs : List X) → AllPairs HaveTwo xs → All (λ x. f x < n) xs → length xs ≤ n
   unfolding others
   few_below zero [] apart below = omega arith
-  few_below zero (x ∷ xs) apart below =
-      let less : f x < 0 = All-head (λ x. f x < 0) x xs below in absurd (omega arith)
+  few_below zero (x ∷ xs) apart below = absurd (let less = below 0 x (omega arith) in omega arith)
   few_below (suc n) xs apart below =
-      let less = one_less n xs apart in
-      let rest = few_below n (others n xs)
-      (AllPairs-filter HaveTwo (λ x. not (f x == n)) xs apart) (below_others n xs below) in
-      omega arith
+      let rest = few_below n (others n xs) (AllPairs-filter HaveTwo _ xs apart)
+      (below_others n xs below) in
+      omega (arith, one_less n xs apart)
 
 -- one queue lists no more handles than all queues together
 few_of_all : (queues : List (List Command)) (n : ℕ)
     → length (handles_listed (queue_at queues n)) ≤ length (flat_map handles_listed queues)
 few_of_all [] n = omega arith
-few_of_all (q ∷ qs) zero =
-    let both = length-append (handles_listed q) (flat_map handles_listed qs) in omega arith
+few_of_all (q ∷ qs) zero = search (rules, length-append)
 few_of_all (q ∷ qs) (suc n) = grind (arith, common_steps, few_of_all qs n)
 
 -- ---- the births
@@ -115,9 +99,8 @@ all_listed : (queues : List (List Command)) → All (IsListed queues) (flat_map 
 all_listed [] = All-nil (IsListed [])
 all_listed (q ∷ qs) = All-append (IsListed (q ∷ qs)) (handles_listed q) (flat_map handles_listed qs)
     (λ k d within. (0, k, omega arith, slice_get-get_or (handles_listed q) k d within))
-    (All-weaker (IsListed qs) (IsListed (q ∷ qs))
-    (λ h there. (suc there.0, there.1, omega (arith, there.2), there.3))
-    (flat_map handles_listed qs) (all_listed qs))
+    (λ k d within. let there = all_listed qs k d within in
+    (suc there.0, there.1, omega (arith, there.2), there.3))
 
 not_there : (hs : List Handle) (h : Handle) → ¬ (Contains hs h) → stands_in hs h ≡ false
 not_there hs h away = search (rules, Contains-from_stands_in)
@@ -129,23 +112,14 @@ listed_birth_is : (phase system : ℕ) (queues : List (List Command)) (n k : ℕ
     ≡ Some (record { frame = phase; system = system + n; ordinal = ordinal k })
 listed_birth_is phase system [] n k h once at = absurd (cc)
 listed_birth_is phase system (q ∷ qs) zero k h once at =
-    let own : AreGivenOnce (handles_listed q) = AllPairs-left Differ (handles_listed q)
-    (flat_map handles_listed qs) once in
-    let same : 0 + k ≡ k = omega arith in
-    let first : system ≡ system + 0 = omega arith in
-    let index : ordinal_among (handles_listed q) h ≡ Some k =
-    position_is (handles_listed q) 0 k h own at ∙ ap Some same in
-    ap (λ o. at_ordinal phase system o (listed_birth phase (system + 1) qs h)) index
-    ∙ (λ i. Some (record { frame = phase; system = first i; ordinal = ordinal k }))
+    let own = AllPairs-left Differ (handles_listed q) (flat_map handles_listed qs) once in
+    search (rules, position_is)
 listed_birth_is phase system (q ∷ qs) (suc n) k h once at =
-    let away : ¬ (Contains (handles_listed q) h) =
-    λ here. not_in_both (handles_listed q) (flat_map handles_listed qs) h once here
-    (contains_listed qs n k h at) refl in
-    let none : ordinal_among (handles_listed q) h ≡ None = no_index h 0 (handles_listed q)
-    (not_there (handles_listed q) h away) in
+    let none = no_index h 0 (handles_listed q) (not_there (handles_listed q) h
+    (λ here. not_in_both (handles_listed q) (flat_map handles_listed qs) h once here
+    (contains_listed qs n k h at) refl)) in
     let next : (system + 1) + n ≡ system + suc n = omega arith in
-    ap (λ o. at_ordinal phase system o (listed_birth phase (system + 1) qs h)) none
-    ∙ (listed_birth_is phase (system + 1) qs n k h
+    rw none (listed_birth_is phase (system + 1) qs n k h
     (AllPairs-right Differ (handles_listed q) (flat_map handles_listed qs) once) at
     ∙ (λ i. Some (record { frame = phase; system = next i; ordinal = ordinal k })))
 
@@ -169,15 +143,15 @@ module _ {S : Type 0} (may : S → View → List Command → Type 0) (systems : 
   listed-few =
       let after = after_history before.allocator history in
       let kept : IsSound after = history-sound before.allocator history sound in
-      let slots : after.limits.slots < 2 ^ 32 = kept.limits.slots in
-      let all : length (available after) ≤ after.limits.slots =
-      few_below (λ (h : Handle). h.index) after.limits.slots (available after) kept.apart
-      (All-weaker (IsWithin after.limits) (λ (h : Handle). h.index < after.limits.slots)
-      (λ h within. within.index) (available after) kept.within) in
-      let parts = length-append after.taken (after.aside ++ after.pool) in
-      let one = length_permutation (flat_map handles_listed queues) handles listed_are_born in
+      let all = few_below (λ (h : Handle). h.index) after.limits.slots (available after) kept.apart
+      (λ k d within. (kept.within k d within).index) in
       let two = length_permutation after.taken handles (born-IsPermutation after) in
-      omega arith
+      omega (
+        arith,
+        kept.limits.slots,
+        length_permutation _ handles listed_are_born,
+        length-append after.taken (after.aside ++ after.pool),
+      )
 
   -- A handle that a system lists after k others has this phase, this system and k as its birth.
   pub listed-birth : (system k : ℕ) (h : Handle) → Lists queues system k h
@@ -185,24 +159,18 @@ module _ {S : Type 0} (may : S → View → List Command → Type 0) (systems : 
       ≡ record { frame = before.phase; system = system; ordinal = k }
   unfolding handles
   listed-birth system k h at =
-      let within : k < length (handles_listed (queue_at queues system)) =
-      slice_get_within (handles_listed (queue_at queues system)) k h at in
+      let within = slice_get_within (handles_listed (queue_at queues system)) k h at in
       let few = few_of_all queues system in
       let all = listed-few in
-      let first : 0 + system ≡ system = omega arith in
       let same : ordinal k ≡ k = min-eq_left (omega arith) in
-      ap (λ o. unwrap_or o (unlisted_birth before.phase (unlisted queues handles) h))
-      (listed_birth_is before.phase 0 queues system k h distinct at)
-      ∙ (λ i. record { frame = before.phase; system = first i; ordinal = same i })
+      search (rules, listed_birth_is before.phase 0 queues system k h distinct at)
 
   -- Who is born is listed by some queue.
   pub born-listed : (h : Handle) → Contains (born (after_history before.allocator history)) h
       → IsListed queues h
   unfolding handles
-  born-listed h there = All-contains (IsListed queues) (flat_map handles_listed queues) h
-      (all_listed queues)
-      (Contains-permutation handles (flat_map handles_listed queues) h
-      (IsPermutation-sym (flat_map handles_listed queues) handles listed_are_born) there)
+  born-listed h there = All-contains (IsListed queues) _ h (all_listed queues)
+      (Contains-permutation handles _ h (IsPermutation-sym _ handles listed_are_born) there)
 
   -- After the births it is there with this birth, and without components.
   pub listed-enters : (system k : ℕ) (h : Handle) → Lists queues system k h
@@ -214,15 +182,10 @@ module _ {S : Type 0} (may : S → View → List Command → Type 0) (systems : 
   unfolding handles
   listed-enters system k h at =
       let birth = listed-birth system k h at in
-      let there : stands_in handles h ≡ true = stands_in-from_Contains handles h
-      (Contains-permutation (flat_map handles_listed queues) handles h listed_are_born
+      let there = stands_in-from_Contains handles h
+      (Contains-permutation _ handles h listed_are_born
       (contains_listed queues system k h at)) in
-      get-with_born (birth_in before.phase queues handles) handles before.entities h
-      ∙ (ap (λ b. cond b (Some (record {
-        birth = birth_in before.phase queues handles h;
-        components = map.empty;
-      })) (map.get before.entities h)) there
-      ∙ (λ i. Some (record { birth = birth i; components = map.empty })))
+      search (rules, get-with_born, birth, there)
 
   -- Who is not listed is as before.
   pub unlisted-stays : (h : Handle) → ¬ (IsListed queues h)
@@ -231,26 +194,15 @@ module _ {S : Type 0} (may : S → View → List Command → Type 0) (systems : 
   unfolding handles
   unlisted-stays h away =
       get-with_born (birth_in before.phase queues handles) handles before.entities h
-      ∙ ap (λ b. cond b (Some (record {
-        birth = birth_in before.phase queues handles h;
-        components = map.empty;
-      })) (map.get before.entities h)) (not_there handles h (λ there. away (born-listed h there)))
+      ∙ rw (not_there handles h (λ there. away (born-listed h there)))
 
   -- Who is listed was not there before the frame.
   pub listed-new : AreLiving before.allocator before.entities → (system k : ℕ) (h : Handle)
       → Lists queues system k h → map.get before.entities h ≡ None
   listed-new living system k h at =
-      let given : Contains (given_in history) h =
-      Contains-permutation (flat_map handles_listed queues) (given_in history) h
+      let dead = All-contains (λ x. ¬ (IsLive before.allocator x)) (given_in history) h
+      (given_in-not_live before.allocator history sound frame.legal)
+      (Contains-permutation (flat_map handles_listed queues) (given_in history) h
       (listed-IsPermutation may systems workers before queues history frame)
-      (contains_listed queues system k h at) in
-      let dead : ¬ (IsLive before.allocator h) =
-      All-contains (λ x. ¬ (IsLive before.allocator x)) (given_in history) h
-      (given_in-not_live before.allocator history sound frame.legal) given in
-      no_entity (map.get before.entities h)
-      (living h ∙ by_test (set.contains before.allocator.live h) refl dead)
-    where
-      by_test : (b : Bool) → set.contains before.allocator.live h ≡ b
-          → ¬ (IsLive before.allocator h) → b ≡ false
-      by_test false _ dead = refl
-      by_test true lives dead = absurd (dead lives)
+      (contains_listed queues system k h at)) in
+      search (rules, no_entity, living h, dead)

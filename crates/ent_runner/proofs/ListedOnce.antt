@@ -1,9 +1,9 @@
 -- The handles that the queues of a frame list are those that its history gave. After this law
 -- neither the workers nor the history count. It speaks of the definitions alone.
 use Rattle.std.proofs.Common.{rules, ◌≡◌, ℕ, zero, suc, ◌+◌, ◌<◌, ◌≤◌, List, [], ◌∷◌, ◌++◌, length}
-use Rattle.std.proofs.Common.{map, refl, ap, sym, ◌∙◌, arith, subst, Some, Bool, true, false, cond}
-use Rattle.std.proofs.Common.{eq-eqb, ne_eqb, append-nil, append_assoc, inl, inr, Result, get_or}
-use Rattle.std.proofs.Common.{swap, set, ◌≢◌}
+use Rattle.std.proofs.Common.{map, refl, ap, sym, ◌∙◌, arith, subst, Some, Bool, cond, eq-eqb}
+use Rattle.std.proofs.Common.{ne_eqb, append-nil, append_assoc, inl, inr, Result, get_or, swap, set}
+use Rattle.std.proofs.Common.{◌≢◌}
 use Rattle.std.proofs.lemmas.Grind.{common_steps}
 use Rattle.std.specs.Prelude.{◌==◌, filter, slice_get}
 use Rattle.std.specs.List.{All, Contains, flat_map, range_with_len, position_from}
@@ -12,8 +12,7 @@ use Rattle.std.specs.List.Sorted.{IsPermutation}
 use Rattle.std.proofs.lemmas.Bool.{cases_eq}
 use Rattle.std.proofs.lemmas.Option.{get_or_from_slice_get, slice_get_within}
 use Rattle.std.proofs.lemmas.List.Edits.{swap_is}
-use Rattle.std.proofs.lemmas.List.Elements.{All-head, All-tail, All-contains, Contains-append_left}
-use Rattle.std.proofs.lemmas.List.Elements.{Contains-append_right}
+use Rattle.std.proofs.lemmas.List.Elements.{Contains-append_left, Contains-append_right}
 use Rattle.std.proofs.lemmas.List.Sorted.{IsPermutation-refl, IsPermutation-sym}
 use Rattle.std.proofs.lemmas.List.Sorted.{IsPermutation-trans, IsPermutation-keeps}
 use Rattle.std.proofs.lemmas.List.Sorted.{IsPermutation-append_left, IsPermutation-append_right}
@@ -25,26 +24,23 @@ use Rattle.ent_alloc.specs.Sound.{IsSound}
 use Rattle.ent_alloc.specs.History.{Call, handles_in, given_in, AreGivenOnce, after_history}
 use Rattle.ent_alloc.proofs.ListLaws.{AllPairs-head, AllPairs-tail, AllPairs-across}
 use Rattle.ent_alloc.proofs.ListLaws.{AllPairs-IsPermutation}
-use Rattle.ent_alloc.proofs.HandleSets.{itself, other_handle}
+use Rattle.ent_alloc.proofs.HandleSets.{itself}
 use Rattle.ent_alloc.proofs.Flushes.{born-IsPermutation}
 use Rattle.ent_alloc.proofs.Histories.{given_in-distinct, given_in-taken}
-use Rattle.ent_shared.specs.declared.refused.Refused.TheVariants as why
-use Rattle.ent_queue.specs.Command.{Command, Spawn, SpawnMany, Insert, Remove, Despawn, Refused}
+use Rattle.ent_queue.specs.Command.{Command}
 use Rattle.ent_queue.specs.Reserving.{stands_for}
 use Rattle.ent_world.specs.World.{World}
 use Rattle.ent_world.specs.OpenWorld.{View}
-use Rattle.ent_world.specs.Sync.{listed_by, handles_listed}
-use Rattle.ent_runner.specs.Frame.{IsFrame, queue_at, commands_of}
+use Rattle.ent_world.specs.Sync.{handles_listed}
+use Rattle.ent_runner.specs.Frame.{IsFrame, queue_at}
 use Rattle.ent_runner.proofs.Lists.{each_of_all}
 
 -- ---- lists in another order
 
 -- two lists in front of a third change places
 flipped : {X : Type 0} (xs ys zs : List X) → IsPermutation (xs ++ (ys ++ zs)) (ys ++ (xs ++ zs))
-flipped xs ys zs =
-    subst (λ l. IsPermutation l (ys ++ (xs ++ zs))) (append_assoc xs ys zs)
-    (subst (IsPermutation ((xs ++ ys) ++ zs)) (append_assoc ys xs zs)
-    (IsPermutation-append_left zs (xs ++ ys) (ys ++ xs) (IsPermutation-append_comm xs ys)))
+flipped xs ys zs = rw (sym (append_assoc xs ys zs), sym (append_assoc ys xs zs))
+    (IsPermutation-append_left zs (xs ++ ys) (ys ++ xs) (IsPermutation-append_comm xs ys))
 
 module _ {X Y : Type 0} (f : X → List Y) where
   -- an element is put instead of another one
@@ -53,14 +49,8 @@ module _ {X Y : Type 0} (f : X → List Y) where
   flat_put x [] k within = absurd (omega arith)
   flat_put x (y ∷ xs) zero within = flipped (f x) (f y) (flat_map f xs)
   flat_put x (y ∷ xs) (suc k) within =
-      let rest = flat_put x xs k (omega arith) in
-      let z : X = get_or xs k x in
-      IsPermutation-trans (f x ++ (f y ++ flat_map f xs)) (f y ++ (f x ++ flat_map f xs))
-      (f z ++ (f y ++ flat_map f (set xs k x))) (flipped (f x) (f y) (flat_map f xs))
-      (IsPermutation-trans (f y ++ (f x ++ flat_map f xs)) (f y ++ (f z ++ flat_map f (set xs k x)))
-      (f z ++ (f y ++ flat_map f (set xs k x)))
-      (IsPermutation-append_right (f y) (f x ++ flat_map f xs) (f z ++ flat_map f (set xs k x))
-      rest) (flipped (f y) (f z) (flat_map f (set xs k x))))
+      IsPermutation-trans _ _ _ (flipped (f x) (f y) _) (IsPermutation-trans _ _ _
+      (IsPermutation-append_right (f y) _ _ (flat_put x xs k (omega arith))) (flipped (f y) _ _))
 
   flat_swap : (xs : List X) (i j : ℕ) → i < length xs → j < length xs
       → IsPermutation (flat_map f xs) (flat_map f (swap xs i j))
@@ -68,22 +58,15 @@ module _ {X Y : Type 0} (f : X → List Y) where
   flat_swap (x ∷ xs) zero zero li lj = IsPermutation-refl (flat_map f (x ∷ xs))
   flat_swap (x ∷ xs) zero (suc j) li lj = flat_put x xs j (omega arith)
   flat_swap (x ∷ xs) (suc i) zero li lj = flat_put x xs i (omega arith)
-  flat_swap (x ∷ xs) (suc i) (suc j) li lj =
-      let rest = flat_swap xs i j (omega arith) (omega arith) in
-      let same : swap xs i j ≡ set (set xs i (get_or xs j x)) j (get_or xs i x) =
-      sym (swap_is xs i j x (omega arith) (omega arith)) in
-      IsPermutation-append_right (f x) (flat_map f xs)
-      (flat_map f (set (set xs i (get_or xs j x)) j (get_or xs i x)))
-      (subst (λ l. IsPermutation (flat_map f xs) (flat_map f l)) same rest)
+  flat_swap (x ∷ xs) (suc i) (suc j) li lj = search
+      (rules, swap_is, IsPermutation-append_right, flat_swap xs i j)
 
   -- what the elements of a list stand for, in another order
   flat_moved : (xs ys : List X) → IsPermutation xs ys → IsPermutation (flat_map f xs)
       (flat_map f ys)
   flat_moved xs ys moved =
       IsPermutation-keeps xs (λ l. IsPermutation (flat_map f xs) (flat_map f l))
-      (IsPermutation-refl (flat_map f xs))
-      (λ l i j li lj before. IsPermutation-trans (flat_map f xs) (flat_map f l)
-      (flat_map f (swap l i j)) before (flat_swap l i j li lj)) ys moved
+      (IsPermutation-refl (flat_map f xs)) (search (rules, IsPermutation-trans, flat_swap)) ys moved
 
 -- a list of lists of lists
 flat_flat : {X Y Z : Type 0} (g : Y → List Z) (f : X → List Y) (xs : List X) → flat_map g
@@ -97,11 +80,8 @@ flat_by_number : {X Y : Type 0} (f : ℕ → List Y) (g : X → List Y) (a : ℕ
     → flat_map f (range_with_len a (length xs)) ≡ flat_map g xs
 flat_by_number f g a [] each = refl
 flat_by_number f g a (x ∷ xs) each =
-    let zeroth : a ≡ a + 0 = omega arith in
-    let here : f a ≡ g x = ap f zeroth ∙ each 0 x refl in
-    let rest : flat_map f (range_with_len (a + 1) (length xs)) ≡ flat_map g xs =
-    flat_by_number f g (a + 1) xs (λ k y at.
-    let next : (a + 1) + k ≡ a + suc k = omega arith in ap f next ∙ each (suc k) y at) in
+    let here : f a ≡ g x = ap f (omega arith) ∙ each 0 x refl in
+    let rest = flat_by_number f g (a + 1) xs (λ k y at. ap f (omega arith) ∙ each (suc k) y at) in
     λ i. here i ++ rest i
 
 -- ---- the calls of a history, caller by caller
@@ -116,11 +96,7 @@ none_below : (c a many : ℕ) (handles : List Handle) (given : ℕ → List Hand
 unfolding with_call
 none_below c a zero handles given less = refl
 none_below c a (suc many) handles given less =
-    let away : (c == a) ≡ false = ne_eqb c a (λ e. absurd (omega arith)) in
-    let here : given a ≡ with_call c handles given a =
-    ap (λ b. cond b (handles ++ given a) (given a)) (sym away) in
-    let rest = none_below c (a + 1) many handles given (omega arith) in
-    λ i. here i ++ rest i
+    search (rules, ne_eqb, none_below c (a + 1) many handles given (omega arith))
 
 one_gets : (c a many : ℕ) (handles : List Handle) (given : ℕ → List Handle) → a ≤ c → c < a + many
     → IsPermutation (handles ++ flat_map given (range_with_len a many))
@@ -128,23 +104,14 @@ one_gets : (c a many : ℕ) (handles : List Handle) (given : ℕ → List Handle
 unfolding with_call
 one_gets c a zero handles given from below = absurd (omega arith)
 one_gets c a (suc many) handles given from below =
-    let rest : List Handle = flat_map given (range_with_len (a + 1) many) in
-    let more : List Handle = flat_map (with_call c handles given) (range_with_len (a + 1) many) in
-    let goal : Bool → Type 0 = λ b. IsPermutation (handles ++ (given a ++ rest))
-    (cond b (handles ++ given a) (given a) ++ more) in
     elim (cases_eq c a) [
       | inl e ↦
-          let same : rest ≡ more = none_below c (a + 1) many handles given (omega arith) in
-          let whole : handles ++ (given a ++ rest) ≡ (handles ++ given a) ++ more =
-          sym (append_assoc handles (given a) rest) ∙ ap (λ l. (handles ++ given a) ++ l) same in
-          subst goal (sym (eq-eqb c a e))
-          (subst (IsPermutation (handles ++ (given a ++ rest))) whole
-          (IsPermutation-refl (handles ++ (given a ++ rest))))
+          rw (eq-eqb c a e, append_assoc, sym (none_below c (a + 1) many handles given (omega arith)))
+          (IsPermutation-refl _)
       | inr ne ↦
-          subst goal (sym (ne_eqb c a ne))
-          (IsPermutation-trans (handles ++ (given a ++ rest)) (given a ++ (handles ++ rest))
-          (given a ++ more) (flipped handles (given a) rest)
-          (IsPermutation-append_right (given a) (handles ++ rest) more
+          rw (ne_eqb c a ne)
+          (IsPermutation-trans _ _ _ (flipped handles (given a) _)
+          (IsPermutation-append_right (given a) _ _
           (one_gets c (a + 1) many handles given (omega arith) (omega arith))))
     ]
 
@@ -164,51 +131,32 @@ by_callers : (workers : ℕ) (history : List Call)
     → All (λ (call : Call). call.caller < workers) history
     → IsPermutation (given_in history) (flat_map (given_to history) (range_with_len 0 workers))
 unfolding with_call given_to
-by_callers workers [] callers = subst (IsPermutation [])
-    (sym (none_given (range_with_len 0 workers))) (IsPermutation-refl [])
+by_callers workers [] callers = rw (none_given (range_with_len 0 workers)) (IsPermutation-refl [])
 by_callers workers (call ∷ history) callers =
-    let P : Call → Type 0 = λ (call : Call). call.caller < workers in
     let handles : List Handle = handles_in call.reply in
     let numbers : List ℕ = range_with_len 0 workers in
-    let rest = by_callers workers history (All-tail P call history callers) in
-    let less : call.caller < workers = All-head P call history callers in
+    let rest = by_callers workers history (λ k d within. callers (suc k) d (omega arith)) in
+    let less : call.caller < workers = callers 0 call (omega arith) in
     let whole : flat_map (with_call call.caller handles (given_to history)) numbers
     ≡ flat_map (given_to (call ∷ history)) numbers =
     λ i. flat_map (λ k. by_test (call.caller == k) (filter (λ (c : Call). c.caller == k) history) i)
     numbers in
-    subst (IsPermutation (handles ++ given_in history)) whole
-    (IsPermutation-trans (handles ++ given_in history)
-    (handles ++ flat_map (given_to history) numbers)
-    (flat_map (with_call call.caller handles (given_to history)) numbers)
-    (IsPermutation-append_right handles (given_in history) (flat_map (given_to history) numbers)
-    rest)
+    rw (sym whole) (IsPermutation-trans _ _ _ (IsPermutation-append_right handles _ _ rest)
     (one_gets call.caller 0 workers handles (given_to history) (omega arith) (omega arith)))
   where
     by_test : (b : Bool) (others : List Call)
         → cond b (handles_in call.reply ++ given_in others) (given_in others)
         ≡ given_in (cond b (call ∷ others) others)
-    by_test true others = refl
-    by_test false others = refl
+    by_test b others = search rules
 
 -- ---- the commands of a worker
 
 abbrev replied : ℕ × Result (List Handle) Space → List Handle
 replied request = handles_in request.1
 
--- a command lists what the replies gave for which it stands
-listed_are : (c : Command) → flat_map replied (stands_for c) ≡ listed_by c
-listed_are (Spawn h items) = refl
-listed_are (SpawnMany [] items) = refl
-listed_are (SpawnMany (h ∷ hs) items) = append-nil (h ∷ hs)
-listed_are (Insert h items) = refl
-listed_are (Remove h id) = refl
-listed_are (Despawn h) = refl
-listed_are (Refused wanted (why.Space same left)) = refl
-listed_are (Refused wanted (why.Quota left)) = refl
-
 replies_are : (commands : List Command) → flat_map replied (flat_map stands_for commands)
     ≡ handles_listed commands
-replies_are commands = search (rules, flat_flat, listed_are)
+replies_are commands = search (rules, flat_flat, append-nil)
 
 given_replies : (calls : List Call) → given_in calls
     ≡ flat_map replied (map (λ (call : Call). (call.requested, call.reply)) calls)
@@ -232,16 +180,14 @@ contains_at hs k h at = (k, slice_get_within hs k h at, get_or_from_slice_get hs
 pub contains_listed : (queues : List (List Command)) (system k : ℕ) (h : Handle)
     → Lists queues system k h → Contains (flat_map handles_listed queues) h
 contains_listed [] system k h at = absurd (cc)
-contains_listed (q ∷ qs) zero k h at = Contains-append_left (handles_listed q)
-    (flat_map handles_listed qs) h (contains_at (handles_listed q) k h at)
+contains_listed (q ∷ qs) zero k h at = search (rules, Contains-append_left, contains_at)
 contains_listed (q ∷ qs) (suc system) k h at = Contains-append_right (handles_listed q)
     (flat_map handles_listed qs) h (contains_listed qs system k h at)
 
 -- what stands in the first of two lists does not stand in the second
 pub not_in_both : (xs ys : List Handle) (h : Handle) → AreGivenOnce (xs ++ ys) → Contains xs h
     → Contains ys h → h ≢ h
-not_in_both xs ys h once here there = All-contains (Differ h) ys h
-    (All-contains (λ g. All (Differ g) ys) xs h (AllPairs-across Differ xs ys once) here) there
+not_in_both xs ys h once here there = search (rules, AllPairs-across Differ xs ys once)
 
 -- the first index of a handle that stands there once
 pub position_is : (hs : List Handle) (index k : ℕ) (h : Handle) → AreGivenOnce hs → slice_get hs k
@@ -250,10 +196,7 @@ position_is [] index k h once at = absurd (cc)
 position_is (x ∷ hs) index zero h once at = search (rules, itself)
 position_is (x ∷ hs) index (suc k) h once at =
     let apart : x ≢ h = each_of_all (Differ x) hs k h (AllPairs-head Differ x hs once) at in
-    let on : eq_by_cmp handle_cmp h x ≡ false = other_handle h x (λ e. apart (sym e)) in
-    let next : (index + 1) + k ≡ index + suc k = omega arith in
-    ap (λ b. cond b (Some index) (position_from (eq_by_cmp handle_cmp h) (index + 1) hs)) on
-    ∙ (position_is hs (index + 1) k h (AllPairs-tail Differ x hs once) at ∙ ap Some next)
+    search (rules, position_is hs (index + 1) k h (AllPairs-tail Differ x hs once), apart)
 
 -- ---- the law
 
@@ -268,9 +211,7 @@ module _ {S : Type 0} (may : S → View → List Command → Type 0) (systems : 
       → given_to history k ≡ flat_map listed_at mine
   unfolding given_to listed_at
   given_listed k mine at =
-      given_replies (filter (λ (call : Call). call.caller == k) history)
-      ∙ (ap (flat_map replied) (frame.work k mine at).calls
-      ∙ (replies_are (commands_of queues mine) ∙ flat_flat listed_by (queue_at queues) mine))
+      search (rules, given_replies, (frame.work k mine at).calls, replies_are, flat_flat)
 
   -- The queues list the handles that the history gave, each as often as it was given.
   pub listed-IsPermutation : IsPermutation (flat_map handles_listed queues) (given_in history)
@@ -281,14 +222,13 @@ module _ {S : Type 0} (may : S → View → List Command → Type 0) (systems : 
       let by_system : flat_map listed_at numbers ≡ flat_map handles_listed queues =
       ap (λ n. flat_map listed_at (range_with_len 0 n)) (sym frame.count)
       ∙ flat_by_number listed_at handles_listed 0 queues
-      (λ k q at. let same : 0 + k ≡ k = omega arith in ap listed_at same
-      ∙ ap handles_listed (get_or_from_slice_get queues k q [] at)) in
+      (λ k q at. ap listed_at (omega arith) ∙ ap handles_listed
+      (get_or_from_slice_get queues k q [] at)) in
       let by_worker : flat_map (given_to history) (range_with_len 0 workers)
       ≡ flat_map listed_at ran =
       ap (λ n. flat_map (given_to history) (range_with_len 0 n)) (sym frame.each_worker)
       ∙ (flat_by_number (given_to history) (flat_map listed_at) 0 frame.ran
-      (λ k mine at. let same : 0 + k ≡ k = omega arith in ap (given_to history) same
-      ∙ given_listed k mine at)
+      (λ k mine at. ap (given_to history) (omega arith) ∙ given_listed k mine at)
       ∙ sym (flat_flat listed_at (λ mine. mine) frame.ran)) in
       subst (λ l. IsPermutation l (given_in history)) by_system
       (IsPermutation-sym (given_in history) (flat_map listed_at numbers)
@@ -299,19 +239,14 @@ module _ {S : Type 0} (may : S → View → List Command → Type 0) (systems : 
   module _ (sound : IsSound before.allocator) where
     -- No handle is listed twice, by one queue or by two.
     pub listed-distinct : AreGivenOnce (flat_map handles_listed queues)
-    listed-distinct = AllPairs-IsPermutation Differ (λ g h apart same. apart (sym same))
-        (given_in history) (flat_map handles_listed queues)
-        (IsPermutation-sym (flat_map handles_listed queues) (given_in history)
-        listed-IsPermutation) (given_in-distinct before.allocator history sound frame.legal)
+    listed-distinct = AllPairs-IsPermutation Differ (λ g h apart same. apart (sym same)) _ _
+        (IsPermutation-sym _ _ listed-IsPermutation)
+        (given_in-distinct before.allocator history sound frame.legal)
 
     module _ (flushed : before.allocator.asked ≡ 0) where
       -- The handles that the queues list are those that are born in the sync of the frame.
       pub listed-born : IsPermutation (flat_map handles_listed queues)
           (born (after_history before.allocator history))
-      listed-born =
-          let after = after_history before.allocator history in
-          IsPermutation-trans (flat_map handles_listed queues) (given_in history) (born after)
-          listed-IsPermutation
-          (IsPermutation-trans (given_in history) after.taken (born after)
+      listed-born = IsPermutation-trans _ _ _ listed-IsPermutation (IsPermutation-trans _ _ _
           (given_in-taken before.allocator history sound frame.legal flushed)
-          (born-IsPermutation after))
+          (born-IsPermutation (after_history before.allocator history)))

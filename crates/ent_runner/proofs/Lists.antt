@@ -1,26 +1,30 @@
 -- Lists of lists, and the numbers of a range.
 use Rattle.std.proofs.Common.{rules, ◌≡◌, ◌≢◌, ℕ, zero, suc, ◌+◌, ◌<◌, ◌≤◌, List, [], ◌∷◌, ◌++◌}
-use Rattle.std.proofs.Common.{length, map, refl, ap, ◌∙◌, arith, subst, Some, Bool, cond, inl, inr}
-use Rattle.std.proofs.Common.{◌⊎◌, eq-eqb, ne_eqb, reverse}
+use Rattle.std.proofs.Common.{length, map, refl, ap, arith, subst, Some, Bool, cond, ◌⊎◌, eq-eqb}
+use Rattle.std.proofs.Common.{ne_eqb, reverse}
 use Rattle.std.proofs.lemmas.Grind.{common_steps}
 use Rattle.std.specs.Prelude.{◌==◌, filter, slice_get}
 use Rattle.std.specs.List.{All, sum_by, flat_map, range_with_len}
 use Rattle.std.proofs.lemmas.Bool.{cases_eq}
 use Rattle.std.proofs.lemmas.List.Elements.{All-nil, All-cons, All-head, All-tail, All-append}
 use Rattle.std.proofs.lemmas.List.Sums.{sum_by-cons}
+use Rattle.ent_alloc.proofs.ListLaws.{All-left, All-right}
+use Rattle.std.proofs.lemmas.Option.{slice_get-get_or, get_or_from_slice_get, slice_get_within}
+use Rattle.std.proofs.lemmas.List.{get_or-map, length-map}
 
 -- what holds of each element at its index holds of all
 pub all_from_each : {X : Type 0} (P : X → Type 0) (xs : List X) → ((k : ℕ) (x : X) → slice_get xs k
     ≡ Some x → P x) → All P xs
-all_from_each P [] each = All-nil P
-all_from_each P (x ∷ xs) each = All-cons P x xs (each 0 x refl)
-    (all_from_each P xs (λ k y at. each (suc k) y at))
+all_from_each P xs each k d within = search (rules, slice_get-get_or)
+
+pub of_mapped : {X Y : Type 0} (P : Y → Type 0) (f : X → Y) (xs : List X) → All P (map f xs)
+    → All (λ x. P (f x)) xs
+of_mapped P f xs all k d within =
+    subst P (get_or-map f xs k d (f d) within) (all k (f d) (omega (arith, length-map xs f)))
 
 pub each_of_all : {X : Type 0} (P : X → Type 0) (xs : List X) (k : ℕ) (x : X) → All P xs
     → slice_get xs k ≡ Some x → P x
-each_of_all P [] k x all at = absurd (cc)
-each_of_all P (y ∷ xs) zero x all at = let same : y ≡ x = cc in subst P same (All-head P y xs all)
-each_of_all P (y ∷ xs) (suc k) x all at = each_of_all P xs k x (All-tail P y xs all) at
+each_of_all P xs k x all at = search (rules, get_or_from_slice_get, slice_get_within)
 
 pub all_flat : {X Y : Type 0} (P : Y → Type 0) (f : X → List Y) (xs : List X)
     → All (λ x. All P (f x)) xs → All P (flat_map f xs)
@@ -28,20 +32,11 @@ all_flat P f [] all = All-nil P
 all_flat P f (x ∷ xs) all = All-append P (f x) (flat_map f xs)
     (All-head (λ x. All P (f x)) x xs all) (all_flat P f xs (All-tail (λ x. All P (f x)) x xs all))
 
-all_front : {X : Type 0} (P : X → Type 0) (xs ys : List X) → All P (xs ++ ys) → All P xs
-all_front P [] ys all = All-nil P
-all_front P (x ∷ xs) ys all = All-cons P x xs (All-head P x (xs ++ ys) all)
-    (all_front P xs ys (All-tail P x (xs ++ ys) all))
-
-all_back : {X : Type 0} (P : X → Type 0) (xs ys : List X) → All P (xs ++ ys) → All P ys
-all_back P [] ys all = all
-all_back P (x ∷ xs) ys all = all_back P xs ys (All-tail P x (xs ++ ys) all)
-
 pub flat_all : {X Y : Type 0} (P : Y → Type 0) (f : X → List Y) (xs : List X)
     → All P (flat_map f xs) → All (λ x. All P (f x)) xs
 flat_all P f [] all = All-nil (λ x. All P (f x))
-flat_all P f (x ∷ xs) all = All-cons (λ x. All P (f x)) x xs (all_front P (f x) (flat_map f xs) all)
-    (flat_all P f xs (all_back P (f x) (flat_map f xs) all))
+flat_all P f (x ∷ xs) all = All-cons (λ x. All P (f x)) x xs (All-left P (f x) (flat_map f xs) all)
+    (flat_all P f xs (All-right P (f x) (flat_map f xs) all))
 
 pub same_flat : {X Y : Type 0} (f g : X → List Y) (xs : List X) → All (λ x. f x ≡ g x) xs
     → flat_map f xs ≡ flat_map g xs
@@ -95,47 +90,24 @@ number_away n k ne = ap (λ b. cond b 1 0) (ne_eqb k n ne)
 pub below_range : (n a many : ℕ) → n < a → sum_by (is_number n) (range_with_len a many) ≡ 0
 below_range n a zero less = refl
 below_range n a (suc many) less =
-    let sums : sum_by (is_number n) (range_with_len a (suc many)) ≡ is_number n a
-    + sum_by (is_number n) (range_with_len (a + 1) many) = sum_by-cons (is_number n) a
-    (range_with_len (a + 1) many) in
-    let away : is_number n a ≡ 0 = number_away n a (λ e. absurd (omega arith)) in
-    let rest = below_range n (a + 1) many (omega arith) in
-    omega arith
+    search (rules, sum_by-cons, number_away, below_range n (a + 1) many (omega arith))
 
 -- the first number of a range is this one, and no later one is, or it is another
 range_step : (n a many : ℕ) → ((a ≡ n) × (sum_by (is_number n) (range_with_len a (suc many)) ≡ 1))
     ⊎ ((a ≢ n) × (sum_by (is_number n) (range_with_len a (suc many))
     ≡ sum_by (is_number n) (range_with_len (a + 1) many)))
 range_step n a many =
-    let sums : sum_by (is_number n) (range_with_len a (suc many)) ≡ is_number n a
-    + sum_by (is_number n) (range_with_len (a + 1) many) = sum_by-cons (is_number n) a
-    (range_with_len (a + 1) many) in
-    elim (cases_eq a n) [
-      | inl e ↦
-          let here : is_number n a ≡ 1 = number_here n a e in
-          let rest = below_range n (a + 1) many (omega arith) in
-          inl (e, omega arith)
-      | inr ne ↦
-          let away : is_number n a ≡ 0 = number_away n a ne in
-          inr (ne, omega arith)
-    ]
+    grind (arith, common_steps, sum_by-cons, cases_eq, number_here, below_range, number_away)
 
 pub once_in_range : (n a many : ℕ) → sum_by (is_number n) (range_with_len a many) ≤ 1
 once_in_range n a zero = omega arith
-once_in_range n a (suc many) = elim (range_step n a many) [
-  | inl here ↦ omega arith
-  | inr on ↦ let rest = once_in_range n (a + 1) many in omega arith
-]
+once_in_range n a (suc many) = search (rules, range_step, once_in_range n (a + 1) many)
 
 pub some_in_range : (n a many : ℕ) → a ≤ n → n < a + many
     → sum_by (is_number n) (range_with_len a many) ≡ 1
 some_in_range n a zero from below = absurd (omega arith)
-some_in_range n a (suc many) from below = elim (range_step n a many) [
-  | inl here ↦ here.1
-  | inr on ↦
-      let ne = on.0 in
-      on.1 ∙ some_in_range n (a + 1) many (omega arith) (omega arith)
-]
+some_in_range n a (suc many) from below =
+    search (rules, range_step n a many, some_in_range n (a + 1) many)
 
 all_in_range : (a many : ℕ) → All (λ n. n < a + many) (range_with_len a many)
 all_in_range a zero = All-nil (λ n. n < a + zero)

@@ -1,13 +1,12 @@
 -- What a frame leaves if no queue was applied.
-use Rattle.std.proofs.Common.{rules, ◌≡◌, ℕ, Option, Vec, Global, List, drop, refl, ap, ◌∙◌, subst}
+use Rattle.std.proofs.Common.{rules, ◌≡◌, ℕ, Option, Vec, Global, List, drop, ap, ◌∙◌, subst}
 use Rattle.std.specs.Prelude.{IfSome}
 use Rattle.std.proofs.Math.ListN.{drop_of_length-le}
 use Rattle.ent_alloc.specs.Sequential.{Allocator, available}
 use Rattle.ent_alloc.specs.Sound.{IsSound}
-use Rattle.ent_alloc.specs.History.{Call, after_history, requests_of}
-use Rattle.ent_alloc.proofs.PoolLaw.{after_takes, after_takes-sound, available-after_takes}
-use Rattle.ent_alloc.proofs.PoolLaw.{limits-after_takes, live-after_takes, made-after_takes}
-use Rattle.ent_alloc.proofs.PoolLaw.{length-taken}
+use Rattle.ent_alloc.specs.History.{Call}
+use Rattle.ent_alloc.proofs.PoolLaw.{after_takes-sound, available-after_takes, limits-after_takes}
+use Rattle.ent_alloc.proofs.PoolLaw.{live-after_takes, made-after_takes, length-taken}
 use Rattle.ent_alloc.proofs.Histories.{after_history-takes}
 use Rattle.ent_queue.specs.Command.{Command}
 use Rattle.ent_world.specs.World.{World}
@@ -18,12 +17,13 @@ use Rattle.ent_runner.specs.Frame.{IsFrame, IsLost, IsBrokenOff, reserved_by}
 flushed_pool : (s : Allocator) → IsSound s → s.asked ≡ 0 → s.pool ≡ available s
 flushed_pool s sound flushed = sound.pool ∙ ap (λ n. drop n (available s)) flushed
 
-lost_after : (before : World) (s after : Allocator) → IsSound s → s.asked ≡ 0 → before.allocator ≡ s
-    → (requests : List ℕ) → after ≡ after_takes s requests → (w : World) → w
-    ≡ record before { allocator = after } → IsLost before w
-lost_after before s after sound flushed is requests taken w changed =
+pub is_lost : (before w : World) (history : List Call) → IsSound before.allocator
+    → before.allocator.asked ≡ 0 → w ≡ reserved_by history before → IsLost before w
+is_lost before w history sound flushed changed =
+    let takes = after_history-takes before.allocator history in
     search (
       rules,
+      takes,
       after_takes-sound,
       available-after_takes,
       flushed_pool,
@@ -33,12 +33,6 @@ lost_after before s after sound flushed is requests taken w changed =
       length-taken,
       drop_of_length-le,
     )
-
-pub is_lost : (before w : World) (history : List Call) → IsSound before.allocator
-    → before.allocator.asked ≡ 0 → w ≡ reserved_by history before → IsLost before w
-is_lost before w history sound flushed changed = lost_after before before.allocator
-    (after_history before.allocator history) sound flushed refl (requests_of history)
-    (after_history-takes before.allocator history) w changed
 
 -- What is known of a world that was opened and closed again, and of the queues, if there are any.
 abbrev pub ClosedAgain : {S : Type 0} → (S → View → List Command → Type 0)
@@ -64,9 +58,4 @@ module _ {S : Type 0} (may leave : S → View → List Command → Type 0) (syst
     pub broken_again : (workers : ℕ) → world.shared.count ≡ workers → (history : List Call)
         × IsBrokenOff may leave systems workers before history
         × (after ≡ reserved_by history before)
-    broken_again workers count = (
-      closed.0,
-      subst (λ w. IsBrokenOff may leave systems w before closed.0) count
-          (subst (λ b. IsBrokenOff may leave systems world.shared.count b closed.0) same closed.1),
-      changed,
-    )
+    broken_again workers count = (closed.0, search rules, changed)

@@ -1,14 +1,13 @@
 -- A worker runs one system after the other.
-use Rattle.std.proofs.Common.{rules, ◌≡◌, ℕ, ◌<◌, List, [], ◌∷◌, ◌++◌, length, ap, sym, ◌∙◌, subst}
-use Rattle.std.proofs.Common.{inl, inr, arith, get_or, Vec, Global, slice_get, Some, ◌-◌}
+use Rattle.std.proofs.Common.{rules, ◌≡◌, ℕ, ◌<◌, List, [], ◌∷◌, ◌++◌, length, ap, ◌∙◌, subst, inl}
+use Rattle.std.proofs.Common.{inr, arith, get_or, Vec, Global, slice_get, Some, ◌-◌}
 use Rattle.std.proofs.lemmas.Grind.{common_steps}
 use Rattle.std.specs.Prelude.{Result, Ok, Err, OnOk, OnErr}
 use Rattle.std.proofs.lemmas.Option.{get_or_from_slice_get, slice_get-get_or}
-use Rattle.std.proofs.Math.Seq.{get_or-append_seam}
-use Rattle.std.specs.List.{All, AllPairs}
+use Rattle.std.specs.List.{All}
 use Rattle.std.proofs.lemmas.List.Quantifiers.{all_pairs_push}
-use Rattle.std.proofs.lemmas.List.{map-append, length-append}
-use Rattle.std.proofs.lemmas.List.Elements.{All-nil, All-cons, All-append, All-weaker}
+use Rattle.std.proofs.lemmas.List.{map-append, length-append, get_or_push}
+use Rattle.std.proofs.lemmas.List.Elements.{All-push}
 use Rattle.ent_shared.specs.declared.record.Record.{Record}
 use Rattle.ent_queue.specs.Command.{Command}
 use Rattle.ent_queue.specs.Reserving.{Gains}
@@ -37,15 +36,10 @@ module _ {S : Type 0} (may : S → View → List Command → Type 0) (systems : 
         → SystemMayIssue may systems view i.system i.queue → more ≡ claims ++ i.system ∷ [] → next
         ≡ issued ++ i ∷ [] → HasRun may systems view a c more next
     ran_more a b c claims more issued next i ran gains may_it claimed pushed = record {
-      claims = systems_more issued next i claims more pushed ran.claims claimed;
-      gains = subst (λ cs. Gains a cs c) (sym (queues_more issued next i pushed))
-          (gains_then a b c (commands_issued issued) i.queue ran.gains gains);
-      each = subst (All (λ (i : SystemQueue). SystemMayIssue may systems view i.system i.queue))
-          (sym pushed) (All-append (λ (i : SystemQueue). SystemMayIssue may systems view i.system
-          i.queue) issued (i ∷ []) ran.each
-          (All-cons (λ (i : SystemQueue). SystemMayIssue may systems view i.system i.queue) i []
-          may_it (All-nil (λ (i : SystemQueue). SystemMayIssue may systems view i.system
-          i.queue))));
+      claims = search (rules, map-append);
+      gains = search (rules, queues_more issued next i pushed, gains_then a b c);
+      each = rw pushed (All-push (λ (i : SystemQueue). SystemMayIssue may systems view i.system
+          i.queue) issued i ran.each may_it);
     }
 
     -- a worker that ran some systems, each of which ended
@@ -55,9 +49,7 @@ module _ {S : Type 0} (may : S → View → List Command → Type 0) (systems : 
     ran_some leave a b claims issued ran = record {
       claims = ran.claims;
       gains = ran.gains;
-      each = All-weaker (λ (i : SystemQueue). SystemMayIssue may systems view i.system i.queue)
-          (λ (i : SystemQueue). SystemMayHaveIssued may leave systems view i.system i.queue)
-          (λ i m. inl m) issued ran.each;
+      each = λ k d within. inl (ran.each k d within);
       ended = λ i j d less within. ran.each i d (omega arith);
     }
 
@@ -68,46 +60,31 @@ module _ {S : Type 0} (may : S → View → List Command → Type 0) (systems : 
         issued
         → Gains b i.queue c → SystemMayIssue leave systems view i.system i.queue → more ≡ claims
         ++ i.system ∷ [] → next ≡ issued ++ i ∷ [] → HasRunSome may leave systems view a c more next
-    ran_last leave a b c claims more issued next i ran gains left claimed pushed =
-        let P : SystemQueue → Type 0 = λ (i : SystemQueue). SystemMayHaveIssued may leave systems
-        view
-        i.system i.queue in
-        let R : SystemQueue → SystemQueue → Type 0 = λ (i later : SystemQueue). SystemMayIssue may
-        systems view i.system i.queue in
-        record {
-          claims = systems_more issued next i claims more pushed ran.claims claimed;
-          gains = subst (λ cs. Gains a cs c) (sym (queues_more issued next i pushed))
-              (gains_then a b c (commands_issued issued) i.queue ran.gains gains);
-          each = subst (All P) (sym pushed)
-              (All-append P issued (i ∷ [])
-              (All-weaker (λ (i : SystemQueue). SystemMayIssue may systems view i.system i.queue) P
-              (λ i m. inl m) issued ran.each) (All-cons P i [] (inr left) (All-nil P)));
-          ended = subst (AllPairs R) (sym pushed)
-              (all_pairs_push R issued i (λ i j d less within. ran.each i d (omega arith))
-              (λ k d within. ran.each k d within));
-        }
-
--- what a run says of the system that stands at its number
-issued_there : {S : Type 0} (may : S → View → List Command → Type 0) (systems : List S)
-    (view : View) (n : ℕ) (d : S) (queue finished : List Command) → finished ≡ queue
-    → may (get_or systems n d) view queue → SystemMayIssue may systems view n finished
-issued_there may systems view n d queue finished same ran system at =
-    search (rules, get_or_from_slice_get)
+    ran_last leave a b c claims more issued next i ran gains left claimed pushed = record {
+      claims = search (rules, map-append);
+      gains = rw (queues_more issued next i pushed)
+          (gains_then a b c (commands_issued issued) i.queue ran.gains gains);
+      each = rw pushed (All-push (λ (i : SystemQueue). SystemMayHaveIssued may leave systems view
+          i.system i.queue) issued i (λ k d within. inl (ran.each k d within)) (inr left));
+      ended = rw pushed (all_pairs_push (λ (i later : SystemQueue). SystemMayIssue may systems view
+          i.system i.queue) issued i (λ i j d less within. ran.each i d (omega arith)) ran.each);
+    }
 
 -- if it ended, and if it stopped
 pub issued_ok : {S A E : Type 0} (may : S → View → List Command → Type 0) (systems : List S)
     (view : View) (n : ℕ) (d : S) (queue finished : List Command) (r : Result A E) → finished
     ≡ queue → OnOk r (may (get_or systems n d) view queue)
     → OnOk r (SystemMayIssue may systems view n finished)
-issued_ok may systems view n d queue finished (Ok a) same ran = search (rules, issued_there)
-issued_ok may systems view n d queue finished (Err e) same ran = tt
+issued_ok may systems view n d queue finished r same ran =
+    search (rules, get_or_from_slice_get)
 
 pub issued_err : {S A E : Type 0} (may : S → View → List Command → Type 0) (systems : List S)
     (view : View) (n : ℕ) (d : S) (queue finished : List Command) (r : Result A E) → finished
     ≡ queue → OnErr r (may (get_or systems n d) view queue)
     → OnErr r (SystemMayIssue may systems view n finished)
 issued_err may systems view n d queue finished (Ok a) same ran = tt
-issued_err may systems view n d queue finished (Err e) same ran = search (rules, issued_there)
+issued_err may systems view n d queue finished (Err e) same ran =
+    search (rules, get_or_from_slice_get)
 
 pub of_ok : {A E : Type 0} (X : Type 0) (r : Result A E) (a : A) → r ≡ Ok a → OnOk r X → X
 of_ok X r a is on = subst (λ r. OnOk r X) is on
@@ -116,27 +93,22 @@ pub of_err : {A E : Type 0} (X : Type 0) (r : Result A E) (e : E) → r ≡ Err 
 of_err X r e is on = subst (λ r. OnErr r X) is on
 
 pub on_err : {A E : Type 0} {P : Type 0} (r : Result A E) → P → OnErr r P
-on_err (Ok a) p = tt
-on_err (Err e) p = p
+on_err it p = search rules
 
 last_pushed : {X : Type 0} (xs : List X) (y : X)
     → slice_get (xs ++ y ∷ []) (length (xs ++ y ∷ []) - 1) ≡ Some y
 last_pushed xs y =
     let long = length-append xs (y ∷ []) in
-    let at : length (xs ++ y ∷ []) - 1 ≡ length xs = omega arith in
-    rw at (slice_get-get_or (xs ++ y ∷ []) (length xs) y (omega arith)
-    ∙ ap Some (get_or-append_seam xs y [] y))
+    slice_get-get_or (xs ++ y ∷ []) _ y (omega arith)
+    ∙ ap Some (get_or_push xs y y _ (omega arith))
 
 -- the system that stopped is the last one
 pub left_last : {S : Type 0} (leave : S → View → List Command → Type 0) (systems : List S)
     (view : View) (before : List SystemQueue) (issued : Vec SystemQueue Global) (last : SystemQueue)
     → issued.items ≡ before ++ last ∷ [] → SystemMayIssue leave systems view last.system last.queue
     → WasRefused leave systems view issued
-left_last leave systems view before issued last pushed left = inl (
-  last,
-  rw pushed (last_pushed before last),
-  left,
-)
+left_last leave systems view before issued last pushed left = inl
+    (last, search (rules, last_pushed), left)
 
 pub inside_more : {S : Type 0} (systems : List S) (issued next : List SystemQueue) (i : SystemQueue)
     → All (λ (i : SystemQueue). i.system < length systems) issued → i.system < length systems → next

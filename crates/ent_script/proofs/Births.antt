@@ -1,16 +1,15 @@
 -- The texts of births, cut at their dots.
-use Rattle.std.proofs.Common.{rules, ◌≡◌, ◌≢◌, ℕ, Bool, true, false, eqb, List, [], ◌∷◌, ◌++◌}
-use Rattle.std.proofs.Common.{Result, Err, All, refl, sym, ap, ◌∙◌, inl, inr, arith}
+use Rattle.std.proofs.Common.{rules, ◌≡◌, ◌≢◌, ℕ, Bool, true, false, eqb, List, [], ◌∷◌, ◌++◌, Err}
+use Rattle.std.proofs.Common.{All, refl, sym, ◌∙◌, inl, inr, arith}
 use Rattle.std.proofs.lemmas.Grind.{common_steps}
-use Rattle.std.specs.List.{join_with_byte, slice_split}
+use Rattle.std.specs.List.{slice_split}
 use Rattle.std.proofs.lemmas.Bool.{cases_Bool, ne_eqb, cond-false}
 use Rattle.std.proofs.lemmas.List.{get_or_default}
 use Rattle.std.proofs.lemmas.List.Splits.{slice_split_none, slice_split_at}
 use Rattle.std.proofs.lemmas.List.Splits.{join_with_byte-slice_split}
 use Rattle.ent_handle.specs.Text.{is_decimal}
 use Rattle.ent_handle.proofs.Decimals.{plain_from_decimal}
-use Rattle.ent_script.specs.Reading.{◌>>=◌, birth_number, birth_of_parts, birth_of}
-use Rattle.ent_script.specs.declared.cause.Cause.{Cause}
+use Rattle.ent_script.specs.Reading.{birth_number, birth_of_parts, birth_of}
 use Rattle.ent_script.specs.declared.cause.Cause.TheVariants as cause
 
 abbrev is_dot : ℕ → Bool
@@ -31,11 +30,6 @@ decimal_without_dot ds is k d lt e =
 number_refused : (ds : List ℕ) → is_decimal ds ≡ false → birth_number ds ≡ Err cause.Birth
 number_refused ds lacks = search (rules, cond-false)
 
--- whatever comes after a number, it is refused as the number is
-after_number : {A : Type 0} (ds : List ℕ) (f : ℕ → Result A Cause)
-    → ((n : ℕ) → f n ≡ Err cause.Birth) → (birth_number ds >>= f) ≡ Err cause.Birth
-after_number {A} ds f all = search (rules)
-
 pub ordinal_refused : (before : ℕ) (frame system ordinal : List ℕ)
     → birth_number ordinal ≡ Err cause.Birth
     → birth_of_parts before (frame ∷ system ∷ ordinal ∷ []) ≡ Err cause.Birth
@@ -45,27 +39,21 @@ ordinal_refused before frame system ordinal lacks = grind (arith, common_steps)
 pub birth_of_whole : (before : ℕ) (text : List ℕ) → IsWithoutDot text
     → birth_of before text ≡ Err cause.Birth
 unfolding birth_of
-birth_of_whole before text h =
-    ap (birth_of_parts before) (slice_split_none is_dot text (fails text h))
+birth_of_whole before text h = search (rules, slice_split_none, fails)
 
 -- one dot: no birth
 pub birth_of_halves : (before : ℕ) (text frame others : List ℕ) → text ≡ frame ++ 46 ∷ others
     → IsWithoutDot frame → IsWithoutDot others → birth_of before text ≡ Err cause.Birth
 unfolding birth_of
 birth_of_halves before text frame others e f h =
-    ap (birth_of_parts before) (ap (slice_split is_dot) e
-    ∙ slice_split_at is_dot frame 46 others (fails frame f) refl
-    ∙ ap (λ (parts : List (List ℕ)). frame ∷ parts) (slice_split_none is_dot others
-    (fails others h)))
+    search (rules, slice_split_none, slice_split_at, fails)
 
 one_part : (before : ℕ) (frame system ordinal : List ℕ) (parts : List (List ℕ))
     → slice_split is_dot ordinal ≡ parts → is_decimal ordinal ≡ false
     → birth_of_parts before (frame ∷ system ∷ parts) ≡ Err cause.Birth
 one_part before frame system ordinal [] e lacks = refl
 one_part before frame system ordinal (part ∷ []) e lacks =
-    ordinal_refused before frame system part (number_refused part
-    (ap is_decimal (sym (ap (join_with_byte 46) e) ∙ join_with_byte-slice_split 46 ordinal)
-    ∙ lacks))
+    search (rules, number_refused, join_with_byte-slice_split 46 ordinal)
 one_part before frame system ordinal (part ∷ more ∷ others) e lacks = refl
 
 -- the parts round the first two dots are the numbers, or there is no birth
@@ -75,14 +63,15 @@ pub birth_of_split : (before : ℕ) (text frame others system ordinal : List ℕ
     → birth_of before text ≡ birth_of_parts before (frame ∷ system ∷ ordinal ∷ [])
 unfolding birth_of
 birth_of_split before text frame others system ordinal e e' f s =
-    ap (birth_of_parts before) (ap (slice_split is_dot) e
-    ∙ slice_split_at is_dot frame 46 others (fails frame f) refl
-    ∙ ap (λ (o : List ℕ). frame ∷ slice_split is_dot o) e'
-    ∙ ap (λ (parts : List (List ℕ)). frame ∷ parts)
-    (slice_split_at is_dot system 46 ordinal (fails system s) refl))
-    ∙ elim (cases_Bool (is_decimal ordinal)) [
-      | inl is ↦ ap (λ (parts : List (List ℕ)). birth_of_parts before (frame ∷ system ∷ parts))
-          (slice_split_none is_dot ordinal (fails ordinal (decimal_without_dot ordinal is)))
-      | inr lacks ↦ one_part before frame system ordinal (slice_split is_dot ordinal) refl lacks
+    rw (
+      e,
+      slice_split_at is_dot frame 46 others (fails frame f) refl,
+      e',
+      slice_split_at is_dot system 46 ordinal (fails system s) refl,
+    )
+    (elim (cases_Bool (is_decimal ordinal)) [
+      | inl is ↦ rw (slice_split_none is_dot ordinal
+          (fails ordinal (decimal_without_dot ordinal is))) refl
+      | inr lacks ↦ one_part before frame system ordinal _ refl lacks
           ∙ sym (ordinal_refused before frame system ordinal (number_refused ordinal lacks))
-    ]
+    ])

@@ -1,9 +1,8 @@
 -- Values that are cut, beside the members of an object as they are put in.
 use Rattle.std.proofs.lemmas.Grind.{common_steps}
-use Rattle.std.proofs.Common.{◌≡◌, ℕ, List, [], ◌∷◌, Option, Some, None, String, Vec, BTreeMap}
-use Rattle.std.proofs.Common.{Global, Ordering, string_bytes, string_cmp, refl, sym, ap, ◌∙◌, rules}
-use Rattle.std.proofs.Common.{zero, suc, ◌<◌, ◌-◌, length, arith}
-use Rattle.std.specs.Ordering.{match_ordering}
+use Rattle.std.proofs.Common.{◌≡◌, ℕ, List, [], ◌∷◌, Option, Some, String, Vec, BTreeMap, Global}
+use Rattle.std.proofs.Common.{string_bytes, string_cmp, refl, rules, zero, suc, ◌<◌, ◌-◌, length}
+use Rattle.std.proofs.Common.{arith}
 use Rattle.std.specs.BTreeMap.{insert_entry}
 use Rattle.json.specs.Token.{Token}
 use Rattle.json.specs.Json.{parse_map, value, items, members}
@@ -22,10 +21,6 @@ pub view-Object : (m : BTreeMap (String Global) Value) → view (Object m) ≡ o
     (members_view m.entries)
 view-Object m = search (rules, the_lemmas)
 
-members_view-match_ordering : (o : Ordering) (a b c : List (String Global × Value)) → members_view
-    (match_ordering o a b c) ≡ match_ordering o (members_view a) (members_view b) (members_view c)
-members_view-match_ordering it a b c = search rules
-
 pub members_view-insert_entry : (es : List (String Global × Value)) (k : String Global) (v : Value)
     → members_view (insert_entry string_cmp es k v) ≡ put (string_bytes k) (view v)
     (members_view es)
@@ -35,16 +30,8 @@ members_view-insert_entry (e ∷ es) k v = search (rules, members_view-insert_en
 pub cut_members-put : (levels : ℕ) (k : List ℕ) (d : Data) (ms : Members) → cut_members levels
     (put k d ms) ≡ put k (cut levels d) (cut_members levels ms)
 cut_members-put levels k d no_members = refl
-cut_members-put levels k d (member l e ms) = grind (arith, common_steps, cut_members-put levels k d ms)
-
--- an array that was read, and an object
-abbrev data_of : Data → Option (Data × List Token) → Data
-data_of d None = d
-data_of d (Some p) = p.0
-
-abbrev rest_of : List Token → Option (Data × List Token) → List Token
-rest_of r None = r
-rest_of r (Some p) = p.1
+cut_members-put levels k d (member l e ms) =
+    grind (arith, common_steps, cut_members-put levels k d ms)
 
 pub array_read : (o : Option (Items × List Token)) (d : Data) (r : List Token) → parse_map array o ≡
     Some (d, r) → (ds : Items) × (d ≡ array ds) × (o ≡ Some (ds, r))
@@ -60,12 +47,7 @@ pub opened_array : (depth : ℕ) (ts r : List Token) (d : Data) → converted of
     (converted of_items (items (value (depth - 1)) (length ts) ts) ≡ Some (ds, r)))
 unfolding value
 opened_array zero ts r d e = absurd (cc)
-opened_array (suc n) ts r d e =
-    let some : 0 < suc n = omega arith in
-    let read = array_read (converted of_items (items (value (suc n - 1)) (length ts) ts)) d r
-    (sym (ap (converted of_json) (value-begin_array (suc n) ts some) ∙ converted-array
-    (items (value (suc n - 1)) (length ts) ts)) ∙ e) in
-    (some, read)
+opened_array (suc n) ts r d e = search (rules, array_read, value-begin_array, converted-array)
 
 pub opened_object : (depth : ℕ) (ts r : List Token) (d : Data) → converted of_json
     (value depth (Token.begin_object ∷ ts)) ≡ Some (d, r)
@@ -74,10 +56,4 @@ pub opened_object : (depth : ℕ) (ts r : List Token) (d : Data) → converted o
     (ms, r)))
 unfolding value
 opened_object zero ts r d e = absurd (cc)
-opened_object (suc n) ts r d e =
-    let some : 0 < suc n = omega arith in
-    let read = object_read (converted (λ ms. of_members ms no_members)
-    (members (value (suc n - 1)) (length ts) ts)) d r
-    (sym (ap (converted of_json) (value-begin_object (suc n) ts some) ∙ converted-object
-    (members (value (suc n - 1)) (length ts) ts)) ∙ e) in
-    (some, read)
+opened_object (suc n) ts r d e = search (rules, object_read, value-begin_object, converted-object)

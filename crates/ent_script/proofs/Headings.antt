@@ -1,6 +1,6 @@
 -- What the first pass over a text finds: whether it is JSON, and its heading.
-use Rattle.std.proofs.Common.{rules, ◌≡◌, ℕ, List, [], ◌∷◌, Option, Some, None, option_map, is_some}
-use Rattle.std.proofs.Common.{option_and_then, ok_or, Result, Ok, Err, Bool, true, false, cond, ap}
+use Rattle.std.proofs.Common.{rules, ◌≡◌, ℕ, List, [], ◌∷◌, Option, Some, None, is_some}
+use Rattle.std.proofs.Common.{option_and_then, ok_or, Result, Ok, Err, Bool, false, cond, ap}
 use Rattle.std.proofs.Common.{MatchOption}
 use Rattle.std.specs.Str.{IsUtf8}
 use Rattle.std.proofs.lemmas.Str.{is_utf8-from_IsUtf8}
@@ -15,15 +15,10 @@ use Rattle.ent_script.specs.Script.{Script}
 use Rattle.ent_script.specs.declared.heading.Heading.{Heading}
 use Rattle.ent_script.specs.declared.read_fault.ReadFault.{ReadFault}
 use Rattle.ent_script.specs.declared.read_fault.ReadFault.TheVariants.{Json}
-use Rattle.ent_script.proofs.Finding.{second_of}
 
 -- the heading of what a text is read as
 abbrev pub headed : Option Data → Result Heading ReadFault
 headed o = ok_or o Json >>= λ d. in_script (heading_of d)
-
-abbrev fault_or : ReadFault → Result Heading ReadFault → ReadFault
-fault_or e (Ok h) = e
-fault_or e (Err f) = f
 
 abbrev err : ReadFault → Result Script ReadFault
 err e = Err e
@@ -45,31 +40,9 @@ pub refused : (text : List ℕ) → converted of_json (value 127 (tokens text)) 
     → read text ≡ None
 refused text e = refused_by (value 127 (tokens text)) e
 
-apart : (t : Token) (ts : List Token) → [] ≡ t ∷ ts → ⊥
-apart t ts e = absurd (cc e)
-
-longer_by : (o : Option (json.Json × List Token)) (d : Data) (t : Token) (ts : List Token)
-    → converted of_json o ≡ Some (d, t ∷ ts) → last o ≡ None
-longer_by us d t ts e = search (rules, apart, second_of)
-
--- a text that goes on after its value
-pub longer : {T : Type 0} (r : Option T) (f : T → Token) (text : List ℕ) (d : Data)
-    (left after : List Token) → is_some r ≡ true
-    → MatchOption r ((left ≡ []) × (after ≡ [])) (λ t. left ≡ f t ∷ after)
-    → converted of_json (value 127 (tokens text)) ≡ Some (d, left) → read text ≡ None
-longer it f text d left after some next e = search (rules, longer_by)
-
 abbrev first : Data → Option (Data × List Token) → Data
 first d None = d
 first d (Some p) = p.0
-
-no_more : (t : Token) (ts : List Token) (o : Option Data) (d : Data)
-    → option_map {U = Data × List Token} (λ b. (b, t ∷ ts)) o ≡ Some (d, []) → None ≡ Some d
-no_more t ts it d e = search (rules, apart, second_of)
-
-whole_by : (o : Option (json.Json × List Token)) (d : Data)
-    → converted of_json o ≡ Some (d, []) → last o ≡ Some d
-whole_by ts d e = search (rules, no_more)
 
 -- a text that is its value
 pub whole : {T : Type 0} (r : Option T) (f : T → Token) (text : List ℕ) (d : Data)

@@ -1,6 +1,5 @@
 -- The keys of an object, as they lie in memory.
-use Rattle.std.proofs.Common.{◌≡◌, ℕ, List, Bool, false, ◌&&◌, map, Bor, Option, Some, option_map}
-use Rattle.std.proofs.Common.{is_some, unwrap_or, sym, ap, ◌∙◌}
+use Rattle.std.proofs.Common.{rules, ◌≡◌, ℕ, List, Bool, ◌&&◌, map, Bor, Some, is_some}
 use Rattle.std.specs.List.{list_all}
 use Rattle.std.proofs.lemmas.List.Folds.{list_all-map}
 use Rattle.serde_json.specs.Data.{Data}
@@ -14,12 +13,4 @@ pub both : (required allowed : List (Bor (List ℕ))) (d : Data) (ms : List (Lis
     → among ≡ keys_among (map (λ key. key.now) allowed) ms
     → (all && among) ≡ has_keys (map (λ key. key.now) required) (map (λ key. key.now) allowed) d
 unfolding has_keys
-both required allowed d ms all among whole is some =
-    let names = map (λ (key : Bor (List ℕ)). key.now) allowed in
-    ap (λ (b : Bool). b && among) (whole
-    ∙ sym (list_all-map (λ key. is_some (get key d)) (λ (key : Bor (List ℕ)). key.now) required))
-    ∙ ap (λ (b : Bool). list_all (λ key. is_some (get key d)) (map (λ (key : Bor (List ℕ)). key.now)
-    required) && b) some
-    ∙ ap (λ (o : Option (List (List ℕ × Data))). list_all (λ key. is_some (get key d))
-    (map (λ (key : Bor (List ℕ)). key.now) required)
-    && unwrap_or (option_map (keys_among names) o) false) is
+both required allowed d ms all among whole is some = search (rules, list_all-map)

@@ -1,8 +1,6 @@
--- Reading the elements of an array one after another, of at most so many.
-use Rattle.std.proofs.Common.{rules, ◌≡◌, ℕ, ◌+◌, ◌-◌, ◌<◌, ◌≤◌, List, [], ◌∷◌, ◌++◌, length, Some}
-use Rattle.std.proofs.Common.{None, Result, Ok, Err, Bool, true, false, cond, ok_or, refl, sym, ap}
-use Rattle.std.proofs.Common.{◌∙◌, arith}
-use Rattle.std.proofs.lemmas.Bool.{lt-leb, leb-true, leb-false}
+use Rattle.std.proofs.Common.{le-leb, add-one, rules, ◌≡◌, ℕ, ◌+◌, ◌-◌, ◌<◌, ◌≤◌, List, [], ◌∷◌}
+use Rattle.std.proofs.Common.{◌++◌, length, Some, None, Result, Ok, Err, false, cond, ok_or}
+use Rattle.std.proofs.lemmas.Bool.{lt-leb}
 use Rattle.std.proofs.lemmas.List.{append-nil}
 use Rattle.std.specs.Global.{Vec}
 use Rattle.std.specs.Prelude.{nat_le}
@@ -12,12 +10,14 @@ use Rattle.json.specs.Json.{Parse, after_end_array, items}
 use Rattle.serde_json.specs.Data.{Data, Items}
 use Rattle.serde_json.specs.Read.{of_json, of_items, converted}
 use Rattle.ent_script.specs.Json.{list_of}
-use Rattle.ent_script.specs.Reading.{◌>>=◌, numbered, ReadsAs, ReadsList}
+use Rattle.ent_script.specs.Reading.{◌>>=◌, numbered, ReadsList}
 use Rattle.ent_script.specs.Streaming.{Streams, StreamsList, FaultOfArray, ran_out}
 use Rattle.ent_script.specs.declared.read_fault.ReadFault.{ReadFault}
 use Rattle.ent_script.specs.declared.read_fault.ReadFault.TheVariants.{Json, Memory}
-use Rattle.ent_script.proofs.Numbering.{onto, onto_none, onto_one}
+use Rattle.ent_script.proofs.Numbering.{onto, onto_one}
 use Rattle.ent_script.proofs.Finding.{next_item, last_item}
+
+-- Reading the elements of an array one after another, of at most so many.
 
 pub streams_fault : {A : Type 0} (e : ReadFault) (left : List Token) (read : Result A ReadFault)
     (rest : List Token)
@@ -35,9 +35,6 @@ pub fault_streams_list : {A : Type 0} (e : ReadFault) (left : List Token)
     rest
 fault_streams_list it left read rest h = search rules
 
-abbrev pub done_with : {A : Type 0} → List A → Result (List A) ReadFault
-done_with xs = Ok xs
-
 -- what so many elements mean at most
 abbrev pub listed : {A : Type 0} → ℕ → (ℕ → Data → Result A ReadFault) → ReadFault → List Data →
     Result (List A) ReadFault
@@ -53,32 +50,23 @@ At p f done number now ds rest = (m : ℕ) × (later : Items)
     × (onto done (numbered f number (list_of later)) ≡ numbered f 0 (list_of ds))
 
 module _ {A : Type 0} (p : Parse json.Json) (f : ℕ → Data → Result A ReadFault) where
-  pub listed_few : (most : ℕ) (limit : ReadFault) (ds : List Data) → length ds ≤ most → listed most
-      f limit ds ≡ numbered f 0 ds
-  listed_few most limit ds h = search rules
-
   pub listed_many : (most : ℕ) (limit : ReadFault) (ds : List Data) → most < length ds → listed most
       f limit ds ≡ Err limit
   listed_many most limit ds h = search (rules, lt-leb)
-
-  pub at_start : (n : ℕ) (ts : List Token) (ds : Items) (rest : List Token) → converted of_items
-      (items p n ts) ≡ Some (ds, rest) → At p f [] 0 ts ds rest
-  at_start n ts ds rest e = (n, ds, e, omega arith, onto_none (numbered f 0 (list_of ds)))
 
   pub at_next : (done : List A) (number : ℕ) (now left : List Token) (x : A) (ds : Items)
       (rest : List Token) → At p f done number now ds rest → after_end_array now ≡ None
       → ((d : Data) (r : List Token) → converted of_json (p now) ≡ Some (d, r) → Streams (Ok x) left
       (f number d) r) → At p f (done ++ x ∷ []) (number + 1) left ds rest
   at_next done number now left x ds rest at going reads =
-      let next = next_item p at.0 now rest at.1 going at.2 in
-      search (rules, onto_one, onto)
+      search (rules, next_item p at.0 now rest at.1 going at.2, onto_one, onto)
 
   pub at_end : (most : ℕ) (limit : ReadFault) (done : List A) (number : ℕ) (now left : List Token)
       (ds : Items) (rest : List Token)
       → At p f done number now ds rest → after_end_array now ≡ Some left → number ≤ most
       → (listed most f limit (list_of ds) ≡ Ok done) × (left ≡ rest)
   at_end most limit done number now left ds rest at over few =
-      search (rules, last_item, listed_few, onto, append-nil)
+      search (rules, last_item, onto, append-nil)
 
   -- one element too many
   pub at_most_many : (most : ℕ) (limit found : ReadFault) (done : List A) (number : ℕ)
@@ -90,53 +78,24 @@ module _ {A : Type 0} (p : Parse json.Json) (f : ℕ → Data → Result A ReadF
   at_most_many most limit found done number now left ds rest at going full faults =
       search (rules, next_item, listed_many)
 
-  fault_by : (most : ℕ) (limit e found : ReadFault) (ds : List Data) (later room : ℕ) (b : Bool) →
-      nat_le later room ≡ b
-      → (length ds ≤ most → later ≤ room) → (most < length ds → room < later) →
-      (later ≤ room → length ds ≤ most) → (room < later → most < length ds)
-      → (later ≤ room → found ≡ e) → (room < later → found ≡ limit) → numbered f 0 ds ≡ Err e →
-      listed most f limit ds ≡ Err found
-  fault_by most limit e found ds later room true test a b c d few many means =
-      search (rules, leb-true, listed_few)
-  fault_by most limit e found ds later room false test a b c d few many means =
-      search (rules, leb-false, listed_many)
-
   -- an element that means nothing
-  pub at_fault : (most : ℕ) (limit e found : ReadFault) (done : List A) (number : ℕ)
+  pub at_fault : (most room : ℕ) (limit e found : ReadFault) (done : List A) (number : ℕ)
       (now left after : List Token) (ds : Items) (rest : List Token)
-      → At p f done number now ds rest → after_end_array now ≡ None → number < most →
-      (e ≡ Memory → ⊥)
+      → At p f done number now ds rest → after_end_array now ≡ None → room + number + 1 ≡ most
+      → (e ≡ Memory → ⊥)
       → ((d : Data) (r : List Token) → converted of_json (p now) ≡ Some (d, r) → Streams {A = A}
       (Err e) left (f number d) r)
       → ((n : ℕ) (later : Items) (r : List Token) → converted of_items (items p n left) ≡ Some
-      (later, r) → FaultOfArray (most - 1 - number) e limit found after later r)
+      (later, r) → FaultOfArray room e limit found after later r)
       → (listed most f limit (list_of ds) ≡ Err found) × (after ≡ rest)
-  at_fault most limit e found done number now left after ds rest at going room other reads faults =
+  at_fault most room limit e found done number now left after ds rest at going more other reads
+      faults =
       let next = next_item p at.0 now rest at.1 going at.2 in
       let is = streams_fault e left (f number next.0) next.1 other (reads next.0 next.1 next.4) in
-      let later : list_of at.1 ≡ next.0 ∷ list_of next.2 = ap list_of next.3 in
-      let fault = faults (at.0 - 1) next.2 rest
-      (ap (λ ts. converted of_items (items p (at.0 - 1) ts)) is.1 ∙ next.5) in
-      let means : numbered f 0 (list_of ds) ≡ Err e =
-      sym at.4 ∙ ap (λ (xs : List Data). onto done (numbered f number xs)) later
-      ∙ ap
-      (λ (r : Result A ReadFault). onto done
-      (r >>= λ y. numbered f (number + 1) (list_of next.2) >>= λ ys. Ok (y ∷ ys))) is.0 in
-      let longer : length (list_of at.1) ≡ length (list_of next.2) + 1 = ap length later ∙ omega
-      arith in (
-        fault_by most limit e found (list_of ds) (length (list_of next.2)) (most - 1 - number)
-            (nat_le (length (list_of next.2)) (most - 1 - number)) refl
-            (λ h. omega (arith, at.3, longer, h, room)) (λ h. omega (arith, at.3, longer, h, room))
-            (λ h. omega (arith, at.3, longer, h, room)) (λ h. omega (arith, at.3, longer, h, room))
-            fault.few fault.many means,
-        fault.passed,
-      )
-
--- what was read, and where the reader stands
-pub read_and_left : {A : Type 0} (r : Result A ReadFault) (left : List Token)
-    (read : Result A ReadFault) (rest : List Token)
-    → ReadsAs r read → left ≡ rest → Streams r left read rest
-read_and_left it left read rest h is = search rules
+      let fault = faults (at.0 - 1) next.2 rest (rw is.1 next.5) in
+      let means : numbered f 0 (list_of ds) ≡ Err e = search (rules, onto) in
+      let longer : length (list_of at.1) ≡ length (list_of next.2) + 1 = search (rules, add-one) in
+      (search (rules, le-leb, lt-leb, fault.few, fault.many), fault.passed)
 
 pub streamed_list : {A : Type 0} (r : Result (Vec A) ReadFault) (left : List Token)
     (read : Result (List A) ReadFault) (rest : List Token)

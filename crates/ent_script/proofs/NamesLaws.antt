@@ -1,4 +1,4 @@
--- Names and their numbers.
+use Rattle.std.proofs.lemmas.List.{length-map, map-append}
 use Rattle.std.proofs.Common.{rules, ◌≡◌, ℕ, ◌+◌, ◌<◌, Bool, true, false, List, [], ◌∷◌, ◌++◌}
 use Rattle.std.proofs.Common.{length, map, Option, Some, None, option_map, is_some, IfSome, cond}
 use Rattle.std.proofs.Common.{refl, sym, ap, ◌∙◌, arith, bytes_eq, true≢false, suc, add-one, Bor}
@@ -13,6 +13,8 @@ use Rattle.serde_json.specs.Data.{Data}
 use Rattle.ent_script.specs.Names.{as_name, number_among, with_name}
 use Rattle.ent_script.specs.Reading.{new_name}
 use Rattle.ent_script.specs.Numbers.{HaveNumbers}
+
+-- Names and their numbers.
 
 -- a name's number is less than how many there are
 pub number_within : (name : List ℕ) (names : List (List ℕ)) → IfSome (number_among name names)
@@ -43,22 +45,17 @@ number_among-append text name [] = refl
 number_among-append text name (first ∷ others) =
     search (rules, here_or_later, number_among-append text name others)
 
-no_other : (found : Option ℕ) → found ≡ first_of found None
-no_other it = search rules
-
 pub at_end : (text name : List ℕ) (names : List (List ℕ)) → number_among name names ≡ None
     → cond (bytes_eq name text) (Some (length names)) (number_among text names)
     ≡ number_among text (names ++ name ∷ [])
-at_end text name names none = search (rules, bytes_eq-Decides, no_other, number_among-append)
+at_end text name names none = search (rules, bytes_eq-Decides, number_among-append)
 
 map_now : (names : List (Bor (List ℕ))) (name : Bor (List ℕ))
     → map (λ n. n.now) (names ++ name ∷ []) ≡ map (λ n. n.now) names ++ name.now ∷ []
-map_now [] name = refl
-map_now (n ∷ names) name = ap (λ (ns : List (List ℕ)). n.now ∷ ns) (map_now names name)
+map_now names name = search (rules, map-append)
 
 length_now : (names : List (Bor (List ℕ))) → length names ≡ length (map (λ n. n.now) names)
-length_now [] = refl
-length_now (n ∷ names) = ap suc (length_now names)
+length_now names = sym (length-map names (λ n. n.now))
 
 -- a new name goes last
 pub numbers_added : (names : List (Bor (List ℕ))) (numbers after : BTreeMap (Bor (List ℕ)) ℕ)
@@ -67,14 +64,13 @@ pub numbers_added : (names : List (Bor (List ℕ))) (numbers after : BTreeMap (B
     numbers ≡ None → Updates (λ x y. slice_cmp nat_cmp x.now y.now) numbers after name (Some n)
     → HaveNumbers (names ++ name ∷ []) after
 numbers_added names numbers after name n count old none updates = λ text.
-    let seen = map (λ (m : Bor (List ℕ)). m.now) names in
-    let absent : number_among name.now seen ≡ None = sym (old name.now) ∙ none in
-    btree_map_updates_str name.now numbers after (Some n) updates text
-    ∙ ap (λ (found : Option ℕ). cond (bytes_eq name.now text) (Some n) found) (old text)
-    ∙ ap (λ (m : ℕ). cond (bytes_eq name.now text) (Some m) (number_among text seen)) (count
-    ∙ length_now names)
-    ∙ at_end text name.now seen absent
-    ∙ ap (number_among text) (sym (map_now names name))
+    rw (
+      btree_map_updates_str name.now numbers after (Some n) updates text,
+      old text,
+      count,
+      length_now names,
+      map_now names name,
+    ) (at_end text name.now _ (sym (old name.now) ∙ none))
 
 pub none_of : (found : Option ℕ) (b : Bool) → b ≡ is_some found → b ≡ false → found ≡ None
 none_of it b e h = search (rules, true≢false)

@@ -1,9 +1,8 @@
 -- Reading the elements of an array one after another.
 use Rattle.std.proofs.lemmas.Grind.{common_steps}
-use Rattle.std.proofs.Common.{rules, ◌≡◌, ℕ, ◌+◌, ◌<◌, ◌≤◌, zero, suc, List, [], ◌∷◌, ◌++◌, length}
-use Rattle.std.proofs.Common.{map, take, drop, get_or, Result, Ok, Err, Option, refl, sym, ap}
-use Rattle.std.proofs.Common.{arith, add-one, append_assoc}
-use Rattle.std.proofs.lemmas.List.{append-nil}
+use Rattle.std.proofs.Common.{rules, ◌≡◌, ℕ, ◌+◌, ◌<◌, zero, suc, List, [], ◌∷◌, ◌++◌, length, map}
+use Rattle.std.proofs.Common.{take, drop, get_or, Result, Ok, Err, Option, refl, sym, ap, arith}
+use Rattle.std.proofs.Common.{add-one, append_assoc}
 use Rattle.serde_json.specs.Data.{Data}
 use Rattle.serde_json.specs.View.{view}
 use Rattle.serde_json.specs.declared.value.Value.{Value}
@@ -30,19 +29,10 @@ until_here [] i v h e = absurd (omega arith)
 until_here (first ∷ vs) zero v h e = ap (λ (d : Data). d ∷ []) (sym (ap view e))
 until_here (first ∷ vs) (suc i) v h e = search (rules, until_here vs i v (omega arith) e)
 
-from_end : (vs : List Value) (i : ℕ) → length vs ≤ i → from vs i ≡ []
-from_end [] zero h = refl
-from_end [] (suc i) h = refl
-from_end (v ∷ vs) zero h = absurd (omega arith)
-from_end (v ∷ vs) (suc i) h = from_end vs i (omega arith)
-
 -- what was read so far, with what is read after it
 abbrev pub onto : {A E : Type 0} → List A → Result (List A) E → Result (List A) E
 onto front (Ok xs) = Ok (front ++ xs)
 onto front (Err e) = Err e
-
-pub onto_none : {A E : Type 0} (read : Result (List A) E) → onto [] read ≡ read
-onto_none it = search rules
 
 abbrev ok : (A E : Type 0) → List A → Result (List A) E
 ok A E xs = Ok xs
@@ -63,10 +53,6 @@ module _ {A E : Type 0} (f : ℕ → Data → Result A E) where
       (total : Result (List A) E) → i < length vs → v ≡ get_or vs i v → f i (view v) ≡ Err e
       → onto front (numbered f i (from vs i)) ≡ total → total ≡ Err e
   stops vs i v front e total h is means invariant = search (rules, from_here)
-
-  pub ends : (vs : List Value) (i : ℕ) (front : List A) (total : Result (List A) E)
-      → length vs ≤ i → onto front (numbered f i (from vs i)) ≡ total → total ≡ Ok front
-  ends vs i front total h invariant = search (rules, from_end, append-nil)
 
 -- the names that are found as far as the next element
 pub names_on : (f : Data → Option (List ℕ)) (vs : List Value) (i : ℕ) (v : Value) → i < length vs

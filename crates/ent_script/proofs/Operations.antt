@@ -1,10 +1,10 @@
 -- Reading the operations of a system one after another, with the names that they bind.
 use Rattle.std.proofs.Common.{rules, ◌≡◌, ℕ, zero, suc, ◌+◌, ◌-◌, List, [], ◌∷◌, ◌++◌, length, take}
-use Rattle.std.proofs.Common.{drop, Some, None, Result, Ok, Bool, cond, ok_or, sym, ap, ◌∙◌, arith}
+use Rattle.std.proofs.Common.{drop, Some, None, Result, Ok, Bool, cond, ok_or, ap, ◌∙◌, arith}
 use Rattle.std.proofs.Common.{add-one}
 use Rattle.std.proofs.lemmas.Grind.{common_steps}
 use Rattle.std.proofs.lemmas.List.Sums.{fold-append}
-use Rattle.std.specs.Prelude.{◌⊎◌, nat_le}
+use Rattle.std.specs.Prelude.{nat_le}
 use Rattle.json.specs.Token.{Token}
 use Rattle.json.specs.Json as json
 use Rattle.json.specs.Json.{Parse, after_end_array, items}
@@ -18,14 +18,11 @@ use Rattle.ent_script.specs.Names.{with_part, names_in}
 use Rattle.ent_script.specs.Reading.{◌>>=◌, numbered, bound_name}
 use Rattle.ent_script.specs.Streaming.{Streams}
 use Rattle.ent_script.specs.declared.read_fault.ReadFault.{ReadFault}
-use Rattle.ent_script.specs.declared.read_fault.ReadFault.TheVariants.{Json, Memory}
+use Rattle.ent_script.specs.declared.read_fault.ReadFault.TheVariants.{Json}
 use Rattle.ent_script.proofs.CutMeanings.{bound_name-cut}
 use Rattle.ent_script.proofs.Finding.{next_item}
 use Rattle.ent_script.proofs.Listing.{listed}
-use Rattle.ent_script.proofs.Numbering.{onto, onto_none, onto_one}
-
-pub memory_only : (e : ReadFault) → (e ≡ Json) ⊎ (e ≡ Memory) → (e ≡ Json → ⊥) → e ≡ Memory
-memory_only e which other = search rules
+use Rattle.ent_script.proofs.Numbering.{onto, onto_one}
 
 -- a cut value that was read, and the value that the tokens have
 pub cut_read : (p : Parse json.Json) (ts left rest : List Token) (d was : Data) (v : Value)
@@ -62,11 +59,6 @@ Reached p f done number now ds rest bound = (m : ℕ) × (later : Items)
     × (bound ≡ names_in bound_name (take number (list_of ds)))
 
 module _ {A : Type 0} (p : Parse json.Json) (f : ℕ → Data → Result A ReadFault) where
-  pub reached_start : (n : ℕ) (ts : List Token) (ds : Items) (rest : List Token)
-      (bound : List (List ℕ)) → bound ≡ [] → converted of_items (items p n ts) ≡ Some (ds, rest)
-      → Reached p f [] 0 ts ds rest bound
-  reached_start n ts ds rest bound none e = search (rules, onto_none)
-
   pub reached_next : (done : List A) (number : ℕ) (now left : List Token) (x : A) (ds : Items)
       (rest : List Token) (bound after : List (List ℕ))
       → Reached p f done number now ds rest bound → after_end_array now ≡ None
@@ -78,22 +70,10 @@ module _ {A : Type 0} (p : Parse json.Json) (f : ℕ → Data → Result A ReadF
   reached_next done number now left x ds rest bound after at going reads binds =
       let next = next_item p at.0 now rest at.1 going at.2 in
       let is = reads next.0 next.1 next.4 in
+      let named = binds next.0 next.1 next.4 in
       let later : list_of at.1 ≡ next.0 ∷ list_of next.2 = ap list_of next.3 in
-      let now : drop number (list_of ds) ≡ next.0 ∷ list_of next.2 = at.5 ∙ later in (
-        at.0 - 1,
-        next.2,
-        ap (λ ts. converted of_items (items p (at.0 - 1) ts)) is.1 ∙ next.5,
-        omega (arith, at.3, ap length later),
-        sym (onto_one done x (numbered f (number + 1) (list_of next.2))) ∙ sym (ap
-            (λ (r : Result A ReadFault). onto done
-            (r >>= λ y. numbered f (number + 1) (list_of next.2) >>= λ ys. Ok (y ∷ ys))) is.0)
-            ∙ sym (ap (λ (xs : List Data). onto done (numbered f number xs)) later) ∙ at.4,
-        ap (λ (n : ℕ). drop n (list_of ds)) (add-one number)
-            ∙ (here (list_of ds) number next.0 (list_of next.2) now).0,
-        binds next.0 next.1 next.4
-            ∙ ap (λ (ns : List (List ℕ)). with_part ns (bound_name next.0)) at.6
-            ∙ sym (search (rules, add-one, here, fold-append)),
-      )
+      let now = here (list_of ds) number next.0 (list_of next.2) (at.5 ∙ later) in
+      search (rules, add-one, onto_one, onto, fold-append, named, now, is)
 
 listed_by : {A : Type 0} (b : Bool) (g : List Data → ℕ → Data → Result A ReadFault)
     (limit : ReadFault) (ds : List Data)

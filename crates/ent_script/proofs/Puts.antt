@@ -1,7 +1,6 @@
 -- What an object has after a member is put into it.
 use Rattle.std.proofs.Common.{rules, ◌≡◌, ℕ, List, Option, Some, Ordering, Less, Equal, Greater}
-use Rattle.std.proofs.Common.{nat_cmp, is_eq, Bool, true, false, bytes_eq, true≢false, refl, sym}
-use Rattle.std.proofs.Common.{ap, ◌∙◌}
+use Rattle.std.proofs.Common.{nat_cmp, is_eq, true, false, bytes_eq, true≢false, refl, sym, ap, ◌∙◌}
 use Rattle.std.proofs.lemmas.Cmp.{nat_list_cmp_total, tied_itself}
 use Rattle.std.proofs.lemmas.Map.Text.{is_eq-slice_cmp}
 use Rattle.std.proofs.lemmas.Slice.Eq.{bytes_eq-Decides}
@@ -27,12 +26,9 @@ get_member-put k d (member l e ms) = get_member-put_at _ k l d e ms refl (get_me
 either : (o : Ordering) (a b : Option Data) → is_eq o ≡ false → match_ordering o a b a ≡ a
 either it a b e = search (rules, true≢false)
 
-differ : (xs ys : List ℕ) (b : Bool) → bytes_eq xs ys ≡ b → (xs ≡ ys → ⊥) → b ≡ false
-differ xs ys b e other = search (rules, bytes_eq-Decides)
-
 skips : (q k : List ℕ) (d : Data) (ms : Members) → (q ≡ k → ⊥) → get_member q (member k d ms) ≡
     get_member q ms
-skips q k d ms other = search (rules, either, is_eq-slice_cmp, differ)
+skips q k d ms other = search (rules, either, is_eq-slice_cmp, bytes_eq-Decides)
 
 get_member-put_other_at : (o : Ordering) (q k l : List ℕ) (d e : Data) (ms : Members) → slice_cmp
     nat_cmp k l ≡ o → (q ≡ k → ⊥) → get_member q (put k d ms) ≡ get_member q ms
@@ -49,8 +45,8 @@ get_member-put_other_at Greater q k l d e ms is other later = search (rules)
 pub get_member-put_other : (q k : List ℕ) (d : Data) (ms : Members) → (q ≡ k → ⊥) → get_member q
     (put k d ms) ≡ get_member q ms
 get_member-put_other q k d no_members other = skips q k d no_members other
-get_member-put_other q k d (member l e ms) other = get_member-put_other_at _ q k l d e ms refl other
-    (get_member-put_other q k d ms other)
+get_member-put_other q k d (member l e ms) other =
+    search (rules, get_member-put_other_at, get_member-put_other q k d ms other)
 
 pub found_here : (name k : List ℕ) (d : Data) (ms : Members) → bytes_eq k name ≡ true → get_member
     name (put k d ms) ≡ Some d

@@ -8,10 +8,6 @@ use Rattle.json.proofs.Grammar.{items_end, items_more, members_no_key, members_m
 use Rattle.serde_json.specs.Data.{Data, array, object, no_items, item, Members, no_members, put}
 use Rattle.serde_json.specs.Read.{of_json, of_items, of_members, converted}
 
-abbrev pick : {A : Type 0} → A → Option A → A
-pick d None = d
-pick d (Some a) = a
-
 found : {A B : Type 0} (a : A) (r s : List Token) (x : Option B) (b : B) → option_map
     {U = B × List Token} (λ y. (y, r)) x ≡ Some (b, s) → (r ≡ s) × (x ≡ Some b)
 found a r s it b e = search rules
@@ -39,12 +35,6 @@ converted-object it = search (rules, twice)
 with_item : (j : json.Json) (d : Data) → of_json j ≡ Some d → (o : Option (json.Items × List Token))
     → converted of_items (parse_map (json.item j) o) ≡ parse_map (item d) (converted of_items o)
 with_item j d e it = search (rules, twice)
-
-with_member : (k : List ℕ) (j : json.Json) (d : Data) (old : Members) → of_json j ≡ Some d →
-    (o : Option (json.Members × List Token)) → converted
-    (λ ms. of_members ms old) (parse_map (json.member k j) o) ≡ converted
-    (λ ms. of_members ms (put k d old)) o
-with_member k j d old e it = search rules
 
 module _ (p : Parse json.Json) where
   pub item_read : (n : ℕ) (ts r : List Token) (d : Data) → 0 < n → after_end_array ts ≡ None →

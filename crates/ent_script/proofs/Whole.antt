@@ -1,6 +1,6 @@
 -- A script, of the parts that are read one after another.
 use Rattle.std.proofs.Common.{rules, ◌≡◌, ℕ, List, map, Option, Some, None, option_map}
-use Rattle.std.proofs.Common.{option_and_then, ok_or, codes, Result, ap, ◌∙◌}
+use Rattle.std.proofs.Common.{option_and_then, ok_or, codes, Result, ap}
 use Rattle.std.specs.Prelude.{Ok, Err}
 use Rattle.serde_json.specs.Data.{Data}
 use Rattle.serde_json.specs.Find.{get}
@@ -22,28 +22,18 @@ use Rattle.ent_script.proofs.CutMeanings.{components-cut}
 abbrev pub Names : Type 0
 Names = List (List ℕ)
 
-no_names_by : (o : Option (List Data)) → None ≡ option_map (map (cut 0)) o
-    → in_script (ok_or o script_cause.Components >>=
-    λ ds. numbered (component_at ds) 0 ds) ≡ Err (fault.Script script_cause.Components)
-no_names_by it e = search rules
-
-names_by : (o : Option (List Data)) (vs : List Value) → Some (map view vs) ≡ option_map
-    (map (cut 0)) o → in_script (numbered (component_at (map view vs)) 0 (map view vs)) ≡ in_script
-    (ok_or o script_cause.Components >>= λ ds. numbered (component_at ds) 0 ds)
-names_by it vs e = search (rules, components-cut)
-
 pub no_names : (part : Option Data) → None ≡ option_map (map (cut 0))
     (option_and_then (at_most 256) part) → in_script (component_names part) ≡ Err
     (fault.Script script_cause.Components)
 unfolding component_names
-no_names part e = no_names_by (option_and_then (at_most 256) part) e
+no_names part e = search rules
 
 pub names_meant : (part : Option Data) (vs : List Value) → Some (map view vs) ≡ option_map
     (map (cut 0)) (option_and_then (at_most 256) part)
     → in_script (numbered (component_at (map view vs)) 0 (map view vs)) ≡ in_script
     (component_names part)
 unfolding component_names
-names_meant part vs e = names_by (option_and_then (at_most 256) part) vs e
+names_meant part vs e = search (rules, components-cut)
 
 abbrev pub all_of : Heading → Names → List (List (List Operation)) → Result Script ReadFault
 all_of heading names frames =
@@ -72,18 +62,13 @@ pub script_is : (d : Data) (heading : Heading) (names : Names)
     → script_of d ≡ (frames_of heading.format names (get (codes "frames") d) >>=
     λ frames. all_of heading names frames)
 unfolding script_of
-script_is d heading names a b =
-    ap (λ (r : Result Heading ReadFault). r >>= after_heading d) a
-    ∙ ap (λ (r : Result Names ReadFault). r >>= after_names d heading) b
-    ∙ after_frames heading names (option_and_then (at_most 1000) (get (codes "frames") d))
+script_is d heading names a b = search (rules, after_frames)
 
 pub names_refused : (d : Data) (heading : Heading) (e : ReadFault)
     → in_script (heading_of d) ≡ Ok heading
     → in_script (component_names (get (codes "components") d)) ≡ Err e → script_of d ≡ Err e
 unfolding script_of
-names_refused d heading e a b =
-    ap (λ (r : Result Heading ReadFault). r >>= after_heading d) a
-    ∙ ap (λ (r : Result Names ReadFault). r >>= after_names d heading) b
+names_refused d heading e a b = search rules
 
 pub heading_refused : (d : Data) (e : ReadFault) → in_script (heading_of d) ≡ Err e
     → script_of d ≡ Err e

@@ -1,22 +1,20 @@
 -- A script that requests no more handles in all than it has slots is never refused a request. Each
 -- frame begins with at least as many handles to give as are still requested: a call takes what it
 -- requests, and a sync point takes nothing away.
-use Rattle.std.proofs.Common.{rules, ◌≡◌, refl, sym, ap, ◌∙◌, subst, arith, ℕ, zero, suc, ◌+◌, ◌-◌}
-use Rattle.std.proofs.Common.{◌<◌, ◌≤◌, true, le-leb, List, [], ◌∷◌, length, length-drop, Option}
-use Rattle.std.proofs.Common.{None, Some, Result}
-use Rattle.std.proofs.lemmas.Grind.{common_steps}
-use Rattle.std.specs.Prelude.{nat_le, ◌==◌, filter, slice_get, IsOk}
+use Rattle.ent_script_run.proofs.OneCourse.{below_each}
+use Rattle.std.proofs.Common.{rules, ◌≡◌, refl, subst, arith, ℕ, ◌+◌, ◌-◌, ◌≤◌, le-leb, List, []}
+use Rattle.std.proofs.Common.{◌∷◌, length, length-drop, Some, Result}
+use Rattle.std.specs.Prelude.{◌==◌, slice_get, IsOk}
 use Rattle.std.specs.List.{All, sum_by, flat_map, range_with_len}
 use Rattle.std.proofs.lemmas.List.{length-append}
-use Rattle.std.proofs.lemmas.List.Elements.{All-nil, All-cons, All-head, All-tail, All-map}
-use Rattle.std.proofs.lemmas.List.Elements.{All-filter}
+use Rattle.std.proofs.lemmas.List.Elements.{All-nil, All-cons, All-head, All-map, All-filter}
 use Rattle.std.proofs.lemmas.List.Sorted.{All-permutation}
 use Rattle.std.proofs.lemmas.List.Sums.{sum_by-cons}
 use Rattle.std.proofs.lemmas.Option.{get_or_from_slice_get, slice_get_within}
 use Rattle.ent_handle.specs.Handle.{Handle}
 use Rattle.ent_alloc.specs.declared.space.Space.{Space}
 use Rattle.ent_alloc.specs.Limits.{AreLimits, credit}
-use Rattle.ent_alloc.specs.Sequential.{Allocator, after_take, reply_to, next, in_front}
+use Rattle.ent_alloc.specs.Sequential.{Allocator, after_take, reply_to}
 use Rattle.ent_alloc.specs.History.{Call, IsLegal, after_history}
 use Rattle.ent_alloc.proofs.FreshHandles.{length-fresh}
 use Rattle.ent_alloc.proofs.ListLaws.{All-left, All-right}
@@ -27,9 +25,8 @@ use Rattle.ent_queue.specs.Reserving.{stands_for, cost, FitsCredit, FitCredit}
 use Rattle.ent_world.specs.Effects.{applied}
 use Rattle.ent_world.specs.Sync.{sync, after_births}
 use Rattle.ent_world.specs.World.{World, first_world}
-use Rattle.ent_world.proofs.Kept.{IsKept, after_queues-keeps}
-use Rattle.ent_runner.specs.Frame.{IsFrame, queue_at, commands_of, requests_by, reserved_by}
-use Rattle.ent_runner.specs.Frame.{view_of}
+use Rattle.ent_world.proofs.Kept.{after_queues-keeps}
+use Rattle.ent_runner.specs.Frame.{IsFrame, queue_at, commands_of, reserved_by, view_of}
 use Rattle.ent_runner.proofs.Lists.{all_from_each, all_flat, flat_all}
 use Rattle.ent_script.specs.Script.{Script}
 use Rattle.ent_script.specs.declared.operation.Operation.{Operation}
@@ -56,15 +53,10 @@ all_served s (call ∷ calls) legal enough =
     let n : ℕ = call.requested in
     let sums = sum_by-cons requested call calls in
     let within : n ≤ length s.pool = omega arith in
-    let test : nat_le n (length s.pool) ≡ true = le-leb _ _ within in
-    let served : IsOk (reply_to s n) = rw test refl in
-    let fewer : length (after_take s n).pool ≡ length s.pool - n =
-    ap (λ (a : Allocator). length a.pool) (after_take-served s n within)
-    ∙ length-drop n s.pool in
-    let rest = all_served (after_take s n) calls legal.2 (omega arith) in (
-      All-cons IsServed call calls (subst IsOk (sym legal.1) served) rest.0,
-      omega arith,
-    )
+    let served : IsOk (reply_to s n) = rw (le-leb _ _ within) refl in
+    let fewer : length (after_take s n).pool ≡ length s.pool - n = rw
+    (after_take-served s n within) (length-drop n s.pool) in
+    search (rules, All-cons, served, all_served (after_take s n) calls legal.2 (omega arith))
 
 -- ---- the commands of a worker
 
@@ -79,8 +71,7 @@ command-granted : (left : ℕ) (c : Command) → FitsCredit left c → wanted_by
     → All IsReplied (stands_for c) → IsGranted c
 command-granted left (Refused wanted (refusal.Space same rest)) fits within replied =
     search (rules, All-head)
-command-granted left (Refused wanted (refusal.Quota rest)) fits within replied =
-    let more = fits.1 in absurd (omega arith)
+command-granted left (Refused wanted (refusal.Quota rest)) fits within replied = search rules
 command-granted left _ fits within replied = tt
 
 commands-granted : (left : ℕ) (commands : List Command) → FitCredit left commands
@@ -90,11 +81,8 @@ commands-granted left [] fit within replied = All-nil IsGranted
 commands-granted left (c ∷ cs) fit within replied =
     let sums = sum_by-cons wanted_by c cs in
     let most = cost-wanted c in
-    let others : List Request = flat_map stands_for cs in
-    All-cons IsGranted c cs
-    (command-granted left c fit.0 (omega arith) (All-left IsReplied (stands_for c) others replied))
-    (commands-granted (left - cost c) cs fit.1 (omega arith)
-    (All-right IsReplied (stands_for c) others replied))
+    let rest = commands-granted (left - cost c) cs fit.1 (omega arith) in
+    search (rules, All-cons, command-granted left c fit.0 (omega arith), All-left, All-right, rest)
 
 -- ---- what a sync point leaves
 
@@ -102,29 +90,14 @@ commands-granted left (c ∷ cs) fit within replied =
 abbrev HasLeft : ℕ → World → Type 0
 HasLeft n w = n ≤ length w.allocator.pool
 
--- Who goes takes nothing away: its slot puts a handle back, or is retired and puts back none.
-left-kept : (n : ℕ) → IsKept (HasLeft n)
-left-kept n = grind (arith, common_steps)
-
 sync-left : (n : ℕ) (queues : List (List Command)) (w : World) → HasLeft n w
     → HasLeft n (sync queues w).world
 sync-left n queues w left =
     let both = length-append w.allocator.aside w.allocator.pool in
-    after_queues-keeps (HasLeft n) (left-kept n) 0 queues (applied (after_births queues w) [])
+    after_queues-keeps (HasLeft n) (search rules) 0 queues (applied (after_births queues w) [])
     (omega arith)
 
 -- ---- a frame
-
--- what holds of all numbers of a range holds of each
-at_number : (P : ℕ → Type 0) (a many k : ℕ) → k < many → All P (range_with_len a many) → P (a + k)
-at_number P a zero k within all = absurd (omega arith)
-at_number P a (suc many) zero within all =
-    let zeroth : a ≡ a + 0 = omega arith in
-    subst P zeroth (All-head P a (range_with_len (a + 1) many) all)
-at_number P a (suc many) (suc k) within all =
-    let next : (a + 1) + k ≡ a + suc k = omega arith in
-    subst P next (at_number P (a + 1) many k (omega arith)
-    (All-tail P a (range_with_len (a + 1) many) all))
 
 abbrev requested_by_systems : List (List Operation) → ℕ
 requested_by_systems systems = sum_by (sum_by requested_by_operation) systems
@@ -142,8 +115,7 @@ module _ (systems : List (List Operation)) (workers : ℕ) (w : World)
       ≡ length w.allocator.pool)
   served =
       let all = history-wanted MayIssue systems workers w queues history frame in
-      let same = wanted in
-      all_served w.allocator history frame.legal (omega arith)
+      search (rules, wanted, all_served)
 
   abbrev IsGrantedAt : ℕ → Type 0
   IsGrantedAt n = All IsGranted (queue_at queues n)
@@ -154,27 +126,22 @@ module _ (systems : List (List Operation)) (workers : ℕ) (w : World)
       let work = frame.work worker mine at in
       let most = worker-wanted MayIssue systems workers w queues history frame worker mine at in
       let same = wanted in
-      let calls : List Call = filter (λ (call : Call). call.caller == worker) history in
-      let replied : All IsReplied (requests_by worker history) =
-      All-map IsReplied (λ (call : Call). (call.requested, call.reply)) calls
-      (All-filter (λ (call : Call). call.caller == worker) IsServed history served.0) in
       flat_all IsGranted (queue_at queues) mine
       (commands-granted credit (commands_of queues mine) work.within (omega arith)
-      (subst (All IsReplied) work.calls replied))
+      (rw (← work.calls) (All-map IsReplied (λ (call : Call). (call.requested, call.reply)) _
+      (All-filter (λ (call : Call). call.caller == worker) IsServed history served.0))))
 
   frame-granted : AreGranted queues
   frame-granted =
       let ran : List ℕ = flat_map (λ mine. mine) frame.ran in
-      let numbers : List ℕ = range_with_len 0 (length systems) in
-      let all : All IsGrantedAt numbers = All-permutation IsGrantedAt ran numbers frame.once
+      let all = All-permutation IsGrantedAt ran (range_with_len 0 (length systems)) frame.once
       (all_flat IsGrantedAt (λ mine. mine) frame.ran
       (all_from_each (λ mine. All IsGrantedAt mine) frame.ran worker-granted)) in
       all_from_each (All IsGranted) queues (λ k q at.
-      let within : k < length queues = slice_get_within queues k q at in
+      let within = slice_get_within queues k q at in
       let count = frame.count in
-      let same : 0 + k ≡ k = omega arith in
-      subst (All IsGranted) (ap (queue_at queues) same ∙ get_or_from_slice_get queues k q [] at)
-      (at_number IsGrantedAt 0 (length systems) k (omega arith) all))
+      subst (All IsGranted) (get_or_from_slice_get queues k q [] at)
+      (below_each IsGrantedAt (length systems) all k (omega arith)))
 
   -- what its systems have not requested is left for the frames after it
   frame-left : (n : ℕ) → requested_by_systems systems + n ≤ length w.allocator.pool
@@ -198,11 +165,9 @@ more_granted workers w (systems ∷ frames) (e ∷ executions) went enough small
     let sums = sum_by-cons requested_by_systems systems frames in
     let here : requested_by_systems systems ≤ length w.allocator.pool = omega arith in
     let fits : requested_by_systems systems ≤ credit = omega arith in
-    All-cons WereGranted e executions
-    (frame-granted systems workers w e.queues e.history went.0 here fits)
-    (more_granted workers (synced w e).world frames executions went.1
-    (frame-left systems workers w e.queues e.history went.0 here fits
-    (sum_by requested_by_systems frames) (omega arith)) (omega arith))
+    let left = frame-left systems workers w e.queues e.history went.0 here fits
+    (sum_by requested_by_systems frames) (omega arith) in
+    search (rules, All-cons, frame-granted systems workers w e.queues e.history went.0 here fits, more_granted workers (synced w e).world frames executions went.1 left (omega arith))
 
 -- In the first world each slot has a handle to give, and a worker's credit is more than all slots.
 pub granted_if_enough : (script : Script) (workers : ℕ) (executions : List Execution)

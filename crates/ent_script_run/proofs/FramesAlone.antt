@@ -1,8 +1,9 @@
 -- A frame of scripted systems does to births alone what it does to the world, on every number of
 -- workers, if no request was refused and the systems name no handles.
+use Rattle.ent_world.proofs.Named.{entity_there}
 use Rattle.std.proofs.Common.{rules, ◌≡◌, refl, sym, ap, ◌∙◌, subst, ℕ, suc, ◌+◌, ◌^◌, ◌<◌, ◌≤◌}
-use Rattle.std.proofs.Common.{true, List, [], ◌∷◌, map, length, All, slice_get, flat_map, Option}
-use Rattle.std.proofs.Common.{Some, None, is_some, option_map, unwrap_or, cond, arith, IsSomeAnd}
+use Rattle.std.proofs.Common.{List, [], ◌∷◌, map, length, All, slice_get, flat_map, Some, is_some}
+use Rattle.std.proofs.Common.{option_map, unwrap_or, arith}
 use Rattle.std.specs.FinMap as finite
 use Rattle.std.specs.FinMap.{find}
 use Rattle.std.proofs.Math.Nat.{min-eq_left}
@@ -11,18 +12,16 @@ use Rattle.std.proofs.lemmas.List.Elements.{All-nil, All-cons, All-head, All-tai
 use Rattle.std.proofs.lemmas.List.Elements.{All-contains_itself}
 use Rattle.std.proofs.lemmas.List.Sorted.{IsPermutation-sym, IsPermutation-trans}
 use Rattle.std.proofs.lemmas.List.Sorted.{length_permutation}
-use Rattle.std.proofs.lemmas.Option.{none-some, same_Some}
+use Rattle.std.proofs.lemmas.Option.{none-some}
 use Rattle.ent_handle.specs.declared.birth.Birth.{Birth}
 use Rattle.ent_handle.specs.declared.component.ComponentId.{ComponentId}
-use Rattle.ent_handle.specs.Birth.{birth_cmp}
 use Rattle.ent_handle.specs.Component.{component_cmp}
 use Rattle.ent_handle.specs.Handle.{Handle}
 use Rattle.ent_alloc.specs.Sequential.{born}
-use Rattle.ent_alloc.specs.History.{Call, after_history, given_in}
+use Rattle.ent_alloc.specs.History.{Call, after_history}
 use Rattle.ent_alloc.proofs.Histories.{given_in-taken}
 use Rattle.ent_storage.specs.BirthOrder.{ListsWith}
 use Rattle.ent_storage.specs.EntityMap.{Entity, EntityMap, birth_of}
-use Rattle.ent_bundle.specs.Bundle.{Bundle}
 use Rattle.ent_queue.specs.Command.{Command}
 use Rattle.ent_world.specs.BirthsAlone.{BirthMap}
 use Rattle.ent_world.specs.Effects.{applied}
@@ -30,7 +29,7 @@ use Rattle.ent_world.specs.Named.{AreNamed, AreNames, AreNamedBy, AreBelow, AreL
 use Rattle.ent_world.specs.Sync.{sync, after_births, handles_listed}
 use Rattle.ent_world.specs.World.{World, IsWorld}
 use Rattle.ent_world.proofs.GivenOnce.{IsFlushed, flushed-kept}
-use Rattle.ent_world.proofs.Kept.{IsKept, after_queues-keeps}
+use Rattle.ent_world.proofs.Kept.{after_queues-keeps}
 use Rattle.ent_world.proofs.NamedFrames.{frame-named, queues_births, sync-below}
 use Rattle.ent_world.proofs.NamedLists.{listed-named}
 use Rattle.ent_world.proofs.Worlds.{after_births-world, after_history-world}
@@ -53,22 +52,12 @@ each_few : (most : ℕ) (queues : List (List Command))
 each_few most [] few = All-nil (λ queue. length (handles_listed queue) ≤ most)
 each_few most (q ∷ queues) few =
     let both = length-append (handles_listed q) (flat_map handles_listed queues) in
-    All-cons (λ queue. length (handles_listed queue) ≤ most) q queues (omega arith)
-    (each_few most queues (omega arith))
-
--- the number of the phase stays
-phase-kept : (phase : ℕ) → IsKept (λ w. w.phase ≡ phase)
-phase-kept phase = search (rules)
+    search (rules, each_few most queues (omega arith))
 
 -- an entity that has a birth is there
 entity_at : (m : EntityMap) (h : Handle) (birth : Birth) → birth_of m h ≡ Some birth
     → (e : Entity) × (finite.get m h ≡ Some e) × (e.birth ≡ birth)
-entity_at m h birth is = by (finite.get m h) refl is
-  where
-    by : (o : Option Entity) → finite.get m h ≡ o → option_map (λ e. e.birth) o ≡ Some birth
-        → (e : Entity) × (finite.get m h ≡ Some e) × (e.birth ≡ birth)
-    by None at none = absurd (none-some birth none)
-    by (Some e) at some = (e, at, same_Some _ _ some)
+entity_at m h birth is = let e = entity_there m h (search rules) in (e.0, e.1, cc)
 
 module _ (systems : List (List Operation)) (workers : ℕ) (w : World)
     (queues : List (List Command)) (history : List Call) (view : BirthMap)
@@ -107,12 +96,7 @@ module _ (systems : List (List Operation)) (workers : ℕ) (w : World)
   old_names h e is = names h e (stays h e is)
 
   old_there : (h : Handle) → IsThere w.entities h → IsThere all_born h
-  old_there h there = by (finite.get w.entities h) refl there
-    where
-      by : (o : Option Entity) → finite.get w.entities h ≡ o → is_some o ≡ true
-          → IsThere all_born h
-      by None is some = cc
-      by (Some e) is some = ap is_some (stays h e is)
+  old_there h there = let e = entity_there w.entities h there in ap is_some (stays h e.0 e.1)
 
   -- a handle that a queue lists is there, with the birth of its position
   placed : (system k : ℕ) (h : Handle) → Lists queues system k h → IsThere all_born h
@@ -129,51 +113,30 @@ module _ (systems : List (List Operation)) (workers : ℕ) (w : World)
   in_order system k [] at = tt
   in_order system k (h ∷ hs) at =
       let same : k + 0 ≡ k = omega arith in
-      let first = at 0 h refl in (
-        first.0,
-        first.1 ∙ ap (λ n. record { frame = w.phase; system = system; ordinal = n }) same,
-        in_order system (k + 1) hs (λ j g is.
-            let next : k + suc j ≡ (k + 1) + j = omega arith in
-            let one = at (suc j) g is in (
-              one.0,
-              one.1 ∙ ap (λ n. record { frame = w.phase; system = system; ordinal = n }) next,
-            )),
-      )
+      let first = rw same at (at 0 h refl) in
+      (first.0, first.1, in_order system (k + 1) hs (λ j g is. subst (λ n. IsThere all_born g × (name g ≡ record { frame = w.phase; system = system; ordinal = n })) (omega arith) (at (suc j) g is)))
 
   -- the entities of an `each`, in the order of births
   each_named : (id : ComponentId) (hs : List Handle) → ListsWith id w.entities hs
       → All (IsThere all_born) hs × (births_meant view (λ n. []) (target.Each id) ≡ map name hs)
   each_named id hs lists = (
-    All-weaker _ (IsThere all_born) (λ h has. old_there h (there_of _ (finite.get w.entities h)
-        ((lists.holds h).0 has))) hs (All-contains_itself hs),
+    search (rules, All-weaker, old_there, All-contains_itself, lists.holds),
     ap (map (λ entity. entity.0)) (sym (listed-named name w.entities view named old_names
         (λ e. finite.contains_key e.components id)
         (λ items. is_some (find component_cmp id items))
         (λ e. ap is_some (finite.get-entries e.components id)) hs lists))
         ∙ map_map_is (λ entity. entity.0) _ hs,
   )
-    where
-      there_of : (P : Entity → Type 0) (o : Option Entity) → IsSomeAnd o P → is_some o ≡ true
-      there_of P None none = absurd none
-      there_of P (Some e) is = refl
 
   -- the entity of a birth
   birth_named : (birth : Birth) (hs : List Handle) → IsOfBirth (view_of w) birth hs
       → All (IsThere all_born) hs × (births_meant view (λ n. []) (target.Birth birth) ≡ map name hs)
-  birth_named birth [] none = (All-nil (IsThere all_born), nobody (find birth_cmp birth view) refl)
-    where
-      nobody : (o : Option Bundle) → find birth_cmp birth view ≡ o
-          → cond (is_some o) (birth ∷ []) [] ≡ []
-      nobody None e = refl
-      nobody (Some items) e = let one = named.only birth items e in absurd (none one.0 one.1)
+  birth_named birth [] none = (All-nil (IsThere all_born), search (rules, named.only birth))
   birth_named birth (h ∷ []) (own, least) =
       let e = entity_at w.entities h birth own in
       let same : name h ≡ birth = old_names h e.0 e.1 ∙ e.2 in
-      let there = ap (λ b. find birth_cmp b view) (sym e.2) ∙ named.there h e.0 e.1 in (
-        All-cons (IsThere all_born) h [] (old_there h (ap is_some e.1))
-            (All-nil (IsThere all_born)),
-        ap (λ o. cond (is_some o) (birth ∷ []) []) there ∙ ap (λ b. b ∷ []) (sym same),
-      )
+      let there = rw e.2 at (named.there h e.0 e.1) in
+      (search (rules, All-cons, old_there, All-nil), rw (there, same) refl)
   birth_named birth (h ∷ k ∷ hs) none = absurd none
 
   -- each system's queue, from a system on
@@ -191,40 +154,27 @@ module _ (systems : List (List Operation)) (workers : ℕ) (w : World)
       let here : system + 0 ≡ system = omega arith in (
         queue-alone name all_born w.phase system (view_of w) view each_named birth_named ops q
             (in_order system 0 (handles_listed q) (λ j h is.
-            let one = at 0 j h is in
-            let own : j ≡ 0 + j = omega arith in (
-              one.0,
-              one.1 ∙ (λ i. record { frame = w.phase; system = here i; ordinal = own i }),
-            ))) (All-head (All IsGranted) q qs granted) (All-head NamesNoHandle ops ss free)
+            let own : j ≡ 0 + j = omega arith in rw here at (rw own at (at 0 j h is))))
+            (All-head (All IsGranted) q qs granted) (All-head NamesNoHandle ops ss free)
             (may 0 ops refl),
         all_named (system + 1) qs ss (omega arith) (All-tail NamesNoHandle ops ss free)
             (All-tail (All IsGranted) q qs granted) (λ n. may (suc n))
             (λ n k h is.
             let next : system + suc n ≡ (system + 1) + n = omega arith in
-            let one = at (suc n) k h is in (
-              one.0,
-              one.1 ∙ ap (λ s. record { frame = w.phase; system = s; ordinal = k }) next,
-            )),
+            rw next at (at (suc n) k h is)),
       )
 
   are_named : AreNamedBy name all_born queues (queues_by_births w view systems)
   are_named = all_named 0 queues systems frame.count free granted frame.each_system
-      (λ n k h is.
-      let same : n ≡ 0 + n = omega arith in
-      let one = placed n k h is in
-      (one.0, one.1 ∙ ap (λ s. record { frame = w.phase; system = s; ordinal = k }) same))
+      (λ n k h is. let same : 0 + n ≡ n = omega arith in rw same (placed n k h is))
 
   -- the queues list just what is reserved, each handle once
   are_listed : AreListed queues reserved.allocator
   are_listed =
-      let all : List Handle = flat_map handles_listed queues in
-      let taken : List Handle = (after_history w.allocator history).taken in
-      let few : length all < 2 ^ 32 = listed-few MayIssue systems workers w queues history frame
-      is_world.sound flushed in
+      let few = listed-few MayIssue systems workers w queues history frame is_world.sound flushed in
       record {
-        listed = IsPermutation-sym all taken (IsPermutation-trans all (given_in history) taken
-            (listed-IsPermutation MayIssue systems workers w queues history frame)
-            (given_in-taken w.allocator history is_world.sound frame.legal flushed));
+        listed = IsPermutation-sym _ _
+            (search (rules, IsPermutation-trans, listed-IsPermutation, given_in-taken));
         ordinals = each_few (2 ^ 32) queues (omega arith);
       }
 
@@ -233,11 +183,10 @@ module _ (systems : List (List Operation)) (workers : ℕ) (w : World)
   synced : IsFlushed (sync queues reserved).world
   synced =
       let born_world = after_births-world queues reserved is_reserved in
-      after_queues-keeps IsFlushed flushed-kept 0 queues (applied (after_births queues reserved) [])
-      (record { asked = refl; sound = born_world.sound; living = born_world.living })
+      search (rules, after_queues-keeps, IsFlushed, flushed-kept)
 
   next_number : (sync queues reserved).world.phase ≡ w.phase + 1
-  next_number = after_queues-keeps (λ w'. w'.phase ≡ w.phase + 1) (phase-kept (w.phase + 1)) 0
+  next_number = after_queues-keeps (λ w'. w'.phase ≡ w.phase + 1) (search rules) 0
       queues (applied (after_births queues reserved) []) (min-eq_left (omega arith))
 
   pub frame-alone : IsFrameAlone w queues history systems view
@@ -245,16 +194,13 @@ module _ (systems : List (List Operation)) (workers : ℕ) (w : World)
     name = name;
     after = frame-named queues reserved view is_reserved named below are_listed name names
         (queues_by_births w view systems) are_named;
-    born_are =
-        length_permutation (flat_map handles_listed queues)
+    born_are = length_permutation (flat_map handles_listed queues)
         (born (after_history w.allocator history))
         (listed-born MayIssue systems workers w queues history frame is_world.sound flushed)
         ∙ sym (length-map (flat_map handles_listed queues) name)
-        ∙ ap length (sym (queues_births name all_born queues (queues_by_births w view systems)
-        are_named));
+        ∙ ap length (sym (search (rules, queues_births, name, are_named)));
     world = record { sound = synced.sound; living = synced.living };
     flushed = synced.asked;
     phase = next_number;
-    below = subst (λ n. AreBelow n (sync queues reserved).world.entities) (sym next_number)
-        (sync-below queues reserved below);
+    below = rw next_number (sync-below queues reserved below);
   }

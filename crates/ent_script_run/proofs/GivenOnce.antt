@@ -1,5 +1,5 @@
 -- No handle is given twice over all frames of a run.
-use Rattle.std.proofs.Common.{◌≢◌, sym, subst, ℕ, List, [], ◌∷◌, ◌++◌, append_assoc, append-nil}
+use Rattle.std.proofs.Common.{rules, ◌≢◌, ℕ, List, [], ◌∷◌, ◌++◌, append_assoc, append-nil}
 use Rattle.std.proofs.Common.{AllPairs}
 use Rattle.ent_handle.specs.Handle.{Handle}
 use Rattle.ent_alloc.specs.Spent.{AreSpent}
@@ -20,14 +20,11 @@ more_given : (workers : ℕ) (w : World) (frames : List (List (List Operation)))
     → IsSound w.allocator → AreLiving w.allocator w.entities → AreExecutions workers w frames
     executions → AreSpent w.allocator given
     → AllPairs (λ g h. g ≢ h) (given ++ handles_in_run executions)
-more_given workers w frames [] given sound living went once = subst (AllPairs (λ g h. g ≢ h))
-    (sym (append-nil given)) once.distinct
+more_given workers w frames [] given sound living went once = search (rules, append-nil)
 more_given workers w [] (e ∷ executions) given sound living went once = absurd went
 more_given workers w (systems ∷ frames) (e ∷ executions) given sound living went once =
-    let now = given ++ given_in e.history in
-    subst (AllPairs (λ g h. g ≢ h)) (append_assoc given (given_in e.history)
-    (handles_in_run executions))
-    (more_given workers (synced w e).world frames executions now
+    rw (← append_assoc given (given_in e.history) (handles_in_run executions))
+    (more_given workers (synced w e).world frames executions (given ++ given_in e.history)
     (frame-sound e.queues e.history w sound living) (frame-living e.queues e.history w sound living)
     went.1 (frame-given e.queues e.history w given sound living went.0.legal once))
 

@@ -1,7 +1,8 @@
 -- A report by births that tells of no refusal: no request of the run was refused. A request that
 -- was refused is a fault of its frame, faults are only appended, and each has its line in the text.
-use Rattle.std.proofs.Common.{◌≡◌, refl, sym, ap, ◌∙◌, subst, inl, inr, ℕ, ◌+◌, Bool, true, false}
-use Rattle.std.proofs.Common.{cond, List, [], ◌∷◌, ◌++◌, length, All, append_assoc, append-nil}
+use Rattle.std.proofs.lemmas.Grind.{common_steps}
+use Rattle.std.proofs.Common.{rules, arith, ◌≡◌, refl, ◌∙◌, inl, inr, ℕ, ◌+◌, List, [], ◌∷◌, ◌++◌}
+use Rattle.std.proofs.Common.{length, All, append_assoc, append-nil}
 use Rattle.std.specs.Prelude.{codes}
 use Rattle.std.specs.Fmt.{decimal}
 use Rattle.std.specs.List.{flat_map}
@@ -13,7 +14,7 @@ use Rattle.ent_queue.specs.Command.{Command, Refused}
 use Rattle.ent_world.specs.declared.fault.Fault.{Fault}
 use Rattle.ent_world.specs.declared.fault.FaultKind.{FaultKind}
 use Rattle.ent_world.specs.declared.fault.FaultKind.TheVariants as kind
-use Rattle.ent_world.specs.World.{World, first_world, lives_in}
+use Rattle.ent_world.specs.World.{World, first_world}
 use Rattle.ent_world.specs.Effects.{Applied, applied, on_entity, on_each, with_fault, after_command}
 use Rattle.ent_world.specs.Effects.{after_commands, after_queues}
 use Rattle.ent_world.specs.Sync.{after_births, sync}
@@ -45,13 +46,7 @@ module _ (system command : ℕ) where
   module _ (change : Handle → World → World) where
     before_one : (h : Handle) (a : Applied) → AreNone (on_entity system command change h a)
         → AreNone a
-    before_one h a = by (lives_in a.world h)
-      where
-        by : (there : Bool)
-            → AreNone (cond there (record a { world = change h a.world })
-            (with_fault system command (kind.NotAlive h) a)) → AreNone a
-        by true none = none
-        by false none = (before_fault (kind.NotAlive h) a none).0
+    before_one h a none = search (rules, before_fault (kind.NotAlive h) a)
 
     before_each : (hs : List Handle) (a : Applied) → AreNone (on_each system command change hs a)
         → AreNone a
@@ -62,28 +57,27 @@ module _ (system command : ℕ) where
   before_command : (c : Command) (a : Applied) → AreNone (after_command system command c a)
       → AreNone a × IsGranted c
   before_command (Refused wanted (refusal.Space same left)) a none =
-      let both = before_fault (kind.Space same left) a none in
-      (both.0, both.1 tt)
+      search (rules, before_fault (kind.Space same left) a none)
   before_command (Refused wanted (refusal.Quota left)) a none =
-      let both = before_fault (kind.Quota left) a none in
-      (both.0, both.1 tt)
+      search (rules, before_fault (kind.Quota left) a none)
   before_command _ a none = (search (before_one, before_each), tt)
 
 before_commands : (system command : ℕ) (q : List Command) (a : Applied)
     → AreNone (after_commands system command q a) → AreNone a × All IsGranted q
 before_commands system command [] a none = (none, All-nil IsGranted)
-before_commands system command (c ∷ q) a none =
-    let later = before_commands system (command + 1) q (after_command system command c a) none in
-    let here = before_command system command c a later.0 in
-    (here.0, All-cons IsGranted c q here.1 later.1)
+before_commands system command (c ∷ q) a none = search (
+  rules,
+  All-cons,
+  before_command system command c a,
+  before_commands system (command + 1) q (after_command system command c a) none,
+)
 
 before_queues : (system : ℕ) (queues : List (List Command)) (a : Applied)
     → AreNone (after_queues system queues a) → AreNone a × AreGranted queues
 before_queues system [] a none = (none, All-nil (All IsGranted))
 before_queues system (q ∷ queues) a none =
     let later = before_queues (system + 1) queues (after_commands system 0 q a) none in
-    let here = before_commands system 0 q a later.0 in
-    (here.0, All-cons (All IsGranted) q queues here.1 later.1)
+    search (rules, before_commands, All-cons)
 
 pub sync-granted : (queues : List (List Command)) (w : World)
     → All IsNoRefusal (sync queues w).faults → AreGranted queues
@@ -95,25 +89,22 @@ abbrev HasEnd : List ℕ → Type 0
 HasEnd text = (earlier : List ℕ) × (text ≡ earlier ++ 10 ∷ [])
 
 end_after : (a b : List ℕ) → HasEnd b → HasEnd (a ++ b)
-end_after a b (earlier, is) =
-    (a ++ earlier, ap (λ t. a ++ t) is ∙ sym (append_assoc a earlier (10 ∷ [])))
+end_after a b (earlier, is) = search (rules, append_assoc a earlier (10 ∷ []))
 
 lines_after : (a b : List ℕ) → IsLines a → IsLines b → IsLines (a ++ b)
-lines_after a b lines (inl none) =
-    subst IsLines (sym (append-nil a) ∙ ap (λ t. a ++ t) (sym none)) lines
-lines_after a b lines (inr end) = inr (end_after a b end)
+lines_after a b lines which = search (rules, append-nil, end_after)
 
 fault_line-end : (fault : Fault) → HasEnd (fault_line Births fault)
 fault_line-end fault = (
-  codes "fault " ++ decimal fault.system ++ codes " " ++ decimal fault.command
-      ++ kind_text Births fault.kind,
+  codes "fault " ++ decimal fault.system ++ codes " "
+      ++ decimal fault.command ++ kind_text Births fault.kind,
   refl,
 )
 
 frame_line-end : (number born faults : ℕ) → HasEnd (frame_line number born faults)
 frame_line-end number born faults = (
-  codes "frame " ++ decimal number ++ codes " born " ++ decimal born ++ codes " faults "
-      ++ decimal faults,
+  codes "frame " ++ decimal number ++ codes " born "
+      ++ decimal born ++ codes " faults " ++ decimal faults,
   refl,
 )
 
@@ -122,14 +113,6 @@ fault_lines [] = inl refl
 fault_lines (fault ∷ faults) =
     lines_after (fault_line Births fault) (flat_map (fault_line Births) faults)
     (inr (fault_line-end fault)) (fault_lines faults)
-
-one_line_on : (a line others b : List ℕ) → a ++ ((line ++ others) ++ b)
-    ≡ (a ++ line) ++ (others ++ b)
-one_line_on a line others b = simp append_assoc
-
-one_frame_on : (a line faults others b : List ℕ) → a ++ (((line ++ faults) ++ others) ++ b)
-    ≡ (a ++ line) ++ (faults ++ (others ++ b))
-one_frame_on a line faults others b = simp append_assoc
 
 -- ---- what a text tells
 
@@ -144,17 +127,10 @@ module _ (text : List ℕ) (none : TellsNoRefusal text) where
   faults_told before [] after lines is = All-nil IsNoRefusal
   faults_told before (fault ∷ faults) after lines is =
       let line = fault_line Births fault in
-      let others = flat_map (fault_line Births) faults in
-      All-cons IsNoRefusal fault faults
-      (λ refused. none fault refused (record {
-        before = before;
-        after = others ++ after;
-        lines = lines;
-        is = is ∙ one_line_on before line others after;
-      }))
+      let here : text ≡ (before ++ line) ++ (flat_map (fault_line Births) faults ++ after) = rw is (simp append_assoc) in
+      All-cons IsNoRefusal fault faults (grind (arith, common_steps, here))
       (faults_told (before ++ line) faults after
-      (lines_after before line lines (inr (fault_line-end fault)))
-      (is ∙ one_line_on before line others after))
+      (lines_after before line lines (inr (fault_line-end fault))) here)
 
   frames_told : (number : ℕ) (w : World) (executions : List Execution) (before after : List ℕ)
       → IsLines before → text ≡ before ++ (frames_text Births number w executions ++ after)
@@ -165,15 +141,12 @@ module _ (text : List ℕ) (none : TellsNoRefusal text) where
       let first = frame_line number (length (born_in w e)) (length faults) in
       let told = flat_map (fault_line Births) faults in
       let others = frames_text Births (number + 1) (synced w e).world executions in
-      let here = is ∙ one_frame_on before first told others after in
-      let begun = lines_after before first lines (inr (frame_line-end number
-      (length (born_in w e)) (length faults))) in
-      All-cons WereGranted e executions
-      (sync-granted e.queues (reserved_by e.history w)
+      let here : text ≡ (before ++ first) ++ (told ++ (others ++ after)) = is ∙ simp append_assoc in
+      let begun = lines_after before first lines (search (rules, frame_line-end)) in
+      All-cons WereGranted e executions (sync-granted e.queues (reserved_by e.history w)
       (faults_told (before ++ first) faults (others ++ after) begun here))
       (frames_told (number + 1) (synced w e).world executions ((before ++ first) ++ told) after
-      (lines_after (before ++ first) told begun (fault_lines faults))
-      (here ∙ sym (append_assoc (before ++ first) told (others ++ after))))
+      (lines_after (before ++ first) told begun (fault_lines faults)) (rw append_assoc here))
 
 -- Where the text of a report tells of no refusal, no request was refused, however the frames went.
 pub granted_if_untold : (script : Script) (workers : ℕ) (executions : List Execution)

@@ -1,15 +1,14 @@
 -- A frame of scripted systems on one worker has one course: its queues and its history follow from
 -- the systems and the world.
-use Rattle.std.proofs.Common.{rules, ◌≡◌, refl, sym, ap, subst, ◌∙◌, arith, append-nil, eq-eqb, ℕ}
-use Rattle.std.proofs.Common.{◌<◌, ◌≤◌, ℤ, List, [], ◌∷◌, ◌++◌, length, map, get_or, Some, Ok, Err}
-use Rattle.std.proofs.Common.{Result, true}
+use Rattle.std.proofs.Common.{rules, ◌≡◌, refl, sym, ◌∙◌, arith, append-nil, ℕ, ◌<◌, ℤ, List, []}
+use Rattle.std.proofs.Common.{◌∷◌, ◌++◌, length, map, Some, Ok, Err, Result, true}
 use Rattle.std.proofs.lemmas.Grind.{common_steps}
 use Rattle.std.specs.Prelude.{◌==◌, if◌then◌else◌, nat_lt, slice_get}
 use Rattle.std.specs.List.{All, AllPairs, flat_map, range_with_len}
 use Rattle.std.specs.List.Sorted.{IsPermutation}
 use Rattle.std.proofs.lemmas.Bool.{cond-true, cond-false, lt-ltb, le-ltb}
 use Rattle.std.proofs.lemmas.List.{ext_get_or}
-use Rattle.std.proofs.lemmas.List.Elements.{All-nil, All-cons, All-head, All-tail, All-weaker}
+use Rattle.std.proofs.lemmas.List.Elements.{All-nil, All-cons, All-head, All-tail}
 use Rattle.std.proofs.lemmas.List.FromFn.{length-range_with_len, get_or-range_with_len}
 use Rattle.std.proofs.lemmas.List.Sorted.{All-permutation, IsPermutation-sym}
 use Rattle.ent_handle.specs.declared.component.ComponentId.{ComponentId}
@@ -18,7 +17,7 @@ use Rattle.ent_handle.specs.Handle.{Handle}
 use Rattle.ent_alloc.specs.declared.space.Space.{Space as OutOfSpace}
 use Rattle.ent_alloc.specs.Limits.{credit}
 use Rattle.ent_alloc.specs.Sequential.{Allocator, reply_to}
-use Rattle.ent_alloc.specs.History.{Call, IsLegal}
+use Rattle.ent_alloc.specs.History.{Call}
 use Rattle.ent_alloc.proofs.ListLaws.{filter_all}
 use Rattle.ent_alloc.proofs.PoolLaw.{reply-none}
 use Rattle.ent_shared.specs.declared.refused.Refused.TheVariants.{Space, Quota}
@@ -58,57 +57,18 @@ many_spawned bundle wanted (Ok hs) = SpawnMany hs bundle ∷ []
 many_spawned bundle wanted (Err space) = Refused wanted (Space space.wanted space.left) ∷ []
 
 module _ (s : Allocator) (left : ℕ) (bundle : List (ComponentId × ℤ)) where
-  fits : (issue : ℕ → Result (List Handle) OutOfSpace → List Command) (wanted : ℕ)
-      (reply : Result (List Handle) OutOfSpace) → wanted ≤ left → reply ≡ reply_to s wanted
-      → issue wanted reply ≡ requested s left issue wanted
-  fits issue wanted reply enough is = ap (issue wanted) is
-      ∙ sym (cond-false (nat_lt left wanted) _ _ (le-ltb left wanted enough))
-
-  no_credit : (issue : ℕ → Result (List Handle) OutOfSpace → List Command) (wanted rest : ℕ) → rest
-      ≡ left → left < wanted → Refused wanted (Quota rest) ∷ [] ≡ requested s left issue wanted
-  no_credit issue wanted rest is less = ap (λ n. Refused wanted (Quota n) ∷ []) is
-      ∙ sym (cond-true (nat_lt left wanted) _ _ (lt-ltb left wanted less))
-
   spawn_is : (issued : List Command) → IsSpawn bundle issued → IsServed s left issued → issued
       ≡ requested s left (spawned bundle) 1
-  spawn_is (Spawn h items ∷ []) is served =
-      ap (λ b. Spawn h b ∷ []) is ∙ fits (spawned bundle) 1 (Ok (h ∷ [])) served.within.0
-      served.legal.1
-  spawn_is (Refused wanted (Space same rest) ∷ []) is served =
-      fits (spawned bundle) wanted (Err (record { wanted = same; left = rest })) served.within.0
-      served.legal.1 ∙ ap (requested s left (spawned bundle)) is
-  spawn_is (Refused wanted (Quota rest) ∷ []) is served =
-      no_credit (spawned bundle) wanted rest served.within.0.0 served.within.0.1
-      ∙ ap (requested s left (spawned bundle)) is
-  spawn_is _ is served = absurd is
+  spawn_is it is served = search (rules, cond-false, le-ltb, cond-true, lt-ltb)
 
   many_is : (count : ℕ) (issued : List Command) → IsSpawnMany count bundle issued
       → IsServed s left issued → issued ≡ requested s left (many_spawned bundle) count
-  many_is count (SpawnMany [] items ∷ []) is served =
-      ap (λ b. SpawnMany [] b ∷ []) is.1 ∙ fits (many_spawned bundle) 0 (Ok []) served.within.0
-      (sym (reply-none s)) ∙ ap (requested s left (many_spawned bundle)) is.0
-  many_is count (SpawnMany (h ∷ hs) items ∷ []) is served =
-      ap (λ b. SpawnMany (h ∷ hs) b ∷ []) is.1 ∙ fits (many_spawned bundle) (length (h ∷ hs))
-      (Ok (h ∷ hs)) served.within.0 served.legal.1 ∙ ap (requested s left (many_spawned bundle))
-      is.0
-  many_is count (Refused wanted (Space same rest) ∷ []) is served =
-      fits (many_spawned bundle) wanted (Err (record { wanted = same; left = rest }))
-      served.within.0 served.legal.1 ∙ ap (requested s left (many_spawned bundle)) is
-  many_is count (Refused wanted (Quota rest) ∷ []) is served =
-      no_credit (many_spawned bundle) wanted rest served.within.0.0 served.within.0.1
-      ∙ ap (requested s left (many_spawned bundle)) is
-  many_is count _ is served = absurd is
+  many_is count hs is served = search (rules, cond-false, le-ltb, reply-none, cond-true, lt-ltb)
 
 -- an entity's birth tells its handle
 same_of_birth : (view : View) (birth : Birth) (hs ks : List Handle) → IsOfBirth view birth hs
     → IsOfBirth view birth ks → hs ≡ ks
-same_of_birth view birth [] [] a b = refl
-same_of_birth view birth [] (k ∷ []) a b = absurd (a k b.0)
-same_of_birth view birth [] (k ∷ l ∷ ks) a b = absurd b
-same_of_birth view birth (h ∷ []) [] a b = absurd (b h a.0)
-same_of_birth view birth (h ∷ []) (k ∷ []) a b = grind (arith, common_steps)
-same_of_birth view birth (h ∷ []) (k ∷ l ∷ ks) a b = absurd b
-same_of_birth view birth (h ∷ g ∷ hs) ks a b = absurd a
+same_of_birth view birth hs ks a b = grind (arith, common_steps)
 
 -- a target means one list of handles
 same_targets : (view : View) (names : Bindings) (on : Target) (hs ks : List Handle)
@@ -142,18 +102,13 @@ same_queue : (view : View) (names : Bindings) (ops : List Operation) (s : Alloca
 same_queue view names [] s left cs ds a b p q = a ∙ sym b
 same_queue view names (op ∷ ops) s left cs ds (first, rest, cs_are, may, others)
     (first', rest', ds_are, may', others') p q =
-    let served : IsServed s left (first ++ rest) = subst (IsServed s left) cs_are p in
-    let served' : IsServed s left (first' ++ rest') = subst (IsServed s left) ds_are q in
+    let served = rw cs_are at p in
+    let served' = rw ds_are at q in
     let same : first ≡ first' = same_operation view names op s left first first' may may'
     (served_first s left first rest served) (served_first s left first' rest' served') in
-    let after : IsServed (state_after s first) (left_after left first) rest' =
-    subst (λ (cs : List Command). IsServed (state_after s cs) (left_after left cs) rest')
-    (sym same) (served_rest s left first' rest' served') in
-    let others_too : IssuesAll view (names_after names op first) ops rest' =
-    subst (λ (cs : List Command). IssuesAll view (names_after names op cs) ops rest') (sym same)
-    others' in
+    let after = rw (← same) at (served_rest s left first' rest' served') in
     let tails : rest ≡ rest' = same_queue view (names_after names op first) ops
-    (state_after s first) (left_after left first) rest rest' others others_too
+    (state_after s first) (left_after left first) rest rest' others (rw (← same) at others')
     (served_rest s left first rest served) after in
     cs_are ∙ (λ i. same i ++ tails i) ∙ sym ds_are
 
@@ -164,20 +119,16 @@ calls_back : (history : List Call) → All (λ (call : Call). call.caller < 1) h
     → map first_call (map (λ (call : Call). (call.requested, call.reply)) history) ≡ history
 calls_back [] all = refl
 calls_back (call ∷ history) all =
-    let less : call.caller < 1 = All-head (λ (call : Call). call.caller < 1) call history all in
-    let zero_is : call.caller ≡ 0 = omega (arith, less) in
+    let less = All-head (λ (call : Call). call.caller < 1) call history all in
+    let zero : 0 ≡ call.caller = omega (arith, less) in
     let rest = calls_back history (All-tail (λ (call : Call). call.caller < 1) call history all) in
-    (λ i. record { caller = sym zero_is i; requested = call.requested; reply = call.reply }
-    ∷ rest i)
+    λ i. record { caller = zero i; requested = call.requested; reply = call.reply } ∷ rest i
 
 all_calls : (history : List Call) → All (λ (call : Call). call.caller < 1) history
     → map first_call (requests_by 0 history) ≡ history
 all_calls history all =
-    let own : All (λ (call : Call). (call.caller == 0) ≡ true) history =
-    All-weaker (λ (call : Call). call.caller < 1) (λ (call : Call). (call.caller == 0) ≡ true)
-    (λ call less. eq-eqb call.caller 0 (omega (arith, less))) history all in
-    ap (λ calls. map first_call (map (λ (call : Call). (call.requested, call.reply)) calls))
-    (filter_all (λ (call : Call). call.caller == 0) history own) ∙ calls_back history all
+    let own : All (λ (call : Call). (call.caller == 0) ≡ true) history = search rules in
+    rw (filter_all (λ (call : Call). call.caller == 0) history own) (calls_back history all)
 
 -- The worker ran these systems, and the history has its calls.
 record IsAlone (count : ℕ) (w : World) (queues : List (List Command)) (history : List Call) : Type 0
@@ -200,18 +151,7 @@ is_alone : (systems : List (List Operation)) (w : World) (queues : List (List Co
 is_alone systems w queues history frame =
     let only = only_one frame.ran frame.each_worker in
     let work = frame.work 0 only.0 only.1 in
-    let calls : history ≡ calls_of (commands_of queues only.0) =
-    sym (all_calls history frame.callers) ∙ ap (map first_call) work.calls in
-    record {
-      mine = only.0;
-      rising = work.rising;
-      once = subst (λ ns. IsPermutation ns (range_with_len 0 (length systems))) only.2 frame.once;
-      calls = calls;
-      served = record {
-        legal = subst (IsLegal w.allocator) calls frame.legal;
-        within = work.within;
-      };
-    }
+    search (rules, calls_of, all_calls)
 
 -- each system has a queue that it may issue
 abbrev MayIssueEach : View → List (List Operation) → List (List Command) → Type 0
@@ -226,16 +166,11 @@ same_queues : (view : View) (systems : List (List Operation)) (q r : List (List 
 same_queues view systems q r [] s left below may may' served served' = search (rules, All-nil)
 same_queues view systems q r (n ∷ ns) s left below may may' served served' =
     let system = at_within systems n (All-head (λ n. n < length systems) n ns below) in
-    let here : IsServed s left (queue_at q n) = served_first s left (queue_at q n)
-    (commands_of q ns) served in
-    let here' : IsServed s left (queue_at r n) = served_first s left (queue_at r n)
-    (commands_of r ns) served' in
+    let here = served_first s left (queue_at q n) (commands_of q ns) served in
+    let here' = served_first s left (queue_at r n) (commands_of r ns) served' in
     let same : queue_at q n ≡ queue_at r n = same_queue view unbound system.0 s left (queue_at q n)
     (queue_at r n) (may n system.0 system.1) (may' n system.0 system.1) here here' in
-    let after : IsServed (state_after s (queue_at q n)) (left_after left (queue_at q n))
-    (commands_of r ns) = subst (λ (cs : List Command). IsServed (state_after s cs)
-    (left_after left cs) (commands_of r ns)) (sym same) (served_rest s left (queue_at r n)
-    (commands_of r ns) served') in
+    let after = rw (← same) at (served_rest s left (queue_at r n) (commands_of r ns) served') in
     All-cons (λ n. queue_at q n ≡ queue_at r n) n ns same
     (same_queues view systems q r ns (state_after s (queue_at q n)) (left_after left (queue_at q n))
     (All-tail (λ n. n < length systems) n ns below) may may' (served_rest s left (queue_at q n)
@@ -244,31 +179,26 @@ same_queues view systems q r (n ∷ ns) s left below may may' served served' =
 -- ---- one course
 
 -- what holds of all numbers below holds of each
-below_each : (P : ℕ → Type 0) (count : ℕ) → All P (range_with_len 0 count) → (n : ℕ) → n < count
-    → P n
+pub below_each : (P : ℕ → Type 0) (count : ℕ) → All P (range_with_len 0 count) → (n : ℕ) → n <
+    count → P n
 below_each P count all n less =
-    let long : length (range_with_len 0 count) ≡ count = length-range_with_len 0 count in
-    let here : get_or (range_with_len 0 count) n 0 ≡ n = get_or-range_with_len 0 count n 0 less
-    ∙ omega arith in
-    subst P here (all n 0 (omega (arith, long, less)))
+    search (rules, length-range_with_len 0 count, get_or-range_with_len 0 count n 0 less)
 
 pub one_course : (systems : List (List Operation)) (w : World) (q r : List (List Command))
     (h k : List Call) → IsFrame MayIssue systems 1 w q h → IsFrame MayIssue systems 1 w r k
     → (q ≡ r) × (h ≡ k)
 one_course systems w q r h k first second =
-    let a : IsAlone (length systems) w q h = is_alone systems w q h first in
-    let b : IsAlone (length systems) w r k = is_alone systems w r k second in
+    let a = is_alone systems w q h first in
+    let b = is_alone systems w r k second in
     let numbers : List ℕ = range_with_len 0 (length systems) in
     let mine : a.mine ≡ b.mine = one_rising a.mine b.mine numbers a.rising b.rising a.once b.once in
     let below : All (λ n. n < length systems) a.mine = All-permutation (λ n. n < length systems)
     numbers a.mine (IsPermutation-sym a.mine numbers a.once) (all_below (length systems)) in
-    let served : IsServed w.allocator credit (commands_of r a.mine) =
-    subst (λ ns. IsServed w.allocator credit (commands_of r ns)) (sym mine) b.served in
-    let each : All (λ n. queue_at q n ≡ queue_at r n) a.mine = same_queues (view_of w) systems q r
-    a.mine w.allocator credit below first.each_system second.each_system a.served served in
-    let at : All (λ n. queue_at q n ≡ queue_at r n) numbers = All-permutation (λ n. queue_at q n
-    ≡ queue_at r n) a.mine numbers a.once each in
-    let count : length q ≡ length r = first.count ∙ sym second.count in
-    let queues : q ≡ r = ext_get_or [] q r count (λ n less. below_each (λ n. queue_at q n
+    let each = same_queues (view_of w) systems q r
+    a.mine w.allocator credit below first.each_system second.each_system a.served
+    (rw (← mine) at b.served) in
+    let at = All-permutation (λ n. queue_at q n ≡ queue_at r n) a.mine numbers a.once each in
+    let queues : q ≡ r = ext_get_or [] q r (first.count ∙ sym second.count)
+    (λ n less. below_each (λ n. queue_at q n
     ≡ queue_at r n) (length systems) at n (omega (arith, less, first.count))) in
     (queues, a.calls ∙ (λ i. calls_of (commands_of (queues i) (mine i))) ∙ sym b.calls)

@@ -1,14 +1,10 @@
 -- A world has one text: no other list has its entities in the order of births.
-use Rattle.std.proofs.Common.{◌≡◌, ℕ, List, ◌++◌, sym, ap, ◌∙◌}
-use Rattle.std.specs.List.{flat_map}
-use Rattle.std.specs.FinMap as finite
+use Rattle.std.proofs.Common.{rules, ◌≡◌, ℕ, List}
 use Rattle.ent_storage.specs.EntityMap.{EntityMap}
 use Rattle.ent_storage.proofs.OneList.{one_list_of_all}
 use Rattle.ent_script_run.specs.declared.show.Show.{Show}
-use Rattle.ent_script_run.specs.WorldText.{line_in, alive_line, IsWorldText}
+use Rattle.ent_script_run.specs.WorldText.{IsWorldText}
 
 pub one_text : (names : List (List ℕ)) (s : Show) (m : EntityMap) (t u : List ℕ)
     → IsWorldText names s m t → IsWorldText names s m u → t ≡ u
-one_text names s m t u a b =
-    a.is ∙ ap (λ hs. flat_map (line_in names s m) hs ++ alive_line (finite.len m))
-    (one_list_of_all m a.handles b.handles a.lists b.lists) ∙ sym b.is
+one_text names s m t u a b = search (rules, one_list_of_all m a.handles b.handles a.lists b.lists)

@@ -1,7 +1,7 @@
 -- Texts following one another.
+use Rattle.std.proofs.Common.{◌≡◌, ℕ, ◌+◌, ◌<◌, ◌≤◌, List, ◌∷◌, ◌++◌, length, get_or, drop, ap}
+use Rattle.std.proofs.Common.{arith, length-append}
 use Rattle.std.proofs.lemmas.Grind.{common_steps}
-use Rattle.std.proofs.Common.{◌≡◌, ℕ, ◌+◌, ◌<◌, ◌≤◌, List, ◌∷◌, ◌++◌, length, get_or, drop, sym, ap}
-use Rattle.std.proofs.Common.{◌∙◌, arith, length-append}
 use Rattle.std.specs.List.{flat_map}
 
 -- the texts from a part on begin with its own
@@ -15,23 +15,12 @@ pub part_fits : {X : Type 0} (g : X → List ℕ) (old now : List ℕ) (xs : Lis
     < length xs → x ≡ get_or xs i x
     → now ++ flat_map g (drop i xs) ≡ old ++ flat_map g xs → length now + length (g x) ≤ length old
     + length (flat_map g xs)
-part_fits g old now xs i x lt is e =
-    omega (
-      arith,
-      length-parts g xs i x lt is,
-      sym (length-append now (flat_map g (drop i xs)))
-          ∙ ap length e ∙ length-append old (flat_map g xs),
-    )
+part_fits g old now xs i x lt is e = grind
+    (arith, common_steps, length-parts g xs i x lt is, ap length e)
 
 -- the same if the next part is the first of those that are left
 pub first_fits : {X : Type 0} (g : X → List ℕ) (old now : List ℕ) (all left rest : List X) (x : X)
     → left ≡ x ∷ rest → now ++ flat_map g left ≡ old ++ flat_map g all
     → length now + length (g x) ≤ length old + length (flat_map g all)
-first_fits g old now all left rest x front e =
-    omega (
-      arith,
-      ap (λ ys. length (flat_map g ys)) front,
-      length-append (g x) (flat_map g rest),
-      sym (length-append now (flat_map g left))
-          ∙ ap length e ∙ length-append old (flat_map g all),
-    )
+first_fits g old now all left rest x front e = omega
+    (arith, simp length-append at (ap length (rw front at e)))

@@ -1,9 +1,10 @@
 -- What a system issues by births is its queue with births in the place of handles, if no request of
 -- it was refused and it names no handle.
-use Rattle.std.proofs.Common.{rules, ◌≡◌, refl, sym, ap, ◌∙◌, subst, ℕ, ◌+◌, Bool, true, false}
-use Rattle.std.proofs.Common.{cond, arith, ℤ, List, [], ◌∷◌, ◌++◌, map, length, All, Option, Some}
-use Rattle.std.proofs.Common.{None}
-use Rattle.std.specs.Prelude.{◌==◌}
+use Rattle.std.proofs.lemmas.Grind.{common_steps}
+use Rattle.std.proofs.Common.{rules, ◌≡◌, refl, sym, ap, subst, ℕ, ◌+◌, arith, ℤ, List, [], ◌∷◌}
+use Rattle.std.proofs.Common.{◌++◌, map, length, All, Option, Some}
+use Rattle.ent_script_run.specs.Issuing.{bound, OnEach, Bindings, names_after, IsTargeted, IsSpawn}
+use Rattle.ent_script_run.specs.Issuing.{IsSpawnMany, IsOfBirth, IssuesAll}
 use Rattle.std.specs.List.{AllZip, range_with_len}
 use Rattle.std.proofs.lemmas.List.Elements.{All-nil, All-cons, All-head, All-tail}
 use Rattle.ent_handle.specs.declared.birth.Birth.{Birth}
@@ -12,7 +13,7 @@ use Rattle.ent_handle.specs.Handle.{Handle}
 use Rattle.ent_alloc.proofs.ListLaws.{All-left, All-right}
 use Rattle.ent_storage.specs.BirthOrder.{ListsWith}
 use Rattle.ent_storage.specs.EntityMap.{EntityMap}
-use Rattle.ent_queue.specs.Command.{Command, Spawn, SpawnMany, Insert, Remove, Despawn, Refused}
+use Rattle.ent_queue.specs.Command.{Command, Spawn, SpawnMany, Insert, Remove, Despawn}
 use Rattle.ent_world.specs.BirthsAlone.{BirthMap, BirthCommand}
 use Rattle.ent_world.specs.BirthsAlone as alone
 use Rattle.ent_world.specs.Named.{IsThere, IsNamedBy}
@@ -22,8 +23,6 @@ use Rattle.ent_script.specs.declared.operation.Operation.{Operation}
 use Rattle.ent_script.specs.declared.operation.Operation.TheVariants as operation
 use Rattle.ent_script.specs.declared.target.Target.{Target}
 use Rattle.ent_script.specs.declared.target.Target.TheVariants as target
-use Rattle.ent_script_run.specs.Issuing.{Bindings, names_after, IsTargeted, IsSpawn, IsSpawnMany}
-use Rattle.ent_script_run.specs.Issuing.{IsOfBirth, IssuesAll}
 use Rattle.ent_script_run.specs.IssuedAlone.{BirthBindings, births_from, with_binding, births_meant}
 use Rattle.ent_script_run.specs.IssuedAlone.{issued_alone, IsNoHandle, NeedsNoHandle, IsGranted}
 
@@ -31,19 +30,12 @@ use Rattle.ent_script_run.specs.IssuedAlone.{issued_alone, IsNoHandle, NeedsNoHa
 
 spawn_is : (bundle : List (ComponentId × ℤ)) (issued : List Command) → IsSpawn bundle issued
     → All IsGranted issued → (h : Handle) × (issued ≡ Spawn h bundle ∷ [])
-spawn_is bundle (Spawn h items ∷ []) is granted = (h, ap (λ b. Spawn h b ∷ []) is)
-spawn_is bundle (Refused wanted why ∷ []) is granted =
-    absurd (All-head IsGranted (Refused wanted why) [] granted)
-spawn_is bundle _ is granted = absurd is
+spawn_is bundle it is granted = search (rules, All-head)
 
 many_is : (count : ℕ) (bundle : List (ComponentId × ℤ)) (issued : List Command)
     → IsSpawnMany count bundle issued → All IsGranted issued
     → (hs : List Handle) × ((issued ≡ SpawnMany hs bundle ∷ []) × (length hs ≡ count))
-many_is count bundle (SpawnMany hs items ∷ []) is granted =
-    (hs, (ap (λ b. SpawnMany hs b ∷ []) is.1, is.0))
-many_is count bundle (Refused wanted why ∷ []) is granted =
-    absurd (All-head IsGranted (Refused wanted why) [] granted)
-many_is count bundle _ is granted = absurd is
+many_is count bundle it is granted = search (rules, All-head)
 
 -- commands of which none lists a handle
 none_listed : (command : Handle → Command) → ((h : Handle) → listed_by (command h) ≡ [])
@@ -69,10 +61,8 @@ module _ (name : Handle → Birth) (m : EntityMap) where
       → (hs : List Handle) → All (IsThere m) hs
       → AllZip (IsNamedBy name m) (map command hs) (map by_birth (map name hs))
   named_each command by_birth same [] there = tt
-  named_each command by_birth same (h ∷ hs) there = (
-    same h (All-head (IsThere m) h hs there),
-    named_each command by_birth same hs (All-tail (IsThere m) h hs there),
-  )
+  named_each command by_birth same (h ∷ hs) there =
+      search (rules, All-head, All-tail, same, named_each command by_birth same hs)
 
   -- ---- what names stand for
 
@@ -82,27 +72,21 @@ module _ (name : Handle → Birth) (m : EntityMap) where
     are : (n : ℕ) → births n ≡ map name (names n)
 
   -- also after a spawn
+  -- also after a spawn
+  stand_bound : (names : Bindings) (births : BirthBindings) (n : ℕ) (hs : List Handle)
+      (bs : List Birth) → StandFor names births → All (IsThere m) hs → bs ≡ map name hs
+      → StandFor (bound n hs names) (with_binding (Some n) bs births)
+  stand_bound names births n hs bs stand there are = record {
+    there = λ x. grind (arith, common_steps, stand.there x);
+    are = λ x. grind (arith, common_steps, stand.are x);
+  }
+
   stand_one : (names : Bindings) (births : BirthBindings) (bundle : List (ComponentId × ℤ))
       (binds : Option ℕ) (h : Handle) (bs : List Birth) → StandFor names births
       → All (IsThere m) (h ∷ []) → bs ≡ map name (h ∷ [])
       → StandFor (names_after names (operation.Spawn bundle binds) (Spawn h bundle ∷ []))
       (with_binding binds bs births)
-  stand_one names births bundle None h bs stand there are = record {
-    there = λ x. stand.there x;
-    are = λ x. stand.are x;
-  }
-  stand_one names births bundle (Some n) h bs stand there are = record {
-    there = λ x. there_by x (x == n);
-    are = λ x. are_by x (x == n);
-  }
-    where
-      there_by : (x : ℕ) (b : Bool) → All (IsThere m) (cond b (h ∷ []) (names x))
-      there_by x true = there
-      there_by x false = stand.there x
-
-      are_by : (x : ℕ) (b : Bool) → cond b bs (births x) ≡ map name (cond b (h ∷ []) (names x))
-      are_by x true = are
-      are_by x false = stand.are x
+  stand_one names births bundle binds h bs stand there are = search (rules, stand_bound)
 
   -- and after a spawn of many
   stand_many : (names : Bindings) (births : BirthBindings) (count : ℕ)
@@ -110,22 +94,7 @@ module _ (name : Handle → Birth) (m : EntityMap) where
       → StandFor names births → All (IsThere m) hs → bs ≡ map name hs
       → StandFor (names_after names (operation.SpawnMany count bundle binds)
       (SpawnMany hs bundle ∷ [])) (with_binding binds bs births)
-  stand_many names births count bundle None hs bs stand there are = record {
-    there = λ x. stand.there x;
-    are = λ x. stand.are x;
-  }
-  stand_many names births count bundle (Some n) hs bs stand there are = record {
-    there = λ x. there_by x (x == n);
-    are = λ x. are_by x (x == n);
-  }
-    where
-      there_by : (x : ℕ) (b : Bool) → All (IsThere m) (cond b hs (names x))
-      there_by x true = there
-      there_by x false = stand.there x
-
-      are_by : (x : ℕ) (b : Bool) → cond b bs (births x) ≡ map name (cond b hs (names x))
-      are_by x true = are
-      are_by x false = stand.are x
+  stand_many names births count bundle binds hs bs stand there are = search (rules, stand_bound)
 
   module _ (phase system : ℕ) where
     -- ---- births one after the other
@@ -146,11 +115,8 @@ module _ (name : Handle → Birth) (m : EntityMap) where
 
     order_rest : (k : ℕ) (xs ys : List Handle) → AreInOrder k (xs ++ ys)
         → AreInOrder (k + length xs) ys
-    order_rest k [] ys order =
-        let same : k ≡ k + 0 = omega arith in subst (λ n. AreInOrder n ys) same order
-    order_rest k (x ∷ xs) ys order =
-        let same : (k + 1) + length xs ≡ k + length (x ∷ xs) = omega arith in
-        subst (λ n. AreInOrder n ys) same (order_rest (k + 1) xs ys order.2)
+    order_rest k [] ys order = search rules
+    order_rest k (x ∷ xs) ys order = search (rules, order_rest (k + 1) xs ys order.2)
 
     order_there : (k : ℕ) (hs : List Handle) → AreInOrder k hs → All (IsThere m) hs
     order_there k [] order = All-nil (IsThere m)
@@ -160,17 +126,14 @@ module _ (name : Handle → Birth) (m : EntityMap) where
     births_on : (k i : ℕ) (hs : List Handle) → AreInOrder (k + i) hs
         → map name hs ≡ map (λ j. birth_at (k + j)) (range_with_len i (length hs))
     births_on k i [] order = refl
-    births_on k i (h ∷ hs) order =
-        let same : (k + i) + 1 ≡ k + (i + 1) = omega arith in
-        let first = order.1 in
-        let rest = births_on k (i + 1) hs (subst (λ n. AreInOrder n hs) same order.2) in
-        λ j. first j ∷ rest j
+    births_on k i (h ∷ hs) order = search (
+      rules,
+      births_on k (i + 1) hs (subst (λ n. AreInOrder n hs) (omega arith) order.2),
+    )
 
     births_are : (k : ℕ) (hs : List Handle) → AreInOrder k hs
         → births_from (birth_at k) (length hs) ≡ map name hs
-    births_are k hs order =
-        let same : k ≡ k + 0 = omega arith in
-        sym (births_on k 0 hs (subst (λ n. AreInOrder n hs) same order))
+    births_are k hs order = sym (births_on k 0 hs (subst (λ n. AreInOrder n hs) (omega arith) order))
 
     -- ---- one system
 
@@ -185,131 +148,81 @@ module _ (name : Handle → Birth) (m : EntityMap) where
       meant : (names : Bindings) (bound : BirthBindings) → StandFor names bound → (on : Target)
           → IsNoHandle on → (hs : List Handle) → IsTargeted view names on hs
           → All (IsThere m) hs × (births_meant births bound on ≡ map name hs)
-      meant names bound stand (target.Name n) free hs are = (
-        subst (All (IsThere m)) (sym are) (stand.there n),
-        stand.are n ∙ ap (map name) (sym are),
-      )
+      meant names bound stand (target.Name n) free hs are = search rules
       meant names bound stand (target.Handle h) free hs are = absurd free
       meant names bound stand (target.Each id) free hs are = each id hs are
       meant names bound stand (target.Birth birth) free hs are = of_birth birth hs are
 
-      -- the commands for a target, and those after them
-      on_target : (names : Bindings) (bound : BirthBindings) → StandFor names bound
-          → (on : Target) → IsNoHandle on → (hs : List Handle) → IsTargeted view names on hs
-          → (command : Handle → Command) (by_birth : Birth → BirthCommand)
+      -- commands for a target, and the queue after them
+      change_named : (k : ℕ) (names : Bindings) (bound : BirthBindings) → StandFor names bound
+          → (on : Target) → IsNoHandle on → (command : Handle → Command)
+          (by_birth : Birth → BirthCommand) → ((h : Handle) → listed_by (command h) ≡ [])
           → ((h : Handle) → IsThere m h → IsNamedBy name m (command h) (by_birth (name h)))
-          → (rest : List Command) (later : List BirthCommand) → AllZip (IsNamedBy name m) rest later
-          → AllZip (IsNamedBy name m) (map command hs ++ rest)
-          (map by_birth (births_meant births bound on) ++ later)
-      on_target names bound stand on free hs are command by_birth same rest later after =
-          let is = meant names bound stand on free hs are in
-          named_append (map command hs) rest (map by_birth (births_meant births bound on)) later
-          (subst (λ bs. AllZip (IsNamedBy name m) (map command hs) (map by_birth bs)) (sym is.1)
-          (named_each command by_birth same hs is.0)) after
-
-      -- the same of a queue that begins with them
-      changed : (names : Bindings) (bound : BirthBindings) → StandFor names bound
-          → (on : Target) → IsNoHandle on → (hs : List Handle) → IsTargeted view names on hs
-          → (command : Handle → Command) (by_birth : Birth → BirthCommand)
-          → ((h : Handle) → IsThere m h → IsNamedBy name m (command h) (by_birth (name h)))
-          → (queue first rest : List Command) → queue ≡ first ++ rest → first ≡ map command hs
-          → (later : List BirthCommand) → AllZip (IsNamedBy name m) rest later
+          → (queue first rest : List Command) → queue ≡ first ++ rest
+          → OnEach view names on command first → AreInOrder k (handles_listed queue)
+          → All IsGranted queue → (later : List BirthCommand)
+          → (AreInOrder k (handles_listed rest) → All IsGranted rest
+          → AllZip (IsNamedBy name m) rest later)
           → AllZip (IsNamedBy name m) queue (map by_birth (births_meant births bound on) ++ later)
-      changed names bound stand on free hs are command by_birth same queue first rest is first_is
-          later after =
-          subst (λ q. AllZip (IsNamedBy name m) q
-          (map by_birth (births_meant births bound on) ++ later))
-          (sym (is ∙ ap (λ f. f ++ rest) first_is))
-          (on_target names bound stand on free hs are command by_birth same rest later after)
-
-      -- after commands that list nobody, the handles are listed from the same ordinal on
-      order_after : (k : ℕ) (command : Handle → Command)
-          → ((h : Handle) → listed_by (command h) ≡ []) → (hs : List Handle)
-          → (queue first rest : List Command) → queue ≡ first ++ rest → first ≡ map command hs
-          → AreInOrder k (handles_listed queue) → AreInOrder k (handles_listed rest)
-      order_after k command none hs queue first rest is first_is order =
-          subst (AreInOrder k) (ap handles_listed (is ∙ ap (λ f. f ++ rest) first_is)
-          ∙ none_listed command none hs rest) order
+      change_named k names bound stand on free command by_birth none same queue first rest is
+          (hs, are, first_is) order granted later after =
+          let means = meant names bound stand on free hs are in
+          let listed = none_listed command none hs rest in
+          rw (is, first_is, means.1) (named_append _ _ _ _ (named_each command by_birth same hs means.0)
+          (after (rw listed at (rw (is, first_is) at order)) (All-right IsGranted first rest (rw is at granted))))
 
       issued-named : (ops : List Operation) (k : ℕ) (names : Bindings) (bound : BirthBindings)
           (queue : List Command) → StandFor names bound → AreInOrder k (handles_listed queue)
           → All IsGranted queue → All NeedsNoHandle ops → IssuesAll view names ops queue
           → AllZip (IsNamedBy name m) queue
           (issued_alone births bound (record { frame = phase; system = system; ordinal = k }) ops)
-      issued-named [] k names bound queue stand order granted free is =
-          subst (λ q. AllZip (IsNamedBy name m) q []) (sym is) tt
+      issued-named [] k names bound queue stand order granted free is = rw is tt
       issued-named (operation.Spawn bundle binds ∷ ops) k names bound queue stand order granted
           free (first, rest, is, may, others) =
           let op : Operation = operation.Spawn bundle binds in
-          let all : All IsGranted (first ++ rest) = subst (All IsGranted) is granted in
+          let all = rw is at granted in
           let one = spawn_is bundle first may (All-left IsGranted first rest all) in
-          let whole : queue ≡ Spawn one.0 bundle ∷ rest = is ∙ ap (λ f. f ++ rest) one.1 in
-          let here : AreInOrder k (one.0 ∷ handles_listed rest) =
-          subst (λ q. AreInOrder k (handles_listed q)) whole order in
-          let bs : births_from (birth_at k) 1 ≡ name one.0 ∷ [] =
-          births_are k (one.0 ∷ []) (here.0, here.1, tt) in
+          let here = rw (is, one.1) at order in
+          let bs = births_are k (one.0 ∷ []) (here.0, here.1, tt) in
+          let there = order_there k (one.0 ∷ []) (here.0, here.1, tt) in
           let after = issued-named ops (k + 1) (names_after names op (Spawn one.0 bundle ∷ []))
-          (with_binding binds (births_from (birth_at k) 1) bound) rest
-          (stand_one names bound bundle binds one.0 (births_from (birth_at k) 1) stand
-          (order_there k (one.0 ∷ []) (here.0, here.1, tt)) bs) here.2
-          (All-right IsGranted first rest all) (All-tail NeedsNoHandle op ops free)
-          (subst (λ (f : List Command). IssuesAll view (names_after names op f) ops rest) one.1
-          others) in
-          subst (λ q. AllZip (IsNamedBy name m) q (issued_alone births bound (birth_at k)
-          (op ∷ ops))) (sym whole) ((here.0, ap (λ b. alone.Spawn b bundle) bs), after)
+          (with_binding binds (births_from (birth_at k) 1) bound) rest (search (rules, stand_bound))
+          here.2 (All-right IsGranted first rest all) (All-tail NeedsNoHandle op ops free)
+          (rw one.1 at others) in
+          rw (is, one.1) ((here.0, ap (λ b. alone.Spawn b bundle) bs), after)
       issued-named (operation.SpawnMany count bundle binds ∷ ops) k names bound queue stand order
           granted free (first, rest, is, may, others) =
           let op : Operation = operation.SpawnMany count bundle binds in
-          let all : All IsGranted (first ++ rest) = subst (All IsGranted) is granted in
+          let all = rw is at granted in
           let one = many_is count bundle first may (All-left IsGranted first rest all) in
           let hs = one.0 in
-          let whole : queue ≡ SpawnMany hs bundle ∷ rest = is ∙ ap (λ f. f ++ rest) one.1.0 in
-          let here : AreInOrder k (hs ++ handles_listed rest) =
-          subst (λ q. AreInOrder k (handles_listed q)) whole order in
-          let mine = order_first k hs (handles_listed rest) here in
-          let bs : births_from (birth_at k) count ≡ map name hs =
-          ap (births_from (birth_at k)) (sym one.1.1) ∙ births_are k hs mine in
+          let here = rw (is, one.1.0) at order in
+          let there = order_there k hs (order_first k hs (handles_listed rest) here) in
+          let bs = rw one.1.1 at (births_are k hs (order_first k hs (handles_listed rest) here)) in
           let after = issued-named ops (k + count) (names_after names op (SpawnMany hs bundle ∷ []))
-          (with_binding binds (births_from (birth_at k) count) bound) rest
-          (stand_many names bound count bundle binds hs (births_from (birth_at k) count) stand
-          (order_there k hs mine) bs)
-          (subst (λ n. AreInOrder (k + n) (handles_listed rest)) one.1.1
-          (order_rest k hs (handles_listed rest) here))
+          (with_binding binds (births_from (birth_at k) count) bound) rest (search (rules, stand_bound))
+          (rw one.1.1 at (order_rest k hs (handles_listed rest) here))
           (All-right IsGranted first rest all) (All-tail NeedsNoHandle op ops free)
-          (subst (λ (f : List Command). IssuesAll view (names_after names op f) ops rest) one.1.0
-          others) in
-          subst (λ q. AllZip (IsNamedBy name m) q (issued_alone births bound (birth_at k)
-          (op ∷ ops))) (sym whole)
-          ((order_there k hs mine, ap (λ b. alone.Spawn b bundle) bs), after)
+          (rw one.1.0 at others) in
+          rw (is, one.1.0) ((there, ap (λ b. alone.Spawn b bundle) bs), after)
       issued-named (operation.Insert bundle on ∷ ops) k names bound queue stand order granted
-          free (first, rest, is, (hs, are, first_is), others) =
-          let op : Operation = operation.Insert bundle on in
-          let command : Handle → Command = λ h. Insert h bundle in
-          changed names bound stand on (All-head NeedsNoHandle op ops free) hs are command
-          (λ b. alone.Insert b bundle) (λ h there. (there, refl)) queue first rest is first_is
-          (issued_alone births bound (birth_at k) ops) (issued-named ops k names bound rest stand
-          (order_after k command (λ h. refl) hs queue first rest is first_is order)
-          (All-right IsGranted first rest (subst (All IsGranted) is granted))
-          (All-tail NeedsNoHandle op ops free) others)
+          free (first, rest, is, may, others) =
+          change_named k names bound stand on (All-head NeedsNoHandle _ ops free)
+          (λ h. Insert h bundle) (λ b. alone.Insert b bundle) (λ h. refl) (λ h there. (there, refl))
+          queue first rest is may order granted _ (λ o g. issued-named ops k names bound rest stand o g
+          (All-tail NeedsNoHandle _ ops free) others)
       issued-named (operation.Remove id on ∷ ops) k names bound queue stand order granted
-          free (first, rest, is, (hs, are, first_is), others) =
-          let op : Operation = operation.Remove id on in
-          let command : Handle → Command = λ h. Remove h id in
-          changed names bound stand on (All-head NeedsNoHandle op ops free) hs are command
-          (λ b. alone.Remove b id) (λ h there. (there, refl)) queue first rest is first_is
-          (issued_alone births bound (birth_at k) ops) (issued-named ops k names bound rest stand
-          (order_after k command (λ h. refl) hs queue first rest is first_is order)
-          (All-right IsGranted first rest (subst (All IsGranted) is granted))
-          (All-tail NeedsNoHandle op ops free) others)
+          free (first, rest, is, may, others) =
+          change_named k names bound stand on (All-head NeedsNoHandle _ ops free)
+          (λ h. Remove h id) (λ b. alone.Remove b id) (λ h. refl) (λ h there. (there, refl))
+          queue first rest is may order granted _ (λ o g. issued-named ops k names bound rest stand o g
+          (All-tail NeedsNoHandle _ ops free) others)
       issued-named (operation.Despawn on ∷ ops) k names bound queue stand order granted
-          free (first, rest, is, (hs, are, first_is), others) =
-          let op : Operation = operation.Despawn on in
-          changed names bound stand on (All-head NeedsNoHandle op ops free) hs are Despawn
-          alone.Despawn (λ h there. (there, refl)) queue first rest is first_is
-          (issued_alone births bound (birth_at k) ops) (issued-named ops k names bound rest stand
-          (order_after k Despawn (λ h. refl) hs queue first rest is first_is order)
-          (All-right IsGranted first rest (subst (All IsGranted) is granted))
-          (All-tail NeedsNoHandle op ops free) others)
+          free (first, rest, is, may, others) =
+          change_named k names bound stand on (All-head NeedsNoHandle _ ops free)
+          Despawn alone.Despawn (λ h. refl) (λ h there. (there, refl))
+          queue first rest is may order granted _ (λ o g. issued-named ops k names bound rest stand o g
+          (All-tail NeedsNoHandle _ ops free) others)
 
       -- With no names bound at first, the queue by names is what the operations issue by births.
       pub queue-alone : (ops : List Operation) (queue : List Command)
@@ -317,6 +230,4 @@ module _ (name : Handle → Birth) (m : EntityMap) where
           → IssuesAll view (λ n. []) ops queue
           → AllZip (IsNamedBy name m) queue (issued_alone births (λ n. [])
           (record { frame = phase; system = system; ordinal = 0 }) ops)
-      queue-alone ops queue order granted free may =
-          issued-named ops 0 (λ n. []) (λ n. []) queue
-          (record { there = λ n. All-nil (IsThere m); are = λ n. refl }) order granted free may
+      queue-alone ops queue order granted free may = search (rules, issued-named, All-nil)

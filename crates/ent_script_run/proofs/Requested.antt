@@ -1,22 +1,20 @@
 -- What the calls of a frame request is no more than what the operations of its systems request. So
 -- it counts neither the workers nor the order of the calls.
+use Rattle.std.proofs.lemmas.List.Sums.{sum_by-cons, sum_by-append, sum_by-le-sum_by}
+use Rattle.std.proofs.lemmas.Option.{get_or_from_slice_get}
+use Rattle.std.proofs.Common.{rules, ◌≡◌, ℕ, zero, suc, ◌+◌, ◌<◌, ◌≤◌, List, [], ◌∷◌, length, map}
+use Rattle.std.proofs.Common.{refl, sym, ap, arith, Some, Bool, true, false, cond, inl, inr, eq-eqb}
+use Rattle.std.proofs.Common.{Result}
 use Rattle.std.proofs.lemmas.Grind.{common_steps}
-use Rattle.std.proofs.Common.{◌≡◌, ℕ, zero, suc, ◌+◌, ◌<◌, ◌≤◌, List, [], ◌∷◌, length, map, refl}
-use Rattle.std.proofs.Common.{sym, ap, ◌∙◌, subst, arith, Some, Bool, true, false, cond, inl, inr}
-use Rattle.std.proofs.Common.{eq-eqb, ℤ, Result}
 use Rattle.std.specs.Prelude.{◌==◌, filter, slice_get}
 use Rattle.std.specs.List.{All, sum_by, flat_map, range_with_len}
 use Rattle.std.proofs.lemmas.Bool.{cases_eq}
-use Rattle.std.proofs.lemmas.Option.{get_or_from_slice_get}
 use Rattle.std.proofs.lemmas.List.Elements.{All-head, All-tail}
 use Rattle.std.proofs.lemmas.List.Sorted.{sum_by-IsPermutation}
-use Rattle.std.proofs.lemmas.List.Sums.{sum_by-cons, sum_by-append, sum_by-le-sum_by}
 use Rattle.ent_handle.specs.Handle.{Handle}
-use Rattle.ent_handle.specs.declared.component.ComponentId.{ComponentId}
 use Rattle.ent_alloc.specs.declared.space.Space.{Space}
 use Rattle.ent_alloc.specs.History.{Call}
-use Rattle.ent_shared.specs.declared.refused.Refused.TheVariants as refusal
-use Rattle.ent_queue.specs.Command.{Command, Spawn, SpawnMany, Refused}
+use Rattle.ent_queue.specs.Command.{Command, Refused}
 use Rattle.ent_queue.specs.Reserving.{stands_for, cost}
 use Rattle.ent_world.specs.OpenWorld.{View}
 use Rattle.ent_world.specs.World.{World}
@@ -24,8 +22,7 @@ use Rattle.ent_runner.specs.Frame.{IsFrame, queue_at, commands_of}
 use Rattle.ent_runner.proofs.Lists.{sum_map}
 use Rattle.ent_script.specs.declared.operation.Operation.{Operation}
 use Rattle.ent_script.specs.declared.operation.Operation.TheVariants as operation
-use Rattle.ent_script_run.specs.Issuing.{Bindings, names_after, IsSpawn, IsSpawnMany, Issues}
-use Rattle.ent_script_run.specs.Issuing.{IssuesAll, MayIssue}
+use Rattle.ent_script_run.specs.Issuing.{Bindings, names_after, Issues, IssuesAll, MayIssue}
 use Rattle.ent_script_run.specs.SameReport.{requested_by_operation}
 
 -- ---- sums
@@ -53,14 +50,9 @@ sum_by_number : {X : Type 0} (f : ℕ → ℕ) (g : X → ℕ) (a : ℕ) (xs : L
     → sum_by f (range_with_len a (length xs)) ≤ sum_by g xs
 sum_by_number f g a [] each = omega arith
 sum_by_number f g a (x ∷ xs) each =
-    let zeroth : a + 0 ≡ a = omega arith in
-    let here = subst (λ n. f n ≤ g x) zeroth (each 0 x refl) in
-    let rest = sum_by_number f g (a + 1) xs (λ k y at.
-    let next : a + suc k ≡ (a + 1) + k = omega arith in
-    subst (λ n. f n ≤ g y) next (each (suc k) y at)) in
-    let numbers = sum_by-cons f a (range_with_len (a + 1) (length xs)) in
-    let elements = sum_by-cons g x xs in
-    omega arith
+    let here = each 0 x refl in
+    let rest = sum_by_number f g (a + 1) xs (λ k y at. grind (arith, each (suc k) y at)) in
+    grind (arith, common_steps)
 
 -- ---- the calls of a history, caller by caller
 
@@ -82,9 +74,7 @@ one_caller c n a zero from below = absurd (omega arith)
 one_caller c n a (suc many) from below =
     let sums = sum_by-cons (λ k. cond (c == k) n 0) a (range_with_len (a + 1) many) in
     elim (cases_eq c a) [
-      | inl e ↦
-          let here : cond (c == a) n 0 ≡ n = ap (λ b. cond b n 0) (eq-eqb c a e) in
-          omega arith
+      | inl e ↦ search (rules, eq-eqb)
       | inr ne ↦
           let rest = one_caller c n (a + 1) many (omega arith) (omega arith) in
           omega arith
@@ -95,11 +85,11 @@ by_callers : (callers : ℕ) (history : List Call)
     → requested_in history ≤ sum_by (requested_of history) (range_with_len 0 callers)
 by_callers callers [] all = omega arith
 by_callers callers (call ∷ history) all =
-    let P : Call → Type 0 = λ (call : Call). call.caller < callers in
     let numbers : List ℕ = range_with_len 0 callers in
     let own : ℕ → ℕ = λ k. cond (call.caller == k) call.requested 0 in
-    let less : call.caller < callers = All-head P call history all in
-    let rest = by_callers callers history (All-tail P call history all) in
+    let less = All-head (λ (call : Call). call.caller < callers) call history all in
+    let rest = by_callers callers history
+    (All-tail (λ (call : Call). call.caller < callers) call history all) in
     let here = one_caller call.caller call.requested 0 callers (omega arith) (omega arith) in
     let both = sum_of_two own (requested_of history) numbers in
     let whole : sum_by (λ k. own k + requested_of history k) numbers
@@ -127,40 +117,18 @@ wanted_in queue = sum_by wanted_by queue
 
 -- What it has cost is no more: a refusal for want of credit has cost nothing.
 pub cost-wanted : (c : Command) → cost c ≤ wanted_by c
-cost-wanted (Refused wanted (refusal.Space same left)) = omega arith
-cost-wanted (Refused wanted (refusal.Quota left)) = omega arith
-cost-wanted _ = omega arith
+cost-wanted it = search rules
 
 -- ---- what operations want
 
 none_wanted : (command : Handle → Command) → ((h : Handle) → wanted_by (command h) ≡ 0)
     → (hs : List Handle) → wanted_in (map command hs) ≡ 0
 none_wanted command none [] = refl
-none_wanted command none (h ∷ hs) =
-    let here = none h in
-    let rest = none_wanted command none hs in
-    let sums = sum_by-cons wanted_by (command h) (map command hs) in
-    omega arith
-
-spawn-wanted : (bundle : List (ComponentId × ℤ)) (issued : List Command) → IsSpawn bundle issued
-    → wanted_in issued ≡ 1
-spawn-wanted bundle (Spawn h items ∷ []) is = omega arith
-spawn-wanted bundle (Refused wanted why ∷ []) is = omega arith
-spawn-wanted bundle _ is = absurd is
-
-many-wanted : (count : ℕ) (bundle : List (ComponentId × ℤ)) (issued : List Command)
-    → IsSpawnMany count bundle issued → wanted_in issued ≡ count
-many-wanted count bundle (SpawnMany [] items ∷ []) is = let long = is.0 in omega arith
-many-wanted count bundle (SpawnMany (h ∷ hs) items ∷ []) is = let long = is.0 in omega arith
-many-wanted count bundle (Refused wanted why ∷ []) is = omega arith
-many-wanted count bundle _ is = absurd is
+none_wanted command none (h ∷ hs) = search (rules, sum_by-cons, none_wanted command none hs)
 
 operation-wanted : (view : View) (names : Bindings) (op : Operation) (issued : List Command)
     → Issues view names op issued → wanted_in issued ≡ requested_by_operation op
-operation-wanted view names (operation.Spawn bundle binds) issued is = spawn-wanted bundle issued is
-operation-wanted view names (operation.SpawnMany count bundle binds) issued is =
-    many-wanted count bundle issued is
-operation-wanted view names _ issued (hs, are, is) = ap wanted_in is ∙ none_wanted _ (λ h. refl) hs
+operation-wanted view names it issued is = search (rules, none_wanted)
 
 operations-wanted : (view : View) (names : Bindings) (ops : List Operation) (queue : List Command)
     → IssuesAll view names ops queue → wanted_in queue ≡ sum_by requested_by_operation ops
@@ -169,9 +137,7 @@ operations-wanted view names (op ∷ ops) queue (first, rest, is, may, others) =
     let whole = ap wanted_in is in
     let both = sum_by-append wanted_by first rest in
     let here = operation-wanted view names op first may in
-    let later = operations-wanted view (names_after names op first) ops rest others in
-    let sums = sum_by-cons requested_by_operation op ops in
-    omega arith
+    search (rules, sum_by-cons, operations-wanted view (names_after names op first) ops rest others)
 
 -- The queues of the systems want what their operations request.
 pub queues-wanted : (view : View) (systems : List (List Operation)) (queues : List (List Command))
@@ -185,9 +151,7 @@ queues-wanted view (ops ∷ systems) [] same may = absurd (omega arith)
 queues-wanted view (ops ∷ systems) (q ∷ queues) same may =
     let here = operations-wanted view (λ n. []) ops q (may 0 ops refl) in
     let rest = queues-wanted view systems queues (omega arith) (λ n. may (suc n)) in
-    let commands = sum_by-cons wanted_in q queues in
-    let operations = sum_by-cons (sum_by requested_by_operation) ops systems in
-    omega arith
+    search (rules, sum_by-cons)
 
 -- ---- a frame
 
@@ -203,38 +167,28 @@ module _ {S : Type 0} (may : S → View → List Command → Type 0) (systems : 
   -- the systems of all workers are those of all queues
   of_workers : sum_by (sum_by wanted_at) frame.ran ≤ sum_by wanted_in queues
   of_workers =
-      let ran : List ℕ = flat_map (λ mine. mine) frame.ran in
-      let numbers : List ℕ = range_with_len 0 (length systems) in
       let flat = sum_flat wanted_at (λ mine. mine) frame.ran in
-      let moved = sum_by-IsPermutation wanted_at ran numbers frame.once in
-      let by_queue : sum_by wanted_at (range_with_len 0 (length queues)) ≤ sum_by wanted_in queues =
-      sum_by_number wanted_at wanted_in 0 queues (λ k q at.
-      let same : k ≡ 0 + k = omega arith in
-      let queue : queue_at queues k ≡ q = get_or_from_slice_get queues k q [] at in
-      subst (λ n. wanted_at n ≤ wanted_in q) same
-      (let wants = ap wanted_in queue in omega arith)) in
+      let moved = sum_by-IsPermutation wanted_at _ _ frame.once in
+      let by_queue = sum_by_number wanted_at wanted_in 0 queues (λ k q at.
+      let same : 0 + k ≡ k = omega arith in
+      let wants = ap wanted_in (get_or_from_slice_get queues k q [] at) in rw same (omega arith)) in
       let count = ap (λ n. sum_by wanted_at (range_with_len 0 n)) frame.count in
       omega arith
 
   -- The queues that a worker has filled want no more than all queues.
   pub worker-wanted : (worker : ℕ) (mine : List ℕ) → slice_get frame.ran worker ≡ Some mine
       → wanted_in (commands_of queues mine) ≤ sum_by wanted_in queues
-  worker-wanted worker mine at =
-      let own = of_systems mine in
-      let one = one_of_sum (sum_by wanted_at) frame.ran worker mine at in
-      let all = of_workers in
-      omega arith
+  worker-wanted worker mine at = search (rules, of_systems, one_of_sum, of_workers)
 
   worker-requested : (worker : ℕ) (mine : List ℕ) → slice_get frame.ran worker ≡ Some mine
       → requested_of history worker ≤ sum_by wanted_at mine
   worker-requested worker mine at =
-      let calls : List Call = filter (λ (call : Call). call.caller == worker) history in
-      let commands : List Command = commands_of queues mine in
       let first : ℕ × Result (List Handle) Space → ℕ = λ request. request.0 in
-      let pairs = sum_map first (λ (call : Call). (call.requested, call.reply)) calls in
+      let pairs = sum_map first (λ (call : Call). (call.requested, call.reply))
+      (filter (λ (call : Call). call.caller == worker) history) in
       let same = ap (sum_by first) (frame.work worker mine at).calls in
-      let costs = sum_flat first stands_for commands in
-      let most = sum_by-le-sum_by cost wanted_by commands cost-wanted in
+      let costs = sum_flat first stands_for (commands_of queues mine) in
+      let most = sum_by-le-sum_by cost wanted_by (commands_of queues mine) cost-wanted in
       let own = of_systems mine in
       omega arith
 
@@ -242,12 +196,4 @@ module _ {S : Type 0} (may : S → View → List Command → Type 0) (systems : 
   pub history-wanted : requested_in history ≤ sum_by wanted_in queues
   history-wanted =
       let callers = by_callers workers history frame.callers in
-      let count = ap (λ n. sum_by (requested_of history) (range_with_len 0 n)) frame.each_worker in
-      let by_worker : sum_by (requested_of history) (range_with_len 0 (length frame.ran))
-      ≤ sum_by (sum_by wanted_at) frame.ran =
-      sum_by_number (requested_of history) (sum_by wanted_at) 0 frame.ran (λ k mine at.
-      let same : k ≡ 0 + k = omega arith in
-      subst (λ n. requested_of history n ≤ sum_by wanted_at mine) same
-      (worker-requested k mine at)) in
-      let all = of_workers in
-      omega arith
+      search (rules, sum_by_number, worker-requested, of_workers)

@@ -1,5 +1,5 @@
 -- Numbers in rising order have one list.
-use Rattle.std.proofs.Common.{◌≡◌, ℕ, ◌<◌, List, arith}
+use Rattle.std.proofs.Common.{rules, ◌≡◌, ℕ, ◌<◌, List, arith}
 use Rattle.std.specs.List.{AllPairs}
 use Rattle.std.specs.List.Sorted.{IsPermutation}
 use Rattle.std.proofs.lemmas.List.Sorted.{Contains-permutation, IsPermutation-sym}
@@ -10,6 +10,4 @@ pub one_rising : (ms ns all : List ℕ) → AllPairs (λ m n. m < n) ms → AllP
 one_rising ms ns all a b p q =
     same_list (λ m n. m < n) (λ m n less greater. absurd (omega (arith, less, greater))) ms ns a b
     (λ n c. Contains-permutation all ns n (IsPermutation-sym ns all q)
-    (Contains-permutation ms all n p c))
-    (λ n c. Contains-permutation all ms n (IsPermutation-sym ms all p)
-    (Contains-permutation ns all n q c))
+    (Contains-permutation ms all n p c)) (search (rules, Contains-permutation, IsPermutation-sym))

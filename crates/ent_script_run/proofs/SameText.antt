@@ -1,12 +1,10 @@
 -- A report by births is the text of births alone, if no request of the run was refused and the
 -- script names no handle: each frame is told by births alone, and so is the next one.
-use Rattle.std.proofs.Common.{rules, ◌≡◌, ap, sym, ◌∙◌, ℕ, ◌+◌, ◌^◌, ◌<◌, List, [], ◌∷◌, length}
-use Rattle.std.proofs.Common.{All, Some, arith}
+use Rattle.std.proofs.Common.{rules, ◌≡◌, sym, ◌∙◌, ℕ, ◌+◌, ◌^◌, ◌<◌, List, [], ◌∷◌, length, All}
+use Rattle.std.proofs.Common.{Some, arith}
 use Rattle.std.specs.FinMap as finite
-use Rattle.std.specs.Option.{option_map}
 use Rattle.std.proofs.lemmas.List.Elements.{All-head, All-tail}
 use Rattle.std.proofs.lemmas.Option.{none-some}
-use Rattle.ent_handle.specs.declared.birth.Birth.{Birth}
 use Rattle.ent_handle.specs.Handle.{Handle, handle_cmp}
 use Rattle.ent_storage.specs.EntityMap.{Entity}
 use Rattle.ent_world.specs.BirthsAlone.{BirthMap, frame_alone}
@@ -27,26 +25,24 @@ use Rattle.ent_script_run.proofs.Enough.{granted_if_enough}
 use Rattle.ent_script_run.proofs.NoRefusal.{WereGranted, granted_if_untold}
 use Rattle.ent_script_run.proofs.TextsAlone.{AreToldAlone, text_alike}
 
-told_alone : (workers : ℕ) (w : World) (view : BirthMap) (frames : List (List (List Operation)))
+told : (workers : ℕ) (w : World) (view : BirthMap) (frames : List (List (List Operation)))
     (executions : List Execution) → AreExecutions workers w frames executions → IsWorld w
     → w.allocator.asked ≡ 0 → AreNamed w.entities view → AreBelow w.phase w.entities
     → w.phase + length frames < 2 ^ 64 → All (All NamesNoHandle) frames
     → All WereGranted executions → AreToldAlone w view frames executions
-told_alone workers w view [] [] went is_world flushed named below few free granted = tt
-told_alone workers w view [] (e ∷ executions) went is_world flushed named below few free granted =
+told workers w view [] [] went is_world flushed named below few free granted = tt
+told workers w view [] (e ∷ executions) went is_world flushed named below few free granted =
     absurd went
-told_alone workers w view (systems ∷ frames) [] went is_world flushed named below few free granted =
+told workers w view (systems ∷ frames) [] went is_world flushed named below few free granted =
     absurd went
-told_alone workers w view (systems ∷ frames) (e ∷ executions) went is_world flushed named below few
+told workers w view (systems ∷ frames) (e ∷ executions) went is_world flushed named below few
     free granted =
     let early : w.phase + 1 < 2 ^ 64 = omega (arith, few) in
     let one : IsFrameAlone w e.queues e.history systems view =
-    frame-alone systems workers w e.queues e.history view went.0 is_world flushed named below early
-    (All-head (All NamesNoHandle) systems frames free)
-    (All-head WereGranted e executions granted) in
+    search (rules, frame-alone, All-head, WereGranted) in
     let number = one.phase in (
       one,
-      told_alone workers (synced w e).world
+      told workers (synced w e).world
           (frame_alone (queues_by_births w view systems) view).entities frames executions went.1
           one.world one.flushed one.after.entities one.below (omega (arith, few, number))
           (All-tail (All NamesNoHandle) systems frames free)
@@ -58,29 +54,14 @@ told_alone workers w view (systems ∷ frames) (e ∷ executions) went is_world 
 nobody : (h : Handle) (e : Entity) → finite.get (finite.empty {R = handle_cmp}) h ≡ Some e → ⊥
 nobody h e is = none-some e (sym (finite.get-empty handle_cmp h) ∙ is)
 
-no_birth : (h : Handle) (birth : Birth)
-    → option_map (λ (e : Entity). e.birth) (finite.get (finite.empty {R = handle_cmp}) h)
-    ≡ Some birth → ⊥
-no_birth h birth is =
-    none-some birth (sym (ap (option_map (λ (e : Entity). e.birth)) (finite.get-empty handle_cmp h))
-    ∙ is)
-
 nobody_named : AreNamed finite.empty []
-nobody_named = search (rules, nobody, no_birth, none-some)
+nobody_named = search (rules, finite.get-empty, none-some)
 
 pub same_if_granted : (script : Script) (workers : ℕ) (executions : List Execution)
     (text : List ℕ) → IsScript script → IsReportOf script workers Births executions text
     → IsWithoutHandles script → All (λ e. AreGranted e.queues) executions → text ≡ text_alone script
 same_if_granted script workers executions text ranges report free granted =
-    search (
-      rules,
-      first_world-sound,
-      first_world-living,
-      text_alike,
-      nobody_named,
-      told_alone,
-      nobody,
-    )
+    search (rules, first_world-sound, first_world-living, text_alike, nobody_named, told, nobody)
 
 pub same_text : (script : Script) (workers : ℕ) (text : List ℕ) → IsScript script
     → IsReport script workers Births text → IsWithoutHandles script → TellsNoRefusal text

@@ -1,7 +1,7 @@
 -- Commands whose reservations an allocator has replied to, and the credit has allowed.
-use Rattle.std.proofs.Common.{rules, ◌≡◌, ◌∙◌, ap, subst, ℕ, ◌-◌, List, [], ◌∷◌, ◌++◌, map}
-use Rattle.std.specs.List.{flat_map}
+use Rattle.std.proofs.Common.{rules, ℕ, ◌-◌, List, [], ◌∷◌, ◌++◌, map}
 use Rattle.std.proofs.lemmas.Grind.{flat_map-append}
+use Rattle.std.specs.List.{flat_map}
 use Rattle.std.proofs.lemmas.List.{map-append}
 use Rattle.ent_alloc.specs.Sequential.{Allocator, after_take}
 use Rattle.ent_alloc.specs.History.{Call, IsLegal, after_history}
@@ -27,38 +27,26 @@ abbrev pub left_after : ℕ → List Command → ℕ
 left_after left [] = left
 left_after left (c ∷ cs) = left_after (left - cost c) cs
 
-legal_first : (s : Allocator) (calls more : List Call) → IsLegal s (calls ++ more) → IsLegal s calls
-legal_first s [] more legal = tt
-legal_first s (call ∷ calls) more legal =
-    (legal.0, legal.1, legal_first (after_take s call.requested) calls more legal.2)
+within_parts : (left : ℕ) (cs ds : List Command) → FitCredit left (cs ++ ds)
+    → FitCredit left cs × FitCredit (left_after left cs) ds
+within_parts left [] ds within = (tt, within)
+within_parts left (c ∷ cs) ds within =
+    let rest = within_parts (left - cost c) cs ds within.1 in ((within.0, rest.0), rest.1)
 
-legal_rest : (s : Allocator) (calls more : List Call) → IsLegal s (calls ++ more)
-    → IsLegal (after_history s calls) more
-legal_rest s [] more legal = legal
-legal_rest s (call ∷ calls) more legal = legal_rest (after_take s call.requested) calls more legal.2
-
-within_first : (left : ℕ) (cs ds : List Command) → FitCredit left (cs ++ ds) → FitCredit left cs
-within_first left [] ds within = tt
-within_first left (c ∷ cs) ds within = (within.0, within_first (left - cost c) cs ds within.1)
-
-within_rest : (left : ℕ) (cs ds : List Command) → FitCredit left (cs ++ ds)
-    → FitCredit (left_after left cs) ds
-within_rest left [] ds within = within
-within_rest left (c ∷ cs) ds within = within_rest (left - cost c) cs ds within.1
-
-calls_of-append : (cs ds : List Command) → calls_of (cs ++ ds) ≡ calls_of cs ++ calls_of ds
-calls_of-append cs ds = ap (map first_call) (flat_map-append stands_for cs ds)
-    ∙ map-append first_call (flat_map stands_for cs) (flat_map stands_for ds)
+legal_parts : (s : Allocator) (calls more : List Call) → IsLegal s (calls ++ more)
+    → IsLegal s calls × IsLegal (after_history s calls) more
+legal_parts s [] more legal = (tt, legal)
+legal_parts s (call ∷ calls) more legal =
+    let rest = legal_parts (after_take s call.requested) calls more legal.2 in
+    ((legal.0, legal.1, rest.0), rest.1)
 
 -- what is served is served up to any command, and the others are served after it
 pub served_first : (s : Allocator) (left : ℕ) (cs ds : List Command) → IsServed s left (cs ++ ds)
     → IsServed s left cs
-served_first s left cs ds served = search (rules, legal_first, calls_of-append, within_first)
+served_first s left cs ds served = search
+    (rules, legal_parts, flat_map-append, map-append, within_parts)
 
 pub served_rest : (s : Allocator) (left : ℕ) (cs ds : List Command) → IsServed s left (cs ++ ds)
     → IsServed (state_after s cs) (left_after left cs) ds
-served_rest s left cs ds served = record {
-  legal = legal_rest s (calls_of cs) (calls_of ds) (subst (IsLegal s) (calls_of-append cs ds)
-      served.legal);
-  within = within_rest left cs ds served.within;
-}
+served_rest s left cs ds served = search
+    (rules, legal_parts, flat_map-append, map-append, within_parts)

@@ -1,7 +1,6 @@
 -- A system whose first operations have run.
-use Rattle.std.proofs.Common.{arith, rules, ◌≡◌, refl, ap, sym, subst, ◌∙◌, ℕ, ◌+◌, ◌<◌, List, []}
-use Rattle.std.proofs.Common.{◌∷◌, ◌++◌, length, get_or, drop, inr, append_assoc, append-nil}
-use Rattle.std.proofs.lemmas.Grind.{common_steps}
+use Rattle.std.proofs.Common.{rules, ◌≡◌, refl, ◌∙◌, ℕ, ◌+◌, ◌<◌, List, [], ◌∷◌, ◌++◌, length}
+use Rattle.std.proofs.Common.{get_or, drop, inr, append_assoc, append-nil, arith}
 use Rattle.std.proofs.lemmas.List.{drop_more}
 use Rattle.ent_handle.specs.Handle.{Handle}
 use Rattle.ent_queue.specs.Command.{Command}
@@ -9,8 +8,8 @@ use Rattle.ent_queue.specs.Commands.{Issued, queue_of}
 use Rattle.ent_world.specs.OpenWorld.{View}
 use Rattle.ent_script.specs.declared.operation.Operation.{Operation}
 use Rattle.ent_script_run.specs.Issuing.{Bindings, unbound, IssuesAll, MayIssue, StopsAmong}
-use Rattle.ent_script_run.specs.Issuing.{MayStop}
-use Rattle.ent_script_run.specs.Parts.{names_of, HasIssued, HasStopped}
+use Rattle.ent_script_run.specs.Parts.{names_of, HasIssued}
+use Rattle.std.proofs.lemmas.Grind.{common_steps}
 
 -- The first i operations have issued what was added; whatever the others may issue, all may issue
 -- both.
@@ -33,28 +32,14 @@ pub has_gone_on : (view : View) (ops : List Operation) (i : ℕ) (op : Operation
     → HasIssued view op before after lists lists_after
     → HasRun view ops (i + 1) (names_of lists_after) start (queue_of after)
 has_gone_on view ops i op start before after lists lists_after within is run step =
-    let from : drop i ops ≡ op ∷ drop (i + 1) ops = drop_more ops i op within
-    ∙ ap (λ (o : Operation). o ∷ drop (i + 1) ops) (sym is) in
+    let from : drop i ops ≡ op ∷ drop (i + 1) ops = cc (drop_more ops i op within) in
     record {
       added = run.added ++ step.issued;
-      queue = step.queue ∙ ap (λ (q : List Command). q ++ step.issued) run.queue
-          ∙ append_assoc start run.added step.issued;
-      rest = λ cs may.
-          let names = subst (λ (n : Bindings). IssuesAll view n (drop (i + 1) ops) cs) step.names
-          may in
-          subst (λ (q : List Command). IssuesAll view unbound ops q)
-          (sym (append_assoc run.added step.issued cs))
-          (run.rest (step.issued ++ cs)
-          (subst (λ (os : List Operation). IssuesAll view (names_of lists) os (step.issued
-          ++ cs)) (sym from) (step.issued, cs, refl, step.may, names)));
-      stop = λ cs may.
-          let names = subst (λ (n : Bindings). StopsAmong view n (drop (i + 1) ops) cs) step.names
-          may in
-          subst (λ (q : List Command). StopsAmong view unbound ops q)
-          (sym (append_assoc run.added step.issued cs))
-          (run.stop (step.issued ++ cs)
-          (subst (λ (os : List Operation). StopsAmong view (names_of lists) os (step.issued
-          ++ cs)) (sym from) (inr (step.issued, cs, refl, step.may, names))));
+      queue = step.queue ∙ rw (run.queue, append_assoc);
+      rest = λ cs may. rw append_assoc (run.rest (step.issued ++ cs)
+          (rw from (step.issued, cs, refl, step.may, rw step.names at may)));
+      stop = λ cs may. rw append_assoc (run.stop (step.issued ++ cs)
+          (rw from (inr (step.issued, cs, refl, step.may, rw step.names at may))));
     }
 
 pub has_ended : (view : View) (ops : List Operation) (i : ℕ) (names : Bindings)

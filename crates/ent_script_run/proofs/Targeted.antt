@@ -1,8 +1,6 @@
 -- Commands for the handles of a target.
-use Rattle.std.proofs.Common.{rules, ◌≡◌, refl, List, [], ◌∷◌, ◌++◌, map, Result, Ok, Err, OnOk}
-use Rattle.std.proofs.Common.{Option, Some, IfSome}
+use Rattle.std.proofs.Common.{rules, ◌≡◌, List, ◌++◌, map, Result, OnOk}
 use Rattle.std.specs.Prelude.{OnErr}
-use Rattle.ent_handle.specs.declared.birth.Birth.{Birth}
 use Rattle.ent_handle.specs.Handle.{Handle}
 use Rattle.ent_handle.specs.declared.memory.Memory.{Memory}
 use Rattle.ent_queue.specs.Command.{Command}
@@ -11,35 +9,25 @@ use Rattle.ent_world.specs.OpenWorld.{View}
 use Rattle.ent_script.specs.declared.operation.Operation.{Operation}
 use Rattle.ent_script.specs.declared.target.Target.{Target}
 use Rattle.ent_script.specs.declared.target.Target.TheVariants as target
-use Rattle.ent_script_run.specs.Issuing.{Bindings, IsOfBirth, IsTargeted, StopsOnEach, Stops}
+use Rattle.ent_script_run.specs.Issuing.{Bindings, IsTargeted, StopsOnEach, Stops}
 use Rattle.ent_script_run.specs.Parts.{names_of, HasIssuedOn, HasStoppedAmong, HasStoppedOn}
 use Rattle.ent_script_run.specs.Parts.{HasStopped}
-
--- the entity that was found is what its birth means
-pub found_targeted : (view : View) (names : Bindings) (on : Target) (birth : Birth)
-    (o : Option Handle) (h : Handle) → on ≡ target.Birth birth → o ≡ Some h
-    → IfSome o (λ k. IsOfBirth view birth (k ∷ [])) → IsTargeted view names on (h ∷ [])
-found_targeted view names on birth o h is some found = search (rules)
 
 pub issued_on : (view : View) (names : Bindings) (on : Target) (command : Handle → Command)
     (before after : Issued) (hs : List Handle) (result : Result (Unit {0}) Memory)
     → IsTargeted view names on hs → OnOk result (queue_of after ≡ queue_of before ++ map command hs)
     → OnOk result (HasIssuedOn view names on command before after)
-issued_on view names on command before after hs (Ok u) targeted queue =
-    record { issued = map command hs; queue = queue; may = (hs, targeted, refl) }
-issued_on view names on command before after hs (Err e) targeted queue = tt
+issued_on view names on command before after hs it targeted queue = search rules
 
 pub stopped_on : (view : View) (names : Bindings) (on : Target) (command : Handle → Command)
     (before after : Issued) (hs : List Handle) (result : Result (Unit {0}) Memory)
     → IsTargeted view names on hs → OnErr result (HasStoppedAmong hs command before after)
     → OnErr result (HasStoppedOn view names on command before after)
-stopped_on view names on command before after hs (Ok u) targeted stopped = tt
-stopped_on view names on command before after hs (Err e) targeted stopped = search (rules)
+stopped_on view names on command before after hs it targeted stopped = search rules
 
 -- what holds anyway holds of an error
 pub on_error : (result : Result (Unit {0}) Memory) (P : Type 0) → P → OnErr result P
-on_error (Ok u) P holds = tt
-on_error (Err e) P holds = holds
+on_error it P holds = search rules
 
 -- the operation is a change of its target
 pub stopped_in : (view : View) (lists : List (List Handle)) (op : Operation) (on : Target)
@@ -48,6 +36,4 @@ pub stopped_in : (view : View) (lists : List (List Handle)) (op : Operation) (on
     → Stops view (names_of lists) op issued)
     → OnErr result (HasStoppedOn view (names_of lists) on command before after)
     → OnErr result (HasStopped view op before after lists)
-stopped_in view lists op on command before after (Ok u) is stopped = tt
-stopped_in view lists op on command before after (Err e) is stopped =
-    record { issued = stopped.issued; queue = stopped.queue; may = is stopped.issued stopped.may }
+stopped_in view lists op on command before after it is stopped = search rules

@@ -1,19 +1,17 @@
 -- Where births alone tell each frame of a run, its text by births is that of births alone.
-use Rattle.std.proofs.Common.{arith, rules, ◌≡◌, refl, sym, ap, ◌∙◌, subst, ℕ, ◌+◌, Bool, true}
-use Rattle.std.proofs.Common.{false, T, ◌&&◌, List, [], ◌∷◌, ◌++◌, length, map, get_or, All}
-use Rattle.std.proofs.Common.{Contains, Option, Some, None, is_some, option_map, unwrap_or}
-use Rattle.std.proofs.Common.{IsSomeAnd, IsTrue, append_assoc, append-nil}
+use Rattle.std.proofs.Common.{arith, rules, ◌≡◌, refl, sym, ap, ◌∙◌, ℕ, ◌+◌, Bool, true, false, T}
+use Rattle.std.proofs.Common.{◌&&◌, List, [], ◌∷◌, ◌++◌, length, map, All, Contains, Option}
+use Rattle.std.proofs.Common.{is_some, option_map, unwrap_or, IsSomeAnd, IsTrue, append_assoc}
+use Rattle.std.proofs.Common.{append-nil}
 use Rattle.std.proofs.lemmas.Grind.{common_steps}
-use Rattle.std.specs.Cmp.{IsTotalOrder, then_total, on_total}
+use Rattle.std.specs.Cmp.{then_total, on_total}
 use Rattle.std.specs.Cmp.Lexicographic.{options_total}
 use Rattle.std.specs.declared.cmp.Ordering.{Ordering}
-use Rattle.std.specs.declared.cmp.Ordering.TheVariants.{Less, Equal, Greater}
 use Rattle.std.specs.FinMap as finite
 use Rattle.std.specs.FinMap.{is_sorted}
 use Rattle.std.specs.FinMap.Entries.{below_all}
 use Rattle.std.specs.List.{AllByRecursion, AllZip, flat_map, IsDistinct}
-use Rattle.std.specs.Option.{option_map_or}
-use Rattle.std.specs.Ordering.{eq_by_cmp, is_eq, is_lt}
+use Rattle.std.specs.Ordering.{eq_by_cmp}
 use Rattle.std.proofs.lemmas.Cmp.{tied_itself, eq_by_cmp_equiv}
 use Rattle.std.proofs.lemmas.List.{length-map}
 use Rattle.std.proofs.lemmas.List.Elements.{All-head, All-tail, All-weaker, All-contains_itself}
@@ -26,7 +24,7 @@ use Rattle.ent_handle.specs.Handle.{Handle, handle_cmp, handle_cmp_total}
 use Rattle.ent_alloc.specs.Sequential.{stands_in}
 use Rattle.ent_alloc.proofs.HandleSets.{same_handle, Contains-from_stands_in}
 use Rattle.ent_alloc.proofs.HandleSets.{stands_in-from_Contains}
-use Rattle.ent_storage.specs.BirthOrder.{birth_order, ListsAll}
+use Rattle.ent_storage.specs.BirthOrder.{ListsAll}
 use Rattle.ent_storage.specs.EntityMap.{Entity, EntityMap, birth_of}
 use Rattle.ent_storage.proofs.ByBirth.{filter-all}
 use Rattle.ent_bundle.specs.Bundle.{Bundle}
@@ -40,8 +38,7 @@ use Rattle.ent_script.specs.declared.operation.Operation.{Operation}
 use Rattle.ent_script_run.specs.FrameAlone.{IsFrameAlone, queues_by_births}
 use Rattle.ent_script_run.specs.declared.show.Show.TheVariants.{Births}
 use Rattle.ent_script_run.specs.FrameText.{fault_line, frame_text}
-use Rattle.ent_script_run.specs.WorldText.{IsWorldText, line_in, entity_line, alive_line}
-use Rattle.ent_script_run.specs.WorldText.{birth_text, item_text}
+use Rattle.ent_script_run.specs.WorldText.{IsWorldText, line_in, alive_line}
 use Rattle.ent_script_run.specs.Report.{Execution, synced, born_in, last_world, frames_text}
 use Rattle.ent_script_run.specs.ScriptAlone.{birth_fault_line, birth_line, frame_text_alone}
 use Rattle.ent_script_run.specs.ScriptAlone.{text_from}
@@ -66,12 +63,6 @@ frame_alike w e systems view number one = search (rules, faults_alike, AllZip-lo
 
 -- ---- the text of a world
 
--- keys that rise differ
-not_tied : (r : Ordering) → T (is_lt r) → is_eq r ≡ false
-not_tied Less p = refl
-not_tied Equal p = absurd p
-not_tied Greater p = refl
-
 first : (a b : Bool) → T (a && b) → T a
 first true b p = tt
 first false b p = p
@@ -84,8 +75,7 @@ module _ {K X : Type 0} (R : K → K → Ordering) where
   below_apart : (q : K) (es : List (K × X)) → T (below_all R q es)
       → AllByRecursion (λ y. eq_by_cmp R q y ≡ false) (map (λ e. e.0) es)
   below_apart q [] below = tt
-  below_apart q (e ∷ es) below =
-      (not_tied (R q e.0) (first _ _ below), below_apart q es (second _ _ below))
+  below_apart q (e ∷ es) below = search (rules, below_apart q es)
 
   keys_apart : (es : List (K × X)) → T (is_sorted R es)
       → IsDistinct (eq_by_cmp R) (map (λ e. e.0) es)
@@ -94,52 +84,32 @@ module _ {K X : Type 0} (R : K → K → Ordering) where
   keys_apart (e ∷ es) sorted =
       (below_apart e.0 es (first _ _ sorted), keys_apart es (second _ _ sorted))
 
-birth_order_total : (m : EntityMap) → IsTotalOrder (birth_order m)
-birth_order_total m = then_total (on_total (birth_of m) (options_total birth_cmp_total))
-    handle_cmp_total
-
 module _ (m : EntityMap) (handles : List Handle) (lists : ListsAll m handles) where
   there_is : (o : Option Entity) → IsSomeAnd o (λ e. IsTrue true) → is_some o ≡ true
-  there_is None none = absurd none
-  there_is (Some e) _ = refl
+  there_is it none = search rules
 
   some_entity : (o : Option Entity) → is_some o ≡ true → IsSomeAnd o (λ e. IsTrue true)
-  some_entity None none = absurd cc
-  some_entity (Some e) _ = refl
+  some_entity it none = search rules
 
   is_there : (h : Handle) → Contains handles h → IsThere m h
   is_there h has = there_is (finite.get m h) ((lists.holds h).0 has)
 
-  all_there : All (IsThere m) handles
-  all_there = All-weaker (Contains handles) (IsThere m) is_there handles
-      (All-contains_itself handles)
-
   handles_apart : IsDistinct (eq_by_cmp handle_cmp) handles
-  handles_apart = IsDistinct-from_apart (eq_by_cmp handle_cmp) handles
-      (λ i j d less within. by (get_or handles i d) (get_or handles j d)
-      (lists.rising i j d less within) (eq_by_cmp handle_cmp (get_or handles i d)
-      (get_or handles j d)) refl)
-    where
-      by : (g h : Handle) → birth_order m g h ≡ Less → (b : Bool) → eq_by_cmp handle_cmp g h ≡ b
-          → b ≡ false
-      by g h less false _ = refl
-      by g h less true tied =
-          let same : g ≡ h = same_handle g h tied in
-          let itself : birth_order m g h ≡ Equal =
-          ap (λ x. birth_order m x h) same ∙ tied_itself (birth_order_total m) h in
-          absurd cc
+  handles_apart =
+      let total = then_total (on_total (birth_of m) (options_total birth_cmp_total))
+      handle_cmp_total in
+      IsDistinct-from_apart (eq_by_cmp handle_cmp) handles (λ i j d less within.
+      grind (arith, common_steps, same_handle, tied_itself total, lists.rising i j d less within))
 
   alike : (h : Handle) → stands_in handles h ≡ stands_in (finite.keys m) h
   alike h = same_answer (stands_in handles h) (stands_in (finite.keys m) h)
-      (λ is. sym (finite.contains_key-keys m h)
-      ∙ is_there h (Contains-from_stands_in handles h is))
+      (λ is. sym (finite.contains_key-keys m h) ∙ is_there h (Contains-from_stands_in handles h is))
       (λ is. stands_in-from_Contains handles h ((lists.holds h).1
       (some_entity (finite.get m h) (finite.contains_key-keys m h ∙ is))))
     where
       same_answer : (a b : Bool) → (a ≡ true → b ≡ true) → (b ≡ true → a ≡ true) → a ≡ b
       same_answer true b there back = sym (there refl)
-      same_answer false true there back = back refl
-      same_answer false false there back = refl
+      same_answer false b there back = search rules
 
   -- there are as many handles as entities
   as_many : finite.len m ≡ length handles
@@ -157,17 +127,7 @@ module _ (components : List (List ℕ)) (name : Handle → Birth) (m : EntityMap
 
   line_alike : (h : Handle) → IsThere m h
       → line_in components Births m h ≡ birth_line components (entry_of h)
-  line_alike h there =
-      let one = entity_there m h there in
-      let e = one.0 in
-      ap (λ o. option_map_or (λ x. entity_line components Births h x.birth
-      (finite.entries x.components)) o []) one.1
-      ∙ ap (λ t. t ++ flat_map (item_text components) (finite.entries e.components) ++ 10 ∷ [])
-      (append-nil (birth_text e.birth))
-      ∙ sym (λ i. birth_line components (
-        names h e one.1 i,
-        unwrap_or (option_map (λ x. finite.entries x.components) (one.1 i)) [],
-      ))
+  line_alike h there = search (rules, entity_there, append-nil)
 
   lines_alike : (handles : List Handle) → All (IsThere m) handles
       → flat_map (line_in components Births m) handles
@@ -175,8 +135,7 @@ module _ (components : List (List ℕ)) (name : Handle → Birth) (m : EntityMap
   lines_alike [] all = refl
   lines_alike (h ∷ handles) all =
       let here = line_alike h (All-head (IsThere m) h handles all) in
-      let rest = lines_alike handles (All-tail (IsThere m) h handles all) in
-      λ i. here i ++ rest i
+      search (rules, lines_alike handles (All-tail (IsThere m) h handles all), here)
 
   world_alike : (text : List ℕ) → IsWorldText components Births m text
       → text ≡ flat_map (birth_line components) births ++ alive_line (length births)
@@ -185,11 +144,7 @@ module _ (components : List (List ℕ)) (name : Handle → Birth) (m : EntityMap
       let all : map entry_of handles ≡ births =
       listed-named name m births named names (λ _. true) (λ _. true) (λ _. refl) handles is.lists
       ∙ filter-all births in
-      let count : finite.len m ≡ length births =
-      as_many m handles is.lists ∙ sym (length-map handles entry_of) ∙ ap length all in
-      let lines = lines_alike handles (all_there m handles is.lists)
-      ∙ ap (flat_map (birth_line components)) all in
-      is.is ∙ (λ i. lines i ++ alive_line (count i))
+      search (rules, as_many, length-map, lines_alike, All-weaker, is_there, All-contains_itself)
 
 -- ---- the text of a run
 
@@ -221,15 +176,8 @@ text_alike components w view [] [] world_text named told is =
 text_alike components w view [] (e ∷ executions) world_text named told is = absurd told
 text_alike components w view (systems ∷ frames) [] world_text named told is = absurd told
 text_alike components w view (systems ∷ frames) (e ∷ executions) world_text named told is =
-    let next = (synced w e).world in
-    let after = frame_alone (queues_by_births w view systems) view in
-    let here = frame_alike w e systems view w.phase told.0 in
-    let rest : frames_text Births (w.phase + 1) next executions ++ world_text
-    ≡ text_from components (w.phase + 1) after.entities frames =
-    subst (λ n. frames_text Births n next executions ++ world_text
-    ≡ text_from components n after.entities frames) told.0.phase
-    (text_alike components next after.entities frames executions world_text
+    let rest = rw told.0.phase at (text_alike components (synced w e).world
+    (frame_alone (queues_by_births w view systems) view).entities frames executions world_text
     told.0.after.entities told.1 is) in
-    append_assoc (frame_text Births w.phase (born_in w e) (synced w e).faults)
-    (frames_text Births (w.phase + 1) next executions) world_text
-    ∙ (λ i. here i ++ rest i)
+    let here = frame_alike w e systems view w.phase told.0 in
+    rw append_assoc (λ i. here i ++ rest i)

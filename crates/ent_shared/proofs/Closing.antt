@@ -1,13 +1,9 @@
-use Rattle.std.proofs.Common.{rules}
--- The end of a phase: the history of all records is legal, and the cursor and the least floor tell
--- the allocator after it.
+use Rattle.ent_shared.proofs.Histories.{falls_apart, reservations_are, respects_all}
+use Rattle.std.proofs.Common.{rules, ◌≡◌, ◌≢◌, ℕ, ◌+◌, ◌-◌, ◌^◌, ◌<◌, ◌≤◌, ℤ, pos, ◌+ℤ◌, ◌-ℤ◌, ◌≤ℤ◌}
+use Rattle.std.proofs.Common.{◌<ℤ◌, List, length, map, refl, sym, ap, subst, ◌∙◌, arith, sum}
+use Rattle.std.proofs.Common.{length-append, All, AllPairs, Contains, ◌↔◌, ◌⊎◌}
 use Rattle.std.proofs.lemmas.Grind.{common_steps}
-use Rattle.std.proofs.Common.{◌≡◌, ◌≢◌, ℕ, ◌+◌, ◌-◌, ◌*◌, ◌^◌, ◌<◌, ◌≤◌, ℤ, pos, ◌+ℤ◌, ◌-ℤ◌, ◌≤ℤ◌}
-use Rattle.std.proofs.Common.{◌<ℤ◌, List, [], ◌∷◌, ◌++◌, length, map, refl, sym, ap, subst, ◌∙◌}
-use Rattle.std.proofs.Common.{arith, sum, length-append, All, AllPairs, Contains, inl, inr, ◌↔◌}
-use Rattle.std.proofs.Common.{◌⊎◌}
 use Rattle.std.specs.List.{sum_by}
-use Rattle.std.specs.Int.{int_min}
 use Rattle.std.proofs.lemmas.Bool.{cases_lt}
 use Rattle.std.proofs.lemmas.List.Sorted.{length_permutation}
 use Rattle.std.proofs.lemmas.Int.{ints}
@@ -25,42 +21,50 @@ use Rattle.ent_alloc.proofs.Meaning.{asked_at-is}
 use Rattle.ent_alloc.proofs.Histories.{after_history-takes, given_in-distinct, given_in-not_live}
 use Rattle.ent_alloc.proofs.Histories.{given_in-taken, given_in-bring_to_life}
 use Rattle.ent_alloc.proofs.Histories.{after_history-settled}
-use Rattle.ent_shared.specs.declared.record.Reservation.{Reservation}
 use mir.Syntax.{w64}
 use mir.Val.{to_z, of_z}
 use Rattle.ent_shared.specs.declared.record.Record.{Record}
 use Rattle.ent_shared.specs.declared.rule.Opening.{Opening}
-use Rattle.ent_alloc.specs.Limits.{credit}
 use Rattle.ent_shared.specs.Rule.{floor_of, least_floor, IsStart, IsClosed}
 use Rattle.ent_shared.specs.Order.{as_call, own_of_all, reservations_of, history_of, Respects}
 use Rattle.ent_shared.proofs.Words.{requested, follow_asked, few_asked}
-use Rattle.ent_shared.proofs.Sorting.{FallsStrictly, follow_falls}
+use Rattle.ent_shared.proofs.Sorting.{follow_falls}
 use Rattle.ent_shared.proofs.Callers.{numbers_differ}
-use Rattle.ent_shared.proofs.Histories.{reservations_are, respects_all}
 use Rattle.ent_shared.proofs.Settling.{IsLater, legal_from, min_right, floor_below, taken_floor}
 use Rattle.ent_shared.proofs.Settling.{floor_sorted, floor_of_all}
 
-pub sum_requests : (cs : List Reservation) → sum (history.requests_of (map as_call cs))
-    ≡ sum_by requested cs
-sum_requests cs = grind (arith, common_steps)
+-- The end of a phase: the history of all records is legal, and the cursor and the least floor tell
+-- the allocator after it.
 
--- of two reservations of a list that falls the later one is lower
-falls_apart : (cs : List Reservation) → FallsStrictly cs
-    → AllPairs (λ earlier later. later.high <ℤ earlier.high) cs
-falls_apart [] falls = λ i j d lt within. absurd (omega arith)
-falls_apart (c ∷ cs) falls = grind (arith, common_steps, falls_apart cs falls.1)
+-- what the closing call owes and gives, in the numbers of its code
+pub record Ended (here start : Allocator) (records : List Record) (at floor : ℤ) : Type 0 where
+  pub least : pos (top here) ≤ℤ (at +ℤ pos (2 ^ 50))
+  pub greatest : floor ≤ℤ pos (top here)
+  pub ordered : at ≤ℤ floor
+  pub reachable : pos 0 ≤ℤ (floor +ℤ pos (here.limits.slots - here.made))
+  pub all_given : pos 0 ≤ℤ (at +ℤ pos (here.limits.slots - here.made)) → floor ≡ at
+  pub is_legal : history.IsLegal start (history_of records)
+  pub respects : All (Respects (reservations_of records)) records
+  pub after : settled here (asked_at (top here) floor) (asked_at (top here) at)
+      ≡ history.after_history start (history_of records)
+  pub all_fall : AllPairs (λ earlier later. later.high <ℤ earlier.high) (reservations_of records)
+  pub all_numbers : AllPairs (λ r s. r.number ≢ s.number) records
+  pub all_distinct : AllPairs (λ g h. g ≢ h) (history.given_in (history_of records))
+  pub none_live : All (λ h. ¬ (IsLive start h)) (history.given_in (history_of records))
+  pub brings_to_life : (h : Handle)
+      → IsLive (after_flush (history.after_history start (history_of records))) h ↔ IsLive start h
+      ⊎ Contains (history.given_in (history_of records)) h
 
 module _ (start : Allocator) (count : ℕ) (records : List Record) (at : ℤ)
     (k : IsClosed start count records at) (sound : IsSound start) (flushed : start.asked ≡ 0) where
   pub asked_in_all : cursor start ≡ at +ℤ pos (sum_by requested k.log)
   asked_in_all = follow_asked (cursor start) k.log at k.follow
 
-  asked_most : sum_by requested k.log ≤ count * credit
-  asked_most = omega arith
-
   pub cursor_least : count ≤ 1024 → pos (top start) ≤ℤ (at +ℤ pos (2 ^ 50))
-  cursor_least few = let all = asked_in_all in let most = few_asked (sum_by requested k.log) count
-      asked_most few in omega (arith, ints)
+  cursor_least few =
+      let all = asked_in_all in
+      let most = few_asked (sum_by requested k.log) count (omega arith) few in
+      omega (arith, ints)
 
   pub cursor_greatest : at ≤ℤ pos (top start)
   cursor_greatest = let all = asked_in_all in omega (arith, ints)
@@ -75,49 +79,24 @@ module _ (start : Allocator) (count : ℕ) (records : List Record) (at : ℤ)
     itself : IsLater start start
     itself = record { sound = sound; available_is = refl; made_is = refl }
 
-    pub legal : history.IsLegal start (history_of records)
+    legal : history.IsLegal start (history_of records)
     legal = search (rules, history_is, legal_from, itself)
-
-    pub respected : All (Respects (reservations_of records)) records
-    respected = respects_all start count records at k whole
-
-    pub falls : AllPairs (λ earlier later. later.high <ℤ earlier.high) (reservations_of records)
-    falls = subst (AllPairs (λ earlier later. later.high <ℤ earlier.high))
-        (sym (reservations_are start count records at k whole))
-        (falls_apart k.log (follow_falls (cursor start) k.log at k.follow))
-
-    pub distinct : AllPairs (λ g h. g ≢ h) (history.given_in (history_of records))
-    distinct = given_in-distinct start (history_of records) sound legal
-
-    pub not_live : All (λ h. ¬ (IsLive start h)) (history.given_in (history_of records))
-    not_live = given_in-not_live start (history_of records) sound legal
-
-    pub brought_to_life : (h : Handle)
-        → IsLive (after_flush (history.after_history start (history_of records))) h ↔ IsLive start h
-        ⊎ Contains (history.given_in (history_of records)) h
-    brought_to_life = given_in-bring_to_life start (history_of records) sound legal flushed
 
     -- the least floor tells how many are taken
     pub floor_is : least_floor (cursor start) records ≡ pos (top start) -ℤ pos (length final.taken)
     floor_is =
-        let f : ℤ = floor_of start k.log in
-        let of_log : least_floor (cursor start) records ≡ f =
+        let of_log : least_floor (cursor start) records ≡ floor_of start k.log =
         floor_of_all start at k.log records k.each ∙ (sym (floor_sorted start (own_of_all records))
         ∙ ap (floor_of start) (reservations_are start count records at k whole)) in
-        let none : length start.taken ≡ 0 = ap length (flushed-laid_out start sound flushed).taken
-        in
+        let none = ap length (flushed-laid_out start sound flushed).taken in
         let below = floor_below start k.log in
-        let high : ℤ = pos (top start) -ℤ pos (length start.taken) in
-        let down : f ≤ℤ high = omega (arith, ints) in
-        let taken : int_min high f ≡ pos (top start) -ℤ pos
-        (length (history.after_history start (map as_call k.log)).taken) = taken_floor start
-        start k.log at flushed itself k.follow in
-        of_log ∙ (sym (min_right high f down)
-        ∙ (taken ∙ ap (λ (calls : List history.Call). pos (top start) -ℤ pos
-        (length (history.after_history start calls).taken)) (sym history_is)))
+        let down : floor_of start k.log ≤ℤ (pos (top start) -ℤ pos (length start.taken)) =
+        omega (arith, ints) in
+        let taken = taken_floor start start k.log at flushed itself k.follow in
+        search (rules, min_right, history_is)
 
     asked_is : sum (history.requests_of (history_of records)) ≡ sum_by requested k.log
-    asked_is = search (rules, history_is, sum_requests)
+    asked_is = grind (arith, common_steps, history_is)
 
     final_asked : final.asked ≡ sum_by requested k.log
     final_asked = search (rules, asked-after_takes, asked_is, after_history-takes)
@@ -145,70 +124,36 @@ module _ (start : Allocator) (count : ℕ) (records : List Record) (at : ℤ)
       floor_here : floor ≡ pos (top start) -ℤ pos (length final.taken)
       floor_here = search (rules, ints, floor_is)
 
-      pub floor_greatest : floor ≤ℤ pos (top start)
-      floor_greatest = let here = floor_here in omega (arith, ints)
-
-      pub floor_all : pos 0 ≤ℤ (at +ℤ pos (start.limits.slots - start.made)) → floor ≡ at
-      floor_all within = search (rules, floor_here, asked_in_all, taken_all, ints)
-
-      pub floor_ordered : at ≤ℤ floor
-      floor_ordered =
-          search (rules, floor_here, asked_in_all, taken_few, cases_lt, requested, ints, taken_all)
-
-      pub floor_reachable : pos 0 ≤ℤ (floor +ℤ pos (start.limits.slots - start.made))
-      floor_reachable = let here = floor_here in let few = taken_few in omega (arith, ints)
-
-      -- settling at these two numbers gives the allocator after the history
-      pub settled_is : settled start (asked_at (top start) floor) (asked_at (top start) at) ≡ final
-      settled_is =
-          let given : asked_at (top start) floor ≡ length final.taken =
-          search (rules, asked_at-is, floor_greatest, floor_here, ints) in
-          let asked : asked_at (top start) at ≡ sum (history.requests_of (history_of records)) =
-          (let e = asked_at-is (top start) at cursor_greatest in let all = asked_in_all in
-          let total = asked_is in omega (arith, ints)) in
-          let long : length final.taken ≡ length (history.given_in (history_of records)) =
-          length_permutation (history.given_in (history_of records)) final.taken
-          (given_in-taken start (history_of records) sound legal flushed) in
-          (λ i. settled start ((given ∙ long) i) (asked i))
-          ∙ sym (after_history-settled start (history_of records) sound legal flushed)
-
--- what the closing call owes and gives, in the numbers of its code
-pub record Ended (here start : Allocator) (records : List Record) (at floor : ℤ) : Type 0 where
-  pub least : pos (top here) ≤ℤ (at +ℤ pos (2 ^ 50))
-  pub greatest : floor ≤ℤ pos (top here)
-  pub ordered : at ≤ℤ floor
-  pub reachable : pos 0 ≤ℤ (floor +ℤ pos (here.limits.slots - here.made))
-  pub all_given : pos 0 ≤ℤ (at +ℤ pos (here.limits.slots - here.made)) → floor ≡ at
-  pub is_legal : history.IsLegal start (history_of records)
-  pub respects : All (Respects (reservations_of records)) records
-  pub after : settled here (asked_at (top here) floor) (asked_at (top here) at)
-      ≡ history.after_history start (history_of records)
-  pub all_fall : AllPairs (λ earlier later. later.high <ℤ earlier.high) (reservations_of records)
-  pub all_numbers : AllPairs (λ r s. r.number ≢ s.number) records
-  pub all_distinct : AllPairs (λ g h. g ≢ h) (history.given_in (history_of records))
-  pub none_live : All (λ h. ¬ (IsLive start h)) (history.given_in (history_of records))
-  pub brings_to_life : (h : Handle)
-      → IsLive (after_flush (history.after_history start (history_of records))) h ↔ IsLive start h
-      ⊎ Contains (history.given_in (history_of records)) h
-
-ended_at : (start : Allocator) (count : ℕ) (records : List Record) (at floor : ℤ) → IsSound start
-    → start.asked ≡ 0 → count ≤ 1024 → length records ≡ count → IsClosed start count records at
-    → floor ≡ least_floor (pos (top start)) records → Ended start start records at floor
-ended_at start count records at floor sound flushed few whole k is = record {
-  least = cursor_least start count records at k sound flushed few;
-  greatest = floor_greatest start count records at k sound flushed whole floor is;
-  ordered = floor_ordered start count records at k sound flushed whole floor is;
-  reachable = floor_reachable start count records at k sound flushed whole floor is;
-  all_given = floor_all start count records at k sound flushed whole floor is;
-  is_legal = legal start count records at k sound flushed whole;
-  respects = respected start count records at k sound flushed whole;
-  after = settled_is start count records at k sound flushed whole floor is;
-  all_fall = falls start count records at k sound flushed whole;
-  all_numbers = numbers_differ records k.numbers;
-  all_distinct = distinct start count records at k sound flushed whole;
-  none_live = not_live start count records at k sound flushed whole;
-  brings_to_life = brought_to_life start count records at k sound flushed whole;
-}
+      ended_at : count ≤ 1024 → Ended start start records at floor
+      ended_at few =
+          let here = floor_here in
+          let taken = taken_few in
+          let calls : List history.Call = history_of records in
+          record {
+            least = cursor_least few;
+            greatest = omega (arith, ints);
+            ordered = search
+                (rules, here, asked_in_all, taken_few, cases_lt, requested, ints, taken_all);
+            reachable = omega (arith, ints);
+            all_given = λ within. search (rules, floor_here, asked_in_all, taken_all, ints);
+            is_legal = legal;
+            respects = respects_all start count records at k whole;
+            after =
+                let given : asked_at (top start) floor ≡ length final.taken =
+                search (rules, asked_at-is, floor_here, ints) in
+                let asked : asked_at (top start) at ≡ sum (history.requests_of calls) =
+                search (rules, asked_at-is, cursor_greatest, asked_is, asked_in_all, ints) in
+                let long : length final.taken ≡ length (history.given_in calls) =
+                search (rules, length_permutation, given_in-taken, legal) in
+                (λ i. settled start ((given ∙ long) i) (asked i))
+                ∙ sym (after_history-settled start calls sound legal flushed);
+            all_fall = rw (reservations_are start count records at k whole)
+                (falls_apart k.log (follow_falls (cursor start) k.log at k.follow));
+            all_numbers = numbers_differ records k.numbers;
+            all_distinct = given_in-distinct start calls sound legal;
+            none_live = given_in-not_live start calls sound legal;
+            brings_to_life = given_in-bring_to_life start calls sound legal flushed;
+          }
 
 -- a cursor between the bounds is what the code makes of it
 pub in_word : (top : ℕ) (z : ℤ) → top < 2 ^ 32 → pos top ≤ℤ (z +ℤ pos (2 ^ 50)) → z ≤ℤ pos top
@@ -229,14 +174,11 @@ ended entities start n count key records at floor from begins sound few key_is h
     let k : IsClosed here n records at = subst (λ (o : Opening). IsClosed o.entities.allocator
     o.count records at) key_is closed in
     let from_word : to_z w64 (of_z w64 from) ≡ pos (top here) = omega (arith, ints) in
-    let e : Ended here here records at floor = ended_at here n records at floor sound begins.flushed
-    few (whole ∙ sym n_is) k (floor_is ∙ ap (λ (z : ℤ). least_floor z records) from_word) in
+    let e = ended_at here n records at k sound begins.flushed (whole ∙ sym n_is) floor
+    (floor_is ∙ ap (λ (z : ℤ). least_floor z records) from_word) few in
     let ordered = e.ordered in
     let least = e.least in
     let greatest = e.greatest in
-    let at_word : to_z w64 (of_z w64 at) ≡ at = in_word (top here) at small least
-    (omega (arith, ints)) in
-    let floor_word : to_z w64 (of_z w64 floor) ≡ floor = in_word (top here) floor small
-    (omega (arith, ints)) greatest in
-    subst (λ (x : Allocator × ℤ × ℤ). Ended here x.0 records x.1 x.2)
-    (λ i. (here_is i, sym at_word i, sym floor_word i)) e
+    let at_word : to_z w64 (of_z w64 at) ≡ at = omega (arith, ints) in
+    let floor_word : to_z w64 (of_z w64 floor) ≡ floor = omega (arith, ints) in
+    rw (at_word, floor_word, sym here_is) e

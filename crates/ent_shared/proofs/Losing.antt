@@ -1,26 +1,25 @@
-use Rattle.std.proofs.Common.{rules}
--- The end of a phase where some reservers are lost: the front of the pool counts as reserved.
+use Rattle.std.proofs.lemmas.Bool.{cases_eq}
+use Rattle.std.proofs.Common.{rules, ◌≡◌, ℕ, ◌+◌, ◌-◌, ◌*◌, ◌^◌, ◌<◌, ◌≤◌, ℤ, pos, ◌+ℤ◌, ◌-ℤ◌, ◌≤ℤ◌}
+use Rattle.std.proofs.Common.{get_or, List, [], ◌∷◌, length, take, drop, sym, ap, subst, ◌∙◌, arith}
+use Rattle.std.proofs.Common.{All, Contains, ◌⊎◌, neg_ℤ, zero-add, Ok, Err}
 use Rattle.std.proofs.lemmas.Grind.{common_steps}
-use Rattle.std.proofs.Common.{◌≡◌, ℕ, ◌+◌, ◌-◌, ◌*◌, ◌^◌, ◌<◌, ◌≤◌, ℤ, pos, ◌+ℤ◌, ◌-ℤ◌, ◌≤ℤ◌, List}
-use Rattle.std.proofs.Common.{[], ◌∷◌, ◌++◌, length, take, drop, sym, ap, subst, ◌∙◌, arith, All}
-use Rattle.std.proofs.Common.{Contains, inl, inr, ⊎_elim, ◌⊎◌, neg_ℤ, zero-add, Ok, Err}
 use Rattle.std.specs.Prelude.{Result, Bool, true, false, cond, nat_le}
-use Rattle.std.specs.List.{sum_by, filter}
+use Rattle.std.specs.List.{sum_by}
 use Rattle.std.proofs.lemmas.List.{drop-take, take-take, take_all, drop_all, length-take}
 use Rattle.std.proofs.lemmas.List.{take-append-drop}
-use Rattle.std.proofs.lemmas.List.Elements.{All-head, All-tail, All-nil, All-append, All-weaker}
-use Rattle.std.proofs.lemmas.List.Elements.{All-take, All-drop, All-contains, All-contains_itself}
+use Rattle.std.proofs.lemmas.List.Elements.{All-head, All-tail, All-nil, All-append, All-take}
+use Rattle.std.proofs.lemmas.List.Elements.{All-drop, All-contains, All-contains_itself}
 use Rattle.std.proofs.lemmas.List.Sorted.{All-permutation}
 use Rattle.std.specs.Int.{int_max}
-use Rattle.std.proofs.lemmas.Int.{ints, by_lt_z}
+use Rattle.std.proofs.lemmas.Int.{ints}
 use mir.Syntax.{w64}
 use mir.Val.{to_z, of_z}
 use Rattle.ent_handle.specs.Handle.{Handle}
 use Rattle.ent_alloc.specs.declared.space.Space.{Space}
 use Rattle.ent_alloc.specs.Entities.{Entities}
 use Rattle.ent_alloc.specs.Limits.{credit}
-use Rattle.ent_alloc.specs.Sequential.{Allocator, available, cursor, top, is_old, asked_at, pool_at}
-use Rattle.ent_alloc.specs.Sequential.{listed, settled}
+use Rattle.ent_alloc.specs.Sequential.{Allocator, available, cursor, top, asked_at, pool_at, listed}
+use Rattle.ent_alloc.specs.Sequential.{settled}
 use Rattle.ent_alloc.specs.Sound.{IsSound}
 use Rattle.ent_alloc.specs.History as history
 use Rattle.ent_alloc.proofs.Taken.{length-available}
@@ -32,22 +31,22 @@ use Rattle.ent_shared.specs.declared.record.Record.{Record}
 use Rattle.ent_shared.specs.declared.rule.Opening.{Opening}
 use Rattle.ent_shared.specs.Record.{low, own_reservations, requested_by}
 use Rattle.ent_shared.specs.Phase.{after_loss}
-use Rattle.ent_shared.specs.Rule.{Follow, HasItsReply, IsKept, IsStart, IsClosed}
+use Rattle.ent_shared.specs.Rule.{Follow, HasItsReply, IsStart, IsClosed}
 use Rattle.ent_shared.specs.Order.{history_of, handles_of}
 use Rattle.ent_shared.proofs.Words.{requested}
 use Rattle.ent_shared.proofs.Records.{all_own}
 use Rattle.ent_shared.proofs.Closing.{asked_in_all, cursor_least, cursor_greatest, final_cursor}
-use Rattle.ent_shared.proofs.Closing.{in_word}
+
+-- The end of a phase where some reservers are lost: the front of the pool counts as reserved.
 
 -- what lies inside the front of a list is in it
 front_contains : (xs : List Handle) (k n asked : ℕ) → k + n ≤ asked → All (Contains (take asked xs))
     (take n (drop k xs))
 front_contains xs k n asked le =
     let P : Handle → Type 0 = Contains (take asked xs) in
-    let all : All P (take (k + n) (take asked xs)) = All-take P (k + n) (take asked xs)
-    (All-contains_itself (take asked xs)) in
-    let same : take (k + n) (take asked xs) ≡ take (k + n) xs = take-take (k + n) asked xs le in
-    subst (All P) (drop-take k n xs) (All-drop P k (take (k + n) xs) (subst (All P) same all))
+    let all = All-take P (k + n) (take asked xs) (All-contains_itself (take asked xs)) in
+    let some = All-drop P k (take (k + n) (take asked xs)) all in
+    rw (sym (drop-take k n xs), sym (take-take (k + n) asked xs le)) some
 
 -- the handles of a call are in the front that reaches as far
 reservation_contains : (start : Allocator) (c : Reservation) (asked : ℕ) → HasItsReply start c
@@ -55,33 +54,24 @@ reservation_contains : (start : Allocator) (c : Reservation) (asked : ℕ) → H
     → All (Contains (take asked (available start))) (history.handles_in c.reply)
 reservation_contains start c asked replied le =
     let pool : List Handle = pool_at start c.high in
+    let given : List Handle = listed start.made (take c.requested pool) in
     let P : Handle → Type 0 = Contains (take asked (available start)) in
-    let inside : All P (take c.requested pool) = front_contains (available start)
-    (asked_at (top start) c.high) c.requested asked le in
-    let given : All P (listed start.made (take c.requested pool)) = All-permutation P
-    (take c.requested pool) (listed start.made (take c.requested pool))
-    (listed-IsPermutation start.made (take c.requested pool)) inside in
-    let space : Space = record { wanted = c.requested; left = length pool } in
-    let goal : Bool → Type 0 = λ b.
-    All P (history.handles_in (cond {A = Result (List Handle) Space} b
-    (Ok (listed start.made (take c.requested pool))) (Err space))) in
-    subst (λ (r : Result (List Handle) Space). All P (history.handles_in r)) (sym replied)
-    (elim (nat_le c.requested (length pool)) as goal [ true ↦ given | false ↦ All-nil P ])
+    let all = All-permutation P (take c.requested pool) given
+    (listed-IsPermutation start.made (take c.requested pool))
+    (front_contains (available start) (asked_at (top start) c.high) c.requested asked le) in
+    let goal : Bool → Type 0 = λ b. All P (history.handles_in (cond {A = Result (List Handle) Space}
+    b (Ok given) (Err (record { wanted = c.requested; left = length pool })))) in
+    rw replied (elim (nat_le c.requested (length pool)) as goal [ true ↦ all | false ↦ All-nil P ])
 
 reservations_contain : (start : Allocator) (asked : ℕ) (cs : List Reservation)
     → All (HasItsReply start) cs → All (λ (c : Reservation). asked_at (top start) c.high
     + c.requested ≤ asked) cs → All (Contains (take asked (available start))) (handles_of cs)
-reservations_contain start asked [] replied within =
-    All-nil (Contains (take asked (available start)))
+reservations_contain start asked [] replied within = All-nil
+    (Contains (take asked (available start)))
 reservations_contain start asked (c ∷ cs) replied within =
-    let P : Handle → Type 0 = Contains (take asked (available start)) in
-    let W : Reservation → Type 0 = λ (d : Reservation). asked_at (top start) d.high + d.requested
-    ≤ asked in
-    All-append P (history.handles_in c.reply) (handles_of cs)
-    (reservation_contains start c asked (All-head (HasItsReply start) c cs replied)
-    (All-head W c cs within))
-    (reservations_contain start asked cs (All-tail (HasItsReply start) c cs replied)
-    (All-tail W c cs within))
+    let here = reservation_contains start c asked in
+    let rest = reservations_contain start asked cs in
+    search (rules, All-append, here, rest, All-head, All-tail)
 
 -- each call lies between the top and the cursor
 reservations_within : (start : Allocator) (high : ℤ) (cs : List Reservation) (end : ℤ) (asked : ℕ)
@@ -110,9 +100,6 @@ pub record Lost (here start : Allocator) (count : ℕ) (records : List Record) (
     pub given : All (λ (r : Record). All (Contains (take asked start.pool))
         (handles_of (own_reservations r.entries))) records
 
-max_right : (a b : ℤ) → a ≤ℤ b → int_max a b ≡ b
-max_right a b le = grind (arith, ints)
-
 max_left : (a b : ℤ) → b ≤ℤ a → int_max a b ≡ a
 max_left a b le = grind (arith, ints)
 
@@ -126,81 +113,55 @@ module _ (start : Allocator) (sound : IsSound start) (flushed : start.asked ≡ 
 
   loss_is : (given asked : ℕ) → given ≤ asked → (given ≡ asked) ⊎ (given ≡ length start.pool)
       → settled start given asked ≡ after_loss start asked
-  loss_is given asked le which =
-      search (rules, flushed-laid_out, take_all, length-take, drop_all, zero-add)
+  loss_is given asked le which = search
+      (rules, flushed-laid_out, take_all, length-take, drop_all, zero-add)
 
   -- the cursor of the allocator that is left
   cursor-loss : (asked : ℕ) → cursor (after_loss start asked) ≡ cursor start -ℤ pos asked
   cursor-loss asked = search (rules, take-append-drop, all_pool, ints)
 
-lost_at : (start : Allocator) (count : ℕ) (records : List Record) (at floor : ℤ) → IsSound start
-    → start.asked ≡ 0 → count ≤ 1024 → IsClosed start count records at
-    → (floor ≡ at) × (neg_ℤ (pos (start.limits.slots - start.made)) ≤ℤ at)
-    ⊎ (floor ≡ neg_ℤ (pos (start.limits.slots - start.made))) × (at ≤ℤ floor)
-    → Lost start start count records at floor
-lost_at start count records at floor sound flushed few k which =
-    let asked : ℕ = sum_by requested k.log in
-    let all = asked_in_all start count records at k sound flushed in
-    let below = cursor_greatest start count records at k sound flushed in
-    let top_is : pos (top start) ≡ cursor start = omega (arith, ints) in
-    let within : pos (top start) ≡ at +ℤ pos asked = top_is ∙ all in
-    let pool = length_pool start sound flushed in
-    let floor_in : floor ≤ℤ pos (top start) =
-    ⊎_elim (λ (p : (floor ≡ at) × (neg_ℤ (pos (start.limits.slots - start.made)) ≤ℤ at)).
-    let e = p.0 in omega (arith, ints))
-    (λ (p : (floor ≡ neg_ℤ (pos (start.limits.slots - start.made))) × (at ≤ℤ floor)). let e =
-    p.0 in omega (arith, ints)) which in
-    let a = asked_at-is (top start) at below in
-    let g = asked_at-is (top start) floor floor_in in
-    let asked_is : asked_at (top start) at ≡ asked = omega (arith, ints) in
-    let given : ℕ = asked_at (top start) floor in
-    let cases : (given ≡ asked) ⊎ (given ≡ length start.pool) = ⊎_elim
-    (λ (p : (floor ≡ at) × (neg_ℤ (pos (start.limits.slots - start.made)) ≤ℤ at)).
-    inl (ap (asked_at (top start)) p.0 ∙ asked_is))
-    (λ (p : (floor ≡ neg_ℤ (pos (start.limits.slots - start.made))) × (at ≤ℤ floor)). let e = p.0 in
-    inr (omega (arith, ints))) which in
-    let le : given ≤ asked = ⊎_elim
-    (λ (p : (floor ≡ at) × (neg_ℤ (pos (start.limits.slots - start.made)) ≤ℤ at)). let e =
-    p.0 in omega (arith, ints)) (λ (p : (floor ≡ neg_ℤ (pos (start.limits.slots - start.made)))
-    × (at ≤ℤ floor)). let e = p.0 in let l = p.1 in omega (arith, ints)) which in
-    let P : Handle → Type 0 = Contains (take asked start.pool) in
-    let W : Reservation → Type 0 = λ (c : Reservation). asked_at (top start) c.high + c.requested
-    ≤ asked in
-    let log_within : All W k.log = (reservations_within start (cursor start) k.log at asked
-    (omega (arith, ints)) within k.follow).0 in
-    record {
-      asked = asked;
-      some_asked = k.some requested;
-      all_asked = λ all_here. k.all all_here requested;
-      most_asked = k.credit;
-      reached = All-weaker (IsKept start at k.log) (λ (r : Record). cursor (after_loss start asked)
-          ≤ℤ r.mark)
-          (λ r kept. let mark = kept.marks.mark in let left = cursor-loss start sound flushed asked
-          in omega (arith, ints)) records k.each;
-      whole = λ all_here. (let left = cursor-loss start sound flushed asked in let other =
-          final_cursor start count records at k sound flushed all_here in omega (arith, ints));
-      least = cursor_least start count records at k sound flushed few;
-      greatest = floor_in;
-      all_given = λ room.
-          ⊎_elim (λ (p : (floor ≡ at) × (neg_ℤ (pos (start.limits.slots - start.made)) ≤ℤ at)). p.0)
-          (λ (p : (floor ≡ neg_ℤ (pos (start.limits.slots - start.made))) × (at ≤ℤ floor)). let e =
-          p.0 in let l = p.1 in omega (arith, ints)) which;
-      after = ap (settled start given) asked_is ∙ loss_is start sound flushed given asked le cases;
-      given = All-weaker (IsKept start at k.log)
-          (λ (r : Record). All P (handles_of (own_reservations r.entries)))
-          (λ r kept.
-          let own : All (Contains k.log) (own_reservations r.entries) = all_own (Contains k.log)
-          r.entries kept.marks.known in
-          subst (λ (xs : List Handle). All (Contains (take asked xs))
-          (handles_of (own_reservations r.entries))) (all_pool start sound flushed)
-          (reservations_contain start asked (own_reservations r.entries)
-          (All-weaker (Contains k.log) (HasItsReply start)
-          (λ c inside. All-contains (HasItsReply start) k.log c k.replied inside)
-          (own_reservations r.entries) own)
-          (All-weaker (Contains k.log) W (λ c inside. All-contains W k.log c log_within inside)
-          (own_reservations r.entries) own)))
-          records k.each;
-    }
+  lost_at : (count : ℕ) (records : List Record) (at floor : ℤ) → count ≤ 1024
+      → IsClosed start count records at
+      → floor ≡ int_max at (neg_ℤ (pos (start.limits.slots - start.made)))
+      → Lost start start count records at floor
+  lost_at count records at floor few k is =
+      let asked : ℕ = sum_by requested k.log in
+      let all = asked_in_all start count records at k sound flushed in
+      let below = cursor_greatest start count records at k sound flushed in
+      let within : pos (top start) ≡ at +ℤ pos asked = omega (arith, ints) in
+      let pool = length_pool in
+      let floor_in : floor ≤ℤ pos (top start) = grind (arith, ints) in
+      let a = asked_at-is (top start) at below in
+      let g = asked_at-is (top start) floor floor_in in
+      let given : ℕ = asked_at (top start) floor in
+      let asked_is : asked_at (top start) at ≡ asked = omega (arith, ints) in
+      let some : ¬ (given ≡ asked) → given ≡ length start.pool = grind (arith, ints) in
+      let cases : (given ≡ asked) ⊎ (given ≡ length start.pool) = search (rules, cases_eq, some) in
+      let W : Reservation → Type 0 = λ (c : Reservation). asked_at (top start) c.high + c.requested
+      ≤ asked in
+      let log_within : All W k.log = (reservations_within start (cursor start) k.log at asked
+      (omega (arith, ints)) within k.follow).0 in
+      let left = cursor-loss asked in
+      record {
+        asked = asked;
+        some_asked = k.some requested;
+        all_asked = λ all_here. k.all all_here requested;
+        most_asked = k.credit;
+        reached = λ i d lt. let mark = (k.each i d lt).marks.mark in omega (arith, ints);
+        whole = λ all_here.
+            let other = final_cursor start count records at k sound flushed all_here in
+            omega (arith, ints);
+        least = cursor_least start count records at k sound flushed few;
+        greatest = floor_in;
+        all_given = λ room. grind (arith, ints);
+        after = ap (settled start given) asked_is ∙ loss_is given asked (grind (arith, ints)) cases;
+        given = λ i d lt.
+            let own = all_own (Contains k.log) (get_or records i d).entries
+            (k.each i d lt).marks.known in
+            rw (sym all_pool) (reservations_contain start asked _
+            (λ j c l. All-contains (HasItsReply start) k.log _ k.replied (own j c l))
+            (λ j c l. All-contains W k.log _ log_within (own j c l)));
+      }
 
 pub lost : (entities : Entities) (start : Allocator) (n count room : ℕ) (key : Opening)
     (records : List Record) (at floor roomed : ℤ) → IsStart entities.allocator
@@ -220,18 +181,11 @@ lost entities start n count room key records at floor roomed begins sound few ke
     o.count records at) key_is closed in
     let least = cursor_least here n records at k sound flushed few in
     let greatest = cursor_greatest here n records at k sound flushed in
-    let end : ℤ = neg_ℤ (pos (here.limits.slots - here.made)) in
-    let at_word : to_z w64 (of_z w64 at) ≡ at = in_word (top here) at small least greatest in
+    let at_word : to_z w64 (of_z w64 at) ≡ at = omega (arith, ints) in
     let end_word : to_z w64 (of_z w64 (pos 0 -ℤ to_z w64 (of_z w64 roomed)))
-    ≡ end = omega (arith, ints) in
-    let max_is : floor ≡ int_max at end = floor_is ∙ (λ i. int_max (at_word i) (end_word i)) in
-    let which : (floor ≡ at) × (end ≤ℤ at) ⊎ (floor ≡ end) × (at ≤ℤ floor) =
-    by_lt_z {P = (floor ≡ at) × (end ≤ℤ at) ⊎ (floor ≡ end) × (at ≤ℤ floor)} at end
-    (λ less. let is : floor ≡ end = max_is ∙ max_right at end (omega (arith, ints)) in
-    inr (is, omega (arith, ints))) (λ more. inl (max_is ∙ max_left at end more, more)) in
-    let floor_word : to_z w64 (of_z w64 floor) ≡ floor = ⊎_elim (λ (p : (floor ≡ at) × (end ≤ℤ at)).
-    let e = p.0 in omega (arith, ints)) (λ (p : (floor ≡ end) × (at ≤ℤ floor)). let e = p.0 in
-    omega (arith, ints)) which in
+    ≡ neg_ℤ (pos (here.limits.slots - here.made)) = omega (arith, ints) in
+    let max_is = floor_is ∙ (λ i. int_max (at_word i) (end_word i)) in
+    let floor_word : to_z w64 (of_z w64 floor) ≡ floor = grind (arith, ints) in
     subst (λ (x : Allocator × ℕ × ℤ × ℤ). Lost here x.0 x.1 records x.2 x.3)
     (λ i. (here_is i, n_is i, sym at_word i, sym floor_word i))
-    (lost_at here n records at floor sound flushed few k which)
+    (lost_at here sound flushed n records at floor few k max_is)

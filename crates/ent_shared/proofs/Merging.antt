@@ -1,6 +1,5 @@
 -- The reservers that are handed in, as their records are merged one by one.
-use Rattle.std.proofs.Common.{arith, rules, ◌≡◌, ℕ, ◌+◌, ℤ, List, [], ◌∷◌, ◌++◌, sym, ap, subst}
-use Rattle.std.proofs.Common.{◌∙◌, length}
+use Rattle.std.proofs.Common.{arith, rules, ◌≡◌, ℕ, ◌+◌, ℤ, List, [], ◌∷◌, ◌++◌, length}
 use Rattle.std.proofs.lemmas.Grind.{common_steps}
 use Rattle.std.specs.List.{All, sum_by}
 use Rattle.std.specs.Int.{int_min}
@@ -16,8 +15,7 @@ use Rattle.ent_shared.proofs.Settling.{least_floor-more}
 pub item_is : (P : Reserver → Type 0) (items yielded now rest : List Reserver) (r : Reserver)
     → yielded ++ now ≡ items → now ≡ r ∷ rest → All P items → P r
 item_is P items yielded now rest r all first holds =
-    let whole : yielded ++ r ∷ rest ≡ items = search rules in
-    All-head P r rest (All-right P yielded (r ∷ rest) (subst (All P) (sym whole) holds))
+    All-head P r rest (All-right P yielded (r ∷ rest) (search rules))
 
 pub items_on : (items yielded now rest : List Reserver) (r : Reserver) → yielded ++ now ≡ items
     → now ≡ r ∷ rest → (yielded ++ r ∷ []) ++ rest ≡ items
@@ -49,5 +47,4 @@ floor_on top before after own yielded r was now is =
 pub all_owners : (P : Record → Type 0) (rs : List Reserver) → All P (records_of rs)
     → All (λ (r : Reserver). P r.own) rs
 all_owners P [] all = All-nil (λ (r : Reserver). P r.own)
-all_owners P (r ∷ rs) all = All-cons (λ (x : Reserver). P x.own) r rs
-    (All-head P r.own (records_of rs) all) (all_owners P rs (All-tail P r.own (records_of rs) all))
+all_owners P (r ∷ rs) all = search (rules, All-cons, All-head, all_owners P rs, All-tail)

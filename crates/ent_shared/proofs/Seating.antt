@@ -1,7 +1,11 @@
--- A reserver after a reservation and after a meeting: its fields say what its record says, and it
--- stays of its allocator.
-use Rattle.std.proofs.Common.{rules, ◌≡◌, ℕ, ◌-◌, ◌≤◌, ℤ, pos, ◌-ℤ◌, ◌≤ℤ◌, List, [], ◌∷◌, ◌++◌, ap}
-use Rattle.std.proofs.Common.{subst, ◌∙◌}
+use Rattle.std.proofs.lemmas.Grind.{common_steps}
+use Rattle.std.proofs.Common.{arith, append-nil, rules, ◌≡◌, ℕ, ◌-◌, ◌≤◌, ℤ, pos, ◌-ℤ◌, ◌≤ℤ◌, List}
+use Rattle.std.proofs.Common.{[], ◌∷◌, ◌++◌}
+use Rattle.ent_shared.proofs.Laws.{handles_of-append}
+use Rattle.ent_shared.proofs.Records.{own-made, known-more, credit-reserved, credit-met}
+use Rattle.ent_seats.proofs.Weighing.{all_one}
+use Rattle.std.proofs.lemmas.List.Elements.{All-append, All-weaker}
+use Rattle.std.proofs.lemmas.Int.{ints}
 use Rattle.std.specs.Prelude.{Result}
 use Rattle.atomic_table.specs.Seated.{TableId}
 use Rattle.ent_handle.specs.Handle.{Handle}
@@ -15,27 +19,16 @@ use Rattle.ent_shared.specs.Moves.{after_meeting}
 use Rattle.ent_shared.specs.Phase.{Shared, Reserver, IsOf, own_of, IsSeated}
 use Rattle.ent_shared.specs.Order.{handles_given}
 use Rattle.ent_shared.proofs.Returned.{recorded_reply}
-use Rattle.ent_shared.proofs.Laws.{given-reserved}
-use Rattle.ent_shared.proofs.Records.{below_reservation, below_meeting, credit-reserved, credit-met}
+
+-- A reserver after a reservation and after a meeting: its fields say what its record says, and it
+-- stays of its allocator.
 
 pub seated_reservation : (views after : List (List Record)) (number left n : ℕ) (was high now : ℤ)
     → IsSeated views number left was → after ≡ (after_reservation (own_of views) high n ∷ []) ∷ []
     → high ≤ℤ (own_of views).mark → n ≤ (own_of views).left
     → now ≡ (after_reservation (own_of views) high n).floor → IsSeated after number (left - n) now
 seated_reservation views after number left n was high now seated is le within floor =
-    search (rules, below_reservation, credit-reserved)
-
-pub seated_meeting : (views met after : List (List Record)) (number left met_number met_left : ℕ)
-    (floor met_floor : ℤ) → IsSeated views number left floor → IsSeated met met_number met_left
-    met_floor
-    → after ≡ (after_meeting (own_of views) (own_of met) ∷ []) ∷ [] → IsSeated after number left
-    floor
-seated_meeting views met after number left met_number met_left floor met_floor seated other is =
-    search (rules, below_meeting, credit-met)
-
-of_reserved : (shared : Shared) (r after : Reserver) (high : ℤ) (n : ℕ) → IsOf shared r → n
-    ≤ r.own.left → after ≡ record r { own = after_reservation r.own high n } → IsOf shared after
-of_reserved shared r after high n of within is = search (rules, credit-reserved)
+    grind (arith, common_steps, All-weaker, ints, known-more, All-append, all_one, credit-reserved)
 
 -- the same, from what the code's step says
 pub of_stepped : (shared : Shared) (r : Reserver) (views after : List (List Record))
@@ -45,9 +38,7 @@ pub of_stepped : (shared : Shared) (r : Reserver) (views after : List (List Reco
     → after ≡ (after_reservation (own_of views) high n ∷ []) ∷ []
     → IsOf shared (record { word = now; own = own_of after })
 of_stepped shared r views after number left n high floor was now view seated of within same gains =
-    of_reserved shared r (record { word = now; own = own_of after }) high n of
-    (subst (λ (k : ℕ). n ≤ k) (seated.left_is ∙ ap (λ (x : Reserver). x.own.left) view) within)
-    (search rules)
+    search (rules, credit-reserved, seated.left_is, view, gains)
 
 pub of_met : (shared : Shared) (r met after : Reserver) → IsOf shared r → after
     ≡ record r { own = after_meeting r.own met.own } → IsOf shared after
@@ -63,4 +54,4 @@ pub given_now : (views after : List (List Record)) (old : Reserver) (word : Tabl
     ≡ reply_from start.made (pool_at start span.high) k) → handles_given (own_of after)
     ≡ handles_given old.own ++ handles_in reply
 given_now views after old word start high n span reply view is same span_is replies =
-    search (rules, given-reserved, recorded_reply)
+    search (rules, own-made, handles_of-append, append-nil, recorded_reply)

@@ -1,12 +1,11 @@
-use Rattle.std.proofs.Common.{rules}
--- Each step keeps the rule over the cursor word and the records.
-use Rattle.std.proofs.Common.{◌≡◌, ℕ, ◌+◌, ◌-◌, ◌%◌, ◌^◌, ◌<◌, ◌≤◌, ℤ, pos, ◌-ℤ◌}
-use Rattle.std.proofs.Common.{◌≤ℤ◌, List, [], ◌∷◌, ◌++◌, length, set, get_or, take, drop, sym, refl}
-use Rattle.std.proofs.Common.{ap, subst, ◌∙◌, arith, take-append-drop}
-use Rattle.std.specs.Prelude.{◌==◌, cond, count_by, IsPermutation}
+use Rattle.ent_shared.specs.Record.{known_reservations, low, own_reservations, reservation_at}
+use Rattle.ent_shared.specs.Record.{after_reservation}
+use Rattle.std.proofs.Common.{rules, ◌≡◌, ℕ, ◌+◌, ◌-◌, ◌%◌, ◌^◌, ◌<◌, ◌≤◌, ℤ, pos, ◌-ℤ◌, ◌≤ℤ◌, List}
+use Rattle.std.proofs.Common.{[], ◌∷◌, ◌++◌, length, set, get_or, take, drop, sym, refl, ap, subst}
+use Rattle.std.proofs.Common.{◌∙◌, arith, take-append-drop}
+use Rattle.std.specs.Prelude.{◌==◌, cond}
 use Rattle.std.specs.List.{sum_by, All}
-use Rattle.std.proofs.lemmas.List.Elements.{All-head, All-nil, All-cons, All-append}
-use Rattle.std.proofs.lemmas.List.Elements.{All-weaker, All-set}
+use Rattle.std.proofs.lemmas.List.Elements.{All-head, All-nil, All-cons, All-append, All-set}
 use Rattle.std.proofs.lemmas.List.Sorted.{IsPermutation-refl}
 use Rattle.std.proofs.lemmas.List.Sums.{sum_by-cons, sum_by-append}
 use Rattle.std.proofs.lemmas.Int.{ints}
@@ -19,18 +18,17 @@ use Rattle.ent_seats.proofs.Weighing.{all_one, sum_at, all_at}
 use Rattle.ent_seats.proofs.Regrouping.{sum_regrouped, length-regrouped, all_regrouped}
 use Rattle.ent_seats.proofs.Moving.{splits}
 use Rattle.ent_alloc.specs.Limits.{credit}
-use Rattle.ent_alloc.specs.Sequential.{Allocator, cursor, pool_at, reply_from}
+use Rattle.ent_alloc.specs.Sequential.{Allocator, cursor}
 use Rattle.ent_shared.specs.declared.record.Reservation.{Reservation}
-use Rattle.ent_shared.specs.declared.record.RecordEntry.TheVariants.{Own}
 use Rattle.ent_shared.specs.declared.record.Record.{Record}
-use Rattle.ent_shared.specs.Record.{low, own_reservations, known_reservations, reservation_at}
-use Rattle.ent_shared.specs.Record.{after_reservation}
 use Rattle.ent_shared.specs.Moves.{after_meeting, met_in}
-use Rattle.ent_shared.specs.Rule.{cursor_of, Follow, weigh, HasItsReply, IsKept, IsRuled}
-use Rattle.ent_shared.specs.Rule.{AfterReserve, ReserveTells}
+use Rattle.ent_shared.specs.Rule.{cursor_of, Follow, HasItsReply, IsKept, IsRuled, AfterReserve}
+use Rattle.ent_shared.specs.Rule.{ReserveTells}
 use Rattle.ent_shared.proofs.Records.{own-made, own-met, kept_on, kept_reserved, kept_met}
 use Rattle.ent_shared.proofs.Words.{follow_asked, word_least, word_greatest, lowered}
 use Rattle.ent_shared.proofs.Words.{lowered_cursor, numbered}
+
+-- Each step keeps the rule over the cursor word and the records.
 
 follow-snoc : (high : ℤ) (cs : List Reservation) (c : Reservation) (end : ℤ)
     → Follow high cs end → c.high ≡ end → 0 < c.requested → Follow high (cs ++ c ∷ []) (low c)
@@ -45,11 +43,6 @@ module _ (start : Allocator) (count : ℕ) where
   abbrev Rule : St → Type 0
   Rule = IsRuled start count
 
-  -- what a seat's one record weighs after one more reservation
-  weigh-made : (f : Reservation → ℕ) (r : Record) (at : ℤ) (n : ℕ)
-      → weigh f (after_reservation r at n ∷ []) ≡ weigh f (r ∷ []) + f (reservation_at r at n)
-  weigh-made f r at n = search (rules, sum_by-cons, own-made, sum_by-append)
-
   pub reserves : (slots id : ℕ) (r : Record) (n : ℕ) → 0 < n → n ≤ r.left
       → Allows Rule slots id (r ∷ [], []) 0 (λ word. (word + (2 ^ 64 - n)) % 2 ^ 64)
       (ReserveTells n (r ∷ [], []))
@@ -60,30 +53,29 @@ module _ (start : Allocator) (count : ℕ) where
       let high : ℤ = cursor_of word in
       let c : Reservation = reservation_at r high n in
       let w : List Record = after_reservation r high n ∷ [] in
-      let mine : All (IsKept start high log) (r ∷ []) = all_at (All (IsKept start high log)) s.views
-      id (r ∷ []) at k.each in
-      let kept : IsKept start high log r = All-head (IsKept start high log) r [] mine in
+      let mine = all_at (All (IsKept start high log)) s.views id (r ∷ []) at k.each in
+      let kept : IsKept start high log r = mine 0 r (omega arith) in
       let mark = kept.marks.mark in
       let sum = kept.credit.credit in
       let small : n ≤ credit = omega arith in
       let least = word_least start count s k in
       let greatest = word_greatest start count s k in
-      let next : (get_or s.words 0 0 + (2 ^ 64 - n)) % 2 ^ 64 ≡ word
-      - n = ap (λ (x : ℕ). (x + (2 ^ 64 - n)) % 2 ^ 64) found ∙ lowered word n least greatest
-      small in
+      let next : (get_or s.words 0 0 + (2 ^ 64 - n)) % 2 ^ 64 ≡ word - n =
+      ap (λ (x : ℕ). (x + (2 ^ 64 - n)) % 2 ^ 64) found ∙ lowered word n least greatest small in
       let now : cursor_of (word - n) ≡ high -ℤ pos n = lowered_cursor word n least small in
       let f = follow_asked (cursor start) log high k.spans.follow in
       let down : (high -ℤ pos n) ≤ℤ high = omega (arith, ints) in
       let up : high ≤ℤ cursor start = omega (arith, ints) in
       let K : ℤ → List Record → Type 0 = λ z v. All (IsKept start z (log ++ c ∷ [])) v in
-      let others : All (K (high -ℤ pos n)) s.views = All-weaker (All (IsKept start high log))
-      (K (high -ℤ pos n))
-      (λ v. All-weaker (IsKept start high log) (IsKept start (high -ℤ pos n) (log ++ c ∷ []))
-      (λ x. kept_on start high (high -ℤ pos n) log (c ∷ []) x down) v) s.views k.each in
+      let others : All (K (high -ℤ pos n)) s.views = λ i v l j x m.
+      kept_on start high (high -ℤ pos n) log (c ∷ []) _ down (k.each i v l j x m) in
       let told : AfterReserve n r (get_or s.words 0 0) w = search rules in
       let own : K (high -ℤ pos n) w = all_one (IsKept start (high -ℤ pos n) (log ++ c ∷ []))
-      (after_reservation r high n) (kept_reserved start high log n r within up kept) in ( w,
-        keeps, tt, record {
+      (after_reservation r high n) (kept_reserved start high log n r within up kept) in (
+        w,
+        keeps,
+        tt,
+        record {
           begins = k.begins;
           few = k.few;
           word = word - n;
@@ -93,29 +85,20 @@ module _ (start : Allocator) (count : ℕ) where
             log = log ++ c ∷ [];
             follow = subst (Follow (cursor start) (log ++ c ∷ [])) (sym now)
                 (follow-snoc (cursor start) log c high k.spans.follow refl some_request);
-            all = λ f.
-                let changed = sum_at (weigh f) s.views id (r ∷ []) w at in
-                let more = weigh-made f r high n in
-                let was = k.spans.all f in
-                let sums : sum_by f (log ++ c ∷ []) ≡ sum_by f log + (f c + 0) = sum_by-append f log
-                (c ∷ []) ∙ ap (λ (x : ℕ). sum_by f log + x) (sum_by-cons f c []) in
-                omega arith;
+            all = λ f. search (rules, sum_at, own-made, sum_by-append, sum_by-cons);
           };
           replied = All-append (HasItsReply start) log (c ∷ []) k.replied
-              (all_one (HasItsReply start) c
-              (ap (λ (a : Allocator). reply_from a.made (pool_at a high) n) kept.start_is));
-          records = (let changed : sum_by length (set s.views id w) + 1 ≡ sum_by length s.views
-              + 1 = sum_at length s.views id (r ∷ []) w at in let was = k.records in omega arith);
+              (search (rules, all_one, kept.start_is));
+          records = (let changed = sum_at length s.views id (r ∷ []) w at in let was = k.records in
+              omega arith);
           numbers = λ number.
-              let same = sum_at (count_by (λ (x : Record). x.number == number)) s.views id (r ∷ [])
-              w at in
+              let same = sum_at (numbered number) s.views id (r ∷ []) w at in
               let was = k.numbers number in
               omega arith;
           each = subst (λ z. All (K z) (set s.views id w)) (sym now)
               (All-set (K (high -ℤ pos n)) s.views id w own others);
-        }, ( refl, λ x is. subst (λ (y : Record). AfterReserve n y (get_or s.words 0 0) w)
-              (ap (λ (rs : List Record). get_or rs 0 r) is) told,
-        ),
+        },
+        (refl, λ x is. search (rules, is, told)),
       )
 
   pub reserves_at : (slots id : ℕ) (me : Me (Unit {0}) (List Record)) (r : Record) (n m : ℕ) → me.0
@@ -124,8 +107,7 @@ module _ (start : Allocator) (count : ℕ) where
   reserves_at slots id me r n m view bare same some_request within =
       let A : Me (Unit {0}) (List Record) × ℕ → Type 0 = λ p. Allows Rule slots id p.0 0
       (λ word. (word + (2 ^ 64 - p.1)) % 2 ^ 64) (ReserveTells p.1 p.0) in
-      subst A (λ i. ((sym view i, sym bare i), sym same i)) (reserves slots id r n some_request
-      within)
+      subst A (λ i. ((sym view i, sym bare i), sym same i)) (search (rules, reserves))
 
   -- the rule goes by the records, and not by which seat has which
   pub goes_by_records : GoesByRecords Rule
@@ -142,68 +124,39 @@ module _ (start : Allocator) (count : ℕ) where
     };
     replied = k.replied;
     records = length-regrouped s.views views same ∙ k.records;
-    numbers = λ number.
-        let sums : sum_by (numbered number) views ≡ sum_by (numbered number) s.views =
-        sum_regrouped s.views views same (λ (r : Record). cond (r.number == number) 1 0) in
-        let was = k.numbers number in
-        omega arith;
+    numbers = λ a. omega (
+      arith,
+      k.numbers a,
+      sum_regrouped s.views views same (λ (r : Record). cond (r.number == a) 1 0),
+    );
     each = all_regrouped s.views views same (IsKept start (cursor_of k.word) k.spans.log) k.each;
   }
 
-  -- two views become one, which weighs what they weighed
-  joins : (id other : ℕ) (v w both : List Record)
-      → ((f : Reservation → ℕ) → weigh f both ≡ weigh f v + weigh f w) → length both ≡ length v
-      + length w → ((k : ℕ) → numbered k both ≡ numbered k v + numbered k w)
-      → ((at : ℤ) (log : List Reservation) → All (IsKept start at log) v
-      → All (IsKept start at log) w → All (IsKept start at log) both)
-      → Joins Rule id v other w both []
-  joins id other v w both weights lengths numbers kept s k at apart there =
+  pub meets : (id other : ℕ) (r met : Record) → Joins Rule id (r ∷ []) other (met ∷ [])
+      (met_in (r ∷ []) (met ∷ [])) []
+  meets id other r met s k at apart there =
+      let both : List Record = after_meeting r met ∷ met ∷ [] in
       let views : List (List Record) = set s.views id both in
       let P : List Record → Type 0 = All (IsKept start (cursor_of k.word) k.spans.log) in
-      let mine : P v = all_at P s.views id v at k.each in
-      let between : get_elem? s.views other ≡ some w = sym (set_else s.views id other both apart)
-      ∙ there in
-      let theirs : P w = all_at P s.views other w between k.each in
+      let between : get_elem? s.views other ≡ some (met ∷ []) =
+      sym (set_else s.views id other both apart) ∙ there in
+      let mine = all_at P s.views id (r ∷ []) at k.each in
+      let theirs = all_at P s.views other (met ∷ []) between k.each in
+      let first = λ (f : List Record → ℕ). sum_at f s.views id (r ∷ []) both at in
+      let second = λ (f : List Record → ℕ). sum_at f views other (met ∷ []) [] there in
+      let same = own-met r.entries (known_reservations met.entries) in
       record {
         begins = k.begins;
         few = k.few;
         word = k.word;
         words = k.words;
-        spans = record {
-          log = k.spans.log;
-          follow = k.spans.follow;
-          all = λ f. (let first = sum_at (weigh f) s.views id v both at in let second =
-              sum_at (weigh f) views other w [] there in let was = k.spans.all f in let x =
-              weights f in omega arith);
-        };
+        spans = search (rules, sum_at, same, sum_by-cons);
         replied = k.replied;
-        records = (let first = sum_at length s.views id v both at in let second =
-            sum_at length views other w [] there in let was = k.records in omega arith);
-        numbers = λ number. (let first = sum_at (numbered number) s.views id v both at in
-            let second = sum_at (numbered number) views other w [] there in let was =
-            k.numbers number in let x = numbers number in omega arith);
+        records = omega (arith, first length, second length, k.records);
+        numbers = λ a. omega (arith, first (numbered a), second (numbered a), k.numbers a);
         each = All-set P views other [] (All-nil (IsKept start (cursor_of k.word) k.spans.log))
-            (All-set P s.views id both (kept (cursor_of k.word) k.spans.log mine theirs) k.each);
+            (All-set P s.views id both (search (rules, All-cons, kept_met, All-head)) k.each);
       }
-
-  -- records that stand one after the other
-  weigh_two : (f : Reservation → ℕ) (v w : List Record) → weigh f (v ++ w) ≡ weigh f v + weigh f w
-  weigh_two f v w = sum_by-append (λ (r : Record). sum_by f (own_reservations r.entries)) v w
-
-  numbered_two : (k : ℕ) (v w : List Record) → numbered k (v ++ w) ≡ numbered k v + numbered k w
-  numbered_two k v w = sum_by-append (λ (r : Record). cond (r.number == k) 1 0) v w
-
-  weigh-met : (f : Reservation → ℕ) (r met : Record) → weigh f (after_meeting r met ∷ [])
-      ≡ weigh f (r ∷ [])
-  weigh-met f r met = search (rules, own-met)
-
-  pub meets : (id other : ℕ) (r met : Record) → Joins Rule id (r ∷ []) other (met ∷ [])
-      (met_in (r ∷ []) (met ∷ [])) []
-  meets id other r met = joins id other (r ∷ []) (met ∷ []) (after_meeting r met ∷ met ∷ [])
-      (search (rules, weigh_two, weigh-met)) refl (λ k. numbered_two k (r ∷ []) (met ∷ []))
-      (λ at log v w. All-cons (IsKept start at log) (after_meeting r met) (met ∷ [])
-      (kept_met start at log r met (All-head (IsKept start at log) r [] v)
-      (All-head (IsKept start at log) met [] w)) w)
 
   pub meets_at : (id other : ℕ) (v w : List Record) (r met : Record) → v ≡ r ∷ [] → w ≡ met ∷ []
       → Joins Rule id v other w (met_in v w) []

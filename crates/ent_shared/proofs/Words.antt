@@ -1,27 +1,23 @@
+use Rattle.std.proofs.Common.{suc, rules, ◌≡◌, ℕ, ◌+◌, ◌*◌, ◌-◌, ◌%◌, ◌^◌, ◌<◌, ◌≤◌, ℤ, pos, ◌+ℤ◌}
+use Rattle.std.proofs.Common.{◌-ℤ◌, ◌≤ℤ◌, List, [], ◌∷◌, length, arith, suc-mul, add-mul}
 use Rattle.std.proofs.lemmas.Grind.{common_steps}
-use Rattle.std.proofs.Common.{rules}
--- The cursor word stays in its range, and what the code makes of it.
-use Rattle.std.proofs.Common.{◌≡◌, ℕ, suc, ◌+◌, ◌*◌, ◌-◌, ◌%◌, ◌^◌, ◌<◌, ◌≤◌, ℤ, pos, ◌+ℤ◌}
-use Rattle.std.proofs.Common.{◌-ℤ◌, ◌≤ℤ◌, List, [], ◌∷◌, length, sym, ap, subst, ◌∙◌, arith}
-use Rattle.std.proofs.Common.{suc-mul, add-mul}
-use Rattle.std.proofs.Math.Nat.{add-mod_right, mod-eq_of_lt}
 use Rattle.std.specs.Prelude.{◌==◌, count_by}
 use Rattle.std.specs.List.{sum_by, All}
-use Rattle.std.proofs.lemmas.List.Elements.{All-head, All-tail, All-weaker}
+use Rattle.std.proofs.lemmas.List.Elements.{All-weaker}
 use Rattle.std.proofs.lemmas.List.Sums.{sum_by-cons}
 use Rattle.std.proofs.lemmas.Int.{ints}
 use lib.IntN.{nat_abs}
 use mir.Syntax.{w64}
 use mir.Val.{SFits, to_z, of_z}
-use mathlib.Core.Option.{some, some-injective}
-use lib.ListN.{get_elem?}
 use Rattle.atomic_table.specs.Table.{State}
 use Rattle.ent_alloc.specs.Limits.{credit}
-use Rattle.ent_alloc.specs.Sequential.{Allocator, cursor}
+use Rattle.ent_alloc.specs.Sequential.{Allocator}
 use Rattle.ent_shared.specs.declared.record.Reservation.{Reservation}
 use Rattle.ent_shared.specs.declared.record.Record.{Record}
-use Rattle.ent_shared.specs.Record.{low, own_reservations, requested_by}
+use Rattle.ent_shared.specs.Record.{low}
 use Rattle.ent_shared.specs.Rule.{offset, cursor_of, Follow, weigh, IsKept, IsRuled}
+
+-- The cursor word stays in its range, and what the code makes of it.
 
 abbrev pub requested : Reservation → ℕ
 requested c = c.requested
@@ -63,18 +59,12 @@ word_is at top few is = omega (arith, ints)
 pub lowered : (word n : ℕ) → offset ≤ word + 2 ^ 50 → word < offset + 2 ^ 32 → n ≤ credit
     → (word + (2 ^ 64 - n)) % 2 ^ 64 ≡ word - n
 unfolding offset credit
-lowered word n least greatest within =
-    let room : n ≤ word = omega arith in
-    let small : word - n < 2 ^ 64 = omega arith in
-    let turn : word + (2 ^ 64 - n) ≡ (word - n) + 2 ^ 64 = omega arith in
-    ap (λ (k : ℕ). k % 2 ^ 64) turn ∙ (add-mod_right (word - n) (2 ^ 64) ∙ mod-eq_of_lt small)
+lowered word n least greatest within = omega arith
 
 pub lowered_cursor : (word n : ℕ) → offset ≤ word + 2 ^ 50 → n ≤ credit → cursor_of (word - n)
     ≡ cursor_of word -ℤ pos n
 unfolding offset credit
-lowered_cursor word n least within =
-    let room : n ≤ word = omega arith in
-    omega (arith, ints)
+lowered_cursor word n least within = omega (arith, ints)
 
 module _ {X : Type 0} where
   -- two sums make up a third one if their terms do
@@ -82,12 +72,8 @@ module _ {X : Type 0} where
       → sum_by f xs + sum_by g xs ≡ sum_by h xs * m
   sum_parts f g h m [] all = omega arith
   sum_parts f g h m (x ∷ xs) all =
-      let here : f x + g x ≡ h x * m = All-head (λ x. f x + g x ≡ h x * m) x xs all in
-      let rest : sum_by f xs + sum_by g xs ≡ sum_by h xs
-      * m = sum_parts f g h m xs (All-tail (λ x. f x + g x ≡ h x * m) x xs all) in
-      let split : (h x + sum_by h xs) * m ≡ h x * m + sum_by h xs * m = add-mul (h x) (sum_by h xs)
-      m in
-      rw (sum_by-cons f x xs, sum_by-cons g x xs, sum_by-cons h x xs, split) (omega arith)
+      let rest = sum_parts f g h m xs (λ i d lt. all (suc i) d (omega arith)) in
+      search (rules, add-mul, sum_by-cons, all 0 x (omega arith))
 
 -- the credit of all reservers is no more than this
 pub few_asked : (n count : ℕ) → n ≤ count * credit → count ≤ 1024 → n ≤ 2 ^ 50
@@ -114,9 +100,8 @@ module _ (start : Allocator) (count : ℕ) where
       → All (IsKept start at log) view → left_of view + weigh requested view ≡ length view * credit
   view_credit at log [] all = omega arith
   view_credit at log (r ∷ view) all =
-      let here : r.left + requested_by r
-      ≡ credit = (All-head (IsKept start at log) r view all).credit.credit in
-      let rest = view_credit at log view (All-tail (IsKept start at log) r view all) in
+      let here = (all 0 r (omega arith)).credit.credit in
+      let rest = view_credit at log view (λ i d lt. all (suc i) d (omega arith)) in
       search (rules, sum_by-cons, suc-mul)
 
   -- and so it is with the records of all seats
@@ -138,7 +123,3 @@ module _ (start : Allocator) (count : ℕ) where
 
   pub word_greatest : (s : St) (k : Rule s) → k.word < offset + 2 ^ 32
   word_greatest s k = search (rules, follow_asked, ints)
-
-  pub last_word : (s : St) (k : Rule s) (items : List ℕ) (w : ℕ) → s.words ≡ items
-      → get_elem? items 0 ≡ some w → k.word ≡ w
-  last_word s k items w same e = search rules

@@ -1,12 +1,11 @@
 -- The handles of the living entities that pass, by birth and then by handle.
 use Rattle.std.proofs.Common.{rules, ◌≡◌, ◌≢◌, ℕ, zero, suc, ◌<◌, Bool, true, false, cond, List, []}
 use Rattle.std.proofs.Common.{◌∷◌, map, length, get_or, Option, Some, None, Contains, IsSomeAnd}
-use Rattle.std.proofs.Common.{IsTrue, unwrap_or, refl, sym, ap, subst, ◌∙◌, arith}
+use Rattle.std.proofs.Common.{IsTrue, refl, sym, ap, subst, ◌∙◌, arith}
 use Rattle.std.proofs.lemmas.Grind.{common_steps}
 use Rattle.std.specs.declared.cmp.Ordering.{Ordering}
 use Rattle.std.specs.declared.cmp.Ordering.TheVariants.{Less, Equal, Greater}
 use Rattle.std.specs.Ordering.{is_lt, is_eq, eq_by_cmp, ordering_then, ordering_reverse}
-use Rattle.std.specs.Option.{option_map, option_cmp}
 use Rattle.std.specs.Cmp.{IsTotalOrder, then_total, on_total, eq_by_cmp_equiv}
 use Rattle.std.specs.List.{All, AllPairs, filter, IsDistinct}
 use Rattle.std.proofs.lemmas.List.{get_or-map, get_or_default, length-map}
@@ -45,9 +44,6 @@ strictly Equal Equal h n = cc
 strictly Equal Greater h n = cc
 strictly Greater s h n = cc
 
-same_entity : (a b : Entity) → Some a ≡ Some b → a ≡ b
-same_entity a b e = ap (λ (o : Option Entity). unwrap_or o a) e
-
 -- ---- membership
 
 contains_map : {X Y : Type 0} (f : X → Y) (xs : List X) (x : X) → Contains xs x
@@ -68,7 +64,7 @@ contains_filter p (y ∷ ys) x (suc k) l e pass =
 
 pub filter-all : {X : Type 0} (xs : List X) → filter (λ _. true) xs ≡ xs
 filter-all [] = refl
-filter-all (x ∷ xs) = ap (λ ys. x ∷ ys) (filter-all xs)
+filter-all (x ∷ xs) = search (rules, filter-all xs)
 
 -- ---- the births of the entities that pass
 
@@ -117,16 +113,12 @@ module _ (living : List LivingEntity) (index : FinMap handle_cmp ℕ)
         let y = get_or sorted j b in
         let born_x : IsBorn (get_or sorted i b) = all_sorted i b (omega arith) in
         let born_y : IsBorn (get_or sorted j b) = all_sorted j b k in
-        let birth_x = ap (λ (o : Option Entity). option_map (λ (e : Entity). e.birth) o)
-        born_x.there ∙ ap Some born_x.birth in
-        let birth_y = ap (λ (o : Option Entity). option_map (λ (e : Entity). e.birth) o)
-        born_y.there ∙ ap Some born_y.birth in
         let unturned = sorted_far (λ (p q : Birth × Handle). is_lt (pair_cmp p q))
         (ranks_by pair_cmp_total (λ p. p)) sorted ordered.in_order i j b (omega arith) k in
         let turned = ap is_lt (sym (pair_cmp_total.antisymm y x)) ∙ unturned in
         let differ = apart_from_distinct alike sorted i j b sorted_apart l k in
-        (λ t. ordering_then (option_cmp birth_cmp (birth_x t) (birth_y t)) (handle_cmp x.1 y.1))
-        ∙ strictly (birth_cmp x.0 y.0) (handle_cmp x.1 y.1) turned differ
+        rw (born_x.there, born_y.there, born_x.birth, born_y.birth)
+        (strictly (birth_cmp x.0 y.0) (handle_cmp x.1 y.1) turned differ)
 
     rising : AllPairs (λ a b. birth_order (map_of living) a b ≡ Less)
         (map (λ (born : Birth × Handle). born.1) sorted)
@@ -136,7 +128,7 @@ module _ (living : List LivingEntity) (index : FinMap handle_cmp ℕ)
         omega (arith, length-map {B = Handle} sorted (λ born. born.1)) in
         let at_i = get_or-map (λ (born : Birth × Handle). born.1) sorted i b d (omega arith) in
         let at_j = get_or-map (λ (born : Birth × Handle). born.1) sorted j b d below in
-        (λ t. birth_order (map_of living) (at_i t) (at_j t)) ∙ in_order i j b l below
+        rw (at_i, at_j) (in_order i j b l below)
 
     from_list : (h : Handle) → Contains (map (λ (born : Birth × Handle). born.1) sorted) h
         → IsSomeAnd (finite.get (map_of living) h) (λ e. IsTrue (passes e))
@@ -144,24 +136,22 @@ module _ (living : List LivingEntity) (index : FinMap handle_cmp ℕ)
         let b : Birth × Handle = (record { frame = 0; system = 0; ordinal = 0 }, h) in
         let below : at.0 < length sorted =
         omega (arith, length-map {B = Handle} sorted (λ born. born.1), at.1) in
-        let is = sym (get_or-map (λ (born : Birth × Handle). born.1) sorted at.0 b h below)
-        ∙ at.2 in
+        let is = get_or-map (λ (born : Birth × Handle). born.1) sorted at.0 b h below in
         let born : IsBorn (get_or sorted at.0 b) = all_sorted at.0 b below in
-        subst (λ (o : Option Entity). IsSomeAnd o (λ e. IsTrue (passes e)))
-        (sym (ap (finite.get (map_of living)) (sym is) ∙ born.there)) born.pass
+        search (rules, is, at.2, born.there, born.pass)
 
     of_entity : (h : Handle) (e : Entity) (i : ℕ) → finite.get (map_of living) h ≡ Some e
         → finite.get index h ≡ Some i → passes e ≡ true
         → Contains (map (λ (born : Birth × Handle). born.1) sorted) h
     of_entity h e i found placed pass =
         let r : LivingEntity = some_entity h in
-        let entity : LivingEntity = get_or living i r in
         let at = indexed.each_place h i placed in
-        let is : entity_of entity ≡ e = same_entity (entity_of entity) e
-        (sym (get_placed living index indexed h i r placed) ∙ found) in
+        let here = get_placed living index indexed h i r placed in
+        let entity : LivingEntity = get_or living i r in
+        let is : entity_of entity ≡ e = cc in
         let listed = Contains-permutation births sorted (born_of entity) ordered.permutation
         (complete i r at.0 (ap passes is ∙ pass)) in
-        subst (λ q. Contains (map (λ (born : Birth × Handle). born.1) sorted) q) (at.1 r)
+        rw (sym (at.1 r))
         (contains_map (λ (born : Birth × Handle). born.1) sorted (born_of entity) listed)
 
     to_list : (h : Handle) (o : Option Entity) → finite.get (map_of living) h ≡ o
@@ -191,8 +181,7 @@ module _ (living : List LivingEntity) (index : FinMap handle_cmp ℕ)
       let r : LivingEntity = some_entity d.1 in
       let below : k < length chosen = omega (arith, length-map {B = Birth × Handle} chosen born_of)
       in
-      let at = get_or-map born_of chosen k r d below in
-      subst IsBorn (sym at) (record {
+      rw (get_or-map born_of chosen k r d below) (record {
         entity = entity_of (get_or chosen k r);
         there = All-filter (λ entity. passes (entity_of entity))
             (λ entity. finite.get (map_of living) entity.handle ≡ Some (entity_of entity))
@@ -209,9 +198,8 @@ module _ (living : List LivingEntity) (index : FinMap handle_cmp ℕ)
       let at_i = get_or-map born_of chosen i r d (omega arith) in
       let at_j = get_or-map born_of chosen j r d below in
       let differ = AllPairs-filter (λ (a b : LivingEntity). a.handle ≢ b.handle)
-      (λ entity. passes (entity_of entity)) living (λ i j d l k e. let twice : i
-      ≡ j = distinct living index indexed i j d (omega arith) k e in absurd (omega arith)) i j r
-      l below in
+      (λ entity. passes (entity_of entity)) living (λ i j d l k e.
+      omega (arith, distinct living index indexed i j d (omega arith) k e)) i j r l below in
       rw (at_i, at_j) (apart handle_cmp_total handle_cmp-IsAntisymmetric _ _ differ))
 
   complete : (i : ℕ) (r : LivingEntity) → i < length living → passes (entity_of (get_or living i r))

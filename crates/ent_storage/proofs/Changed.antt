@@ -1,6 +1,6 @@
 -- The components of the entity at a place are changed.
-use Rattle.std.proofs.Common.{◌≡◌, ℕ, zero, suc, ◌-◌, ◌<◌, List, [], ◌∷◌, length, get_or, set}
-use Rattle.std.proofs.Common.{Some, min, refl, sym, ap, subst, ◌∙◌, arith}
+use Rattle.std.proofs.Common.{◌≡◌, ℕ, zero, suc, ◌-◌, ◌<◌, List, [], ◌∷◌, length, get_or, set, Some}
+use Rattle.std.proofs.Common.{min, refl, sym, ap, subst, ◌∙◌, arith}
 use Rattle.std.proofs.lemmas.List.{get_or_default}
 use Rattle.std.specs.FinMap as finite
 use Rattle.std.specs.FinMap.{FinMap}
@@ -9,8 +9,8 @@ use Rattle.ent_storage.specs.Components.{Components}
 use Rattle.ent_storage.specs.EntityMap.{Store, with_components}
 use Rattle.ent_storage.specs.Living.{LivingEntity, change_at}
 use Rattle.ent_storage.specs.Indexed.{map_of, handles_by_place, counted, IsKeptIndex}
-use Rattle.ent_storage.proofs.Indexed.{some_entity, entities_changed}
-use Rattle.ent_storage.proofs.Counted.{kept_changed}
+use Rattle.ent_storage.proofs.Indexed.{some_entity, entities_changed, read_handle}
+use Rattle.ent_storage.proofs.Counted.{kept_set}
 use Rattle.ent_storage.proofs.Placed.{handles_changed}
 
 as_set : (living : List LivingEntity) (i : ℕ) (d : LivingEntity) (change : Components → Components)
@@ -65,8 +65,9 @@ module _ (living : List LivingEntity) (index : FinMap handle_cmp ℕ) (room othe
     spare = ap (λ n. min room others - n) (length_changed living i change)
         ∙ ap (λ (s : Store). s.spare) view;
     kept = subst (λ es. IsKeptIndex es index (min room others)) (sym is_set)
-        (kept_changed living index (min room others) kept h i placed was read
-        (change was.components));
+        (kept_set living index (min room others) kept i _
+        (ap (finite.get (counted living index)) (read_handle living (counted living index)
+        kept.indexed h i placed was read) ∙ placed));
   })
     where
       is_set : change_at living i change

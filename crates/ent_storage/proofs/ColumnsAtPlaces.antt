@@ -1,7 +1,7 @@
 -- What columns have at a place, and after each change.
-use Rattle.std.proofs.Common.{rules, ◌≡◌, ◌≢◌, ℕ, ℤ, zero, suc, ◌+◌, ◌<◌, ◌≤◌, Bool, true, false}
-use Rattle.std.proofs.Common.{cond, T, ◌⊎◌, inl, inr, List, [], ◌∷◌, length, get_or, set, Option}
-use Rattle.std.proofs.Common.{◌&&◌, Some, None, refl, sym, ap, subst, ◌∙◌, arith}
+use Rattle.std.proofs.Common.{rules, ◌≡◌, ◌≢◌, ℕ, ℤ, zero, suc, ◌+◌, ◌<◌, ◌≤◌, cond, T, ◌⊎◌, inl}
+use Rattle.std.proofs.Common.{inr, List, [], ◌∷◌, length, get_or, set, Option, Some, None, refl}
+use Rattle.std.proofs.Common.{sym, ap, subst, ◌∙◌, arith}
 use Rattle.std.proofs.lemmas.Grind.{common_steps}
 use Rattle.std.proofs.lemmas.Option.{none-some}
 use Rattle.std.proofs.lemmas.List.{get_or_past, get_or-set_same, get_or-set_other}
@@ -14,9 +14,9 @@ use Rattle.std.specs.FinMap.Entries.{below_all}
 use Rattle.ent_handle.specs.declared.component.ComponentId.{ComponentId}
 use Rattle.ent_handle.specs.Component.{component_cmp, component_cmp_total as total}
 use Rattle.ent_handle.specs.Component.{component_cmp-IsAntisymmetric as same}
-use Rattle.ent_storage.specs.SparseSet.{Values, Column, no_column, HasRoomAt, IsMovedDown}
+use Rattle.ent_storage.specs.SparseSet.{Column, no_column, HasRoomAt, IsMovedDown}
 use Rattle.ent_storage.specs.Living.{column_at, value_at, with_value, items_from, components_at}
-use Rattle.ent_storage.proofs.Rising.{remove_absent}
+use Rattle.ent_storage.proofs.Rising.{both, remove_absent}
 use Rattle.ent_storage.proofs.Keys.{tied, apart, same_or_apart, get-insert_same, get-insert_other}
 use Rattle.ent_storage.proofs.Keys.{get-remove_same, get-remove_other}
 
@@ -24,10 +24,6 @@ id_of : ℕ → ComponentId
 id_of n = record { 0 = n }
 
 -- ---- the items are in the order of numbers
-
-both : (a b : Bool) → T a → T b → T (a && b)
-both true b x y = y
-both false b x y = absurd x
 
 below_less : (a b : ℕ) → a < b → T (is_lt (nat_cmp a b))
 below_less a b l = search (rules)
@@ -104,9 +100,8 @@ same_components old new p q are = map.same_map total same _ _ (search (rules, ge
 pub no_components : (columns : List Column) (place : ℕ)
     → ((id : ComponentId) → value_at columns place id ≡ None) → components_at columns place
     ≡ map.empty
-no_components columns place none =
-    map.same_map total same _ _ (λ id. get_components columns place id ∙ none id
-    ∙ sym (map.get-empty component_cmp id))
+no_components columns place none = map.same_map total same _ _
+    (search (rules, get_components, map.get-empty))
 
 -- ---- one column is changed
 
@@ -117,7 +112,8 @@ column_past columns n l = get_or_past columns n no_column l
 -- a column with room is one of the list
 pub room_inside : (columns : List Column) (n place : ℕ) → HasRoomAt (column_at columns n) place → n
     < length columns
-room_inside columns n place room = search (rules, cases_lt n (length columns), column_past, map.get-empty)
+room_inside columns n place room = search
+    (rules, cases_lt n (length columns), column_past, map.get-empty)
 
 same_id : (a b : ComponentId) → a.0 ≡ b.0 → a ≡ b
 same_id a b e = λ i. record { 0 = e i }
@@ -133,14 +129,11 @@ module _ (old new : List Column) (place : ℕ) (id : ComponentId) (others : (n :
     value_set : (q : ComponentId) → (q ≡ id) ⊎ (q ≢ id) → value_at new place q
         ≡ map.get (map.insert (components_at old place) id v) q
     value_set q (inl e) =
-        ap (λ (c : ComponentId). value_at new place c) e
-        ∙ ap (λ (m : Values). map.get m place) set_to
-        ∙ get-insert_same nat_cmp_total map.nat_cmp-IsAntisymmetric (column_at old id.0).values
-        place v place refl
-        ∙ sym (get-insert_same total same (components_at old place) id v q e)
+        let here = get-insert_same nat_cmp_total map.nat_cmp-IsAntisymmetric
+        (column_at old id.0).values place v place refl in
+        grind (arith, get-insert_same total same)
     value_set q (inr n) =
-        value_apart place q n ∙ sym (get_components old place q)
-        ∙ sym (get-insert_other total same (components_at old place) id v q n)
+        grind (arith, value_apart, get_components, get-insert_other total same)
 
     pub components_insert : components_at new place ≡ map.insert (components_at old place) id v
     components_insert =
@@ -169,28 +162,22 @@ module _ (old new : List Column) (place : ℕ) (id : ComponentId) (others : (n :
       value_taken : (q : ComponentId) → (q ≡ id) ⊎ (q ≢ id) → value_at new place q
           ≡ map.get (map.remove (components_at old place) id) q
       value_taken q (inl e) =
-          ap (λ (c : ComponentId). value_at new place c) e
-          ∙ ap (λ (m : Values). map.get m place) taken
-          ∙ get-remove_same nat_cmp_total map.nat_cmp-IsAntisymmetric (column_at old id.0).values
-          place place refl
-          ∙ sym (get-remove_same total same (components_at old place) id q e)
+          let left = get-remove_same nat_cmp_total map.nat_cmp-IsAntisymmetric
+          (column_at old id.0).values place place refl in
+          grind (arith, get-remove_same total same)
       value_taken q (inr n) =
-          value_apart place q n ∙ sym (get_components old place q)
-          ∙ sym (get-remove_other total same (components_at old place) id q n)
+          grind (arith, value_apart, get_components, get-remove_other total same)
 
       pub components_remove : components_at new place ≡ map.remove (components_at old place) id
       components_remove =
-          map.same_map total same _ _ (λ q. get_components new place q
-          ∙ value_taken q (same_or_apart total same q id))
+          map.same_map total same _ _ (search (rules, get_components, value_taken, same_or_apart))
 
       value_left : (p : ℕ) → p ≢ place → (q : ComponentId) → (q ≡ id) ⊎ (q ≢ id) → value_at new p q
           ≡ value_at old p q
       value_left p far q (inl e) =
-          ap (λ (c : ComponentId). value_at new p c) e
-          ∙ ap (λ (m : Values). map.get m p) taken
-          ∙ get-remove_other nat_cmp_total map.nat_cmp-IsAntisymmetric (column_at old id.0).values
-          place p far
-          ∙ ap (λ (c : ComponentId). value_at old p c) (sym e)
+          let left = get-remove_other nat_cmp_total map.nat_cmp-IsAntisymmetric
+          (column_at old id.0).values place p far in
+          grind arith
       value_left p far q (inr n) = value_apart p q n
 
       pub remove_others : (p : ℕ) (q : ComponentId) → p ≢ place → value_at new p q
@@ -211,14 +198,9 @@ pub taken_none : (columns : List Column) (place : ℕ) (id : ComponentId) → le
     → (value_at columns place id ≡ None)
     × (components_at columns place ≡ map.remove (components_at columns place) id)
 taken_none columns place id l =
-    let none : value_at columns place id ≡ None = ap (λ (c : Column). map.get c.values place)
-    (column_past columns id.0 l) ∙ map.get-empty nat_cmp place in
+    let none : value_at columns place id ≡ None = search (rules, column_past, map.get-empty) in
     (none, sym (remove_absent total same _ _ (get_components columns place id ∙ none)))
 
 -- no value moves in a column of no values
 pub moved_none : (place last : ℕ) → IsMovedDown place last map.empty map.empty
-moved_none place last = record {
-  moved = λ _. map.get-empty nat_cmp place ∙ sym (map.get-empty nat_cmp last);
-  left = map.get-empty nat_cmp last;
-  others = λ p n m. refl;
-}
+moved_none place last = search (rules, map.get-empty)

@@ -1,12 +1,11 @@
 -- The places of an index that count.
 use Rattle.std.proofs.Common.{rules, ◌≡◌, ◌≢◌, ℕ, zero, suc, ◌<◌, ◌≤◌, Bool, true, false, cond, T}
-use Rattle.std.proofs.Common.{◌⊎◌, inl, inr, List, [], ◌∷◌, ◌+◌, map, ◌++◌, length, get_or, set}
-use Rattle.std.proofs.Common.{filter, Option, Some, None, is_some, Contains, refl, sym, ap, subst}
-use Rattle.std.proofs.Common.{◌∙◌, arith, eqb, eqb-true}
-use Rattle.std.specs.declared.cmp.Ordering.TheVariants.{Less, Equal, Greater}
-use Rattle.std.specs.Ordering.{is_eq}
+use Rattle.std.proofs.Common.{List, [], ◌∷◌, ◌+◌, map, ◌++◌, length, get_or, set, filter, Option}
+use Rattle.std.proofs.Common.{Some, None, is_some, Contains, refl, sym, ap, subst, ◌∙◌, arith, eqb}
+use Rattle.std.proofs.Common.{eqb-true}
+use Rattle.std.specs.declared.cmp.Ordering.TheVariants.{Less, Greater}
 use Rattle.std.specs.Cmp.{tied_itself}
-use Rattle.std.proofs.lemmas.Bool.{false≢true}
+use Rattle.std.proofs.lemmas.Bool.{false≢true, false_from_ne_true}
 use Rattle.std.proofs.lemmas.List.{get_or-map, get_or_default, length-map, length-set, length_push}
 use Rattle.std.specs.List.{AllWithin, insert}
 use Rattle.ent_bundle.specs.Position.{IsGapFor}
@@ -19,14 +18,13 @@ use Rattle.std.specs.FinMap.{FinMap, find, is_sorted}
 use Rattle.ent_handle.specs.Handle.{Handle, handle_cmp, handle_cmp_total as total}
 use Rattle.ent_handle.specs.Handle.{handle_cmp-IsAntisymmetric as same}
 use Rattle.ent_storage.specs.Living.{LivingEntity, IsMovedInto}
-use Rattle.ent_storage.specs.Indexed.{IsIndexed, IsKeptIndex, has_handle_at, counted, Keeps, HasAll}
-use Rattle.ent_storage.proofs.Keys.{tied, same_or_apart, get-insert_same, get-insert_other}
-use Rattle.ent_storage.proofs.Keys.{get-remove_same, get-remove_other}
+use Rattle.ent_storage.specs.Indexed.{IsFree, IsIndexed, IsKeptIndex, has_handle_at, counted, Keeps}
+use Rattle.ent_storage.specs.Indexed.{HasAll}
+use Rattle.ent_storage.proofs.Keys.{tied, insert_tells, remove_tells}
 use Rattle.ent_storage.proofs.Indexed.{some_not_none, some_entity, indexed_set, indexed_push}
-use Rattle.ent_storage.proofs.Indexed.{indexed_none, read_handle}
-use Rattle.ent_storage.specs.Components.{Components}
+use Rattle.ent_storage.proofs.Indexed.{indexed_none}
 use Rattle.ent_bundle.proofs.Rising.{rising_at}
-use Rattle.ent_storage.proofs.Rising.{equal, get_at, map_insert}
+use Rattle.ent_storage.proofs.Rising.{equal, get_at, map_insert, rising_insert}
 use Rattle.ent_storage.proofs.Overwritten.{is_sorted-filter, find-filter, passed, is_sorted-set}
 use Rattle.ent_storage.proofs.Overwritten.{find-set_same, find-set_other}
 use Rattle.ent_storage.proofs.TakenOut.{indexed_moved, indexed_popped}
@@ -41,7 +39,7 @@ pub stands_from : (living : List LivingEntity) (q : Handle) (i : ℕ) (d : Livin
     < length living → (get_or living i d).handle ≡ q → has_handle_at living q (Some i) ≡ true
 stands_from [] q i d l e = absurd (omega arith)
 stands_from (x ∷ living) q zero d l e = tied total same x.handle q e
-stands_from (x ∷ living) q (suc i) d l e = stands_from living q i d (omega arith) e
+stands_from (x ∷ living) q (suc i) d l e = search (rules, stands_from living)
 
 module _ (living : List LivingEntity) (index : FinMap handle_cmp ℕ) where
   pub get_counted : (q : Handle) → finite.get (counted living index) q
@@ -50,15 +48,10 @@ module _ (living : List LivingEntity) (index : FinMap handle_cmp ℕ) where
       finite.get-retain_keys index (λ h. has_handle_at living h (finite.get index h)) q
       (λ x e. ap (λ h. has_handle_at living h (finite.get index h)) (sym (same q x e)))
 
-  by_test : (q : Handle) (o : Option ℕ) (b : Bool) (i : ℕ) → has_handle_at living q o ≡ b
-      → cond b o None ≡ Some i → (o ≡ Some i) × (has_handle_at living q (Some i) ≡ true)
-  by_test q o true i t e = (e, ap (has_handle_at living q) (sym e) ∙ t)
-  by_test q o false i t e = absurd (some_not_none i None e refl)
-
   -- a place that counts is in the index, and has the handle
   pub counted_gives : (q : Handle) (i : ℕ) → finite.get (counted living index) q ≡ Some i
       → (finite.get index q ≡ Some i) × (has_handle_at living q (Some i) ≡ true)
-  counted_gives q i e = by_test q (finite.get index q) _ i refl (sym (get_counted q) ∙ e)
+  counted_gives q i e = grind (arith, get_counted q)
 
   pub counted_has : (q : Handle) (i : ℕ) → finite.get index q ≡ Some i
       → has_handle_at living q (Some i) ≡ true → finite.get (counted living index) q ≡ Some i
@@ -66,7 +59,7 @@ module _ (living : List LivingEntity) (index : FinMap handle_cmp ℕ) where
 
   pub counted_none : (q : Handle) → finite.get index q ≡ None → finite.get (counted living index) q
       ≡ None
-  counted_none q at = get_counted q ∙ ap (λ o. cond (has_handle_at living q o) o None) at
+  counted_none q at = search (rules, get_counted)
 
   pub counted_not : (q : Handle) (i : ℕ) → finite.get index q ≡ Some i
       → has_handle_at living q (Some i) ≡ false → finite.get (counted living index) q ≡ None
@@ -82,39 +75,12 @@ module _ (living : List LivingEntity) (index : FinMap handle_cmp ℕ) where
     each_place = λ q i at. stands living q i (counted_gives q i at).1;
   }
 
--- the index after an entity's place was put in
-pub put_has : (old new : FinMap handle_cmp ℕ) (h : Handle) (n : ℕ) → finite.get new h ≡ Some n
-    → Keeps h old new → (q : Handle) (i : ℕ) → finite.get (finite.insert old h n) q ≡ Some i
-    → finite.get new q ≡ Some i
-put_has old new h n placed kept q i at = by (same_or_apart total same q h)
-  where
-    by : (q ≡ h) ⊎ (q ≢ h) → finite.get new q ≡ Some i
-    by (inl e) = ap (finite.get new) e ∙ placed ∙ sym (get-insert_same total same old h n q e) ∙ at
-    by (inr d) = kept q i d (sym (get-insert_other total same old h n q d) ∙ at)
-
 -- the index after an entity has gone, and after the last one has moved
 pub removed_has : (living : List LivingEntity) (index : FinMap handle_cmp ℕ) (h : Handle)
     (q : Handle) (i : ℕ) → finite.get (finite.remove (counted living index) h) q ≡ Some i
     → finite.get index q ≡ Some i
-removed_has living index h q i at = by (same_or_apart total same q h)
-  where
-    by : (q ≡ h) ⊎ (q ≢ h) → finite.get index q ≡ Some i
-    by (inl e) = absurd (some_not_none i _ at (get-remove_same total same (counted living index) h q
-        e))
-    by (inr d) = (counted_gives living index q i
-        (sym (get-remove_other total same (counted living index) h q d) ∙ at)).0
-
-pub moved_has : (living : List LivingEntity) (index : FinMap handle_cmp ℕ) (h m : Handle) (n : ℕ)
-    (q : Handle) (i : ℕ) → finite.get (finite.insert (finite.remove (counted living index) h) m n) q
-    ≡ Some i → finite.get (finite.insert index m n) q ≡ Some i
-moved_has living index h m n q i at = by (same_or_apart total same q m)
-  where
-    by : (q ≡ m) ⊎ (q ≢ m) → finite.get (finite.insert index m n) q ≡ Some i
-    by (inl e) = get-insert_same total same index m n q e
-        ∙ sym (get-insert_same total same _ m n q e) ∙ at
-    by (inr d) =
-        get-insert_other total same index m n q d
-        ∙ removed_has living index h q i (sym (get-insert_other total same _ m n q d) ∙ at)
+removed_has living index h q i at =
+    let old = counted_gives living index q i in grind (arith, remove_tells total same)
 
 -- a handle that is there without another one is in the index
 pub moved_counts : (living : List LivingEntity) (index : FinMap handle_cmp ℕ) (h m : Handle)
@@ -143,36 +109,29 @@ module _ (living : List LivingEntity) (index : FinMap handle_cmp ℕ) (room : �
   kept_push entity new none fits placed keeps = record {
     indexed = indexed_counted (living ++ entity ∷ []) new _
         (indexed_push living (counted living index) kept.indexed entity none)
-        (put_has (counted living index) new entity.handle (length living) placed keeps);
+        (λ q i at. grind (arith, insert_tells total same, keeps q i));
     fits = omega (arith, length_push living entity, fits);
   }
 
-  module _ (h : Handle) (i : ℕ) (placed : finite.get (counted living index) h ≡ Some i) where
-    pub kept_changed : (entity : LivingEntity) → entity ≡ get_or living i entity
-        → (held : Components) → IsKeptIndex
-        (set living i (record { handle = entity.handle; birth = entity.birth; components = held }))
-        index room
-    kept_changed entity read held =
-        let changed : LivingEntity = record {
-          handle = entity.handle;
-          birth = entity.birth;
-          components = held;
-        } in
-        let at = ap (finite.get (counted living index)) (read_handle living (counted living index)
-        kept.indexed h i placed entity read) ∙ placed in
-        record {
-          indexed = indexed_counted (set living i changed) index (counted living index)
-              (indexed_set living (counted living index) kept.indexed i changed at)
-              (λ q i at. (counted_gives living index q i at).0);
-          fits = omega (arith, length-set living i changed, kept.fits);
-        }
+  pub kept_set : (i : ℕ) (entity : LivingEntity)
+      → finite.get (counted living index) entity.handle ≡ Some i
+      → IsKeptIndex (set living i entity) index room
+  kept_set i entity at = record {
+    indexed = indexed_counted (set living i entity) index (counted living index)
+        (indexed_set living (counted living index) kept.indexed i entity at)
+        (λ q j there. (counted_gives living index q j there).0);
+    fits = omega (arith, length-set living i entity, kept.fits);
+  }
 
+  module _ (h : Handle) (i : ℕ) (placed : finite.get (counted living index) h ≡ Some i) where
     module _ (left : List LivingEntity) (rest : IsMovedInto living i left) where
       pub kept_moved : i < length left → (entity : LivingEntity) → entity ≡ get_or left i entity
           → IsKeptIndex left (finite.insert index entity.handle i) room
       kept_moved inside entity read = record {
-        indexed = indexed_counted left (finite.insert index entity.handle i) _
-            (search (rules, indexed_moved)) (moved_has living index h entity.handle i);
+        indexed = indexed_counted left (finite.insert index entity.handle i)
+            (finite.insert (finite.remove (counted living index) h) entity.handle i)
+            (search (rules, indexed_moved))
+            (λ q j at. grind (arith, insert_tells total same, removed_has));
         fits = omega (arith, rest.one_less, kept.fits);
       }
 
@@ -214,40 +173,20 @@ module _ (living : List LivingEntity) (pairs : List (Handle × ℕ))
   apart_places : (i j : ℕ) (d : ℕ) → i < j → j < length (map (λ e. e.1) left)
       → eqb (get_or (map (λ e. e.1) left) i d) (get_or (map (λ e. e.1) left) j d) ≡ false
   apart_places i j d l k =
-      by (eqb (get_or (map (λ e. e.1) left) i d) (get_or (map (λ e. e.1) left) j d)) refl
-    where
-      inside : j < length left
-      inside = omega (arith, length-map left (λ (e : Handle × ℕ). e.1), k)
-
-      unused : Handle × ℕ
-      unused = (record { index = 0; generation = 0 }, d)
-
-      at_i : get_or (map (λ e. e.1) left) i d ≡ (get_or left i unused).1
-      at_i = get_or-map (λ (e : Handle × ℕ). e.1) left i unused d (omega (arith, inside))
-
-      at_j : get_or (map (λ e. e.1) left) j d ≡ (get_or left j unused).1
-      at_j = get_or-map (λ (e : Handle × ℕ). e.1) left j unused d inside
-
-      by : (b : Bool) → eqb (get_or (map (λ e. e.1) left) i d) (get_or (map (λ e. e.1) left) j d)
-          ≡ b → b ≡ false
-      by false e = refl
-      by true e =
-          let one : (get_or left i unused).1 ≡ (get_or left j unused).1 = sym at_i
-          ∙ eqb-true (get_or (map (λ e. e.1) left) i d) (get_or (map (λ e. e.1) left) j d) e
-          ∙ at_j in
-          let resident_i = (stands living (get_or left i unused).0 (get_or left i unused).1
-          (filter_passes (counts living) pairs i unused (omega (arith, inside)))).1
-          (some_entity unused.0) in
-          let resident_j = (stands living (get_or left j unused).0 (get_or left j unused).1
-          (filter_passes (counts living) pairs j unused inside)).1 (some_entity unused.0) in
-          let keys : (get_or left i unused).0 ≡ (get_or left j unused).0 = sym resident_i
-          ∙ ap (λ n. (get_or living n (some_entity unused.0)).handle) one ∙ resident_j in
-          let less = rising_at total left i j unused (is_sorted-filter total same (counts living)
-          pairs rising) l inside in
-          let equals : handle_cmp (get_or left i unused).0 (get_or left j unused).0
-          ≡ Equal = ap (handle_cmp (get_or left i unused).0) (sym keys)
-          ∙ tied_itself total (get_or left i unused).0 in
-          absurd (subst T (ap is_eq (sym equals ∙ less)) tt)
+      let unused : Handle × ℕ = (record { index = 0; generation = 0 }, d) in
+      let inside : j < length left = omega (arith, length-map left (λ (e : Handle × ℕ). e.1), k) in
+      let at_i = get_or-map (λ (e : Handle × ℕ). e.1) left i unused d (omega arith) in
+      let at_j = get_or-map (λ (e : Handle × ℕ). e.1) left j unused d inside in
+      let resident_i = (stands living (get_or left i unused).0 (get_or left i unused).1
+      (filter_passes (counts living) pairs i unused (omega arith))).1 (some_entity unused.0) in
+      let resident_j = (stands living (get_or left j unused).0 (get_or left j unused).1
+      (filter_passes (counts living) pairs j unused inside)).1 (some_entity unused.0) in
+      let less = rising_at total left i j unused (is_sorted-filter total same (counts living)
+      pairs rising) l inside in
+      let equals = tied_itself total (get_or left i unused).0 in
+      false_from_ne_true _ (λ e.
+      let one : get_or (map (λ e. e.1) left) i d ≡ get_or (map (λ e. e.1) left) j d =
+      eqb-true _ _ e in cc)
 
   place_below : (q : ℕ) → Contains (map (λ e. e.1) left) q → q < length living
   place_below q at =
@@ -262,51 +201,52 @@ module _ (living : List LivingEntity) (pairs : List (Handle × ℕ))
       let counted_places = length-le_from_distinct_below (map (λ e. e.1) left) (length living)
       (IsDistinct-from_apart eqb _ apart_places)
       (λ q any. place_below q (Contains-from_any eqb-true q _ any)) in
-      omega (arith, length-map left (λ (e : Handle × ℕ). e.1), counted_places)
+      search (rules, length-map, counted_places)
 
 -- ---- a pair is put over one that does not count, or into its gap
 
+-- the pairs after one was put among them
+pub record IsPut (living : List LivingEntity) (old new : List (Handle × ℕ)) (k : Handle) (v : ℕ)
+    : Type 0 where
+  pub sorted : T (is_sorted handle_cmp new)
+  pub placed : finite.get (finite.from_sorted {R = handle_cmp} new) k ≡ Some v
+  pub kept : Keeps k (counted living (finite.from_sorted old)) (finite.from_sorted new)
+
 module _ (living : List LivingEntity) (pairs : List (Handle × ℕ))
     (rising : T (is_sorted handle_cmp pairs)) (k : Handle) (v : ℕ) (p : ℕ) where
-  module _ (inside : p < length pairs) (below : AllWithin (λ e. handle_cmp e.0 k ≡ Less) pairs 0 p)
-      (above : AllWithin (λ e. handle_cmp e.0 k ≡ Greater) pairs (p + 1) (length pairs)) where
-    pub over_sorted : T (is_sorted handle_cmp (set pairs p (k, v)))
-    over_sorted = is_sorted-set total same k v pairs p rising inside below above
+  pub put_over : AllWithin (λ e. handle_cmp e.0 k ≡ Less) pairs 0 p
+      → AllWithin (λ e. handle_cmp e.0 k ≡ Greater) pairs (p + 1) (length pairs)
+      → IsFree living pairs p → IsPut living pairs (set pairs p (k, v)) k v
+  put_over below above free = record {
+    sorted = over_sorted;
+    placed = finite.get-from_sorted handle_cmp _ k over_sorted ∙ find-set_same total same k v pairs
+        p free.inside below;
+    kept = λ q i n at.
+        let old = counted_gives living (finite.from_sorted pairs) q i at in
+        finite.get-from_sorted handle_cmp _ q over_sorted
+        ∙ find-set_other total same k v pairs p q n (other_key q i old.0 old.1) free.inside
+        ∙ sym (finite.get-from_sorted handle_cmp pairs q rising) ∙ old.0;
+  }
+    where
+      over_sorted : T (is_sorted handle_cmp (set pairs p (k, v)))
+      over_sorted = is_sorted-set total same k v pairs p rising free.inside below above
 
-    pub over_placed : finite.get (finite.from_sorted {R = handle_cmp} (set pairs p (k, v))) k
-        ≡ Some v
-    over_placed = finite.get-from_sorted handle_cmp _ k over_sorted ∙ find-set_same total same k v
-        pairs p inside below
-
-    module _ (d : Handle × ℕ) (is_gone : counts living (get_or pairs p d) ≡ false) where
       -- a handle that counts is not the one put over
       other_key : (q : Handle) (i : ℕ) → finite.get (finite.from_sorted {R = handle_cmp} pairs) q
           ≡ Some i → has_handle_at living q (Some i) ≡ true → (f : Handle × ℕ)
           → (get_or pairs p f).0 ≢ q
       other_key q i at is f e =
+          let gone = free.gone f in
           let here : (g : Handle × ℕ) → get_or pairs p g ≡ get_or pairs p f = λ g.
-          get_or_default pairs p g f inside in
+          get_or_default pairs p g f free.inside in
           let found = get_at total same pairs rising q p f (search rules) in
           search (rules, false≢true)
 
-      pub over_kept : Keeps k (counted living (finite.from_sorted pairs))
-          (finite.from_sorted (set pairs p (k, v)))
-      over_kept q i n at =
-          let old = counted_gives living (finite.from_sorted pairs) q i at in
-          finite.get-from_sorted handle_cmp _ q over_sorted
-          ∙ find-set_other total same k v pairs p q n (other_key q i old.0 old.1) inside
-          ∙ sym (finite.get-from_sorted handle_cmp pairs q rising) ∙ old.0
-
-  module _ (gap : IsGapFor handle_cmp pairs k p) where
-    pub gap_placed : finite.get (finite.from_sorted {R = handle_cmp} (insert pairs p (k, v))) k
-        ≡ Some v
-    gap_placed =
-        ap (λ m. finite.get m k) (map_insert total same pairs rising k p v gap)
-        ∙ get-insert_same total same (finite.from_sorted pairs) k v k refl
-
-    pub gap_kept : Keeps k (counted living (finite.from_sorted pairs))
-        (finite.from_sorted (insert pairs p (k, v)))
-    gap_kept q i n at =
-        ap (λ m. finite.get m q) (map_insert total same pairs rising k p v gap)
-        ∙ get-insert_other total same (finite.from_sorted pairs) k v q n
-        ∙ (counted_gives living (finite.from_sorted pairs) q i at).0
+  pub put_between : IsGapFor handle_cmp pairs k p → IsPut living pairs (insert pairs p (k, v)) k v
+  put_between gap = record {
+    sorted = rising_insert total same pairs rising k p v gap;
+    placed = grind (arith, map_insert total same pairs rising k p v gap, insert_tells total same);
+    kept = λ q i n at.
+        let old = counted_gives living _ q i at in
+        grind (arith, map_insert total same pairs rising k p v gap, insert_tells total same);
+  }

@@ -1,7 +1,7 @@
 -- The dense and the sparse vector of a component: what they stand for, after each change.
 use Rattle.std.proofs.Common.{rules, ◌≡◌, ◌≢◌, ℕ, ℤ, ◌+◌, ◌-◌, ◌<◌, ◌≤◌, false, ◌⊎◌, inl, inr, List}
-use Rattle.std.proofs.Common.{[], ◌∷◌, ◌++◌, length, set, get_or, Some, None, slice_get, sym, ap}
-use Rattle.std.proofs.Common.{◌∙◌, arith, ltb, lt-ltb, pos}
+use Rattle.std.proofs.Common.{[], ◌∷◌, ◌++◌, length, set, get_or, Some, None, slice_get, sym, ◌∙◌}
+use Rattle.std.proofs.Common.{arith, ltb, lt-ltb, pos}
 use Rattle.std.proofs.lemmas.Option.{same_Some, some_pair_parts, slice_get_within, none-some}
 use Rattle.std.proofs.lemmas.Option.{slice_get-get_or}
 use Rattle.std.proofs.lemmas.Bool.{false≢true, cases_lt, cases_eq}
@@ -11,8 +11,8 @@ use Rattle.std.specs.FinMap as map
 use Rattle.std.specs.FinMap.{nat_cmp-IsAntisymmetric as same}
 use Rattle.ent_storage.specs.SparseSet.{Values, IsDense, IsMovedDown}
 use Rattle.ent_storage.proofs.Rising.{remove_absent}
-use Rattle.ent_storage.proofs.Keys.{same_or_apart, get-insert_same, get-insert_other}
-use Rattle.ent_storage.proofs.Keys.{get-remove_same, get-remove_other}
+use Rattle.ent_storage.proofs.Keys.{same_or_apart, get-insert_other, get-remove_same}
+use Rattle.ent_storage.proofs.Keys.{get-remove_other, insert_tells, remove_tells}
 use Rattle.ent_storage.proofs.ElementsAt.{at_set_same, at_set_other, at_push_before, at_push_end}
 use Rattle.ent_storage.proofs.ElementsAt.{same_option, find_at, find_gives}
 
@@ -31,7 +31,7 @@ module _ (D : List (ℕ × ℤ)) (S : List ℕ) (dense : IsDense D S) where
 
   pub at : (p : ℕ) (v : ℤ) → map.get (map.from_entries {R = nat_cmp} D) p ≡ Some v → (k : ℕ)
       × (slice_get D k ≡ Some (p, v))
-  at p v e = find_gives D p v (sym (map.get-from_entries total D p) ∙ e)
+  at p v e = search (rules, map.get-from_entries, find_gives)
 
   -- a place of which the sparse vector has no entry that counts has no value
   pub missing : (p : ℕ) → ((k : ℕ) (v : ℤ) → slice_get S p ≡ Some k → slice_get D k ≢ Some (p, v))
@@ -55,15 +55,17 @@ pub filled : (D L : List (ℕ × ℤ)) (i n m : ℕ) → n ≡ length D → m �
     × ((k : ℕ) (d : ℕ × ℤ) → k ≢ i → k + 1 < n → get_or L k d ≡ get_or D k d) → IsFilled D i L
 filled D L i n m whole left one_less by_index = record {
   one_less = omega arith;
-  others = λ k apart l. slice_get-get_or L k (0, pos 0) l
-      ∙ ap Some (by_index.1 k (0, pos 0) apart (omega arith))
-      ∙ sym (slice_get-get_or D k (0, pos 0) (omega arith));
+  others = λ k apart l.
+      let a = slice_get-get_or L k (0, pos 0) l in
+      let b = slice_get-get_or D k (0, pos 0) (omega arith) in
+      let e = by_index.1 k (0, pos 0) apart (omega arith) in
+      cc;
   moved = λ l.
       let last : n - 1 ≡ length L = omega arith in
-      slice_get-get_or L i (0, pos 0) l
-      ∙ ap Some (by_index.0 (0, pos 0) (omega arith))
-      ∙ ap (λ (k : ℕ). Some (get_or D k (0, pos 0))) last
-      ∙ sym (slice_get-get_or D (length L) (0, pos 0) (omega arith));
+      let a = slice_get-get_or L i (0, pos 0) l in
+      let b = slice_get-get_or D (length L) (0, pos 0) (omega arith) in
+      let e = by_index.0 (0, pos 0) (omega arith) in
+      cc;
 }
 
 module _ (D : List (ℕ × ℤ)) (S : List ℕ) (dense : IsDense D S) where
@@ -84,9 +86,8 @@ module _ (D : List (ℕ × ℤ)) (S : List ℕ) (dense : IsDense D S) where
         → map.get (map.from_entries {R = nat_cmp} (set D i (p, v))) q ≡ Some w
         → map.get (map.insert (map.from_entries {R = nat_cmp} D) p v) q ≡ Some w
     over_there q w (inl e) found =
-        get-insert_same total same (map.from_entries {R = nat_cmp} D) p v q e
-        ∙ sym (has (set D i (p, v)) S over_dense i p v (at_set_same D i (p, v) inside))
-        ∙ ap (map.get (map.from_entries {R = nat_cmp} (set D i (p, v)))) (sym e) ∙ found
+        let h = has (set D i (p, v)) S over_dense i p v (at_set_same D i (p, v) inside) in
+        grind (arith, insert_tells total same)
     over_there q w (inr n) found =
         let h = at (set D i (p, v)) S over_dense q w found in
         let other : h.0 ≢ i = search (rules, at_set_same D i (p, v) inside, h) in
@@ -96,9 +97,9 @@ module _ (D : List (ℕ × ℤ)) (S : List ℕ) (dense : IsDense D S) where
     over_back : (q : ℕ) (w : ℤ) → (q ≡ p) ⊎ (q ≢ p)
         → map.get (map.insert (map.from_entries {R = nat_cmp} D) p v) q ≡ Some w
         → map.get (map.from_entries {R = nat_cmp} (set D i (p, v))) q ≡ Some w
-    over_back q w (inl e) found = ap (map.get (map.from_entries {R = nat_cmp} (set D i (p, v)))) e
-        ∙ has (set D i (p, v)) S over_dense i p v (at_set_same D i (p, v) inside)
-        ∙ sym (get-insert_same total same (map.from_entries {R = nat_cmp} D) p v q e) ∙ found
+    over_back q w (inl e) found =
+        let h = has (set D i (p, v)) S over_dense i p v (at_set_same D i (p, v) inside) in
+        grind (arith, insert_tells total same)
     over_back q w (inr n) found =
         let h = at D S dense q w
         (sym (get-insert_other total same (map.from_entries {R = nat_cmp} D) p v q n) ∙ found) in
@@ -147,10 +148,9 @@ module _ (D : List (ℕ × ℤ)) (S : List ℕ) (dense : IsDense D S) where
       removed_there q w found =
           let h = at L S2 dense2 q w found in
           let was = left_was h.0 q w (cases_eq h.0 i) h.1 in
-          let apart : q
-          ≢ p = λ e. was.2 (once D S dense was.0 i p w u (was.1 ∙ (λ j. Some (e j, w))) here) in
-          get-remove_other total same (map.from_entries {R = nat_cmp} D) p q apart
-          ∙ has D S dense was.0 q w was.1
+          let other = once D S dense was.0 i p w u in
+          let held = has D S dense was.0 q w was.1 in
+          grind (arith, remove_tells total same)
 
       removed_back : (q : ℕ) (w : ℤ) → (q ≡ p) ⊎ (q ≢ p)
           → map.get (map.remove (map.from_entries {R = nat_cmp} D) p) q ≡ Some w
@@ -227,7 +227,7 @@ module _ (D : List (ℕ × ℤ)) (S : List ℕ) (dense : IsDense D S) where
 
 pub pair_here : (D : List (ℕ × ℤ)) (i p : ℕ) → i < length D → ((d : ℕ × ℤ) → (get_or D i d).0 ≡ p)
     → (x : ℕ × ℤ) → slice_get D i ≡ Some (p, (get_or D i x).1)
-pair_here D i p l is x = slice_get-get_or D i x l ∙ (λ j. Some (is x j, (get_or D i x).1))
+pair_here D i p l is x = search (rules, slice_get-get_or)
 
 pub not_past : (i n : ℕ) → i < n → false ≡ ltb i n → ⊥
 not_past i n l e = false≢true (e ∙ lt-ltb i n l)
@@ -239,11 +239,9 @@ removed_none m p none = sym (remove_absent total same m p none)
 pub moved_down : (place last : ℕ) (old less new : Values) → less ≡ map.remove old place → place
     < last → IsMovedDown place last less new → IsMovedDown place last old new
 moved_down place last old less new is below down = record {
-  moved = λ l. down.moved l ∙ ap (λ (m : Values). map.get m last) is ∙ get-remove_other total same
-      old place last (λ e. absurd (omega arith));
+  moved = λ l. grind (arith, down.moved, remove_tells total same);
   left = down.left;
-  others = λ p n m. down.others p n m ∙ ap (λ (m : Values). map.get m p) is
-      ∙ get-remove_other total same old place p n;
+  others = λ p n m. grind (arith, down.others, remove_tells total same);
 }
 
 -- the place was the last
@@ -251,6 +249,6 @@ pub removed_last : (place last : ℕ) (old less : Values) → less ≡ map.remov
     → IsMovedDown place last old less
 removed_last place last old less is e = record {
   moved = λ l. absurd (omega arith);
-  left = ap (λ (m : Values). map.get m last) is ∙ get-remove_same total same old place last (sym e);
-  others = λ p n m. ap (λ (m : Values). map.get m p) is ∙ get-remove_other total same old place p n;
+  left = grind (arith, remove_tells total same);
+  others = λ p n m. grind (arith, remove_tells total same);
 }

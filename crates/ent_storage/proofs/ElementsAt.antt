@@ -3,33 +3,36 @@ use Rattle.std.proofs.Common.{rules, ◌≡◌, ◌≢◌, ℕ, ℤ, zero, suc, 
 use Rattle.std.proofs.Common.{[], ◌∷◌, ◌++◌, length, set, Option, Some, None, slice_get, refl, sym}
 use Rattle.std.proofs.Common.{ap, ◌∙◌, arith}
 use Rattle.std.proofs.lemmas.Grind.{common_steps}
-use Rattle.std.proofs.lemmas.Option.{same_Some, none-some}
+use Rattle.std.proofs.lemmas.Option.{same_Some, none-some, slice_get-get_or, slice_get_past}
 use Rattle.std.specs.Ordering.{nat_cmp}
 use Rattle.std.specs.Cmp.{nat_cmp_total as total}
 use Rattle.std.specs.FinMap.{find, nat_cmp-IsAntisymmetric as same}
 use Rattle.ent_storage.proofs.Keys.{apart, same_or_apart}
+use Rattle.std.proofs.lemmas.Bool.{cases_lt}
+use Rattle.std.proofs.lemmas.List.{get_or-set_same, get_or-set_other, length-set}
+use Rattle.std.proofs.lemmas.List.{get_or_append_left, get_or_push, length_push}
 
 -- ---- elements by their positions
 
 pub at_set_same : {X : Type 0} (xs : List X) (i : ℕ) (y : X) → i < length xs
     → slice_get (set xs i y) i ≡ Some y
-at_set_same [] i y l = absurd (omega arith)
-at_set_same (x ∷ xs) zero y l = refl
-at_set_same (x ∷ xs) (suc i) y l = at_set_same xs i y (omega arith)
+at_set_same xs i y l =
+    search (rules, slice_get-get_or (set xs i y) i y, get_or-set_same, length-set)
 
 pub at_set_other : {X : Type 0} (xs : List X) (i j : ℕ) (y : X) → j ≢ i → slice_get (set xs i y) j
     ≡ slice_get xs j
-at_set_other [] i j y n = refl
-at_set_other (x ∷ xs) zero zero y n = absurd (n refl)
-at_set_other (x ∷ xs) zero (suc j) y n = refl
-at_set_other (x ∷ xs) (suc i) zero y n = refl
-at_set_other (x ∷ xs) (suc i) (suc j) y n = at_set_other xs i j y (λ e. n (ap suc e))
+at_set_other xs i j y n = elim (cases_lt j (length xs)) [
+  | inl l ↦
+      let old = slice_get-get_or xs j y l in
+      search (rules, slice_get-get_or (set xs i y) j y, get_or-set_other, length-set)
+  | inr g ↦ search (rules, slice_get_past, length-set)
+]
 
 pub at_push_before : {X : Type 0} (xs : List X) (y : X) (k : ℕ) → k < length xs
     → slice_get (xs ++ y ∷ []) k ≡ slice_get xs k
-at_push_before [] y k l = absurd (omega arith)
-at_push_before (x ∷ xs) y zero l = refl
-at_push_before (x ∷ xs) y (suc k) l = at_push_before xs y k (omega arith)
+at_push_before xs y k l =
+    let old = slice_get-get_or xs k y l in
+    search (rules, slice_get-get_or (xs ++ y ∷ []) k y, get_or_append_left, length_push)
 
 pub at_push_end : {X : Type 0} (xs : List X) (y : X) (k : ℕ) → length xs ≤ k → (z : X)
     → slice_get (xs ++ y ∷ []) k ≡ Some z → (k ≡ length xs) × (y ≡ z)
@@ -39,8 +42,8 @@ at_push_end (x ∷ xs) y zero l z e = absurd (omega arith)
 at_push_end (x ∷ xs) y (suc k) l z e = search (rules, at_push_end xs y k (omega arith) z e)
 
 pub at_pushed : {X : Type 0} (xs : List X) (y : X) → slice_get (xs ++ y ∷ []) (length xs) ≡ Some y
-at_pushed [] y = refl
-at_pushed (x ∷ xs) y = at_pushed xs y
+at_pushed xs y =
+    search (rules, slice_get-get_or (xs ++ y ∷ []) (length xs) y, get_or_push, length_push)
 
 pub same_option : {X : Type 0} (a b : Option X) → ((v : X) → a ≡ Some v → b ≡ Some v)
     → ((v : X) → b ≡ Some v → a ≡ Some v) → a ≡ b

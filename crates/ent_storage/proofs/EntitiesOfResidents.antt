@@ -1,9 +1,9 @@
 -- The living entities that residents and columns stand for, after each change.
-use Rattle.std.proofs.Common.{rules, ◌≡◌, ◌≢◌, ℕ, zero, suc, ◌+◌, ◌-◌, ◌<◌, ◌≤◌, false, ◌⊎◌, inl}
-use Rattle.std.proofs.Common.{inr, List, [], ◌∷◌, ◌++◌, map, length, get_or, Option, Some, None}
-use Rattle.std.proofs.Common.{slice_get, option_and_then, take, drop, refl, sym, ap, ◌∙◌, arith}
+use Rattle.std.proofs.Common.{rules, ◌≡◌, ◌≢◌, ℕ, zero, suc, ◌+◌, ◌-◌, ◌<◌, ◌≤◌, false, List, []}
+use Rattle.std.proofs.Common.{◌∷◌, ◌++◌, map, length, get_or, Option, Some, None, slice_get}
+use Rattle.std.proofs.Common.{option_and_then, take, drop, refl, ap, arith}
 use Rattle.std.proofs.lemmas.Grind.{common_steps}
-use Rattle.std.proofs.lemmas.Option.{none-some, same_Some, slice_get_past}
+use Rattle.std.proofs.lemmas.Option.{slice_get_past}
 use Rattle.std.proofs.lemmas.Bool.{cases_lt, cases_eq}
 use Rattle.std.specs.Option.{option_map, option_map_or}
 use Rattle.std.specs.Ordering.{eq_by_cmp}
@@ -61,13 +61,8 @@ pub same_from : (n : ℕ) (residents : List Resident) (old new : List Column)
     ≡ value_at old p id) → entities_from n residents new ≡ entities_from n residents old
 same_from n [] old new are = refl
 same_from n (resident ∷ residents) old new are =
-    grind (
-      arith,
-      common_steps,
-      same_components,
-      same_from (suc n) residents old new
-          (grind (arith, common_steps)),
-    )
+    let rest = same_from (suc n) residents old new (grind (arith, common_steps)) in
+    grind (arith, common_steps, same_components)
 
 pub changed_from : (n : ℕ) (residents : List Resident) (old new : List Column) (i p : ℕ)
     (change : Components → Components) → n + i ≡ p → components_at new p
@@ -90,9 +85,7 @@ pub pushed_from : (n : ℕ) (residents : List Resident) (columns : List Column) 
 pushed_from n [] columns resident none = search (rules, no_components)
 pushed_from n (r ∷ residents) columns resident none =
     let next : suc n + length residents ≡ n + suc (length residents) = omega arith in
-    let rest = pushed_from (suc n) residents columns resident
-    (λ id. ap (λ (p : ℕ). value_at columns p id) next ∙ none id) in
-    search rules
+    search (rules, pushed_from (suc n) residents columns resident)
 
 -- ---- an entity is taken out, and the last one moves to its place
 
@@ -102,14 +95,6 @@ module _ (residents left : List Resident) (i n m : ℕ) (whole : n ≡ length re
     × ((k : ℕ) (d : Resident) → k ≢ i → k + 1 < n → get_or left k d ≡ get_or residents k d))
     (old new : List Column) (down : (number : ℕ)
     → IsMovedDown i (n - 1) (column_at old number).values (column_at new number).values) where
-  at_old : (k : ℕ) (resident : Resident) (d : LivingEntity) → k < n
-      → get_or (entities_from 0 residents old) k d ≡ entity_at old k (get_or residents k resident)
-  at_old k resident d l = search (rules, at_from)
-
-  at_new : (k : ℕ) (resident : Resident) (d : LivingEntity) → k < m
-      → get_or (entities_from 0 left new) k d ≡ entity_at new k (get_or left k resident)
-  at_new k resident d l = search (rules, at_from)
-
   components_moved : i + 1 < n → components_at new i ≡ components_at old (n - 1)
   components_moved room = same_components old new (n - 1) i (λ id. (down id.0).moved (omega arith))
 
@@ -121,46 +106,26 @@ module _ (residents left : List Resident) (i n m : ℕ) (whole : n ≡ length re
     one_less = omega (arith, length_from 0 left new, length_from 0 residents old);
     moved = λ d room.
         let below : i + 1 < n = omega (arith, length_from 0 residents old) in
-        let last : n - 1 ≡ length (entities_from 0 residents old)
-        - 1 = omega (arith, length_from 0 residents old) in
+        let last : length (entities_from 0 residents old) - 1 ≡ n - 1 =
+        omega (arith, length_from 0 residents old) in
         let resident : Resident = record { handle = d.handle; birth = d.birth } in
-        let resident_is = by_index.0 resident below in
-        let held = components_moved below in
-        at_new i resident d (omega arith)
-        ∙ (λ j. record {
-          handle = (resident_is j).handle;
-          birth = (resident_is j).birth;
-          components = held j;
-        })
-        ∙ sym (at_old (n - 1) resident d (omega arith))
-        ∙ ap (λ (k : ℕ). get_or (entities_from 0 residents old) k d) last;
+        let now = at_from 0 left new i resident d (omega arith) in
+        let was = at_from 0 residents old (n - 1) resident d (omega arith) in
+        search (rules, by_index.0 resident below, components_moved below);
     others = λ k d far room.
         let below : k + 1 < n = omega (arith, length_from 0 residents old) in
         let resident : Resident = record { handle = d.handle; birth = d.birth } in
-        let resident_is = by_index.1 k resident far below in
-        let held = components_others k far below in
-        at_new k resident d (omega arith)
-        ∙ (λ j. record {
-          handle = (resident_is j).handle;
-          birth = (resident_is j).birth;
-          components = held j;
-        })
-        ∙ sym (at_old k resident d (omega arith));
+        let now = at_from 0 left new k resident d (omega arith) in
+        let was = at_from 0 residents old k resident d (omega arith) in
+        search (rules, by_index.1 k resident far below, components_others k far below);
   }
 
   moved_within : length new ≡ length old → AreColumnsOf (length residents) old
       → AreColumnsOf (length left) new
   moved_within len within = record {
-    none_beyond = λ p id l. by p id l (cases_eq p (n - 1));
+    none_beyond = λ p id l. search (rules, cases_eq p (n - 1), down id.0, within.none_beyond p id);
     numbered = omega (arith, within.numbered, len);
   }
-    where
-      by : (p : ℕ) (id : ComponentId) → length left ≤ p → (p ≡ n - 1) ⊎ (p ≢ n - 1)
-          → value_at new p id ≡ None
-      by p id l (inl e) = ap (λ (q : ℕ). value_at new q id) e ∙ (down id.0).left
-      by p id l (inr far) =
-          (down id.0).others p (λ e. absurd (omega arith)) far
-          ∙ within.none_beyond p id (omega arith)
 
   pub moved : length new ≡ length old → AreColumnsOf (length residents) old
       → IsMovedInto (entities_from 0 residents old) i (entities_from 0 left new)
@@ -214,26 +179,24 @@ value_from residents columns i id within =
     search (rules, cases_lt, value_get, slice_get_past, length_from)
 
 -- a test of the handle at a place
-test_some : (o : Option LivingEntity) (h q : Handle) → option_map (λ (e : LivingEntity). e.handle) o
-    ≡ Some q → option_map_or (λ (e : LivingEntity). eq_by_cmp handle_cmp e.handle h) o false
-    ≡ eq_by_cmp handle_cmp q h
-test_some None h q e = absurd (none-some q e)
-test_some (Some x) h q e = ap (λ (g : Handle). eq_by_cmp handle_cmp g h) (same_Some _ _ e)
-
-test_none : (o : Option LivingEntity) (h : Handle) → option_map (λ (e : LivingEntity). e.handle) o
-    ≡ None → option_map_or (λ (e : LivingEntity). eq_by_cmp handle_cmp e.handle h) o false ≡ false
-test_none None h e = refl
-test_none (Some x) h e = absurd (none-some x.handle (sym e))
+test_of : (o : Option LivingEntity) (h : Handle)
+    → option_map_or (λ (e : LivingEntity). eq_by_cmp handle_cmp e.handle h) o false
+    ≡ option_map_or (λ (g : Handle). eq_by_cmp handle_cmp g h) (option_map (λ e. e.handle) o) false
+test_of None h = refl
+test_of (Some x) h = refl
 
 pub test_at : (residents : List Resident) (columns : List Column) (i : ℕ) (resident : Resident)
     (h : Handle) → slice_get residents i ≡ Some resident
     → has_handle_at (entities_from 0 residents columns) h (Some i)
     ≡ eq_by_cmp handle_cmp resident.handle h
-test_at residents columns i resident h at = search (rules, test_some, handle_get)
+test_at residents columns i resident h at =
+    search (rules, test_of (slice_get (entities_from 0 residents columns) i) h, handle_get)
 
 pub test_past : (residents : List Resident) (columns : List Column) (i : ℕ) (h : Handle)
     → length residents ≤ i → has_handle_at (entities_from 0 residents columns) h (Some i) ≡ false
-test_past residents columns i h l = search (rules, test_none, handle_get, slice_get_past)
+test_past residents columns i h l =
+    let test = test_of (slice_get (entities_from 0 residents columns) i) h in
+    search (rules, test, handle_get, slice_get_past)
 
 -- the birth and the handle of each resident
 pub births_from : (n : ℕ) (residents : List Resident) (columns : List Column)

@@ -1,8 +1,8 @@
 -- The columns in use, after each change.
 use Rattle.std.proofs.Common.{rules, ◌≡◌, ◌≢◌, ℕ, ◌+◌, ◌-◌, ◌<◌, ◌≤◌, ◌⊎◌, inl, inr, List, []}
-use Rattle.std.proofs.Common.{length, get_or, set, Contains, None, sym, ap, subst, ◌∙◌, arith}
+use Rattle.std.proofs.Common.{length, get_or, set, Contains, None, sym, ap, ◌∙◌, arith}
 use Rattle.std.proofs.lemmas.Grind.{common_steps}
-use Rattle.std.proofs.lemmas.Bool.{cases_lt, cases_eq}
+use Rattle.std.proofs.lemmas.Bool.{cases_lt, cases_eq, cases_order}
 use Rattle.std.proofs.lemmas.List.{get_or_default}
 use Rattle.std.proofs.lemmas.List.Edits.{length-insert, get_or-insert_below, get_or-insert_at}
 use Rattle.std.proofs.lemmas.List.Edits.{get_or-insert_above}
@@ -10,7 +10,6 @@ use Rattle.std.specs.List.{AllPairs, insert}
 use Rattle.std.specs.Cmp.{nat_cmp_total as total}
 use Rattle.std.specs.FinMap as map
 use Rattle.std.specs.FinMap.{nat_cmp-IsAntisymmetric as same}
-use Rattle.std.specs.Ordering.{nat_cmp}
 use Rattle.ent_storage.specs.SparseSet.{Column, no_column, HasRoomAt, IsMovedDown}
 use Rattle.ent_storage.specs.Living.{column_at, AreInUse}
 use Rattle.ent_storage.proofs.Keys.{same_or_apart}
@@ -38,107 +37,49 @@ module _ (used : List ℕ) (gap number : ℕ) (within : gap ≤ length used)
   more = insert used gap number
 
   -- what stands at a position: what stood there, the number, or what stood one before
-  abbrev Kept : ℕ → ℕ → Type 0
-  Kept k d = (k < gap) × (get_or more k d ≡ get_or used k d)
-
-  abbrev Here : ℕ → ℕ → Type 0
-  Here k d = (k ≡ gap) × (get_or more k d ≡ number)
-
-  abbrev Moved : ℕ → ℕ → Type 0
-  Moved k d = (gap < k) × (get_or more k d ≡ get_or used (k - 1) d)
-
-  placed : (k d : ℕ) → Kept k d ⊎ (Here k d ⊎ Moved k d)
-  placed k d = by (cases_lt k gap) (cases_eq k gap)
-    where
-      by : (k < gap) ⊎ (gap ≤ k) → (k ≡ gap) ⊎ (k ≢ gap) → Kept k d ⊎ (Here k d ⊎ Moved k d)
-      by (inl l) _ = inl (l, get_or-insert_below used gap number d k l within)
-      by (inr l) (inl e) =
-          inr (inl (e, ap (λ (j : ℕ). get_or more j d) e ∙ get_or-insert_at used gap number d within))
-      by (inr l) (inr far) =
-          let back : k ≡ k - 1 + 1 = omega (arith, l, far) in
-          inr (inr (
-            omega (arith, l, far),
-            ap (λ (j : ℕ). get_or more j d) back
-                ∙ get_or-insert_above used gap number d (k - 1) (omega (arith, l, far)) within,
-          ))
-
-  lower : (k d : ℕ) → k < gap → get_or used k d < number
-  lower k d l = omega (arith, below k l, get_or_default used k d 0 (omega (arith, l, within)))
-
-  higher : (k d : ℕ) → gap ≤ k → k < length used → number < get_or used k d
-  higher k d l m = omega (arith, above k l m, get_or_default used k d 0 m)
-
-  one_more : length more ≡ length used + 1
-  one_more = length-insert used gap number within
+  placed : (k d : ℕ) → k < length more
+      → ((k < gap) × (get_or more k d ≡ get_or used k d) × (get_or used k d < number))
+      ⊎ (((k ≡ gap) × (get_or more k d ≡ number))
+      ⊎ ((gap < k) × (k - 1 < length used) × (get_or more k d ≡ get_or used (k - 1) d)
+      × (number < get_or used (k - 1) d)))
+  placed k d l = elim (cases_order k gap) [
+    | inl e ↦ let here = get_or-insert_at used gap number d within in inr (inl (e, cc))
+    | inr far ↦ elim far [
+      | inl m ↦
+          let read = get_or_default used k d 0 (omega arith) in
+          let kept = get_or-insert_below used gap number d k m within in
+          inl (m, kept, omega (arith, below k m))
+      | inr m ↦
+          let back : k - 1 + 1 ≡ k = omega arith in
+          let last : k - 1 < length used = omega (arith, length-insert used gap number within) in
+          let read = get_or_default used (k - 1) d 0 last in
+          let moved = get_or-insert_above used gap number d (k - 1) (omega arith) within in
+          inr (inr (m, last, cc, omega (arith, above (k - 1) (omega arith) last)))
+    ]
+  ]
 
   module _ (columns : List Column) (inside : number < length columns)
       (in_use : AreInUse used columns) where
     pub in_use_inserted : AreInUse more columns
     in_use_inserted = record {
-      inside = λ k d l. within_columns k d l (placed k d);
-      rising = λ i j d l m. rises i j d l m (placed i d) (placed j d);
-      rest = λ n. still n (in_use.rest n);
+      inside = λ k d l. grind (arith, placed k d l, in_use.inside k d, in_use.inside (k - 1) d);
+      rising = λ i j d l m.
+          let a = placed i d (omega arith) in
+          let b = placed j d m in
+          let c = in_use.rising i (j - 1) d in
+          grind (arith, in_use.rising i j d, in_use.rising (i - 1) (j - 1) d);
+      rest = λ n. search (rules, in_use.rest n, at);
     }
       where
-        within_columns : (k d : ℕ) → k < length more → Kept k d ⊎ (Here k d ⊎ Moved k d)
-            → get_or more k d < length columns
-        within_columns k d l (inl kept) =
-            omega (arith, kept.1, in_use.inside k d (omega (arith, kept.0, within)))
-        within_columns k d l (inr (inl here)) = omega (arith, here.1, inside)
-        within_columns k d l (inr (inr moved)) =
-            omega (arith, moved.1, in_use.inside (k - 1) d (omega (arith, moved.0, l, one_more)))
-
-        rises : (i j d : ℕ) → i < j → j < length more → Kept i d ⊎ (Here i d ⊎ Moved i d)
-            → Kept j d ⊎ (Here j d ⊎ Moved j d) → get_or more i d < get_or more j d
-        rises i j d l m (inl a) (inl b) =
-            omega (arith, a.1, b.1, in_use.rising i j d l (omega (arith, b.0, within)))
-        rises i j d l m (inl a) (inr (inl b)) = omega (arith, a.1, b.1, lower i d a.0)
-        rises i j d l m (inl a) (inr (inr b)) =
-            omega (
-              arith,
-              a.1,
-              b.1,
-              in_use.rising i (j - 1) d (omega (arith, a.0, b.0))
-                  (omega (arith, b.0, m, one_more)),
-            )
-        rises i j d l m (inr (inl a)) (inl b) = absurd (omega (arith, a.0, b.0, l))
-        rises i j d l m (inr (inl a)) (inr (inl b)) = absurd (omega (arith, a.0, b.0, l))
-        rises i j d l m (inr (inl a)) (inr (inr b)) =
-            omega (
-              arith,
-              a.1,
-              b.1,
-              higher (j - 1) d (omega (arith, b.0))
-                  (omega (arith, b.0, m, one_more)),
-            )
-        rises i j d l m (inr (inr a)) (inl b) = absurd (omega (arith, a.0, b.0, l))
-        rises i j d l m (inr (inr a)) (inr (inl b)) = absurd (omega (arith, a.0, b.0, l))
-        rises i j d l m (inr (inr a)) (inr (inr b)) =
-            omega (
-              arith,
-              a.1,
-              b.1,
-              in_use.rising (i - 1) (j - 1) d (omega (arith, a.0, b.0, l))
-                  (omega (arith, b.0, m, one_more)),
-            )
-
-        at : (k n : ℕ) → k < length used → get_or used k n ≡ n → (k < gap) ⊎ (gap ≤ k)
-            → Contains more n
-        at k n l e (inl m) = (
-          k,
-          omega (arith, l, one_more),
-          get_or-insert_below used gap number n k m within ∙ e,
-        )
-        at k n l e (inr m) = (
-          k + 1,
-          omega (arith, l, one_more),
-          get_or-insert_above used gap number n k m within ∙ e,
-        )
-
-        still : (n : ℕ) → Contains used n ⊎ (column_at columns n ≡ no_column)
-            → Contains more n ⊎ (column_at columns n ≡ no_column)
-        still n (inl there) = inl (at there.0 n there.1 there.2 (cases_lt there.0 gap))
-        still n (inr none) = inr none
+        at : (n : ℕ) → Contains used n → Contains more n
+        at n there = elim (cases_lt there.0 gap) [
+          | inl m ↦
+              let kept = get_or-insert_below used gap number n there.0 m within in
+              (there.0, omega (arith, there.1, length-insert used gap number within), cc)
+          | inr m ↦
+              let moved = get_or-insert_above used gap number n there.0 m within in
+              (there.0 + 1, omega (arith, there.1, length-insert used gap number within), cc)
+        ]
 
 -- ---- a column without values or room stays as it is
 
@@ -183,7 +124,8 @@ module _ (used : List ℕ) (place last : ℕ) (old : List Column) where
       (within : i < length used) (inside : get_or used i 0 < length new)
       (read : was ≡ get_or new (get_or used i 0) was)
       (moved : IsMovedDown place last (get_or new (get_or used i 0) was).values is.values) where
-    pub passed_more : ((n : ℕ) → IsPassed i new n) → (n : ℕ) → IsPassed (i + 1) (set new (get_or used i 0) is)
+    pub passed_more : ((n : ℕ) → IsPassed i new n) → (n : ℕ) → IsPassed (i + 1)
+        (set new (get_or used i 0) is)
         n
     passed_more passed n = by (passed n) (same_or_apart total same n (get_or used i 0))
       where
@@ -194,28 +136,18 @@ module _ (used : List ℕ) (place last : ℕ) (old : List Column) where
         by (inr ahead) (inl e) =
             let column = sym ahead.1 ∙ ap (column_at new) e
             ∙ sym (get_or_default new (get_or used i 0) was no_column inside) in
+            let set_to = column_set new (get_or used i 0) was is inside read in
             inl (
               (i, omega arith, λ d. get_or_default used i d 0 within ∙ sym e),
-              subst (λ (c : Column). IsMovedDown place last (column_at old n).values c.values)
-                  (sym (ap (column_at (set new (get_or used i 0) is)) e
-                  ∙ column_set new (get_or used i 0) was is inside read))
-                  (subst (λ (c : Column). IsMovedDown place last c.values is.values)
-                  (sym column) moved),
+              search (rules, column, set_to, moved),
             )
-        by (inl before) (inr far) = inl (
-          (before.0.0, omega (arith, before.0.1), before.0.2),
-          subst (λ (c : Column). IsMovedDown place last (column_at old n).values c.values)
-              (sym (column_kept new (get_or used i 0) was is inside read n far)) before.1,
-        )
+        by (inl before) (inr far) =
+            let kept = column_kept new (get_or used i 0) was is inside read n far in
+            search (rules, kept)
         by (inr ahead) (inr far) = inr (
-          λ k d l e. others k d l e (cases_eq k i),
+          λ k d l e. grind (arith, ahead.0 k d, get_or_default used i d 0 within),
           column_kept new (get_or used i 0) was is inside read n far ∙ ahead.1,
         )
-          where
-            others : (k d : ℕ) → k < i + 1 → get_or used k d ≡ n → (k ≡ i) ⊎ (k ≢ i) → ⊥
-            others k d l e (inl at) = far (sym e ∙ ap (λ (j : ℕ). get_or used j d) at
-                ∙ get_or_default used i d 0 within)
-            others k d l e (inr off) = ahead.0 k d (omega (arith, l, off)) e
 
   module _ (in_use : AreInUse used old) where
     pub passed_all : (i : ℕ) (new : List Column) → length used ≤ i
@@ -226,23 +158,5 @@ module _ (used : List ℕ) (place last : ℕ) (old : List Column) where
         by : IsPassed i new n → Contains used n ⊎ (column_at old n ≡ no_column)
             → IsMovedDown place last (column_at old n).values (column_at new n).values
         by (inl moved) rest = moved.1
-        by (inr left) (inl there) = absurd
-            (left.0 there.0 n (omega (arith, there.1, whole)) there.2)
-        by (inr left) (inr none) =
-            subst (λ (c : Column). IsMovedDown place last (column_at old n).values c.values)
-            (sym (left.1 ∙ none))
-            (subst (λ (c : Column). IsMovedDown place last c.values no_column.values)
-            (sym none) (moved_none place last))
-
-    pub passed_rest : (i : ℕ) (new : List Column) → i ≤ length used
-        → ((n : ℕ) → IsPassed i new n) → (n : ℕ)
-        → column_at old n ≡ no_column → Contains used n ⊎ (column_at new n ≡ no_column)
-    passed_rest i new within passed n none = by (passed n)
-      where
-        by : IsPassed i new n → Contains used n ⊎ (column_at new n ≡ no_column)
-        by (inl moved) = inl (
-          moved.0.0,
-          omega (arith, moved.0.1, within),
-          moved.0.2 n,
-        )
-        by (inr left) = inr (left.1 ∙ none)
+        by (inr left) (inl there) = search (rules)
+        by (inr left) (inr none) = search (rules, moved_none)

@@ -15,6 +15,7 @@ use Rattle.ent_storage.specs.Components.{Components}
 use Rattle.ent_storage.specs.EntityMap.{Entity, with_components}
 use Rattle.ent_storage.specs.Indexed.{entity_of, map_of, IsIndexed}
 use Rattle.ent_storage.proofs.Keys.{tied, apart, same_or_apart, get-insert_same, get-insert_other}
+use Rattle.ent_storage.proofs.Keys.{insert_tells}
 
 pub some_not_none : {A : Type 0} (x : A) (o : Option A) → o ≡ Some x → o ≢ None
 some_not_none x o e n = false≢true (ap is_some (sym n ∙ e))
@@ -24,10 +25,8 @@ find_missing : (living : List LivingEntity) (q : Handle)
     → find handle_cmp q (map (λ entity. (entity.handle, entity_of entity)) living) ≡ None
 find_missing [] q missing = refl
 find_missing (entity ∷ living) q missing =
-    ap (λ t. cond t (Some (entity_of entity))
-    (find handle_cmp q (map (λ entity. (entity.handle, entity_of entity)) living)))
-    (apart total same q entity.handle (λ e. missing 0 entity (omega arith) (sym e)))
-    ∙ find_missing living q (λ i d l. missing (suc i) d (omega arith))
+    let far = apart total same q entity.handle (λ e. missing 0 entity (omega arith) (sym e)) in
+    search (rules, far, find_missing living q (λ i d l. missing (suc i) d (omega arith)))
 
 find_entity : (living : List LivingEntity) (q : Handle) (i : ℕ) (d : LivingEntity) → i
     < length living → (get_or living i d).handle ≡ q → ((j : ℕ) (e : LivingEntity) → j < i
@@ -37,10 +36,9 @@ find_entity : (living : List LivingEntity) (q : Handle) (i : ℕ) (d : LivingEnt
 find_entity [] q i d l at first = absurd (omega arith)
 find_entity (entity ∷ living) q zero d l at first = search (rules, tied)
 find_entity (entity ∷ living) q (suc i) d l at first =
-    ap (λ t. cond t (Some (entity_of entity))
-    (find handle_cmp q (map (λ entity. (entity.handle, entity_of entity)) living)))
-    (apart total same q entity.handle (λ e. first 0 entity (omega arith) (sym e)))
-    ∙ find_entity living q i d (omega arith) at (λ j e l. first (suc j) e (omega arith))
+    let far = apart total same q entity.handle (λ e. first 0 entity (omega arith) (sym e)) in
+    let rest = find_entity living q i d (omega arith) at (λ j e l. first (suc j) e (omega arith)) in
+    search (rules, far, rest)
 
 below_or_at : (i n : ℕ) → i < n + 1 → (i < n) ⊎ (i ≡ n)
 below_or_at i n l = elim (cases_lt i n) [ inl below ↦ inl below | inr above ↦ inr (omega arith) ]
@@ -78,7 +76,7 @@ module _ (living : List LivingEntity) (index : FinMap handle_cmp ℕ)
   placed_from_get q e found = by (finite.get index q) refl
     where
       by : (o : Option ℕ) → finite.get index q ≡ o → (i : ℕ) × (finite.get index q ≡ Some i)
-      by None p = absurd (some_not_none e _ found (get_unplaced q p))
+      by None p = search (rules, some_not_none, get_unplaced)
       by (Some i) p = (i, p)
 
   -- no two places have the same handle
@@ -95,27 +93,22 @@ module _ (living : List LivingEntity) (index : FinMap handle_cmp ℕ)
         (get_or (living ++ entity ∷ []) i d).handle ≡ Some i
     each_entity_pushed i d (inl l) =
         let at : finite.get index (get_or living i d).handle ≡ Some i = indexed.each_entity i l d in
-        let other : (get_or living i d).handle ≢ entity.handle = λ e. some_not_none i _
-        (ap (finite.get index) (sym e) ∙ at) new in
-        ap (λ (r : LivingEntity). finite.get (finite.insert index entity.handle (length living))
-        r.handle) (get_or_append_left living (entity ∷ []) d i l)
-        ∙ get-insert_other total same index entity.handle (length living) _ other ∙ at
+        let is = get_or_append_left living (entity ∷ []) d i l in
+        grind (arith, insert_tells total same)
     each_entity_pushed i d (inr e) =
-        ap (λ (r : LivingEntity). finite.get (finite.insert index entity.handle (length living))
-        r.handle) (get_or_push living entity d i (sym e))
-        ∙ get-insert_same total same index entity.handle (length living) entity.handle refl
-        ∙ ap Some (sym e)
+        let is = get_or_push living entity d i (sym e) in
+        let put = get-insert_same total same index entity.handle (length living) entity.handle refl
+        in
+        cc
 
     each_place_pushed : (q : Handle) (i : ℕ) → (q ≡ entity.handle) ⊎ (q ≢ entity.handle)
         → finite.get (finite.insert index entity.handle (length living)) q ≡ Some i
         → (i < length (living ++ entity ∷ []))
         × ((d : LivingEntity) → (get_or (living ++ entity ∷ []) i d).handle ≡ q)
     each_place_pushed q i (inl e) at =
-        let last : length living ≡ i = same_place _ i
-        (sym (get-insert_same total same index entity.handle (length living) q e) ∙ at) in (
-          omega (arith, length_push living entity),
-          λ d. ap (λ (r : LivingEntity). r.handle) (get_or_push living entity d i last) ∙ sym e,
-        )
+        let put = get-insert_same total same index entity.handle (length living) q e in
+        let last : length living ≡ i = same_place _ i cc in
+        search (rules, length_push, get_or_push)
     each_place_pushed q i (inr n) at =
         let old = indexed.each_place q i
         (sym (get-insert_other total same index entity.handle (length living) q n) ∙ at) in (
@@ -144,16 +137,6 @@ module _ (living : List LivingEntity) (index : FinMap handle_cmp ℕ)
     here : i < length living
     here = (indexed.each_place entity.handle i placed).0
 
-    each_entity_set : (j : ℕ) (d : LivingEntity) → j < length living → (j ≡ i) ⊎ (j ≢ i)
-        → finite.get index (get_or (set living i entity) j d).handle ≡ Some j
-    each_entity_set j d l (inl e) = search (rules, get_or-set_same, here)
-    each_entity_set j d l (inr n) = search (rules, get_or-set_other)
-
-    each_place_set : (q : Handle) (j : ℕ) → finite.get index q ≡ Some j → (j ≡ i) ⊎ (j ≢ i)
-        → (d : LivingEntity) → (get_or (set living i entity) j d).handle ≡ q
-    each_place_set q j at (inl e) d = search (rules, get_or-set_same, here)
-    each_place_set q j at (inr n) d = search (rules, get_or-set_other)
-
     pub indexed_set : IsIndexed (set living i entity) index
     indexed_set = search (rules, length-set living i entity)
 
@@ -162,21 +145,18 @@ module _ (living : List LivingEntity) (index : FinMap handle_cmp ℕ)
         → finite.get index q ≡ o → finite.get (map_of (set living i entity)) q
         ≡ finite.get (finite.insert (map_of living) entity.handle (entity_of entity)) q
     get_set q (inl e) o at =
-        get_placed (set living i entity) index indexed_set q i entity (ap (finite.get index) e
-        ∙ placed)
-        ∙ ap (λ (r : LivingEntity). Some (entity_of r)) (get_or-set_same living i entity entity
-        here)
-        ∙ sym (get-insert_same total same (map_of living) entity.handle (entity_of entity) q e)
+        let now = get_placed (set living i entity) index indexed_set q i entity in
+        let is = get_or-set_same living i entity entity here in
+        grind (arith, insert_tells total same)
     get_set q (inr n) None at = search (rules, get_unplaced, indexed_set, get-insert_other)
     get_set q (inr n) (Some j) at =
         let apart : j ≢ i = λ e. n (sym ((indexed.each_place q j at).1 entity)
         ∙ ap (λ (k : ℕ). (get_or living k entity).handle) e
         ∙ (indexed.each_place entity.handle i placed).1 entity) in
-        get_placed (set living i entity) index indexed_set q j entity at
-        ∙ ap (λ (r : LivingEntity). Some (entity_of r)) (get_or-set_other living i j entity entity
-        apart)
-        ∙ sym (get-insert_other total same (map_of living) entity.handle (entity_of entity) q n
-        ∙ get_placed living index indexed q j entity at)
+        let now = get_placed (set living i entity) index indexed_set q j entity at in
+        let was = get_placed living index indexed q j entity at in
+        let is = get_or-set_other living i j entity entity apart in
+        grind (arith, insert_tells total same)
 
     pub entities_set : map_of (set living i entity) ≡ finite.insert (map_of living)
         entity.handle (entity_of entity)
@@ -208,10 +188,10 @@ len_apart : (living : List LivingEntity) → ((i j : ℕ) (d : LivingEntity) →
 len_apart [] apart = finite.len-empty handle_cmp Entity
 len_apart (entity ∷ living) apart =
     let none : finite.get (map_of living) entity.handle ≡ None = finite.get-from_entries total
-    _ entity.handle ∙ find_missing living entity.handle (λ i d l e. let zero_is : suc i
-    ≡ 0 = apart (suc i) 0 d (omega arith) (omega arith) e in absurd (omega arith)) in
-    let rest = len_apart living (λ i j d l k e. let next : suc i ≡ suc j = apart (suc i) (suc j) d
-    (omega arith) (omega arith) e in omega arith) in
+    _ entity.handle ∙ find_missing living entity.handle (λ i d l e.
+    omega (arith, apart (suc i) 0 d (omega arith) (omega arith) e)) in
+    let rest = len_apart living (λ i j d l k e.
+    omega (arith, apart (suc i) (suc j) d (omega arith) (omega arith) e)) in
     finite.len-insert total (map_of living) entity.handle (entity_of entity)
     ∙ ap (λ (o : Option Entity). cond (is_some o) (finite.len (map_of living))
     (finite.len (map_of living) + 1)) none

@@ -1,27 +1,19 @@
 -- Keys of a map that are the same or apart, and what a map has at them after a change.
-use Rattle.std.proofs.Common.{◌≡◌, ◌≢◌, Bool, true, false, cond, T, ◌⊎◌, inl, inr, Some, None}
-use Rattle.std.proofs.Common.{Ordering, refl, sym, ap, subst, ◌∙◌}
-use Rattle.std.specs.declared.cmp.Ordering.TheVariants.{Less, Equal, Greater}
+use Rattle.std.proofs.Common.{◌≡◌, ◌≢◌, Bool, true, false, T, ◌⊎◌, inl, inr, Some, None, Ordering}
+use Rattle.std.proofs.Common.{refl, sym, ap, subst, ◌∙◌, rules}
 use Rattle.std.specs.Ordering.{is_eq, eq_by_cmp}
 use Rattle.std.specs.Cmp.{IsTotalOrder, tied_itself}
+use Rattle.ent_storage.proofs.Rising.{equal}
+use Rattle.std.proofs.lemmas.Bool.{false_from_ne_true}
 use Rattle.std.specs.FinMap as map
 use Rattle.std.specs.FinMap.{FinMap, IsAntisymmetric}
-
-equal : (r : Ordering) → T (is_eq r) → r ≡ Equal
-equal Less h = absurd h
-equal Equal h = refl
-equal Greater h = absurd h
 
 module _ {K : Type 0} {R : K → K → Ordering} (o : IsTotalOrder R) (same : IsAntisymmetric R) where
   pub tied : (a b : K) → a ≡ b → eq_by_cmp R a b ≡ true
   tied a b e = ap (λ x. eq_by_cmp R a x) (sym e) ∙ ap is_eq (tied_itself o a)
 
-  apart_by : (a b : K) → a ≢ b → (t : Bool) → eq_by_cmp R a b ≡ t → eq_by_cmp R a b ≡ false
-  apart_by a b n true e = absurd (n (same a b (equal _ (subst T (sym e) tt))))
-  apart_by a b n false e = e
-
   pub apart : (a b : K) → a ≢ b → eq_by_cmp R a b ≡ false
-  apart a b n = apart_by a b n _ refl
+  apart a b n = false_from_ne_true _ (λ e. n (same a b (equal _ (subst T (sym e) tt))))
 
   by_test : (a b : K) (t : Bool) → eq_by_cmp R a b ≡ t → (a ≡ b) ⊎ (a ≢ b)
   by_test a b true e = inl (same a b (equal _ (subst T (sym e) tt)))
@@ -32,16 +24,22 @@ module _ {K : Type 0} {R : K → K → Ordering} (o : IsTotalOrder R) (same : Is
 
   module _ {X : Type 0} (m : FinMap R X) (k : K) where
     pub get-insert_same : (v : X) (q : K) → q ≡ k → map.get (map.insert m k v) q ≡ Some v
-    get-insert_same v q e = map.get-insert o m k v q ∙ ap (λ t. cond t (Some v) (map.get m q))
-        (tied q k e)
+    get-insert_same v q e = search (rules, map.get-insert o m k v q, tied q k e)
 
     pub get-insert_other : (v : X) (q : K) → q ≢ k → map.get (map.insert m k v) q ≡ map.get m q
-    get-insert_other v q n = map.get-insert o m k v q ∙ ap (λ t. cond t (Some v) (map.get m q))
-        (apart q k n)
+    get-insert_other v q n = search (rules, map.get-insert o m k v q, apart q k n)
+
+    -- both, for `grind`
+    pub insert_tells : (v : X) (q : K) → ((q ≡ k) × (map.get (map.insert m k v) q ≡ Some v))
+        ⊎ ((q ≢ k) × (map.get (map.insert m k v) q ≡ map.get m q))
+    insert_tells v q = search (rules, same_or_apart q k, get-insert_same, get-insert_other)
 
     pub get-remove_same : (q : K) → q ≡ k → map.get (map.remove m k) q ≡ None
-    get-remove_same q e = map.get-remove o m k q ∙ ap (λ t. cond t None (map.get m q)) (tied q k e)
+    get-remove_same q e = search (rules, map.get-remove o m k q, tied q k e)
 
     pub get-remove_other : (q : K) → q ≢ k → map.get (map.remove m k) q ≡ map.get m q
-    get-remove_other q n = map.get-remove o m k q ∙ ap (λ t. cond t None (map.get m q))
-        (apart q k n)
+    get-remove_other q n = search (rules, map.get-remove o m k q, apart q k n)
+
+    pub remove_tells : (q : K) → ((q ≡ k) × (map.get (map.remove m k) q ≡ None))
+        ⊎ ((q ≢ k) × (map.get (map.remove m k) q ≡ map.get m q))
+    remove_tells q = search (rules, same_or_apart q k, get-remove_same, get-remove_other)

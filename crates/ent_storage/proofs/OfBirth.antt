@@ -5,7 +5,7 @@ use Rattle.std.proofs.Common.{Option, Some, None, IfSome, IfNone, IsSomeAnd, Con
 use Rattle.std.proofs.Common.{false, ◌<◌, refl, sym, ap, subst, ◌∙◌, arith}
 use Rattle.std.specs.declared.cmp.Ordering.{Ordering}
 use Rattle.std.specs.declared.cmp.Ordering.TheVariants.{Less, Equal, Greater}
-use Rattle.std.specs.Ordering.{is_eq, eq_by_cmp}
+use Rattle.std.specs.Ordering.{eq_by_cmp}
 use Rattle.std.specs.Option.{option_map}
 use Rattle.std.proofs.lemmas.Bool.{false≢true}
 use Rattle.std.proofs.lemmas.Option.{same_Some, none-some}
@@ -14,7 +14,7 @@ use Rattle.std.proofs.lemmas.List.Elements.{Contains-push, Contains-push_cases}
 use Rattle.std.specs.FinMap as finite
 use Rattle.std.specs.FinMap.{FinMap}
 use Rattle.ent_handle.specs.declared.birth.Birth.{Birth}
-use Rattle.ent_handle.specs.Birth.{birth_cmp, birth_cmp-IsAntisymmetric}
+use Rattle.ent_handle.specs.Birth.{birth_cmp, birth_cmp-IsAntisymmetric, birth_cmp_total}
 use Rattle.ent_handle.specs.Handle.{Handle, handle_cmp, handle_cmp_total as total}
 use Rattle.ent_handle.specs.Handle.{handle_cmp-IsAntisymmetric as same}
 use Rattle.ent_storage.specs.Living.{LivingEntity}
@@ -23,16 +23,15 @@ use Rattle.ent_storage.specs.Indexed.{map_of, IsIndexed}
 use Rattle.ent_storage.specs.BirthOrder.{IsLeastOf}
 use Rattle.ent_storage.proofs.ByBirth.{born_of}
 use Rattle.ent_storage.proofs.Indexed.{some_entity, get_placed, placed_from_get}
+use Rattle.ent_storage.proofs.Keys.{apart, same_or_apart}
 
 -- ---- births that are tested
 
-equal : (r : Ordering) → is_eq r ≡ true → r ≡ Equal
-equal Less e = absurd (false≢true e)
-equal Equal e = refl
-equal Greater e = absurd (false≢true e)
-
 pub same_birth : (a b : Birth) → eq_by_cmp birth_cmp a b ≡ true → a ≡ b
-same_birth a b e = birth_cmp-IsAntisymmetric a b (equal _ e)
+same_birth a b e = elim (same_or_apart birth_cmp_total birth_cmp-IsAntisymmetric a b) [
+  | inl is ↦ is
+  | inr n ↦ absurd (false≢true (sym (apart birth_cmp_total birth_cmp-IsAntisymmetric a b n) ∙ e))
+]
 
 pub other_birth : (a b : Birth) → eq_by_cmp birth_cmp a b ≡ false → a ≢ b
 other_birth a b e is = search (rules, false≢true)

@@ -1,7 +1,7 @@
 -- Two lists that rise and have the same members are the same: so are the handles of what passes a
 -- test, in the order of births.
 use Rattle.std.proofs.Common.{rules, ◌≡◌, zero, suc, Bool, true, List, [], ◌∷◌, Contains, refl, sym}
-use Rattle.std.proofs.Common.{ap, subst, ◌∙◌, arith}
+use Rattle.std.proofs.Common.{arith}
 use Rattle.std.specs.declared.cmp.Ordering.{Ordering}
 use Rattle.std.specs.declared.cmp.Ordering.TheVariants.{Less}
 use Rattle.std.specs.Cmp.{IsTotalOrder, then_total, on_total}
@@ -21,8 +21,7 @@ module _ {X : Type 0} (R : X → X → Type 0) (asym : (a b : X) → R a b → �
   front x y xs ys p q (zero, l, e) at = sym e
   front x y xs ys p q (suc k, l, e) (zero, m, f) = f
   front x y xs ys p q (suc k, l, e) (suc j, m, f) =
-      absurd (asym x y (subst (λ z. R x z) f (p 0 (suc j) y (omega arith) m))
-      (subst (λ z. R y z) e (q 0 (suc k) x (omega arith) l)))
+      search (rules, asym x y, p 0 (suc j) y, q 0 (suc k) x)
 
   -- what is above the first one is among the others
   later : (x z : X) (ys : List X) → R x z → Contains (x ∷ ys) z → Contains ys z
@@ -30,7 +29,7 @@ module _ {X : Type 0} (R : X → X → Type 0) (asym : (a b : X) → R a b → �
   later x z ys r (suc k, l, e) = (k, omega (arith, l), e)
 
   above : (x z : X) (xs : List X) → AllPairs R (x ∷ xs) → Contains xs z → R x z
-  above x z xs p (k, l, e) = subst (λ w. R x w) e (p 0 (suc k) z (omega arith) (omega (arith, l)))
+  above x z xs p (k, l, e) = search (rules, p 0 (suc k) z)
 
   deeper : (x z : X) (xs : List X) → Contains xs z → Contains (x ∷ xs) z
   deeper x z xs (k, l, e) = (suc k, omega (arith, l), e)
@@ -41,8 +40,8 @@ module _ {X : Type 0} (R : X → X → Type 0) (asym : (a b : X) → R a b → �
   within : (x y : X) (xs ys : List X) → x ≡ y → AllPairs R (x ∷ xs)
       → ((z : X) → Contains (x ∷ xs) z → Contains (y ∷ ys) z) → (z : X) → Contains xs z
       → Contains ys z
-  within x y xs ys same p f z c = later x z ys (above x z xs p c)
-      (subst (λ w. Contains (w ∷ ys) z) (sym same) (f z (deeper x z xs c)))
+  within x y xs ys same p f z c =
+      search (rules, later x z ys (above x z xs p c), f z (deeper x z xs c))
 
   -- two lists that rise and have the same members are the same
   pub same_list : (xs ys : List X) → AllPairs R xs → AllPairs R ys
@@ -54,9 +53,11 @@ module _ {X : Type 0} (R : X → X → Type 0) (asym : (a b : X) → R a b → �
   same_list (x ∷ xs) (y ∷ ys) p q f g =
       let same : x ≡ y = front x y xs ys p q (f x (0, omega arith, refl))
       (g y (0, omega arith, refl)) in
-      let tails : xs ≡ ys = same_list xs ys (others x xs p) (others y ys q)
-      (within x y xs ys same p f) (within y x ys xs (sym same) q g) in
-      ap (λ w. w ∷ xs) same ∙ ap (λ l. y ∷ l) tails
+      search (
+        rules,
+        same_list xs ys (others x xs p) (others y ys q)
+            (within x y xs ys same p f) (within y x ys xs (sym same) q g),
+      )
 
 not_both : {K : Type 0} {C : K → K → Ordering} → IsTotalOrder C → (a b : K) → C a b ≡ Less
     → ¬ (C b a ≡ Less)

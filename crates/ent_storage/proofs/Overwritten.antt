@@ -1,6 +1,6 @@
 -- Pairs whose keys strictly rise, after one of them was overwritten or after a test dropped some.
-use Rattle.std.proofs.Common.{rules, ◌≡◌, ◌≢◌, ℕ, zero, suc, ◌<◌, Bool, true, false, cond, ◌&&◌, T}
-use Rattle.std.proofs.Common.{List, [], ◌∷◌, length, get_or, set, filter, ◌+◌, Option, Some, None}
+use Rattle.std.proofs.Common.{rules, ◌≡◌, ◌≢◌, ℕ, zero, suc, ◌<◌, Bool, true, false, cond, T, List}
+use Rattle.std.proofs.Common.{[], ◌∷◌, length, get_or, set, filter, ◌+◌, Option, Some, None}
 use Rattle.std.proofs.Common.{Ordering, refl, sym, ap, subst, ◌∙◌, arith}
 use Rattle.std.specs.declared.cmp.Ordering.TheVariants.{Less, Equal, Greater}
 use Rattle.std.specs.Ordering.{is_lt, is_eq, eq_by_cmp}
@@ -10,11 +10,7 @@ use Rattle.std.specs.FinMap.{IsAntisymmetric, find, is_sorted}
 use Rattle.std.specs.FinMap.Entries.{below_all}
 use Rattle.ent_storage.proofs.Keys.{tied, apart}
 use Rattle.ent_bundle.proofs.Rising.{first, second, less, turn}
-use Rattle.ent_storage.proofs.Rising.{equal}
-
-both : (a b : Bool) → T a → T b → T (a && b)
-both true b h k = k
-both false b h k = absurd h
+use Rattle.ent_storage.proofs.Rising.{both, equal}
 
 is_less : (r : Ordering) → r ≡ Less → T (is_lt r)
 is_less r e = subst (λ r. T (is_lt r)) (sym e) tt
@@ -68,7 +64,8 @@ module _ {K X : Type 0} {R : K → K → Ordering} (o : IsTotalOrder R) (same : 
     find-set_other (e ∷ es) zero q n m l =
         ap (λ t. cond t (Some v) (find R q es)) (apart o same q k n)
         ∙ sym (ap (λ t. cond t (Some e.1) (find R q es)) (apart o same q e.0 (λ is. m e (sym is))))
-    find-set_other (e ∷ es) (suc p) q n m l = search (rules, find-set_other es p q n m (omega arith))
+    find-set_other (e ∷ es) (suc p) q n m l = search
+        (rules, find-set_other es p q n m (omega arith))
 
   -- ---- a test drops some pairs
   module _ (t : K × X → Bool) where

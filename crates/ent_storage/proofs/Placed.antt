@@ -1,8 +1,7 @@
 -- The handles at the places of the residents.
 use Rattle.std.proofs.Common.{rules, ◌≡◌, ℕ, zero, suc, ◌+◌, ◌-◌, ◌<◌, List, [], ◌∷◌, length}
-use Rattle.std.proofs.Common.{get_or, set, Some, None, Option, is_some, slice_get, refl, sym, ap}
-use Rattle.std.proofs.Common.{◌∙◌, arith}
-use Rattle.std.proofs.lemmas.List.{length-map, get_or_default}
+use Rattle.std.proofs.Common.{get_or, set, Some, None, Option, is_some, slice_get, refl, ap, arith}
+use Rattle.std.proofs.lemmas.List.{length-map, get_or_default, get_or-map}
 use Rattle.std.specs.FinMap as finite
 use Rattle.std.specs.FinMap.{FinMap}
 use Rattle.ent_storage.specs.Components.{Components}
@@ -12,22 +11,19 @@ use Rattle.ent_storage.specs.EntityMap.{Store}
 use Rattle.ent_storage.specs.Indexed.{IsIndexed, entity_of, map_of, handles_by_place}
 use Rattle.ent_storage.specs.Places.{AreWithout}
 use Rattle.ent_storage.proofs.Indexed.{some_entity, some_not_none, get_placed, get_unplaced}
-
-same_handle : (g h : Handle) → Some g ≡ Some h → g ≡ h
-same_handle g h e = cc
+use Rattle.std.proofs.lemmas.Option.{slice_get-get_or}
 
 pub at_place : (living : List LivingEntity) (i : ℕ) (h : Handle)
     → slice_get (handles_by_place living) i ≡ Some h → (i < length living)
     × ((d : LivingEntity) → (get_or living i d).handle ≡ h)
 at_place [] i h e = absurd (some_not_none h None e refl)
-at_place (x ∷ living) zero h e = (omega arith, λ d. same_handle x.handle h e)
+at_place (x ∷ living) zero h e = (omega arith, λ d. cc)
 at_place (x ∷ living) (suc i) h e = search (rules, at_place living i h e)
 
 pub from_place : (living : List LivingEntity) (i : ℕ) (d : LivingEntity) → i < length living
     → slice_get (handles_by_place living) i ≡ Some (get_or living i d).handle
-from_place [] i d l = absurd (omega arith)
-from_place (x ∷ living) zero d l = refl
-from_place (x ∷ living) (suc i) d l = from_place living i d (omega arith)
+from_place living i d l =
+    search (rules, slice_get-get_or (handles_by_place living) i d.handle, get_or-map, length-map)
 
 module _ (living : List LivingEntity) (index : FinMap handle_cmp ℕ)
     (indexed : IsIndexed living index) (h : Handle) (i : ℕ) where
@@ -36,14 +32,13 @@ module _ (living : List LivingEntity) (index : FinMap handle_cmp ℕ)
       ≡ Some i
   placed_from_place e =
       let at = at_place living i h e in
-      ap (finite.get index) (sym (at.1 (some_entity h))) ∙ indexed.each_entity i at.0
-      (some_entity h)
+      search (rules, at.1 (some_entity h), indexed.each_entity i at.0 (some_entity h))
 
   pub place_from_placed : finite.get index h ≡ Some i → slice_get (handles_by_place living) i
       ≡ Some h
   place_from_placed e =
       let at = indexed.each_place h i e in
-      from_place living i (some_entity h) at.0 ∙ ap Some (at.1 (some_entity h))
+      search (rules, from_place living i (some_entity h) at.0, at)
 
 -- the entity whose handle stands at a place
 pub record IsEntityAt (living : List LivingEntity) (s : Store) (h : Handle) (i : ℕ) : Type 0 where
@@ -64,12 +59,6 @@ module _ (living : List LivingEntity) (index : FinMap handle_cmp ℕ) (spare : �
 
   pub entity_at : (i : ℕ) → slice_get s.places i ≡ Some h → IsEntityAt living s h i
   entity_at i at = entity_placed i (placed_at i at)
-
-pub is_inside : (handles : List Handle) (i : ℕ) (h : Handle) → slice_get handles i ≡ Some h → i
-    < length handles
-is_inside [] i h e = absurd (some_not_none h None e refl)
-is_inside (x ∷ handles) zero h e = omega arith
-is_inside (x ∷ handles) (suc i) h e = let rest = is_inside handles i h e in omega (arith, rest)
 
 -- an entity that keeps its handle
 pub handles_set : (living : List LivingEntity) (i : ℕ) (entity : LivingEntity)
@@ -96,32 +85,28 @@ placed_known living index indexed h = by (finite.get index h) refl
   where
     by : (o : Option ℕ) → finite.get index h ≡ o → is_some o
         ≡ is_some (finite.get (map_of living) h)
-    by None at = sym (ap is_some (get_unplaced living index indexed h at))
-    by (Some i) at = sym (ap is_some (get_placed living index indexed h i (some_entity h) at))
+    by None at = search (rules, get_unplaced)
+    by (Some i) at = let found = get_placed living index indexed h i (some_entity h) at in cc
 
 -- the last one has moved into the place
 pub handles_without : (living left : List LivingEntity) (i : ℕ) (h : Handle) → i < length living
     → IsMovedInto living i left → AreWithout i (handles_by_place living) (handles_by_place left)
 handles_without living left i h inside rest = record {
-  one_less = omega (
-    arith,
-    rest.one_less,
-    length-map living (λ (e : LivingEntity). e.handle),
-    length-map left (λ (e : LivingEntity). e.handle),
-  );
+  one_less = search (rules, length-map, rest.one_less);
   moved = λ room.
       let before : i + 1 < length living =
       omega (arith, length-map living (λ (e : LivingEntity). e.handle), room) in
       let n_is : length living - 1 ≡ length (handles_by_place living)
       - 1 = omega (arith, length-map living (λ (e : LivingEntity). e.handle)) in
-      from_place left i (some_entity h) (omega (arith, rest.one_less))
-      ∙ ap (λ (r : LivingEntity). Some r.handle) (rest.moved (some_entity h) before)
-      ∙ sym (from_place living (length living - 1) (some_entity h) (omega arith))
-      ∙ ap (slice_get (handles_by_place living)) n_is;
+      let now = from_place left i (some_entity h) (omega (arith, rest.one_less)) in
+      let was = from_place living (length living - 1) (some_entity h) (omega arith) in
+      let same_one = rest.moved (some_entity h) before in
+      cc;
   others = λ k apart room.
       let before : k + 1 < length living =
       omega (arith, length-map living (λ (e : LivingEntity). e.handle), room) in
-      from_place left k (some_entity h) (omega (arith, rest.one_less))
-      ∙ ap (λ (r : LivingEntity). Some r.handle) (rest.others k (some_entity h) apart before)
-      ∙ sym (from_place living k (some_entity h) (omega arith));
+      let now = from_place left k (some_entity h) (omega (arith, rest.one_less)) in
+      let was = from_place living k (some_entity h) (omega arith) in
+      let same_one = rest.others k (some_entity h) apart before in
+      cc;
 }

@@ -1,7 +1,7 @@
 -- The birth of the entity at a place is changed.
 use Rattle.std.proofs.Common.{rules, ◌≡◌, ℕ, zero, suc, ◌<◌, List, [], ◌∷◌, length, get_or, set}
 use Rattle.std.proofs.Common.{Some, refl, ap, ◌∙◌, arith, sym, subst}
-use Rattle.std.proofs.lemmas.List.{get_or_default, length-set}
+use Rattle.std.proofs.lemmas.List.{get_or_default}
 use Rattle.std.specs.FinMap as finite
 use Rattle.std.specs.FinMap.{FinMap}
 use Rattle.ent_handle.specs.declared.birth.Birth.{Birth}
@@ -11,9 +11,8 @@ use Rattle.ent_storage.specs.EntityMap.{with_birth}
 use Rattle.ent_storage.specs.SparseSet.{Column}
 use Rattle.ent_storage.specs.Living.{LivingEntity, entities_from, with_birth_at}
 use Rattle.ent_storage.specs.Indexed.{map_of, handles_by_place, counted, IsKeptIndex}
-use Rattle.ent_storage.proofs.Indexed.{some_entity, entities_set, indexed_set, read_handle}
-use Rattle.ent_storage.proofs.Indexed.{get_read}
-use Rattle.ent_storage.proofs.Counted.{counted_gives, indexed_counted}
+use Rattle.ent_storage.proofs.Indexed.{some_entity, entities_set, read_handle, get_read}
+use Rattle.ent_storage.proofs.Counted.{kept_set}
 use Rattle.ent_storage.proofs.Placed.{handles_set}
 
 -- the resident at the place is written again with another birth
@@ -77,9 +76,5 @@ module _ (living : List LivingEntity) (index : FinMap handle_cmp ℕ) (room : �
       (get_or_default living i (some_entity h) d l))
 
   pub reborn_kept : IsKeptIndex (with_birth_at living i birth) index room
-  reborn_kept = subst (λ es. IsKeptIndex es index room) (sym is_set) (record {
-    indexed = indexed_counted (set living i changed) index (counted living index)
-        (indexed_set living (counted living index) kept.indexed i changed at)
-        (λ q j there. (counted_gives living index q j there).0);
-    fits = omega (arith, length-set living i changed, kept.fits);
-  })
+  reborn_kept = subst (λ es. IsKeptIndex es index room) (sym is_set)
+      (kept_set living index room kept i changed at)

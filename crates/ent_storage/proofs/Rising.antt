@@ -1,8 +1,8 @@
 -- Lists of pairs whose keys strictly rise, as maps: what an edit at a position leaves.
 use Rattle.std.proofs.lemmas.Grind.{common_steps}
-use Rattle.std.proofs.Common.{rules, ◌≡◌, ℕ, zero, suc, ◌+◌, ◌-◌, ◌<◌, ◌≤◌, ◌⊎◌, inl, inr, Bool}
-use Rattle.std.proofs.Common.{true, false, cond, T, List, [], ◌∷◌, ◌++◌, length, get_or, set, Some}
-use Rattle.std.proofs.Common.{None, Ordering, refl, sym, ap, subst, ◌∙◌, arith}
+use Rattle.std.proofs.Common.{rules, ◌≡◌, ℕ, zero, suc, ◌+◌, ◌-◌, ◌<◌, ◌≤◌, inl, inr, Bool, true}
+use Rattle.std.proofs.Common.{false, cond, T, ◌&&◌, List, [], ◌∷◌, length, get_or, set, Some, None}
+use Rattle.std.proofs.Common.{Ordering, refl, sym, ap, subst, ◌∙◌, arith}
 use Rattle.std.specs.declared.cmp.Ordering.TheVariants.{Less, Equal, Greater}
 use Rattle.std.specs.Ordering.{is_eq, eq_by_cmp}
 use Rattle.std.specs.Cmp.{IsTotalOrder}
@@ -15,15 +15,14 @@ use Rattle.ent_bundle.specs.Position.{IsAt, IsGapFor}
 use Rattle.ent_bundle.proofs.Rising.{first, second, turn, below_at, rising_at}
 use Rattle.ent_bundle.proofs.Putting.{find_in_gap, inserted, written}
 
+pub both : (a b : Bool) → T a → T b → T (a && b)
+both true b x y = y
+both false b x y = absurd x
+
 pub equal : (r : Ordering) → T (is_eq r) → r ≡ Equal
 equal Less h = absurd h
 equal Equal h = refl
 equal Greater h = absurd h
-
--- an insertion at the end
-pub insert_end : {A : Type 0} (xs : List A) (x : A) → insert xs (length xs) x ≡ xs ++ x ∷ []
-insert_end [] x = refl
-insert_end (y ∷ xs) x = ap (λ zs. y ∷ zs) (insert_end xs x)
 
 module _ {K X : Type 0} {R : K → K → Ordering} (o : IsTotalOrder R) where
   above_head : (k : K) (e : K × X) (es : List (K × X)) (i : ℕ) (d : K × X)
@@ -54,25 +53,20 @@ pub gap_from_neighbours : {K X : Type 0} {R : K → K → Ordering} (o : IsTotal
     → (p < length es → HoldsAt (λ e. R e.0 k ≡ Greater) es p) → IsGapFor R es k p
 gap_from_neighbours {K = K} {X = X} {R = R} o es k p rising l before after = record {
   in_range = l;
-  smaller_before = λ j d low high. smaller j d high (cases_lt (j + 1) p);
-  greater_after = λ j d low high. greater j d low high (cases_lt p j);
-}
-  where
-    smaller : (j : ℕ) (d : K × X) → j < p → (j + 1 < p) ⊎ (p ≤ j + 1) → R (get_or es j d).0 k ≡ Less
-    smaller j d h (inl far) =
-        o.trans _ _ _ (rising_at o es j (p - 1) d rising (omega arith) (omega arith))
+  smaller_before = λ j d low high. elim (cases_lt (j + 1) p) [
+    | inl far ↦ o.trans _ _ _ (rising_at o es j (p - 1) d rising (omega arith) (omega arith))
         (before (p - 1) (omega arith) d)
-    smaller j d h (inr near) = before j (omega arith) d
-
-    greater : (j : ℕ) (d : K × X) → p ≤ j → j < length es → (p < j) ⊎ (j ≤ p)
-        → R (get_or es j d).0 k ≡ Greater
-    greater j d h i (inl far) =
-        turn o k (get_or es j d).0 Less
+    | inr near ↦ before j (omega arith) d
+  ];
+  greater_after = λ j d low high. elim (cases_lt p j) [
+    | inl far ↦ turn o k (get_or es j d).0 Less
         (o.trans _ _ _ (turn o (get_or es p d).0 k Greater (after (omega arith) d))
-        (rising_at o es p j d rising far i))
-    greater j d h i (inr near) =
-        let same : p ≡ j = omega arith in
-        ap (λ n. R (get_or es n d).0 k) (sym same) ∙ after (omega arith) d
+        (rising_at o es p j d rising far high))
+    | inr near ↦
+        let same : j ≡ p = omega arith in
+        rw same (after (omega arith) d)
+  ];
+}
 
 pub from_sorted-nil : {K X : Type 0} (R : K → K → Ordering) → map.from_sorted {X = X} {R = R} []
     ≡ map.empty
@@ -83,11 +77,12 @@ from_sorted-nil R = map.empty_of_len _ (map.len-entries _
 pub remove_absent : {K X : Type 0} {R : K → K → Ordering} (o : IsTotalOrder R) → IsAntisymmetric R
     → (m : map.FinMap R X) (k : K) → map.get m k ≡ None → map.remove m k ≡ m
 remove_absent {K = K} {R = R} o same m k none =
-    map.same_map o same _ _ (λ q. map.get-remove o m k q ∙ by q (eq_by_cmp R q k) refl)
+    map.same_map o same _ _ (λ q. by q (eq_by_cmp R q k) refl)
   where
-    by : (q : K) (b : Bool) → eq_by_cmp R q k ≡ b → cond b None (map.get m q) ≡ map.get m q
-    by q true e = sym none ∙ map.get_tied o m q k (equal _ (subst T (sym e) tt))
-    by q false e = refl
+    by : (q : K) (b : Bool) → eq_by_cmp R q k ≡ b → map.get (map.remove m k) q ≡ map.get m q
+    by q true e = search
+        (rules, map.get-remove o m k q, map.get_tied o m q k (equal _ (subst T (sym e) tt)))
+    by q false e = search (rules, map.get-remove o m k q)
 
 -- what an edit leaves, if the pairs stand for a map
 module _ {K X : Type 0} {R : K → K → Ordering} (o : IsTotalOrder R) (same : IsAntisymmetric R)

@@ -1,7 +1,7 @@
 -- An entity is taken out of the living, and the last one moves into its place: the index and what
 -- the two stand for.
 use Rattle.std.proofs.Common.{◌≡◌, ◌≢◌, ℕ, ◌+◌, ◌-◌, ◌<◌, ◌≤◌, true, ◌⊎◌, inl, inr, List, length}
-use Rattle.std.proofs.Common.{get_or, Option, Some, None, is_some, refl, sym, ap, ◌∙◌, arith}
+use Rattle.std.proofs.Common.{get_or, Option, Some, None, is_some, refl, sym, ap, ◌∙◌, arith, rules}
 use Rattle.std.proofs.lemmas.List.{get_or_default}
 use Rattle.std.proofs.lemmas.Bool.{cases_lt}
 use Rattle.std.specs.FinMap as finite
@@ -9,9 +9,8 @@ use Rattle.std.specs.FinMap.{FinMap}
 use Rattle.ent_handle.specs.Handle.{Handle, handle_cmp, handle_cmp_total as total}
 use Rattle.ent_handle.specs.Handle.{handle_cmp-IsAntisymmetric as same}
 use Rattle.ent_storage.specs.Living.{LivingEntity, IsMovedInto}
-use Rattle.ent_storage.specs.Indexed.{entity_of, map_of, IsIndexed}
-use Rattle.ent_storage.proofs.Keys.{same_or_apart, get-insert_same, get-insert_other}
-use Rattle.ent_storage.proofs.Keys.{get-remove_same, get-remove_other}
+use Rattle.ent_storage.specs.Indexed.{map_of, IsIndexed}
+use Rattle.ent_storage.proofs.Keys.{same_or_apart, insert_tells, remove_tells}
 use Rattle.ent_storage.proofs.Indexed.{some_not_none, same_number, some_entity, same_place}
 use Rattle.ent_storage.proofs.Indexed.{get_placed, get_unplaced}
 
@@ -38,67 +37,48 @@ module _ (living : List LivingEntity) (index : FinMap handle_cmp ℕ)
 
     -- an entity in another place has another handle
     stays : (k : ℕ) (d : LivingEntity) → k ≢ i → k < length living → (get_or living k d).handle ≢ h
-    stays k d n l e = n (same_place k i (sym (indexed.each_entity k l d) ∙ ap (finite.get index) e
-        ∙ placed))
+    stays k d n l e = search (rules, same_place)
 
     -- another handle has another place
     elsewhere : (q : Handle) (k : ℕ) (d : LivingEntity) → q ≢ h → finite.get index q ≡ Some k
         → k ≢ i
     elsewhere q k d n at e =
-        n (sym ((indexed.each_place q k at).1 d) ∙ ap (λ (j : ℕ). (get_or living j d).handle) e
-        ∙ (indexed.each_place h i placed).1 d)
+        let h_is = (indexed.each_place h i placed).1 d in
+        n (sym ((indexed.each_place q k at).1 d) ∙ ap (λ (j : ℕ). (get_or living j d).handle) e ∙
+        h_is)
 
     module _ (left : List LivingEntity) (without : FinMap handle_cmp ℕ)
         (rest : IsMovedInto living i left) (now : IsIndexWithout index living h i without) where
       each_entity_left : (k : ℕ) (d : LivingEntity) → k < length left → (k ≡ i) ⊎ (k ≢ i)
           → finite.get without (get_or left k d).handle ≡ Some k
-      each_entity_left k d l (inl e) =
-          let room : i + 1 < length living = omega (arith, rest.one_less) in
-          let last : ℕ = length living - 1 in
-          let apart : last ≢ i = λ q. absurd (omega arith) in
-          ap (λ (j : ℕ). finite.get without (get_or left j d).handle) e
-          ∙ ap (λ (r : LivingEntity). finite.get without r.handle) (rest.moved d room)
-          ∙ now.move _ last (stays last d apart (omega arith)) room (omega arith)
-          (indexed.each_entity last (omega arith) d)
-          ∙ ap Some (sym e)
-      each_entity_left k d l (inr n) =
-          let room : k + 1 < length living = omega (arith, rest.one_less) in
-          ap (λ (r : LivingEntity). finite.get without r.handle) (rest.others k d n room)
-          ∙ now.stay _ k (stays k d n (omega arith)) room (indexed.each_entity k (omega arith) d)
+      each_entity_left k d l (inl e) = search (rules, rest.moved, now.move, stays, rest.one_less)
+      each_entity_left k d l (inr n) = search (rules, rest.others, now.stay, stays, rest.one_less)
 
       placed_left : (q : Handle) (k j : ℕ) → q ≢ h → finite.get without q ≡ Some k
           → finite.get index q ≡ Some j → (j + 1 < length living) ⊎ (j + 1 ≡ length living)
           → (k < length left) × ((d : LivingEntity) → (get_or left k d).handle ≡ q)
       placed_left q k j n at old (inl room) =
-          let k_is : k ≡ j = same_place k j (sym at ∙ now.stay q j n room old) in (
-            omega (arith, rest.one_less),
-            λ d.
-                let apart : k ≢ i = λ e. elsewhere q j d n old (sym k_is ∙ e) in
-                ap (λ (r : LivingEntity). r.handle) (rest.others k d apart (omega arith))
-                ∙ ap (λ (m : ℕ). (get_or living m d).handle) k_is ∙ (indexed.each_place q j old).1
-                d,
-          )
+          let k_is : k ≡ j = same_place k j (sym at ∙ now.stay q j n room old) in
+          let kept = λ (d : LivingEntity). rest.others j d (elsewhere q j d n old) room in
+          let is = λ (d : LivingEntity). ap (λ (r : LivingEntity). r.handle) (kept d)
+          ∙ (indexed.each_place q j old).1 d in
+          rw k_is (omega (arith, rest.one_less), is)
       placed_left q k j n at old (inr last) =
           let here = there in
-          let apart : j ≢ i = elsewhere q j (some_entity h) n old in
-          let room : i + 1 < length living = omega arith in
+          let room : i + 1 < length living = omega (arith, elsewhere q j (some_entity h) n old) in
           let k_is : k ≡ i = same_place k i (sym at ∙ now.move q j n room last old) in
-          let j_is : length living - 1 ≡ j = omega arith in (
-            omega (arith, rest.one_less),
-            λ d.
-                ap (λ (m : ℕ). (get_or left m d).handle) k_is ∙ ap (λ (r : LivingEntity). r.handle)
-                (rest.moved d room) ∙ ap (λ (m : ℕ). (get_or living m d).handle) j_is
-                ∙ (indexed.each_place q j old).1 d,
-          )
+          let j_is : length living - 1 ≡ j = omega arith in
+          let is = λ (d : LivingEntity). ap (λ (r : LivingEntity). r.handle) (rest.moved d room)
+          ∙ ap (λ (m : ℕ). (get_or living m d).handle) j_is ∙ (indexed.each_place q j old).1 d in
+          rw k_is (omega (arith, rest.one_less), is)
 
       each_place_left : (q : Handle) (k : ℕ) → finite.get without q ≡ Some k → (q ≡ h) ⊎ (q ≢ h)
           → (o : Option ℕ) → finite.get index q ≡ o → (k < length left)
           × ((d : LivingEntity) → (get_or left k d).handle ≡ q)
-      each_place_left q k at (inl e) o old =
-          absurd (some_not_none k _ at (ap (finite.get without) e ∙ now.gone))
-      each_place_left q k at (inr n) None old = absurd (some_not_none k _ at (now.missing q old))
-      each_place_left q k at (inr n) (Some j) old = placed_left q k j n at old
-          (not_last j (length living) (indexed.each_place q j old).0)
+      each_place_left q k at (inl e) o old = search (rules, some_not_none, now.gone)
+      each_place_left q k at (inr n) None old = search (rules, some_not_none, now.missing)
+      each_place_left q k at (inr n) (Some j) old =
+          search (rules, placed_left, not_last)
 
       pub indexed_without : IsIndexed left without
       indexed_without = record {
@@ -110,33 +90,29 @@ module _ (living : List LivingEntity) (index : FinMap handle_cmp ℕ)
       get_left : (q : Handle) → (q ≡ h) ⊎ (q ≢ h) → (o : Option ℕ) → finite.get index q ≡ o
           → finite.get (map_of left) q ≡ finite.get (finite.remove (map_of living) h) q
       get_left q (inl e) o old =
-          get_unplaced left without indexed_without q (ap (finite.get without) e ∙ now.gone)
-          ∙ sym (get-remove_same total same (map_of living) h q e)
+          let none = get_unplaced left without indexed_without q in
+          grind (arith, now.gone, remove_tells total same)
       get_left q (inr n) None old =
-          get_unplaced left without indexed_without q (now.missing q old)
-          ∙ sym (get-remove_other total same (map_of living) h q n
-          ∙ get_unplaced living index indexed q old)
+          let none = get_unplaced left without indexed_without q (now.missing q old) in
+          let was = get_unplaced living index indexed q old in
+          grind (arith, remove_tells total same)
       get_left q (inr n) (Some j) old =
-          get_kept q j n old (not_last j (length living) (indexed.each_place q j old).0)
-          ∙ sym (get-remove_other total same (map_of living) h q n
-          ∙ get_placed living index indexed q j (some_entity h) old)
-        where
-          get_kept : (q : Handle) (j : ℕ) → q ≢ h → finite.get index q ≡ Some j
-              → (j + 1 < length living) ⊎ (j + 1 ≡ length living) → finite.get (map_of left) q
-              ≡ Some (entity_of (get_or living j (some_entity h)))
-          get_kept q j n old (inl room) =
-              get_placed left without indexed_without q j (some_entity h) (now.stay q j n room old)
-              ∙ ap (λ (r : LivingEntity). Some (entity_of r))
-              (rest.others j (some_entity h) (elsewhere q j (some_entity h) n old) room)
-          get_kept q j n old (inr last) =
-              let here = there in
-              let apart : j ≢ i = elsewhere q j (some_entity h) n old in
-              let room : i + 1 < length living = omega arith in
-              let j_is : length living - 1 ≡ j = omega arith in
-              get_placed left without indexed_without q i (some_entity h)
-              (now.move q j n room last old)
-              ∙ ap (λ (r : LivingEntity). Some (entity_of r)) (rest.moved (some_entity h) room
-              ∙ ap (λ (m : ℕ). get_or living m (some_entity h)) j_is)
+          let apart = elsewhere q j (some_entity h) n old in
+          let was = get_placed living index indexed q j (some_entity h) old in
+          let now_at = get_placed left without indexed_without q in
+          elim (not_last j (length living) (indexed.each_place q j old).0) [
+            | inl room ↦
+                let kept = rest.others j (some_entity h) apart room in
+                let is = now_at j (some_entity h) (now.stay q j n room old) in
+                grind (arith, remove_tells total same)
+            | inr last ↦
+                let here = there in
+                let room : i + 1 < length living = omega arith in
+                let j_is : length living - 1 ≡ j = omega arith in
+                let moved = rest.moved (some_entity h) room in
+                let is = now_at i (some_entity h) (now.move q j n room last old) in
+                grind (arith, remove_tells total same)
+          ]
 
       pub entities_without : map_of left ≡ finite.remove (map_of living) h
       entities_without = finite.same_map total same _ _
@@ -146,54 +122,34 @@ module _ (living : List LivingEntity) (index : FinMap handle_cmp ℕ)
     pub without_last : i + 1 ≡ length living → IsIndexWithout index living h i
         (finite.remove index h)
     without_last last = record {
-      gone = get-remove_same total same index h h refl;
-      stay = λ q k n l at. get-remove_other total same index h q n ∙ at;
+      gone = grind (arith, remove_tells total same);
+      stay = λ q k n l at. grind (arith, remove_tells total same);
       move = λ q k n room is at. absurd (omega arith);
-      missing = λ q none. missing_removed q none (same_or_apart total same q h);
+      missing = λ q none. grind (arith, remove_tells total same);
     }
-      where
-        missing_removed : (q : Handle) → finite.get index q ≡ None → (q ≡ h) ⊎ (q ≢ h)
-            → finite.get (finite.remove index h) q ≡ None
-        missing_removed q none (inl e) = get-remove_same total same index h q e
-        missing_removed q none (inr n) = get-remove_other total same index h q n ∙ none
 
     -- the index, if the last entity has moved
     module _ (room : i + 1 < length living) (m : Handle) (is : (d : LivingEntity)
         → (get_or living (length living - 1) d).handle ≡ m) where
       placed_last : finite.get index m ≡ Some (length living - 1)
-      placed_last = ap (finite.get index) (sym (is (some_entity h)))
-          ∙ indexed.each_entity (length living - 1) (omega arith) (some_entity h)
+      placed_last = let last = is (some_entity h) in search (rules, last)
 
       not_gone : h ≢ m
-      not_gone e =
-          let twice : i ≡ length living - 1 = same_place _ _ (sym placed ∙ ap (finite.get index) e
-          ∙ placed_last) in
-          absurd (omega arith)
+      not_gone e = search (rules, same_place, placed_last)
 
       pub without_moved : IsIndexWithout index living h i
           (finite.insert (finite.remove index h) m i)
       without_moved = record {
-        gone = get-insert_other total same (finite.remove index h) m i h not_gone
-            ∙ get-remove_same total same index h h refl;
+        gone = grind (arith, insert_tells total same, remove_tells total same, not_gone);
         stay = λ q k n l at.
-            let apart : q ≢ m = λ e. let twice : k ≡ length living
-            - 1 = same_place _ _ (sym at ∙ ap (finite.get index) e ∙ placed_last) in
-            absurd (omega arith) in
-            get-insert_other total same (finite.remove index h) m i q apart
-            ∙ get-remove_other total same index h q n ∙ at;
+            grind (arith, insert_tells total same, remove_tells total same, placed_last);
         move = λ q k n l last at.
             let k_is : length living - 1 ≡ k = omega arith in
-            get-insert_same total same (finite.remove index h) m i q
-            (sym ((indexed.each_place q k at).1 (some_entity h))
-            ∙ ap (λ (j : ℕ). (get_or living j (some_entity h)).handle) (sym k_is)
-            ∙ is (some_entity h));
+            let q_is = (indexed.each_place q k at).1 (some_entity h) in
+            let m_is = is (some_entity h) in
+            grind (arith, insert_tells total same);
         missing = λ q none.
-            let apart : q ≢ m = λ e. some_not_none _ _ placed_last (ap (finite.get index) (sym e)
-            ∙ none) in
-            let other : q ≢ h = λ e. some_not_none _ _ placed (ap (finite.get index) (sym e) ∙ none)
-            in
-            get-insert_other total same (finite.remove index h) m i q apart
-            ∙ get-remove_other total same index h q other ∙ none;
+            grind (arith, insert_tells total same, remove_tells total same, placed_last);
       }
 
 -- ---- the entity was the last, or not
@@ -207,21 +163,16 @@ module _ (living : List LivingEntity) (index : FinMap handle_cmp ℕ)
       not_the_last = omega (arith, rest.one_less)
 
       was_last : (d : LivingEntity) → (get_or living (length living - 1) d).handle ≡ entity.handle
-      was_last d =
-          ap (λ (r : LivingEntity). r.handle) (sym (rest.moved d not_the_last)
-          ∙ get_or_default left i d entity room ∙ sym read)
+      was_last d = search (rules, not_the_last, get_or_default)
 
       pub moved_is_there : is_some (finite.get (finite.remove index h) entity.handle) ≡ true
       moved_is_there =
-          let stays_there : entity.handle ≢ h = λ e. not_gone living index indexed h i placed
-          not_the_last entity.handle was_last (sym e) in
-          ap is_some (get-remove_other total same index h entity.handle stays_there
-          ∙ placed_last living index indexed h i placed not_the_last entity.handle was_last)
+          let h_is = not_gone living index indexed h i placed not_the_last _ was_last in
+          let old = placed_last living index indexed h i placed not_the_last _ was_last in
+          grind (arith, remove_tells total same)
 
       pub indexed_moved : IsIndexed left (finite.insert (finite.remove index h) entity.handle i)
-      indexed_moved =
-          indexed_without living index indexed h i placed left _ rest
-          (without_moved living index indexed h i placed not_the_last entity.handle was_last)
+      indexed_moved = search (rules, indexed_without, without_moved, not_the_last, was_last)
 
       pub entities_moved : map_of left ≡ finite.remove (map_of living) h
       entities_moved =
@@ -230,14 +181,10 @@ module _ (living : List LivingEntity) (index : FinMap handle_cmp ℕ)
 
   module _ (last : length left ≤ i) where
     was_the_last : i + 1 ≡ length living
-    was_the_last = omega (arith, rest.one_less, there living index indexed h i placed)
+    was_the_last = search (rules, rest.one_less, there)
 
     pub indexed_popped : IsIndexed left (finite.remove index h)
-    indexed_popped =
-        indexed_without living index indexed h i placed left _ rest
-        (without_last living index indexed h i placed was_the_last)
+    indexed_popped = search (rules, indexed_without, without_last, was_the_last)
 
     pub entities_popped : map_of left ≡ finite.remove (map_of living) h
-    entities_popped =
-        entities_without living index indexed h i placed left _ rest
-        (without_last living index indexed h i placed was_the_last)
+    entities_popped = search (rules, entities_without, without_last, was_the_last)

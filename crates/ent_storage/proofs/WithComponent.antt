@@ -1,8 +1,7 @@
 -- The entities that have a component, by the pairs of its dense vector.
-use Rattle.std.proofs.Common.{rules, ◌≡◌, ◌≢◌, ℕ, ℤ, ◌<◌, ◌≤◌, Bool, true, List, length, get_or}
-use Rattle.std.proofs.Common.{map, Option, IsSome, [], ◌∷◌, Some, None, slice_get, is_some, pos}
-use Rattle.std.proofs.Common.{Contains, option_and_then, ◌⊎◌, inl, inr, refl, sym, ap, subst, ◌∙◌}
-use Rattle.std.proofs.Common.{arith}
+use Rattle.std.proofs.Common.{rules, ◌≡◌, ◌≢◌, ℕ, ℤ, ◌<◌, Bool, true, List, length, get_or, map}
+use Rattle.std.proofs.Common.{Option, IsSome, [], ◌∷◌, Some, None, slice_get, is_some, pos}
+use Rattle.std.proofs.Common.{Contains, option_and_then, inl, inr, refl, sym, ap, subst, ◌∙◌, arith}
 use Rattle.std.specs.Option.{option_map}
 use Rattle.std.specs.List.{All, AllPairs, IsDistinct}
 use Rattle.std.proofs.lemmas.Bool.{cases_lt, false≢true}
@@ -43,27 +42,18 @@ pub same_value : (living : List LivingEntity) (index : FinMap handle_cmp ℕ) �
     → (id : ComponentId) (p : ℕ) → option_and_then (λ (e : LivingEntity). finite.get e.components
     id) (slice_get living p) ≡ option_and_then (λ (h : Handle). value_of (map_of living) h id)
     (slice_get (handles_by_place living) p)
-same_value living index indexed id p = by (cases_lt p (length living))
-  where
-    by : (p < length living) ⊎ (length living ≤ p)
-        → option_and_then (λ (e : LivingEntity). finite.get e.components id) (slice_get living p)
-        ≡ option_and_then (λ (h : Handle). value_of (map_of living) h id)
-        (slice_get (handles_by_place living) p)
-    by (inl l) =
-        let r : LivingEntity = some_entity (record { index = 0; generation = 0 }) in
-        let entity = get_or living p r in
-        let there = get_placed living index indexed entity.handle p r (indexed.each_entity p l r) in
-        ap (option_and_then (λ (e : LivingEntity). finite.get e.components id))
-        (slice_get-get_or living p r l)
-        ∙ sym (ap (option_and_then (λ (e : Entity). finite.get e.components id)) there)
-        ∙ sym (ap (option_and_then (λ (h : Handle). value_of (map_of living) h id))
-        (from_place living p r l))
-    by (inr g) =
-        ap (option_and_then (λ (e : LivingEntity). finite.get e.components id))
-        (slice_get_past living p g)
-        ∙ sym (ap (option_and_then (λ (h : Handle). value_of (map_of living) h id))
-        (slice_get_past (handles_by_place living) p
-        (omega (arith, length-map living (λ (e : LivingEntity). e.handle)))))
+same_value living index indexed id p = elim (cases_lt p (length living)) [
+  | inl l ↦
+      let r : LivingEntity = some_entity (record { index = 0; generation = 0 }) in
+      let there = get_placed living index indexed (get_or living p r).handle p r
+      (indexed.each_entity p l r) in
+      rw (slice_get-get_or living p r l, from_place living p r l, there)
+  | inr g ↦ rw (
+    slice_get_past living p g,
+    slice_get_past (handles_by_place living) p
+        (omega (arith, length-map living (λ (e : LivingEntity). e.handle))),
+  )
+]
 
 inner : {X : Type 0} (o x : Option X) → option_map {U = Option X} Some o ≡ Some x → o ≡ x
 inner None x e = absurd (none-some x e)
@@ -92,10 +82,8 @@ module _ (living : List LivingEntity) (index : FinMap handle_cmp ℕ)
   born_pair : (k : ℕ) (d : ℕ × ℤ) → k < length pairs → slice_get births k
       ≡ born_at living (get_or pairs k d).0
   born_pair k d l =
-      inner _ _ (sym (slice_get-map {B = Option (Birth × Handle)} Some births k)
-      ∙ ap (λ (bs : List (Option (Birth × Handle))). slice_get bs k) are
-      ∙ slice_get-map (λ (pair : ℕ × ℤ). born_at living pair.0) pairs k
-      ∙ ap (option_map (λ (pair : ℕ × ℤ). born_at living pair.0)) (slice_get-get_or pairs k d l))
+      let e = ap (λ (bs : List (Option (Birth × Handle))). slice_get bs k) are in
+      search (rules, inner, slice_get-map, slice_get-get_or pairs k d l)
 
   -- the birth of the pair at a position is that of the entity at its place
   birth_is : (k : ℕ) (d : ℕ × ℤ) (r : LivingEntity) → k < length pairs → slice_get births k
@@ -112,15 +100,12 @@ module _ (living : List LivingEntity) (index : FinMap handle_cmp ℕ)
       let below : k < length pairs = omega (arith, as_many living births pairs are) in
       let pair = get_or pairs k d in
       let inside = pair_inside living id pairs has k d below in
-      let at = get_or_from_slice_get births k _ b (birth_is k d r below) in
       let value = has pair.0 pair.1 (k, below, get_or_default pairs k (pair.0, pair.1) d below) in
-      let held = ap (option_and_then (λ (e : LivingEntity). finite.get e.components id))
-      (sym (slice_get-get_or living pair.0 r inside)) ∙ value in
-      subst (IsBorn living index indexed passes) (sym at) (record {
+      rw (get_or_from_slice_get births k _ b (birth_is k d r below)) (record {
         entity = entity_of (get_or living pair.0 r);
         there = all_there living index indexed passes pair.0 r inside;
         birth = refl;
-        pass = ap is_some held;
+        pass = search (rules, slice_get-get_or living pair.0 r inside, value);
       })
 
   births_apart : IsDistinct (alike living index indexed passes) births
@@ -130,27 +115,22 @@ module _ (living : List LivingEntity) (index : FinMap handle_cmp ℕ)
       let below : j < length pairs = omega (arith, as_many living births pairs are) in
       let at_i = get_or_from_slice_get births i _ b (birth_is i d r (omega arith)) in
       let at_j = get_or_from_slice_get births j _ b (birth_is j d r below) in
-      let inside_i = pair_inside living id pairs has i d (omega arith) in
-      let inside_j = pair_inside living id pairs has j d below in
       let differ = λ (e : (get_or living (get_or pairs i d).0 r).handle
       ≡ (get_or living (get_or pairs j d).0 r).handle). once i j d l below
-      (distinct living index indexed (get_or pairs i d).0 (get_or pairs j d).0 r inside_i
-      inside_j e) in
+      (distinct living index indexed _ _ r (pair_inside living id pairs has i d (omega arith))
+      (pair_inside living id pairs has j d below) e) in
       rw (at_i, at_j) (apart handle_cmp_total handle_cmp-IsAntisymmetric _ _ differ))
 
   complete : (i : ℕ) (r : LivingEntity) → i < length living → passes (entity_of (get_or living i r))
       ≡ true → Contains births (born_of (get_or living i r))
   complete i r l pass =
       let value = some_value _ pass in
-      let here = ap (option_and_then (λ (e : LivingEntity). finite.get e.components id))
-      (slice_get-get_or living i r l) ∙ value.1 in
-      let at = all i value.0 here in
-      let born = born_pair at.0 (i, value.0) at.1 ∙ ap (λ (pair : ℕ × ℤ). born_at living pair.0)
-      at.2 ∙ ap (option_map {U = Birth × Handle} (λ (e : LivingEntity). (e.birth, e.handle)))
-      (slice_get-get_or living i r l) in (
+      let one = slice_get-get_or living i r l in
+      let at = all i value.0 (search (rules, one, value.1)) in
+      let born = born_pair at.0 (i, value.0) at.1 in (
         at.0,
         omega (arith, as_many living births pairs are, at.1),
-        get_or_from_slice_get births at.0 _ (born_of (get_or living i r)) born,
+        search (rules, get_or_from_slice_get, born, at.2, one),
       )
 
   pub lists_with : (handles : List Handle) → IsInOrder births handles

@@ -1,6 +1,6 @@
 -- A list is walked, and what each item has is put behind a list.
-use Rattle.std.proofs.Common.{◌≡◌, ◌∙◌, ◌+◌, ℕ, List, [], ◌∷◌, ◌++◌, ap, sym, subst, map, append_assoc, All}
-use Rattle.std.proofs.Common.{length, arith}
+use Rattle.std.proofs.Common.{rules, ◌≡◌, ◌∙◌, ◌+◌, ℕ, List, [], ◌∷◌, ◌++◌, ap, sym, subst, map}
+use Rattle.std.proofs.Common.{append_assoc, All, length, arith}
 use Rattle.std.proofs.lemmas.List.Elements.{All-head, All-tail}
 use Rattle.std.proofs.lemmas.List.{map-append}
 
@@ -25,7 +25,4 @@ module _ {X : Type 0} (yielded old rest : List X) (x : X) (front : old ≡ x ∷
   pub moved_on : {Y : Type 0} (f : X → Y) (start before after : List Y)
       → before ≡ start ++ map f yielded → after ≡ before ++ f x ∷ []
       → after ≡ start ++ map f (yielded ++ x ∷ [])
-  moved_on f start before after moved push =
-      push ∙ (ap (λ ys. ys ++ f x ∷ []) moved
-      ∙ (append_assoc start (map f yielded) (f x ∷ [])
-      ∙ ap (λ ys. start ++ ys) (sym (map-append f yielded (x ∷ [])))))
+  moved_on f start before after moved push = search (rules, append_assoc, map-append)

@@ -1,4 +1,5 @@
 -- What enters the map after a flush is each handle that is born, with its birth.
+use Rattle.std.proofs.lemmas.Grind.{common_steps}
 use Rattle.std.proofs.Common.{rules, ◌≡◌, refl, sym, ap, ◌∙◌, ℕ, ◌+◌, ◌≤◌, ◌^◌, Bool, true, false}
 use Rattle.std.proofs.Common.{cond, not, ◌&&◌, ◌||◌, true≢false, List, [], ◌∷◌, ◌++◌, length, drop}
 use Rattle.std.proofs.Common.{eqb, Option, Some, None, is_some, is_none, inl, inr, unwrap_or, arith}
@@ -14,7 +15,7 @@ use Rattle.ent_handle.specs.declared.birth.Birth.{Birth}
 use Rattle.ent_handle.specs.Handle.{Handle, handle_cmp, handle_cmp_total}
 use Rattle.ent_handle.specs.Handle.{handle_cmp-IsAntisymmetric}
 use Rattle.ent_alloc.specs.Sequential.{Allocator, stands_in, born, after_flush}
-use Rattle.ent_alloc.specs.Sound.{IsSound, IsLive}
+use Rattle.ent_alloc.specs.Sound.{IsSound}
 use Rattle.ent_alloc.proofs.HandleSets.{same_handle, itself, Contains-from_stands_in}
 use Rattle.ent_alloc.proofs.HandleSets.{stands_in-from_Contains}
 use Rattle.ent_alloc.proofs.Flushes.{live-after_flush, live-stays, born-IsPermutation, born-lives}
@@ -22,8 +23,8 @@ use Rattle.ent_alloc.proofs.Flushes.{born-apart, born-not_live}
 use Rattle.ent_storage.specs.EntityMap.{Entity, EntityMap, newborn}
 use Rattle.ent_queue.specs.Command.{Command}
 use Rattle.ent_world.specs.World.{AreLiving}
-use Rattle.ent_world.specs.Sync.{ordinal, no_system, listed_birth, unlisted, unlisted_birth}
-use Rattle.ent_world.specs.Sync.{birth_in, with_born}
+use Rattle.ent_world.specs.Sync.{no_system, listed_birth, unlisted, unlisted_birth, birth_in}
+use Rattle.ent_world.specs.Sync.{with_born}
 use Rattle.ent_world.specs.Entering.{first_birth, AreNew, is_unnamed, named_queues, numbered}
 use Rattle.ent_world.proofs.BirthsByQueues.{or_named, given, or_named-none, IsOfSystem}
 use Rattle.ent_world.proofs.BirthsByQueues.{birth_by_index, listed_of_system, get-named_queues}
@@ -37,22 +38,7 @@ pub get-with_born : (birth : Handle → Birth) (hs : List Handle) (m : EntityMap
     (map.get m q)
 get-with_born birth [] m q = refl
 get-with_born birth (h ∷ hs) m q =
-    get-with_born birth hs (map.insert m h (newborn (birth h))) q
-    ∙ ap (cond (stands_in hs q) (Some (newborn (birth q)))) (map.get-insert handle_cmp_total m h
-    (newborn (birth h)) q)
-    ∙ by_test (eq_by_cmp handle_cmp q h) refl
-  where
-    twice : (b : Bool) (o : Option Entity) → cond b o o ≡ o
-    twice true o = refl
-    twice false o = refl
-
-    by_test : (b : Bool) → eq_by_cmp handle_cmp q h ≡ b
-        → cond (stands_in hs q) (Some (newborn (birth q))) (cond b (Some (newborn (birth h)))
-        (map.get m q)) ≡ cond (b || stands_in hs q) (Some (newborn (birth q))) (map.get m q)
-    by_test true tied = ap (λ k. cond (stands_in hs q) (Some (newborn (birth q)))
-        (Some (newborn (birth k)))) (sym (same_handle q h tied))
-        ∙ twice (stands_in hs q) (Some (newborn (birth q)))
-    by_test false apart = refl
+    grind (arith, common_steps, get-with_born birth hs (map.insert m h (newborn (birth h))) q, map.get-insert handle_cmp_total m h (newborn (birth h)) q)
 
 -- whether a queue lists a handle has nothing to do with phases and systems
 listed_anyhow : (queues : List (List Command)) (phase system other : ℕ) (h : Handle)
@@ -62,31 +48,23 @@ listed_anyhow (q ∷ queues) phase system other h =
     search (rules, listed_anyhow queues phase (system + 1) (other + 1) h)
 
 pub no_entity : (o : Option Entity) → is_some o ≡ false → o ≡ None
-no_entity None _ = refl
-no_entity (Some e) none = absurd (true≢false none)
+no_entity it none = search (rules, true≢false)
 
 -- a flush of a sound allocator whose living ones are those of the map
 module _ (s : Allocator) (m : EntityMap) (sound : IsSound s) (living : AreLiving s m) where
   -- who is born lives, and was not there
   born-alive : (h : Handle) → stands_in (born s) h ≡ true → set.contains (after_flush s).live h
       ≡ true
-  born-alive h there = All-contains (IsLive (after_flush s)) (born s) h (born-lives s)
-      (Contains-from_stands_in (born s) h there)
+  born-alive h there = search (rules, All-contains, born-lives, Contains-from_stands_in)
 
-  born-absent : (h : Handle) → stands_in (born s) h ≡ true → map.contains_key m h ≡ false
-  born-absent h there = living h ∙ by_test (set.contains s.live h) refl
-    where
-      by_test : (b : Bool) → set.contains s.live h ≡ b → b ≡ false
-      by_test false _ = refl
-      by_test true lived = absurd (All-contains (λ x. ¬ (IsLive s x)) (born s) h
-          (born-not_live s sound) (Contains-from_stands_in (born s) h there) lived)
+  pub born-absent : (h : Handle) → stands_in (born s) h ≡ true → map.contains_key m h ≡ false
+  born-absent h there = search (rules, All-contains, born-not_live, Contains-from_stands_in)
 
   pub born-new : AreNew (born s) m
   born-new = all_new (born s) (distinct (born s) (born-apart s sound)) born-absent
     where
       later : (a b : Bool) → b ≡ true → (a || b) ≡ true
-      later true b _ = refl
-      later false b there = there
+      later t b there = grind (arith, common_steps)
 
       all_new : (hs : List Handle) → AreDistinct hs → ((h : Handle) → stands_in hs h ≡ true
           → map.contains_key m h ≡ false) → AreNew hs m
@@ -111,23 +89,9 @@ module _ (s : Allocator) (m : EntityMap) (sound : IsSound s) (living : AreLiving
   -- the map after a flush has those that live then
   pub living-after : (birth : Handle → Birth)
       → AreLiving (after_flush s) (with_born m birth (born s))
-  living-after birth h = ap is_some (get-with_born birth (born s) m h)
-      ∙ by_test (stands_in (born s) h) refl
-    where
-      not_born : stands_in (born s) h ≡ false → (b : Bool) → set.contains (after_flush s).live h ≡ b
-          → set.contains s.live h ≡ b
-      not_born none true lives = lived-before h none lives
-      not_born none false dead = before (set.contains s.live h) refl
-        where
-          before : (b : Bool) → set.contains s.live h ≡ b → b ≡ false
-          before false _ = refl
-          before true lived = absurd (true≢false (sym (live-stays s h lived) ∙ dead))
-
-      by_test : (b : Bool) → stands_in (born s) h ≡ b
-          → is_some (cond b (Some (newborn (birth h))) (map.get m h))
-          ≡ set.contains (after_flush s).live h
-      by_test true there = sym (born-alive h there)
-      by_test false none = living h ∙ not_born none (set.contains (after_flush s).live h) refl
+  living-after birth h =
+      let lives = living h in let got = get-with_born birth (born s) m h in
+      grind (arith, common_steps, born-alive h, lived-before h, live-stays s h)
 
 -- all have entered, then the queues have named those that they list
 module _ (m : EntityMap) (phase : ℕ) (queues : List (List Command)) (hs : List Handle)
@@ -172,8 +136,7 @@ module _ (m : EntityMap) (phase : ℕ) (queues : List (List Command)) (hs : List
       by_birth : (b : Option Birth) → IsOfSystem b
           → option_map_or (λ (e : Entity). eqb e.birth.system no_system) (or_named (Some bare) b)
           false ≡ not (is_some b)
-      by_birth (Some b) is = is
-      by_birth None is = refl
+      by_birth it is = grind (arith, common_steps)
 
   abbrev index : Handle → Option ℕ
   index q = position_from (eq_by_cmp handle_cmp q) 0 others
@@ -181,44 +144,21 @@ module _ (m : EntityMap) (phase : ℕ) (queues : List (List Command)) (hs : List
   -- who is born and not listed stands among the others, and nobody else does
   among : (q : Handle) → stands_in others q
       ≡ (is_none (listed_birth 0 0 queues q) && stands_in hs q)
-  among q = any-filter_same (eq_by_cmp handle_cmp q) (λ h. is_none (listed_birth 0 0 queues h))
-      (is_none (listed_birth 0 0 queues q))
-      (λ h tied. ap (λ x. is_none (listed_birth 0 0 queues x)) (sym (same_handle q h tied))) hs
+  among q = search (rules, any-filter_same, same_handle)
 
   among_others : (q : Handle) (b : Option Birth) → stands_in hs q ≡ true → By q ≡ b
       → stands_in others q ≡ not (is_some b)
   among_others q b there is =
-      among q ∙ ap (λ t. is_none (listed_birth 0 0 queues q) && t) there
-      ∙ ap (λ t. t && true) (listed_anyhow queues phase 0 0 q ∙ ap (λ o. not (is_some o)) is)
-      ∙ both (not (is_some b))
-    where
-      both : (t : Bool) → (t && true) ≡ t
-      both true = refl
-      both false = refl
+      let any = listed_anyhow queues phase 0 0 q in let at = among q in grind (arith, common_steps)
 
   not_among : (q : Handle) → stands_in hs q ≡ false → stands_in others q ≡ false
-  not_among q none = among q ∙ neither (is_none (listed_birth 0 0 queues q)) (stands_in hs q) none
-    where
-      neither : (a b : Bool) → b ≡ false → (a && b) ≡ false
-      neither true b none = none
-      neither false b none = refl
+  not_among q none = let at = among q in grind (arith, common_steps)
 
   -- who is born has its birth by the queues
   of_born : (q : Handle) → stands_in hs q ≡ true → (b : Option Birth) → By q ≡ b
       → or_numbered (or_named (Some bare) b) (birth_by_index phase no_system (index q))
       ≡ Some (newborn (unwrap_or b (unlisted_birth phase others q)))
-  of_born q there (Some b) is =
-      ap (λ p. or_numbered (Some (newborn b)) (birth_by_index phase no_system p))
-      (no_index q 0 others (among_others q (Some b) there is))
-  of_born q there None is =
-      let some = some_index q 0 others (among_others q None there is) in
-      ap (λ p. or_numbered (Some bare) (birth_by_index phase no_system p)) some.1
-      ∙ ap (λ p. Some
-      (newborn (record {
-        frame = phase;
-        system = no_system;
-        ordinal = ordinal (unwrap_or p 0);
-      }))) (sym some.1)
+  of_born q there it is = grind (arith, common_steps, no_index, among_others, some_index)
 
   -- what enters, is named and is numbered is each with its birth
   pub births_given : numbered (first_birth phase no_system) hs (named_queues hs phase 0 queues all)
@@ -253,8 +193,7 @@ drop_all_before (x ∷ xs) ys = drop_all_before xs ys
 -- those that are born now stand from that place on
 pub stand_after : (before : ℕ) (old new handles : List Handle) → before ≡ length old → new
     ≡ old ++ handles → drop before new ≡ handles
-stand_after before old new handles at are =
-    ap (λ n. drop n new) at ∙ ap (drop (length old)) are ∙ drop_all_before old handles
+stand_after before old new handles at are = search (rules, drop_all_before)
 
 -- the map after all have entered, were named and were numbered
 pub all_given : (s : Allocator) (m n bare_ones listed_ones last : EntityMap) (phase : ℕ)
@@ -265,9 +204,4 @@ pub all_given : (s : Allocator) (m n bare_ones listed_ones last : EntityMap) (ph
     → last ≡ numbered (first_birth phase no_system) again listed_ones
     → last ≡ with_born m (birth_in phase queues (born s)) (born s)
 all_given s m n bare_ones listed_ones last phase queues handles later again sound few same are stand
-    are_again first then at_last =
-    at_last
-    ∙ (λ i. numbered (first_birth phase no_system) (are_again i)
-    ((then ∙ (λ j. named_queues ((stand ∙ are) j) phase 0 queues
-    ((first ∙ (λ k. with_born (same k) (λ _. first_birth phase no_system) (are k))) j))) i))
-    ∙ births_given m phase queues (born s) (distinct (born s) (born-apart s sound)) few
+    are_again first then at_last = search (rules, births_given, distinct, born-apart)

@@ -1,10 +1,10 @@
 -- Commands in order: what was applied so far, one more, and where it stopped.
-use Rattle.std.proofs.Common.{rules, ◌≡◌, refl, sym, ap, ◌∙◌, ℕ, ◌+◌, ◌<◌, List, [], ◌∷◌, ◌++◌}
-use Rattle.std.proofs.Common.{length, take, drop, get_or, arith}
+use Rattle.std.proofs.Common.{rules, ◌≡◌, refl, ℕ, ◌+◌, ◌<◌, List, [], ◌∷◌, ◌++◌, length, take}
+use Rattle.std.proofs.Common.{drop, arith}
 use Rattle.std.proofs.lemmas.Grind.{common_steps}
 use Rattle.std.proofs.lemmas.List.{take_more, drop_more, length-drop}
 use Rattle.ent_handle.specs.Handle.{Handle}
-use Rattle.ent_queue.specs.Command.{Command, Spawn, SpawnMany, Insert, Remove, Despawn, Refused}
+use Rattle.ent_queue.specs.Command.{Command}
 use Rattle.ent_world.specs.World.{World}
 use Rattle.ent_world.specs.Effects.{Applied, on_entity, on_each, after_command, after_commands}
 use Rattle.ent_world.specs.Effects.{after_queues}
@@ -19,18 +19,13 @@ pub next_taken : {X : Type 0} (xs rest : List X) (k : ℕ) (x : X) → drop k xs
     → take (k + 1) xs ≡ take k xs ++ x ∷ []
 next_taken xs rest k x left =
     let lt : k < length xs = next_below xs rest k x left in
-    let more = drop_more xs k x lt in
-    let both : x ∷ rest ≡ get_or xs k x ∷ drop (k + 1) xs = sym left ∙ more in
-    let head : get_or xs k x ≡ x = cc in
-    take_more xs k x lt ∙ ap (λ y. take k xs ++ y ∷ []) head
+    search (rules, drop_more xs k x lt, take_more xs k x lt, lt)
 
 pub next_left : {X : Type 0} (xs rest : List X) (k : ℕ) (x : X) → drop k xs ≡ x ∷ rest → rest
     ≡ drop (k + 1) xs
 next_left xs rest k x left =
     let lt : k < length xs = next_below xs rest k x left in
-    let more = drop_more xs k x lt in
-    let both : x ∷ rest ≡ get_or xs k x ∷ drop (k + 1) xs = sym left ∙ more in
-    cc
+    search (rules, drop_more xs k x lt, lt)
 
 -- some are left before the end
 pub some_left : {X : Type 0} (xs : List X) (k : ℕ) → k < length xs → drop k xs ≡ [] → ⊥
@@ -52,19 +47,11 @@ pub after_commands-append : (system command : ℕ) (xs ys : List Command) (a : A
     (after_commands system command xs a)
 after_commands-append system command [] ys a = search (rules)
 after_commands-append system command (x ∷ xs) ys a =
-    search (
-      rules,
-      after_commands-append system (command + 1) xs ys (after_command system command x a),
-    )
+    search (rules, after_commands-append system (command + 1) xs ys (after_command system command x a))
 
 pub first_alone : (done : ℕ) (c : Command) (rest : List Command) → first_part done (c ∷ rest)
     ≡ first_part done (c ∷ [])
-first_alone done (Spawn h items) rest = refl
-first_alone done (SpawnMany hs items) rest = refl
-first_alone done (Insert h items) rest = refl
-first_alone done (Remove h id) rest = refl
-first_alone done (Despawn h) rest = refl
-first_alone done (Refused wanted why) rest = refl
+first_alone done it rest = search rules
 
 -- Queues.
 

@@ -1,12 +1,12 @@
 -- Over the frames of a run no handle is given twice: each frame keeps the list of all given handles
 -- free of repetitions.
-use Rattle.std.proofs.Common.{rules, ◌≡◌, refl, sym, ◌∙◌, subst, append-nil, append_assoc, ℕ, true}
-use Rattle.std.proofs.Common.{List, [], ◌∷◌, ◌++◌, Result, Ok, Err}
+use Rattle.std.proofs.Common.{rules, ◌≡◌, sym, ◌∙◌, subst, append-nil, append_assoc, ℕ, true, List}
+use Rattle.std.proofs.Common.{[], ◌∷◌, ◌++◌, Result, Ok, Err}
 use Rattle.std.proofs.lemmas.List.Elements.{All-nil}
 use Rattle.ent_handle.specs.Handle.{Handle}
 use Rattle.ent_alloc.specs.Limits.{Limits, AreLimits}
 use Rattle.ent_alloc.specs.declared.space.Space.{Space}
-use Rattle.ent_alloc.specs.Sequential.{Allocator, opening, after_take, reply_to, born}
+use Rattle.ent_alloc.specs.Sequential.{Allocator, opening, after_take, reply_to}
 use Rattle.ent_alloc.specs.Sound.{IsSound, IsLive}
 use Rattle.ent_alloc.specs.Spent.{AreSpent}
 use Rattle.ent_alloc.specs.History.{Call, IsLegal, after_history, handles_in, given_in}
@@ -16,7 +16,7 @@ use Rattle.ent_alloc.proofs.GivenOnce.{take-given, refused-given, flush-given, f
 use Rattle.ent_queue.specs.Command.{Command}
 use Rattle.ent_world.specs.World.{World, AreLiving, lives_in, first_world}
 use Rattle.ent_world.specs.Effects.{applied}
-use Rattle.ent_world.specs.Sync.{after_births, sync, birth_in}
+use Rattle.ent_world.specs.Sync.{after_births, sync}
 use Rattle.ent_world.proofs.Living.{keys-empty, keys-remove, keys-components, living-history}
 use Rattle.ent_world.proofs.Born.{living-after}
 use Rattle.ent_world.proofs.Kept.{IsKept, after_queues-keeps}
@@ -101,16 +101,10 @@ on_the_way-kept given = record {
 module _ (queues : List (List Command)) (w : World) (sound : IsSound w.allocator)
     (living : AreLiving w.allocator w.entities) where
   births-flushed : IsFlushed (after_births queues w)
-  births-flushed = record {
-    asked = refl;
-    sound = after_flush-sound w.allocator sound;
-    living = living-after w.allocator w.entities sound living
-        (birth_in w.phase queues (born w.allocator));
-  }
+  births-flushed = search (rules, after_flush-sound, living-after)
 
   synced : IsFlushed (sync queues w).world
-  synced = after_queues-keeps IsFlushed flushed-kept 0 queues (applied (after_births queues w) [])
-      births-flushed
+  synced = search (rules, after_queues-keeps, flushed-kept, births-flushed)
 
   -- it keeps the allocator sound
   pub sync-sound : IsSound (sync queues w).world.allocator
@@ -127,10 +121,7 @@ pub sync-given : (queues : List (List Command)) (w : World) (given : List Handle
 sync-given queues w given sound living once = at_end.spent
   where
     at_start : IsOnTheWay given (after_births queues w)
-    at_start = record {
-      flushed = births-flushed queues w sound living;
-      spent = flush-given w.allocator given once;
-    }
+    at_start = search (rules, births-flushed, flush-given)
 
     at_end : IsOnTheWay given (sync queues w).world
     at_end = after_queues-keeps (IsOnTheWay given) (on_the_way-kept given) 0 queues
@@ -144,8 +135,7 @@ after_calls history w = record w { allocator = after_history w.allocator history
 
 calls-living : (history : List Call) (w : World) → AreLiving w.allocator w.entities
     → AreLiving (after_calls history w).allocator w.entities
-calls-living history w living = living-history w.allocator (after_history w.allocator history)
-    history w.entities living refl
+calls-living history w living = search (rules, living-history)
 
 -- it gives what was never given
 pub frame-given : (queues : List (List Command)) (history : List Call) (w : World)
@@ -153,16 +143,13 @@ pub frame-given : (queues : List (List Command)) (history : List Call) (w : Worl
     → IsLegal w.allocator history → AreSpent w.allocator given
     → AreSpent (sync queues (after_calls history w)).world.allocator (given ++ given_in history)
 frame-given queues history w given sound living legal once =
-    sync-given queues (after_calls history w) (given ++ given_in history)
-    (history-sound w.allocator history sound) (calls-living history w living)
-    (history-given w.allocator history given sound legal once)
+    search (rules, sync-given, history-sound, calls-living, history-given)
 
 -- it keeps the allocator sound
 pub frame-sound : (queues : List (List Command)) (history : List Call) (w : World)
     → IsSound w.allocator → AreLiving w.allocator w.entities
     → IsSound (sync queues (after_calls history w)).world.allocator
-frame-sound queues history w sound living = sync-sound queues (after_calls history w)
-    (history-sound w.allocator history sound) (calls-living history w living)
+frame-sound queues history w sound living = search (rules, sync-sound, history-sound, calls-living)
 
 -- its entities are those whose handle is alive
 pub frame-living : (queues : List (List Command)) (history : List Call) (w : World)

@@ -5,7 +5,6 @@ use Rattle.ent_handle.specs.Handle.{Handle}
 use Rattle.ent_storage.specs.Components.{Components, with_items}
 use Rattle.ent_storage.specs.EntityMap.{with_components}
 use Rattle.ent_queue.specs.Command.{Command, Spawn, SpawnMany, Insert, Remove, Despawn, Refused}
-use Rattle.ent_world.specs.declared.fault.FaultKind.TheVariants as kind
 use Rattle.ent_world.specs.World.{World, lives_in}
 use Rattle.ent_world.specs.Effects.{Applied, on_entity, on_each, after_insert, after_remove}
 use Rattle.ent_world.specs.Effects.{after_despawn, after_command, after_commands, after_queues}
@@ -35,8 +34,7 @@ on_each-keeps P system command change keeps (h ∷ hs) a before =
 module _ (P : World → Type 0) (kept : IsKept P) where
   pub after_command-keeps : (system command : ℕ) (c : Command) (a : Applied) → P a.world
       → P (after_command system command c a).world
-  after_command-keeps system command (Spawn h items) a before = on_entity-keeps P system command
-      (after_insert items) (kept.components (λ held. with_items held items)) h a before
+  after_command-keeps system command (Spawn h items) a before = search rules
   after_command-keeps system command (SpawnMany hs items) a before = on_each-keeps P system command
       (after_insert items) (kept.components (λ held. with_items held items)) hs a before
   after_command-keeps system command (Insert h items) a before = on_entity-keeps P system command

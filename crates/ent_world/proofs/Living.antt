@@ -1,6 +1,7 @@
 -- The entities of a world's map are those whose handle is alive, also after each change of the two.
-use Rattle.std.proofs.Common.{rules, ◌≡◌, refl, sym, ap, ◌∙◌, Bool, true, false, cond, not, ◌&&◌}
-use Rattle.std.proofs.Common.{◌||◌, Option, Some, None, is_some, List}
+use Rattle.std.proofs.lemmas.Grind.{common_steps}
+use Rattle.std.proofs.Common.{arith, rules, ◌≡◌, refl, sym, ap, ◌∙◌, Bool, cond, not, ◌&&◌, ◌||◌}
+use Rattle.std.proofs.Common.{Option, Some, None, is_some, List}
 use Rattle.std.specs.Ordering.{eq_by_cmp}
 use Rattle.std.specs.Option.{option_map_or}
 use Rattle.std.specs.FinSet as set
@@ -21,13 +22,11 @@ AreKeys live m = (h : Handle) → map.contains_key m h ≡ set.contains live h
 
 pub some_more : {X : Type 0} (b : Bool) (v : X) (o : Option X) → is_some (cond b (Some v) o)
     ≡ (b || is_some o)
-some_more true v o = refl
-some_more false v o = refl
+some_more b v o = search rules
 
 pub one_less : {X : Type 0} (b : Bool) (o : Option X) → is_some (cond b None o)
     ≡ (not b && is_some o)
-one_less true o = refl
-one_less false o = refl
+one_less b o = search rules
 
 -- nobody
 pub keys-empty : AreKeys set.empty map.empty
@@ -64,8 +63,7 @@ same_keys-components m h change g = by_entity (map.get m h) refl
     is_there : (e : Entity) (f : Entity) → map.get m h ≡ Some e → (b : Bool)
         → eq_by_cmp handle_cmp g h ≡ b → is_some (cond b (Some f) (map.get m g))
         ≡ is_some (map.get m g)
-    is_there e f there true tied = sym (ap is_some (ap (map.get m) (same_handle g h tied) ∙ there))
-    is_there e f there false apart = refl
+    is_there e f there b tied = grind (arith, common_steps, same_handle)
 
     by_entity : (o : Option Entity) → map.get m h ≡ o
         → map.contains_key

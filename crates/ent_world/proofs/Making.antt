@@ -1,13 +1,12 @@
 -- The handle that is given next, and an entity that is made or taken back.
-use Rattle.std.proofs.Common.{rules, ◌≡◌, refl, sym, ap, ◌∙◌, subst, ℕ, ◌<◌, ◌≤◌, Bool, true, false}
-use Rattle.std.proofs.Common.{cond, true≢false, List, [], ◌∷◌, ◌++◌, length, take, slice_get, All}
-use Rattle.std.proofs.Common.{arith, pos, ◌-ℤ◌, suc, ◌⊎◌, inl, inr, length-append, Option, Some}
-use Rattle.std.proofs.Common.{None, IfSome, Result, Ok, Err, OnOk, OnErr, is_err}
+use Rattle.std.proofs.Common.{rules, ◌≡◌, refl, sym, ap, ◌∙◌, ℕ, ◌<◌, Bool, true, false, cond}
+use Rattle.std.proofs.Common.{true≢false, List, [], ◌∷◌, ◌++◌, length, slice_get, arith, pos, ◌-ℤ◌}
+use Rattle.std.proofs.Common.{suc, ◌⊎◌, length-append, Option, Some, None, IfSome, Result, Ok, Err}
+use Rattle.std.proofs.Common.{OnOk, OnErr, is_err}
 use Rattle.std.proofs.lemmas.Grind.{common_steps}
 use Rattle.std.specs.Ordering.{eq_by_cmp}
 use Rattle.std.specs.FinSet as set
 use Rattle.std.specs.FinMap as map
-use Rattle.std.proofs.lemmas.List.Elements.{All-head}
 use Rattle.std.proofs.lemmas.Bool.{cases_lt}
 use Rattle.std.proofs.lemmas.Option.{none-some, same_Some, slice_get_past}
 use Rattle.ent_handle.specs.declared.birth.Birth.{Birth}
@@ -16,10 +15,8 @@ use Rattle.ent_handle.specs.Handle.{handle_cmp-IsAntisymmetric}
 use Rattle.ent_alloc.specs.declared.space.Space.{Space}
 use Rattle.ent_alloc.specs.declared.span.Span.{Span}
 use Rattle.ent_alloc.specs.Sequential.{Allocator, listed, reply_to, reply_from, pool_at, cursor}
-use Rattle.ent_alloc.specs.Sequential.{top}
-use Rattle.ent_alloc.specs.Sound.{IsSound, IsLive}
+use Rattle.ent_alloc.specs.Sound.{IsSound}
 use Rattle.ent_alloc.proofs.HandleSets.{same_handle, itself}
-use Rattle.std.proofs.lemmas.Int.{ints}
 use Rattle.ent_alloc.proofs.PoolLaw.{reply-cursor}
 use Rattle.ent_alloc.proofs.Replies.{reply-not_live}
 use Rattle.ent_storage.specs.Components.{with_items, missing}
@@ -31,27 +28,19 @@ use Rattle.ent_world.specs.Effects.{spawned}
 
 -- what a test of a result tells
 pub on_ok : {X E : Type 0} {P : Type 0} (r : Result X E) → is_err r ≡ false → OnOk r P → P
-on_ok (Ok x) test p = p
-on_ok (Err e) test p = absurd (true≢false test)
+on_ok it test p = search (rules, true≢false)
 
 pub on_err : {X E : Type 0} {P : Type 0} (r : Result X E) → is_err r ≡ true → OnErr r P → P
-on_err (Ok x) test p = absurd (true≢false (sym test))
-on_err (Err e) test p = p
+on_err it test p = search (rules, true≢false)
 
 -- one of the two holds
 pub on_either : {X E P Q : Type 0} (r : Result X E) → OnOk r P → OnErr r Q → P ⊎ Q
-on_either (Ok x) p q = inl p
-on_either (Err e) p q = inr q
+on_either it p q = search rules
 
 -- Of one handle.
 
 alone : (made : ℕ) (h : Handle) → listed made (h ∷ []) ≡ h ∷ []
 alone made h = grind (arith, common_steps)
-
-front_of : (made : ℕ) (pool : List Handle) → 1 ≤ length pool → (h : Handle)
-    × (slice_get pool 0 ≡ Some h) × (listed made (take 1 pool) ≡ h ∷ [])
-front_of made [] some = absurd (omega arith)
-front_of made (h ∷ pool) some = (h, refl, alone made h)
 
 -- a request for one is given the front of the pool
 pub one_given : (s : Allocator) (given rest : List Handle) (h : Handle) → reply_to s 1 ≡ Ok given
@@ -63,13 +52,7 @@ some_given s given is none = grind (arith, common_steps)
 
 pub given_new : (s : Allocator) (given rest : List Handle) (h : Handle) → IsSound s → reply_to s 1
     ≡ Ok given → given ≡ h ∷ rest → set.contains s.live h ≡ false
-given_new s given rest h sound is first = by_test (set.contains s.live h) refl
-  where
-    by_test : (b : Bool) → set.contains s.live h ≡ b → b ≡ false
-    by_test false _ = refl
-    by_test true lives =
-        absurd (All-head (λ x. ¬ (IsLive s x)) h rest (subst (All (λ x. ¬ (IsLive s x))) first
-        (reply-not_live s 1 given is sound)) lives)
+given_new s given rest h sound is first = search (rules, reply-not_live s 1 given is sound)
 
 pub none_given : (s : Allocator) (space : Space) → reply_to s 1 ≡ Err space → s.pool ≡ []
 none_given s space is = grind (arith, common_steps)
@@ -82,18 +65,13 @@ pub reply_at_top : (s : Allocator) (span : Span) (r : Result (List Handle) Space
     → span.high ≡ cursor s → span.low ≡ span.high -ℤ pos 1
     → ((n : ℕ) → span.low ≡ span.high -ℤ pos n → r ≡ reply_from s.made (pool_at s span.high) n) → r
     ≡ reply_to s 1
-reply_at_top s span r sound at low reply = reply 1 low
-    ∙ ap (λ high. reply_from s.made (pool_at s high) 1) at ∙ reply-cursor s 1 sound
-
-pub none_asked : (s : Allocator) → cursor s ≡ pos (top s) → s.asked ≡ 0
-none_asked s at = omega (arith, ints)
+reply_at_top s span r sound at low reply = search (rules, reply-cursor s 1 sound)
 
 -- An entity.
 
 overwritten : (b : Bool) (e f : Entity) (o : Option Entity) → cond b (Some f) (cond b (Some e) o)
     ≡ cond b (Some f) o
-overwritten true e f o = refl
-overwritten false e f o = refl
+overwritten b e f o = search rules
 
 -- the second of two entities under one handle
 insert_twice : (m : EntityMap) (h : Handle) (e f : Entity) → map.insert (map.insert m h e) h f
@@ -105,15 +83,13 @@ insert_twice m h e f = map.same_map handle_cmp_total handle_cmp-IsAntisymmetric 
     ∙ sym (map.get-insert handle_cmp_total m h f q))
 
 pub get_inserted : (m : EntityMap) (h : Handle) (e : Entity) → map.get (map.insert m h e) h ≡ Some e
-get_inserted m h e = map.get-insert handle_cmp_total m h e h
-    ∙ ap (λ b. cond b (Some e) (map.get m h)) (itself h)
+get_inserted m h e = grind (arith, common_steps, map.get-insert handle_cmp_total m h e h, itself h)
 
 -- a newborn entity lacks no component if there are no items
 pub some_items : (m n : EntityMap) (h : Handle) (birth : Birth) (items : Bundle)
     → n ≡ map.insert m h (newborn birth)
     → IfSome (components_of n h) (λ held. 0 < missing held items) → 0 < length items
-some_items m n h birth [] made some = search (rules, get_inserted)
-some_items m n h birth (x ∷ items) made some = omega arith
+some_items m n h birth items made some = grind (arith, common_steps, get_inserted)
 
 -- a newborn entity and its components
 pub made_whole : (m : EntityMap) (h : Handle) (birth : Birth) (items : Bundle)
@@ -125,14 +101,7 @@ made_whole m h birth items = search (rules, get_inserted, insert_twice)
 pub taken_back : (m : EntityMap) (h : Handle) (e : Entity) → map.get m h ≡ None
     → map.remove (map.insert m h e) h ≡ m
 taken_back m h e none = map.same_map handle_cmp_total handle_cmp-IsAntisymmetric _ _ (λ q.
-    map.get-remove handle_cmp_total (map.insert m h e) h q
-    ∙ ap (cond (eq_by_cmp handle_cmp q h) None) (map.get-insert handle_cmp_total m h e q)
-    ∙ by_test q (eq_by_cmp handle_cmp q h) refl)
-  where
-    by_test : (q : Handle) (b : Bool) → eq_by_cmp handle_cmp q h ≡ b
-        → cond b None (cond b (Some e) (map.get m q)) ≡ map.get m q
-    by_test q true tied = sym (ap (map.get m) (same_handle q h tied) ∙ none)
-    by_test q false apart = refl
+    grind (arith, common_steps, map.get-remove handle_cmp_total (map.insert m h e) h q, map.get-insert handle_cmp_total m h e q, same_handle q h))
 
 same_lists : (xs ys : List Handle) → ((k : ℕ) → slice_get xs k ≡ slice_get ys k) → xs ≡ ys
 same_lists [] [] each = refl
@@ -146,11 +115,5 @@ same_lists (x ∷ xs) (y ∷ ys) each =
 -- a handle that came to the end of the places and went
 pub end_taken_back : (places left : List Handle) (h : Handle)
     → AreWithout (length places) (places ++ h ∷ []) left → left ≡ places
-end_taken_back places left h without = search (
-  rules,
-  same_lists,
-  cases_lt,
-  length-append,
-  at_push_before,
-  slice_get_past,
-)
+end_taken_back places left h without =
+    search (rules, same_lists, cases_lt, length-append, at_push_before, slice_get_past)

@@ -3,7 +3,7 @@
 -- it is afterwards, and the faults are the same.
 use Rattle.std.proofs.Common.{arith, rules, ◌≡◌, refl, sym, ap, ◌∙◌, subst, ℕ, ◌+◌, Bool, true}
 use Rattle.std.proofs.Common.{false, cond, not, T, true≢false, List, [], ◌∷◌, ◌++◌, map, filter}
-use Rattle.std.proofs.Common.{All, Option, Some, None, is_some, option_map, unwrap_or}
+use Rattle.std.proofs.Common.{All, Option, Some, None, is_some, option_map}
 use Rattle.std.proofs.lemmas.Grind.{common_steps}
 use Rattle.std.specs.List.{AllZip}
 use Rattle.std.specs.Option.{option_map_or}
@@ -45,8 +45,7 @@ use Rattle.ent_world.specs.Named.{AreNamedAfter}
 -- ---- lists of entries in order
 
 turned : {X : Type 0} (b : Bool) (x y : X) → cond (not b) x y ≡ cond b y x
-turned true x y = refl
-turned false x y = refl
+turned b x y = search rules
 
 module _ {K X : Type 0} {R : K → K → Ordering} (o : IsTotalOrder R) (same : IsAntisymmetric R) where
   -- a key that was filtered out is not found
@@ -85,8 +84,7 @@ abbrev told : Option Entity → Option Bundle
 told o = option_map (λ e. finite.entries e.components) o
 
 told_some : (o : Option Entity) → is_some (told o) ≡ is_some o
-told_some None = refl
-told_some (Some e) = refl
+told_some it = search rules
 
 -- the entity that is there
 pub entity_there : (m : EntityMap) (h : Handle) → IsThere m h
@@ -115,21 +113,10 @@ module _ (start : EntityMap) (name : Handle → Birth) (distinct : AreDistinct n
   -- names tie where their handles tie
   alike : (g h : Handle) → IsThere start g → IsThere start h
       → eq_by_cmp birth_cmp (name g) (name h) ≡ eq_by_cmp handle_cmp g h
-  alike g h g_there h_there = by (eq_by_cmp handle_cmp g h) refl
-    where
-      not_tied : eq_by_cmp handle_cmp g h ≡ false → (b : Bool)
-          → eq_by_cmp birth_cmp (name g) (name h) ≡ b → b ≡ false
-      not_tied apart false _ = refl
-      not_tied apart true tied =
-          let same : g ≡ h = distinct g h g_there h_there
-          (tells_apart birth_cmp-IsAntisymmetric (name g) (name h) tied) in
-          absurd (true≢false (sym (itself h) ∙ ap (λ x. eq_by_cmp handle_cmp x h) (sym same)
-          ∙ apart))
-
-      by : (b : Bool) → eq_by_cmp handle_cmp g h ≡ b → eq_by_cmp birth_cmp (name g) (name h) ≡ b
-      by true tied = ap (λ x. eq_by_cmp birth_cmp (name x) (name h)) (same_handle g h tied)
-          ∙ (eq_by_cmp_equiv birth_cmp_total).refl (name h)
-      by false apart = not_tied apart (eq_by_cmp birth_cmp (name g) (name h)) refl
+  alike g h g_there h_there =
+      let refl = (eq_by_cmp_equiv birth_cmp_total).refl (name h) in
+      let apart = distinct g h g_there h_there in
+      grind (arith, common_steps, same_handle g h, itself h, tells_apart birth_cmp-IsAntisymmetric (name g) (name h))
 
   -- If both change under one handle and its name only, in the same way, they tell the map still.
   changed : (h : Handle) (o : Option Entity) (m n : EntityMap) (births after : BirthMap)
@@ -159,11 +146,7 @@ module _ (start : EntityMap) (name : Handle → Birth) (distinct : AreDistinct n
 
       lived_by : (g : Handle) → IsThere n g → (b : Bool) → eq_by_cmp handle_cmp g h ≡ b
           → IsThere start g
-      lived_by g there true tied = subst (IsThere start) (sym (same_handle g h tied))
-          (before.lived h here)
-      lived_by g there false apart = before.lived g
-          (ap (λ b. is_some (cond b o (finite.get m g))) (sym apart) ∙ ap is_some (sym (gets g))
-          ∙ there)
+      lived_by g there b tied = grind (arith, common_steps, same_handle)
 
       named_by : (g : Handle) (e : Entity) (b : Bool) → eq_by_cmp handle_cmp g h ≡ b
           → cond (eq_by_cmp handle_cmp g h) o (finite.get m g) ≡ Some e → name g ≡ e.birth
@@ -192,13 +175,10 @@ module _ (start : EntityMap) (name : Handle → Birth) (distinct : AreDistinct n
       let found = entity_there m h here in
       let e : Entity = found.0 in
       let later : Entity = record e { components = change e.components } in
-      let with_e : with_components m h change ≡ finite.insert m h later =
-      ap (λ o. option_map_or
+      let with_e : with_components m h change ≡ finite.insert m h later = ap (λ o. option_map_or
       (λ e. finite.insert m h (record e { components = change e.components })) o m) found.1 in
       let items : Bundle = alike_change (held_by births (name h)) in
-      let items_are : items ≡ finite.entries later.components =
-      ap (λ o. alike_change (unwrap_or o [])) (before.there h (before.lived h here)
-      ∙ ap told found.1) ∙ sym (respects e.components) in
+      let items_are : items ≡ finite.entries later.components = grind (arith, common_steps) in
       subst (λ n. AreTold start name n (put birth_cmp (name h) items births)) (sym with_e)
       (changed h (Some later) m (finite.insert m h later) births
       (put birth_cmp (name h) items births) before here
@@ -249,10 +229,8 @@ module _ (start : EntityMap) (name : Handle → Birth) (distinct : AreDistinct n
 
   zip-push : {X Y : Type 0} (S : X → Y → Type 0) (xs : List X) (ys : List Y) (x : X) (y : Y)
       → AllZip S xs ys → S x y → AllZip S (xs ++ x ∷ []) (ys ++ y ∷ [])
-  zip-push S [] [] x y zipped one = (one, tt)
-  zip-push S [] (y' ∷ ys) x y zipped one = absurd zipped
-  zip-push S (x' ∷ xs) [] x y zipped one = absurd zipped
-  zip-push S (x' ∷ xs) (y' ∷ ys) x y zipped one = (zipped.0, zip-push S xs ys x y zipped.1 one)
+  zip-push S [] ys x y zipped one = search rules
+  zip-push S (x' ∷ xs) ys x y zipped one = search (rules, zip-push S xs)
 
   module _ (system command : ℕ) where
     module _ (change : Handle → World → World) (change_alone : Birth → BirthMap → BirthMap)
@@ -277,18 +255,7 @@ module _ (start : EntityMap) (name : Handle → Birth) (distinct : AreDistinct n
               (record b {
                 faults = b.faults ++ record { system = system; command = command } ∷ [];
               }))
-          by true lives = record {
-            told = is_told h a.world b.entities lives before.told;
-            faults = before.faults;
-          }
-          by false gone = record {
-            told = before.told;
-            faults = zip-push IsSameFault a.faults b.faults
-                (record { system = system; command = command; kind = kind.NotAlive h })
-                (record { system = system; command = command })
-                before.faults
-                (record { system = refl; command = refl; handle = h; kind = refl });
-          }
+          by b lives = grind (arith, common_steps, zip-push)
 
       -- each of the handles in turn
       each-told : (hs : List Handle) (a : Applied) (b : AppliedAlone) → All (IsThere start) hs
@@ -304,25 +271,15 @@ module _ (start : EntityMap) (name : Handle → Birth) (distinct : AreDistinct n
     command-told : (c : Command) (d : BirthCommand) (a : Applied) (b : AppliedAlone)
         → IsNamedBy name start c d → AreAppliedTold a b
         → AreAppliedTold (after_command system command c a) (after_birth_command system command d b)
-    command-told (Spawn h items) d a b is before =
-        subst (λ d. AreAppliedTold (after_command system command (Spawn h items) a)
-        (after_birth_command system command d b)) (sym is.1)
+    command-told (Spawn h items) d a b is before = rw is.1
         (entity-told (after_insert items) (inserted items) (insert-told items) h a b is.0 before)
-    command-told (SpawnMany hs items) d a b is before =
-        subst (λ d. AreAppliedTold (after_command system command (SpawnMany hs items) a)
-        (after_birth_command system command d b)) (sym is.1)
+    command-told (SpawnMany hs items) d a b is before = rw is.1
         (each-told (after_insert items) (inserted items) (insert-told items) hs a b is.0 before)
-    command-told (Insert h items) d a b is before =
-        subst (λ d. AreAppliedTold (after_command system command (Insert h items) a)
-        (after_birth_command system command d b)) (sym is.1)
+    command-told (Insert h items) d a b is before = rw is.1
         (entity-told (after_insert items) (inserted items) (insert-told items) h a b is.0 before)
-    command-told (Remove h id) d a b is before =
-        subst (λ d. AreAppliedTold (after_command system command (Remove h id) a)
-        (after_birth_command system command d b)) (sym is.1)
+    command-told (Remove h id) d a b is before = rw is.1
         (entity-told (after_remove id) (removed id) (remove-told id) h a b is.0 before)
-    command-told (Despawn h) d a b is before =
-        subst (λ d. AreAppliedTold (after_command system command (Despawn h) a)
-        (after_birth_command system command d b)) (sym is.1)
+    command-told (Despawn h) d a b is before = rw is.1
         (entity-told after_despawn despawned gone-told h a b is.0 before)
     command-told (Refused wanted why) d a b is before = absurd is
 
@@ -378,8 +335,7 @@ birth_by_name name m h names there = grind (arith, common_steps)
 pub names_apart : (name : Handle → Birth) (m : EntityMap) (births : BirthMap) → AreNamed m births
     → AreNames name m → AreDistinct name m
 names_apart name m births named names g h g_there h_there same =
-    named.apart g h (name h) (birth_by_name name m g names g_there ∙ ap Some same)
-    (birth_by_name name m h names h_there)
+    search (rules, birth_by_name name m g names g_there, birth_by_name name m h names h_there)
 
 told_at_start : (name : Handle → Birth) (m : EntityMap) (births : BirthMap) → AreNamed m births
     → AreNames name m → AreTold m name m births
@@ -389,21 +345,12 @@ named_at_end : (start : EntityMap) (name : Handle → Birth) (m : EntityMap) (bi
     → AreDistinct name start → AreTold start name m births → AreNamed m births
 named_at_end start name m births distinct after = record {
   rising = after.rising;
-  there = λ h e is. ap (λ b. find birth_cmp b births) (sym (after.named h e is))
-      ∙ after.there h (after.lived h (ap is_some is))
-      ∙ ap told is;
+  there = λ h e is. grind (arith, common_steps, after.named h e is, after.there h, after.lived h);
   apart = λ g h birth g_is h_is.
       let one = entity_with m g birth g_is in
       let other = entity_with m h birth h_is in
-      distinct g h (after.lived g (ap is_some one.1.0)) (after.lived h (ap is_some other.1.0))
-      (after.named g one.0 one.1.0 ∙ one.1.1 ∙ sym (after.named h other.0 other.1.0 ∙ other.1.1));
-  only = λ birth items is.
-      let owner = after.only birth (ap is_some is) in
-      let there : told (finite.get m owner.0) ≡ Some items =
-      sym (after.there owner.0 owner.1.0)
-      ∙ ap (λ b. find birth_cmp b births) owner.1.1 ∙ is in
-      let here : IsThere m owner.0 = sym (told_some (finite.get m owner.0)) ∙ ap is_some there in
-      (owner.0, birth_by_name name m owner.0 after.named here ∙ ap Some owner.1.1);
+      grind (arith, common_steps, after.named g, after.named h, after.lived g, after.lived h);
+  only = search (rules, told_some, birth_by_name);
 }
 
 -- ---- the law
@@ -417,17 +364,11 @@ pub queues-named : (name : Handle → Birth) (system : ℕ) (queues : List (List
 queues-named name system queues births a b before are =
     let start : EntityMap = a.world.entities in
     let distinct = names_apart name start b.entities before.entities before.names in
-    let after = queues-told start name distinct system queues births a b are
-    (record {
+    let after = queues-told start name distinct system queues births a b are (record {
       told = told_at_start name start b.entities before.entities before.names;
       faults = before.faults;
     }) in
-    record {
-      entities = named_at_end start name (after_queues system queues a).world.entities
-          (after_birth_queues system births b).entities distinct after.told;
-      names = after.told.named;
-      faults = after.faults;
-    }
+    search (rules, named_at_end)
 
 -- the same of a sync, from its births on
 pub sync-named : (name : Handle → Birth) (queues : List (List Command))

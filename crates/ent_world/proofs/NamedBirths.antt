@@ -1,8 +1,9 @@
 -- What comes to life enters a world and births alone in the same way, and so a whole frame does to
 -- births alone what it does to the world.
-use Rattle.std.proofs.Common.{◌≡◌, refl, sym, ap, ◌∙◌, subst, Bool, true, false, cond, ◌||◌}
-use Rattle.std.proofs.Common.{T, true≢false, List, [], ◌∷◌, map, length, ℤ, ◌⊎◌, inl, inr}
-use Rattle.std.proofs.Common.{Some, None, option_map, arith}
+use Rattle.std.proofs.lemmas.Grind.{common_steps}
+use Rattle.std.proofs.Common.{rules, ◌≡◌, refl, sym, ap, ◌∙◌, Bool, true, false, cond, ◌||◌, T}
+use Rattle.std.proofs.Common.{true≢false, List, [], ◌∷◌, map, length, ℤ, ◌⊎◌, Some, None}
+use Rattle.std.proofs.Common.{option_map, arith}
 use Rattle.std.specs.List.{list_any}
 use Rattle.std.specs.Ordering.{eq_by_cmp}
 use Rattle.std.specs.FinMap as finite
@@ -15,7 +16,7 @@ use Rattle.ent_handle.specs.declared.birth.Birth.{Birth}
 use Rattle.ent_handle.specs.declared.component.ComponentId.{ComponentId}
 use Rattle.ent_handle.specs.Birth.{birth_cmp, birth_cmp_total, birth_cmp-IsAntisymmetric}
 use Rattle.ent_handle.specs.Component.{component_cmp}
-use Rattle.ent_handle.specs.Handle.{Handle, handle_cmp, handle_cmp_total}
+use Rattle.ent_handle.specs.Handle.{Handle, handle_cmp}
 use Rattle.ent_alloc.specs.Sequential.{stands_in}
 use Rattle.ent_alloc.proofs.HandleSets.{same_handle, itself}
 use Rattle.ent_storage.specs.EntityMap.{Entity, EntityMap, birth_of, newborn}
@@ -23,15 +24,14 @@ use Rattle.ent_bundle.specs.Bundle.{Bundle}
 use Rattle.ent_world.specs.Sync.{with_born}
 use Rattle.ent_world.specs.BirthsAlone.{BirthMap, entered_alone}
 use Rattle.ent_world.specs.Named.{AreNamed}
+use Rattle.ent_world.proofs.Born.{get-with_born}
 use Rattle.ent_world.proofs.Named.{entity_with}
 
 -- ---- what enters
 
 -- of two tests the later one decides first
 nested : {X : Type 0} (a b : Bool) (x y : X) → cond b x (cond a x y) ≡ cond (a || b) x y
-nested true true x y = refl
-nested true false x y = refl
-nested false b x y = refl
+nested b b2 x y = search rules
 
 find-entered : (b : Birth) (bs : List Birth) (m : BirthMap) → find birth_cmp b (entered_alone bs m)
     ≡ cond (list_any (eq_by_cmp birth_cmp b) bs) (Some []) (find birth_cmp b m)
@@ -48,27 +48,8 @@ rising-entered [] m rising = rising
 rising-entered (b ∷ bs) m rising =
     rising-entered bs (put birth_cmp b [] m) (is_sorted-put birth_cmp birth_cmp_total b [] m rising)
 
-pub get-entered : (birth : Handle → Birth) (hs : List Handle) (m : EntityMap) (q : Handle)
-    → finite.get (with_born m birth hs) q
-    ≡ cond (stands_in hs q) (Some (newborn (birth q))) (finite.get m q)
-get-entered birth [] m q = refl
-get-entered birth (h ∷ hs) m q =
-    get-entered birth hs (finite.insert m h (newborn (birth h))) q
-    ∙ ap (cond (stands_in hs q) (Some (newborn (birth q))))
-    (finite.get-insert handle_cmp_total m h (newborn (birth h)) q
-    ∙ by (eq_by_cmp handle_cmp q h) refl)
-    ∙ nested (eq_by_cmp handle_cmp q h) (stands_in hs q) (Some (newborn (birth q)))
-    (finite.get m q)
-  where
-    by : (t : Bool) → eq_by_cmp handle_cmp q h ≡ t
-        → cond t (Some (newborn (birth h))) (finite.get m q)
-        ≡ cond t (Some (newborn (birth q))) (finite.get m q)
-    by true tied = ap (λ x. Some (newborn (birth x))) (sym (same_handle q h tied))
-    by false apart = refl
-
 no_items : (es : List (ComponentId × ℤ)) → length es ≡ 0 → es ≡ []
-no_items [] none = refl
-no_items (e ∷ es) some = absurd (omega arith)
+no_items es none = grind (arith, common_steps)
 
 entries-empty : finite.entries (finite.empty {X = ℤ} {R = component_cmp}) ≡ []
 entries-empty = no_items (finite.entries finite.empty)
@@ -77,8 +58,7 @@ entries-empty = no_items (finite.entries finite.empty)
 -- ---- a list of handles, and of their births
 
 or_true : (a b : Bool) → b ≡ true → (a || b) ≡ true
-or_true true b _ = refl
-or_true false b there = there
+or_true t b there = grind (arith, common_steps)
 
 -- the handle in the list whose birth it is
 abbrev Owner : (Handle → Birth) → List Handle → Birth → Type 0
@@ -159,61 +139,24 @@ module _ (birth : Handle → Birth) (born listed : List Handle) (m : EntityMap) 
       ⊎ (finite.get m h ≡ Some e)
 
   of_entity : (h : Handle) (e : Entity) → finite.get after h ≡ Some e → IsBornOrOld h e
-  of_entity h e is = by (stands_in born h) refl (sym (get-entered birth born m h) ∙ is)
-    where
-      by : (t : Bool) → stands_in born h ≡ t
-          → cond t (Some (newborn (birth h))) (finite.get m h) ≡ Some e → IsBornOrOld h e
-      by true there is = inl (there, same_Some (newborn (birth h)) e is)
-      by false none is = inr is
+  of_entity h e is = grind (arith, common_steps, get-with_born, same_Some)
 
   -- births that were there are not among the new ones
   not_among : (b : Birth) (items : Bundle) → find birth_cmp b births ≡ Some items → among b ≡ false
-  not_among b items is = by (among b) refl
-    where
-      by : (t : Bool) → among b ≡ t → t ≡ false
-      by false _ = refl
-      by true there =
-          let one = owner birth listed b there in
-          absurd (none-some items (sym (new one.0 (sym (same one.0) ∙ one.1.0))
-          ∙ ap (λ x. find birth_cmp x births) one.1.1 ∙ is))
+  not_among b items is = grind (arith, common_steps, owner, none-some)
 
   -- the components of each
   entity_found : (h : Handle) (e : Entity) → IsBornOrOld h e
       → find birth_cmp e.birth entered ≡ Some (finite.entries e.components)
-  entity_found h e (inl is) = subst
-      (λ x. find birth_cmp x.birth entered ≡ Some (finite.entries x.components)) is.1
-      (found (birth h)
-      ∙ ap (λ t. cond t (Some []) (find birth_cmp (birth h) births))
-      (owned birth listed h (same h ∙ is.0))
-      ∙ ap Some (sym entries-empty))
-  entity_found h e (inr is) =
-      found e.birth
-      ∙ ap (λ t. cond t (Some []) (find birth_cmp e.birth births))
-      (not_among e.birth (finite.entries e.components) (named.there h e is))
-      ∙ named.there h e is
+  entity_found h e which = search (rules, found, owned, entries-empty, not_among)
 
   -- what was born has another birth than what was there
   born_apart : (g h : Handle) (e f : Entity) → stands_in born g ≡ true → newborn (birth g) ≡ e
       → finite.get m h ≡ Some f → e.birth ≡ f.birth → ⊥
-  born_apart g h e f there is old alike =
-      none-some (finite.entries f.components)
-      (sym (new g there)
-      ∙ ap (λ x. find birth_cmp x births) (ap (λ x. x.birth) is ∙ alike)
-      ∙ named.there h f old)
+  born_apart g h e f there is old alike = search rules
 
   birth_from : (h : Handle) (e : Entity) → finite.get m h ≡ Some e → birth_of m h ≡ Some e.birth
   birth_from h e is = ap (λ o. option_map (λ e. e.birth) o) is
-
-  entities_apart : (g h : Handle) (e f : Entity) → IsBornOrOld g e → IsBornOrOld h f
-      → e.birth ≡ f.birth → g ≡ h
-  entities_apart g h e f (inl one) (inl other) alike = own g h one.0 other.0
-      (ap (λ x. x.birth) one.1 ∙ alike ∙ sym (ap (λ x. x.birth) other.1))
-  entities_apart g h e f (inl one) (inr other) alike =
-      absurd (born_apart g h e f one.0 one.1 other alike)
-  entities_apart g h e f (inr one) (inl other) alike =
-      absurd (born_apart h g f e other.0 other.1 one (sym alike))
-  entities_apart g h e f (inr one) (inr other) alike =
-      named.apart g h f.birth (birth_from g e one ∙ ap Some alike) (birth_from h f other)
 
   -- whose birth it is
   owner_found : (b : Birth) (items : Bundle) (t : Bool) → among b ≡ t
@@ -222,34 +165,16 @@ module _ (birth : Handle → Birth) (born listed : List Handle) (m : EntityMap) 
   owner_found b items true there _ =
       let one = owner birth listed b there in (
         one.0,
-        ap (λ o. option_map (λ e. e.birth) o) (get-entered birth born m one.0
+        ap (λ o. option_map (λ e. e.birth) o) (get-with_born birth born m one.0
             ∙ ap (λ t. cond t (Some (newborn (birth one.0))) (finite.get m one.0))
-            (sym (same one.0) ∙ one.1.0))
-            ∙ ap Some one.1.1,
+            (sym (same one.0) ∙ one.1.0)) ∙ ap Some one.1.1,
       )
-  owner_found b items false none is =
-      let one = named.only b items is in
-      let old = entity_with m one.0 b one.1 in (
-        one.0,
-        ap (λ o. option_map (λ e. e.birth) o) (get-entered birth born m one.0
-            ∙ by one.0 old.0 old.1.0 (stands_in born one.0) refl)
-            ∙ ap Some old.1.1,
-      )
-    where
-      by : (h : Handle) (e : Entity) → finite.get m h ≡ Some e → (t : Bool)
-          → stands_in born h ≡ t
-          → cond t (Some (newborn (birth h))) (finite.get m h) ≡ Some e
-      by h e is false _ = is
-      by h e is true there = absurd (none-some e (sym (fresh h there) ∙ is))
+  owner_found b items false none is = search (rules, entity_with, get-with_born, none-some)
 
   pub entered-named : AreNamed (with_born m birth born) (entered_alone (map birth listed) births)
   entered-named = record {
     rising = rising-entered (map birth listed) births named.rising;
     there = λ h e is. entity_found h e (of_entity h e is);
-    apart = λ g h b g_is h_is.
-        let one = entity_with after g b g_is in
-        let other = entity_with after h b h_is in
-        entities_apart g h one.0 other.0 (of_entity g one.0 one.1.0)
-        (of_entity h other.0 other.1.0) (one.1.1 ∙ sym other.1.1);
+    apart = λ g h b g_is h_is. search (rules, entity_with, born_apart, birth_from, of_entity);
     only = λ b items is. owner_found b items (among b) refl (sym (found b) ∙ is);
   }

@@ -1,19 +1,18 @@
 -- The entities of a world in the order of births are those of the births that tell it, in order.
-use Rattle.std.proofs.Common.{◌≡◌, refl, sym, ap, ◌∙◌, subst, Bool, true, false, cond, ◌||◌, ◌&&◌}
-use Rattle.std.proofs.Common.{T, true≢false, List, [], ◌∷◌, map, filter, All, AllPairs}
-use Rattle.std.proofs.Common.{Option, Some, None, is_some, option_map, unwrap_or, IsSomeAnd}
-use Rattle.std.proofs.Common.{IsTrue, Contains}
-use Rattle.std.specs.Ordering.{eq_by_cmp, is_eq, is_lt, ordering_then}
+use Rattle.std.proofs.lemmas.Grind.{common_steps}
+use Rattle.std.proofs.Common.{arith, rules, ◌≡◌, refl, sym, ap, ◌∙◌, subst, Bool, true, false, cond}
+use Rattle.std.proofs.Common.{◌||◌, ◌&&◌, T, true≢false, List, [], ◌∷◌, map, filter, All, AllPairs}
+use Rattle.std.proofs.Common.{Option, Some, None, is_some, option_map, unwrap_or, IsSomeAnd, IsTrue}
+use Rattle.std.proofs.Common.{Contains}
+use Rattle.std.specs.Ordering.{eq_by_cmp, is_lt, ordering_then}
 use Rattle.std.specs.Option.{option_cmp}
 use Rattle.std.specs.declared.cmp.Ordering.{Ordering}
 use Rattle.std.specs.declared.cmp.Ordering.TheVariants.{Less, Equal, Greater}
-use Rattle.std.specs.Cmp.{IsTotalOrder}
 use Rattle.std.specs.FinMap as finite
-use Rattle.std.specs.FinMap.{find, is_sorted, IsAntisymmetric}
+use Rattle.std.specs.FinMap.{find, is_sorted}
 use Rattle.std.specs.FinMap.Entries.{below_all, same_entries}
 use Rattle.std.proofs.lemmas.Cmp.{tied_itself, eq_by_cmp_equiv}
-use Rattle.std.proofs.lemmas.List.Elements.{All-head, All-tail, All-weaker}
-use Rattle.std.proofs.lemmas.List.Elements.{All-contains_itself}
+use Rattle.std.proofs.lemmas.List.Elements.{All-head, All-tail, All-contains_itself}
 use Rattle.std.proofs.lemmas.Map.Views.{tells_apart}
 use Rattle.std.proofs.lemmas.Option.{same_Some}
 use Rattle.ent_handle.specs.declared.birth.Birth.{Birth}
@@ -23,6 +22,7 @@ use Rattle.ent_alloc.specs.Sequential.{stands_in}
 use Rattle.ent_alloc.proofs.HandleSets.{itself, same_handle, Contains-from_stands_in}
 use Rattle.ent_alloc.proofs.HandleSets.{stands_in-from_Contains}
 use Rattle.ent_alloc.proofs.ListLaws.{AllPairs-head, AllPairs-tail}
+use Rattle.ent_storage.proofs.Overwritten.{is_sorted-filter, find-filter, passed}
 use Rattle.ent_storage.specs.BirthOrder.{birth_order, ListsByBirth}
 use Rattle.ent_storage.specs.EntityMap.{Entity, EntityMap}
 use Rattle.ent_bundle.specs.Bundle.{Bundle}
@@ -30,85 +30,10 @@ use Rattle.ent_world.specs.BirthsAlone.{BirthMap}
 use Rattle.ent_world.specs.Named.{AreNamed, AreNames, IsThere}
 use Rattle.ent_world.proofs.Named.{entity_with, birth_by_name, names_apart}
 
--- ---- entries in order that pass a test of their values
+-- ---- handles in the order of births
 
 both : (a b : Bool) → T a → T b → T (a && b)
-both true b p q = q
-both false b p q = p
-
-first : (a b : Bool) → T (a && b) → T a
-first true b p = tt
-first false b p = p
-
-second : (a b : Bool) → T (a && b) → T b
-second true b p = p
-second false b p = absurd p
-
-not_tied : (r : Ordering) → T (is_lt r) → is_eq r ≡ false
-not_tied Less p = refl
-not_tied Equal p = absurd p
-not_tied Greater p = refl
-
--- the value if it passes
-abbrev kept : {X : Type 0} → (X → Bool) → Option X → Option X
-kept test None = None
-kept test (Some v) = cond (test v) (Some v) None
-
-module _ {K X : Type 0} {R : K → K → Ordering} (o : IsTotalOrder R) (same : IsAntisymmetric R)
-    (test : X → Bool) where
-  abbrev passing : List (K × X) → List (K × X)
-  passing es = filter (λ e. test e.1) es
-
-  missing : (q : K) (es : List (K × X)) → T (below_all R q es) → find R q es ≡ None
-  missing q [] below = refl
-  missing q (e ∷ es) below =
-      ap (λ b. cond b (Some e.1) (find R q es)) (not_tied (R q e.0) (first _ _ below))
-      ∙ missing q es (second _ _ below)
-
-  below-passing : (q : K) (es : List (K × X)) → T (below_all R q es)
-      → T (below_all R q (passing es))
-  below-passing q [] below = tt
-  below-passing q (e ∷ es) below =
-      let rest = below-passing q es (second _ _ below) in
-      elim (test e.1) as (λ b. T (below_all R q (cond b (e ∷ passing es) (passing es)))) [
-        | true ↦ both _ _ (first _ _ below) rest
-        | false ↦ rest
-      ]
-
-  sorted-passing : (es : List (K × X)) → T (is_sorted R es) → T (is_sorted R (passing es))
-  sorted-passing [] sorted = tt
-  sorted-passing (e ∷ es) sorted =
-      let rest = sorted-passing es (second _ _ sorted) in
-      elim (test e.1) as (λ b. T (is_sorted R (cond b (e ∷ passing es) (passing es)))) [
-        | true ↦ both _ _ (below-passing e.0 es (first _ _ sorted)) rest
-        | false ↦ rest
-      ]
-
-  find-passing : (q : K) (es : List (K × X)) → T (is_sorted R es)
-      → find R q (passing es) ≡ kept test (find R q es)
-  find-passing q [] sorted = refl
-  find-passing q (e ∷ es) sorted =
-      by (test e.1) (eq_by_cmp R q e.0) refl refl (find-passing q es (second _ _ sorted))
-    where
-      none_after : eq_by_cmp R q e.0 ≡ true → find R q es ≡ None
-      none_after tied = ap (λ x. find R x es) (tells_apart same q e.0 tied)
-          ∙ missing e.0 es (first _ _ sorted)
-
-      by : (t b : Bool) → test e.1 ≡ t → eq_by_cmp R q e.0 ≡ b
-          → find R q (passing es) ≡ kept test (find R q es)
-          → find R q (cond t (e ∷ passing es) (passing es))
-          ≡ kept test (cond b (Some e.1) (find R q es))
-      by true true passes tied rest =
-          ap (λ b. cond b (Some e.1) (find R q (passing es))) tied
-          ∙ sym (ap (λ t. cond t (Some e.1) None) passes)
-      by true false passes apart rest =
-          ap (λ b. cond b (Some e.1) (find R q (passing es))) apart ∙ rest
-      by false true fails tied rest =
-          rest ∙ ap (kept test) (none_after tied)
-          ∙ sym (ap (λ t. cond t (Some e.1) None) fails)
-      by false false fails apart rest = rest
-
--- ---- handles in the order of births
+both a b p q = search rules
 
 module _ (name : Handle → Birth) (m : EntityMap) (births : BirthMap) (named : AreNamed m births)
     (names : AreNames name m) where
@@ -156,8 +81,7 @@ module _ (name : Handle → Birth) (m : EntityMap) (births : BirthMap) (named : 
       (All-tail (IsThere m) h hs all))
 
   or_true : (a b : Bool) → b ≡ true → (a || b) ≡ true
-  or_true true b _ = refl
-  or_true false b there = there
+  or_true t b there = grind (arith, common_steps)
 
   -- a birth that is found is the name of one of the handles
   found_name : (hs : List Handle) (q : Birth) (o : Option Bundle)
@@ -174,16 +98,7 @@ module _ (name : Handle → Birth) (m : EntityMap) (births : BirthMap) (named : 
           → (g : Handle) × ((stands_in hs g ≡ true) × ((name g ≡ q) × (o ≡ Some (items_of g)))))
           → (g : Handle) × ((stands_in (h ∷ hs) g ≡ true)
           × ((name g ≡ q) × (o ≡ Some (items_of g))))
-      by true tied here _ = (
-        h,
-        (
-          ap (λ t. t || stands_in hs h) (itself h),
-          (sym (tells_apart birth_cmp-IsAntisymmetric q (name h) tied), sym here),
-        ),
-      )
-      by false apart rest later =
-          let one = later rest in
-          (one.0, (or_true (eq_by_cmp handle_cmp one.0 h) (stands_in hs one.0) one.1.0, one.1.1))
+      by b tied here later = search (rules, itself, tells_apart birth_cmp-IsAntisymmetric, or_true)
 
   -- and the name of each of them is found
   name_found : (hs : List Handle) (h : Handle) → stands_in hs h ≡ true
@@ -194,8 +109,7 @@ module _ (name : Handle → Birth) (m : EntityMap) (births : BirthMap) (named : 
     where
       more : (b : Bool) (v : Bundle) (o : Option Bundle) → is_some o ≡ true
           → is_some (cond b (Some v) o) ≡ true
-      more true v o some = refl
-      more false v o some = some
+      more b v o some = grind (arith, common_steps)
 
       by : (b : Bool) → eq_by_cmp handle_cmp h g ≡ b → (b || stands_in hs h) ≡ true
           → (stands_in hs h ≡ true → is_some (find birth_cmp (name h) (map entry_of hs)) ≡ true)
@@ -220,14 +134,16 @@ module _ (name : Handle → Birth) (m : EntityMap) (births : BirthMap) (named : 
   module _ (passes : Entity → Bool) (test : Bundle → Bool)
       (alike : (e : Entity) → passes e ≡ test (finite.entries e.components))
       (handles : List Handle) (lists : ListsByBirth passes m handles) where
+    -- what the test leaves of a birth's items
+    abbrev kept : Birth → Option Bundle → Option Bundle
+    kept q o = passed birth_cmp_total birth_cmp-IsAntisymmetric (λ e. test e.1) q o
+
     all_there : All (IsThere m) handles
-    all_there = All-weaker (Contains handles) (IsThere m)
-        (λ h has. let one = entity_of passes (finite.get m h) ((lists.holds h).0 has) in
-        ap is_some one.1.0) handles (All-contains_itself handles)
+    all_there = search (rules, All-contains_itself handles)
 
     -- nothing is found where no handle is found
     none_kept : (q : Birth) → find birth_cmp q (map entry_of handles) ≡ None
-        → (p : Option Bundle) → find birth_cmp q births ≡ p → kept test p ≡ None
+        → (p : Option Bundle) → find birth_cmp q births ≡ p → kept q p ≡ None
     none_kept q none None is = refl
     none_kept q none (Some items) is =
         let one = named.only q items is in
@@ -250,11 +166,11 @@ module _ (name : Handle → Birth) (m : EntityMap) (births : BirthMap) (named : 
             ∙ ap is_some none))
 
     found_alike : (q : Birth) → find birth_cmp q (map entry_of handles)
-        ≡ kept test (find birth_cmp q births)
+        ≡ kept q (find birth_cmp q births)
     found_alike q = by (find birth_cmp q (map entry_of handles)) refl
       where
         by : (o : Option Bundle) → find birth_cmp q (map entry_of handles) ≡ o
-            → find birth_cmp q (map entry_of handles) ≡ kept test (find birth_cmp q births)
+            → find birth_cmp q (map entry_of handles) ≡ kept q (find birth_cmp q births)
         by None none = none ∙ sym (none_kept q none (find birth_cmp q births) refl)
         by (Some v) is =
             let one = found_name handles q (Some v) is refl in
@@ -268,13 +184,15 @@ module _ (name : Handle → Birth) (m : EntityMap) (births : BirthMap) (named : 
             is ∙ one.1.1.1
             ∙ ap (λ o. Some (unwrap_or (option_map (λ e. finite.entries e.components) o) []))
             old.1.0
-            ∙ sym (ap (kept test) told
+            ∙ sym (ap (kept q) told
             ∙ ap (λ t. cond t (Some items) None) (sym (alike old.0) ∙ old.1.1))
 
     pub listed-named : map entry_of handles ≡ filter (λ entry. test entry.1) births
     listed-named =
         same_entries birth_cmp birth_cmp_total birth_cmp-IsAntisymmetric _ _
         (sorted-names handles lists.rising all_there)
-        (sorted-passing birth_cmp_total birth_cmp-IsAntisymmetric test births named.rising)
+        (is_sorted-filter birth_cmp_total birth_cmp-IsAntisymmetric (λ e. test e.1) births
+        named.rising)
         (λ q. found_alike q
-        ∙ sym (find-passing birth_cmp_total birth_cmp-IsAntisymmetric test q births named.rising))
+        ∙ sym (find-filter birth_cmp_total birth_cmp-IsAntisymmetric (λ e. test e.1) births q
+        named.rising))

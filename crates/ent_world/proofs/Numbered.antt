@@ -47,13 +47,11 @@ filter_alike p q (h ∷ hs) alike =
     λ i. cond (first i) (h ∷ rest i) (rest i)
   where
     later : (a b : Bool) → b ≡ true → (a || b) ≡ true
-    later true b _ = refl
-    later false b there = there
+    later t b there = grind (arith, common_steps)
 
 -- neither of the two
 neither : (a b : Bool) → (a || b) ≡ false → (a ≡ false) × (b ≡ false)
-neither true b none = absurd (true≢false none)
-neither false b none = (refl, none)
+neither t b none = grind (arith, common_steps, true≢false)
 
 -- who doesn't stand there is not kept
 not_kept : (p : Handle → Bool) (q : Handle) (hs : List Handle) → stands_in hs q ≡ false
@@ -61,10 +59,7 @@ not_kept : (p : Handle → Bool) (q : Handle) (hs : List Handle) → stands_in h
 not_kept p q [] none = refl
 not_kept p q (h ∷ hs) none =
     let both = neither (eq_by_cmp handle_cmp q h) (stands_in hs q) none in
-    elim (p h) as (λ b. stands_in (cond b (h ∷ filter p hs) (filter p hs)) q ≡ false) [
-      | true ↦ ap (λ b. b || stands_in (filter p hs) q) both.0 ∙ not_kept p q hs both.1
-      | false ↦ not_kept p q hs both.1
-    ]
+    search (rules, not_kept p q hs both.1)
 
 -- the index of what stands there, and none of what doesn't
 pub some_index : (q : Handle) (index : ℕ) (hs : List Handle) → stands_in hs q ≡ true → (k : ℕ)
@@ -96,8 +91,7 @@ or_numbered (Some e) None = Some e
 or_numbered (Some e) (Some b) = Some (record e { birth = b })
 
 pub or_numbered-none : (o : Option Entity) → or_numbered o None ≡ o
-or_numbered-none None = refl
-or_numbered-none (Some e) = refl
+or_numbered-none it = search rules
 
 -- those that have no birth of a system
 abbrev pub waiting : EntityMap → List Handle → List Handle
@@ -123,16 +117,7 @@ module _ (phase : ℕ) where
       → or_numbered (cond b (option_map (reborn (birth_at phase no_system index))
       o) o) (birth_by_index phase no_system later)
       ≡ or_numbered o (birth_by_index phase no_system (cond b (Some index) later))
-  numbered_new index o later true once =
-      ap (λ l. or_numbered (option_map (reborn (birth_at phase no_system index)) o)
-      (birth_by_index phase no_system l)) (once refl)
-      ∙ settled o
-    where
-      settled : (o : Option Entity)
-          → or_numbered (option_map (reborn (birth_at phase no_system index)) o)
-          None ≡ or_numbered o (Some (birth_at phase no_system index))
-      settled None = refl
-      settled (Some e) = refl
+  numbered_new index o later true once = grind (arith, common_steps)
   numbered_new index o later false once = refl
 
   -- the next one has this index

@@ -1,22 +1,18 @@
 -- A sync that is cut anywhere, and goes on with what is left, is the whole sync; and faults are
 -- only added to those that there were.
-use Rattle.std.proofs.Common.{rules, ◌≡◌, refl, sym, ap, ◌∙◌, ℕ, zero, suc, ◌+◌, List, [], ◌∷◌}
-use Rattle.std.proofs.Common.{◌++◌, Bool, take, drop, arith, true, false, inl, inr, ◌≤◌, append-nil}
+use Rattle.std.proofs.Common.{rules, ◌≡◌, refl, ap, ◌∙◌, ℕ, zero, suc, ◌+◌, List, [], ◌∷◌, ◌++◌}
+use Rattle.std.proofs.Common.{take, drop, arith, inl, inr, ◌≤◌, append-nil}
 use Rattle.std.proofs.lemmas.Grind.{common_steps}
-use Rattle.std.specs.Prelude.{if◌then◌else◌}
-use Rattle.std.proofs.lemmas.List.{append_assoc, take-take}
+use Rattle.std.proofs.lemmas.List.{take-take}
 use Rattle.ent_handle.specs.Handle.{Handle}
-use Rattle.ent_queue.specs.Command.{Command, Spawn, SpawnMany, Insert, Remove, Despawn, Refused}
-use Rattle.ent_world.specs.World.{World, lives_in}
+use Rattle.ent_queue.specs.Command.{Command}
+use Rattle.ent_world.specs.World.{World}
 use Rattle.ent_world.specs.declared.fault.Fault.{Fault}
 use Rattle.ent_world.specs.declared.fault.FaultKind.{FaultKind}
-use Rattle.ent_world.specs.declared.fault.FaultKind.TheVariants as kind
-use Rattle.ent_world.specs.Effects.{Applied, applied, on_entity, on_each, with_fault, after_insert}
-use Rattle.ent_world.specs.Effects.{after_remove, after_despawn, refused, after_command}
+use Rattle.ent_world.specs.Effects.{Applied, applied, on_entity, on_each, with_fault, after_command}
 use Rattle.ent_world.specs.Effects.{after_commands, after_queues}
 use Rattle.ent_world.specs.Sync.{first_part, cut_commands, cut}
-use Rattle.ent_world.specs.Rest.{last_part, left_commands, after_left_queues, after_left, IsLaterIn}
-use Rattle.ent_world.specs.Rest.{IsLater}
+use Rattle.ent_world.specs.Rest.{left_commands, after_left_queues, after_left, IsLaterIn, IsLater}
 use Rattle.ent_world.proofs.Folds.{first_alone}
 
 -- ---- cut and gone on
@@ -29,24 +25,12 @@ each_split system command change (suc done) [] a = refl
 each_split system command change (suc done) (h ∷ hs) a =
     each_split system command change done hs (on_entity system command change h a)
 
--- from the first command on
-parts_split : (system command done : ℕ) (cs : List Command) (a : Applied)
-    → after_commands system command cs a ≡ after_commands system command (last_part done cs)
-    (after_commands system command (first_part done cs) a)
-parts_split system command done [] a = refl
-parts_split system command done (Spawn h items ∷ cs) a = refl
-parts_split system command done (SpawnMany hs items ∷ cs) a = search (rules, each_split)
-parts_split system command done (Insert h items ∷ cs) a = refl
-parts_split system command done (Remove h id ∷ cs) a = refl
-parts_split system command done (Despawn h ∷ cs) a = refl
-parts_split system command done (Refused wanted why ∷ cs) a = refl
-
 -- from the command of a number on, if the first of these has that number
 commands_split : (system from command done : ℕ) (q : List Command) (a : Applied)
     → after_commands system from q a
     ≡ after_commands system (from + command) (left_commands command done q)
     (after_commands system from (cut_commands command done q) a)
-commands_split system from zero done q a = search (rules, parts_split)
+commands_split system from zero done q a = search (rules, each_split)
 commands_split system from (suc command) done [] a = refl
 commands_split system from (suc command) done (c ∷ q) a =
     search (rules, commands_split system (from + 1) command done q (after_command system from c a))
@@ -75,21 +59,9 @@ cut_and_left system command done queues a =
 
 -- ---- a cut in a cut
 
--- a later stop cuts nothing before an earlier one
-in_less : (m n done later : ℕ) → IsLaterIn (suc m) done (suc n) later → IsLaterIn m done n later
-in_less m n done later (inl lt) = inl (omega (arith, lt))
-in_less m n done later (inr two) = inr (omega (arith, two.0), two.1)
-
 parts_within : (done later : ℕ) (q : List Command) → done ≤ later
     → first_part done (first_part later q) ≡ first_part done q
-parts_within done later [] le = refl
-parts_within done later (Spawn h items ∷ q) le = refl
-parts_within done later (SpawnMany hs items ∷ q) le =
-    ap (λ xs. SpawnMany xs items ∷ []) (take-take done later hs le)
-parts_within done later (Insert h items ∷ q) le = refl
-parts_within done later (Remove h id ∷ q) le = refl
-parts_within done later (Despawn h ∷ q) le = refl
-parts_within done later (Refused wanted why ∷ q) le = refl
+parts_within done later q le = search (rules, take-take)
 
 commands_within : (command done later later_done : ℕ) (q : List Command)
     → IsLaterIn command done later later_done
@@ -97,21 +69,13 @@ commands_within : (command done later later_done : ℕ) (q : List Command)
 commands_within zero done zero later_done q (inl lt) = absurd (omega (arith, lt))
 commands_within zero done zero later_done q (inr two) = parts_within done later_done q two.1
 commands_within zero done (suc later) later_done [] is = refl
-commands_within zero done (suc later) later_done (c ∷ q) is =
-    first_alone done c (cut_commands later later_done q) ∙ sym (first_alone done c q)
+commands_within zero done (suc later) later_done (c ∷ q) is = search (rules, first_alone)
 commands_within (suc command) done zero later_done q (inl lt) = absurd (omega (arith, lt))
 commands_within (suc command) done zero later_done q (inr two) =
     (let none = two.0 in absurd (omega (arith, none)))
 commands_within (suc command) done (suc later) later_done [] is = refl
 commands_within (suc command) done (suc later) later_done (c ∷ q) is =
-    ap (λ cs. c ∷ cs) (commands_within command done later later_done q
-    (in_less command later done later_done is))
-
-less_system : (m n command done later later_done : ℕ)
-    → IsLater (suc m) command done (suc n) later later_done
-    → IsLater m command done n later later_done
-less_system m n command done later later_done (inl lt) = inl (omega (arith, lt))
-less_system m n command done later later_done (inr two) = inr (omega (arith, two.0), two.1)
+    ap (λ cs. c ∷ cs) (commands_within command done later later_done q (search rules))
 
 pub cut_within : (system command done later later_command later_done : ℕ)
     (queues : List (List Command)) → IsLater system command done later later_command later_done
@@ -126,12 +90,11 @@ cut_within zero command done (suc later) later_command later_done [] is = refl
 cut_within zero command done (suc later) later_command later_done (q ∷ qs) is = refl
 cut_within (suc system) command done zero later_command later_done qs (inl lt) =
     absurd (omega (arith, lt))
-cut_within (suc system) command done zero later_command later_done qs (inr two) =
-    (let none = two.0 in absurd (omega (arith, none)))
+cut_within (suc system) command done zero later_command later_done qs (inr two) = search rules
 cut_within (suc system) command done (suc later) later_command later_done [] is = refl
 cut_within (suc system) command done (suc later) later_command later_done (q ∷ qs) is =
     ap (λ ps. q ∷ ps) (cut_within system command done later later_command later_done qs
-    (less_system system later command done later_command later_done is))
+    (search rules))
 
 -- ---- faults are added
 
@@ -142,25 +105,12 @@ with_faults_before earlier a = record a { faults = earlier ++ a.faults }
 fault_after : (earlier : List Fault) (system command : ℕ) (why : FaultKind) (a : Applied)
     → with_fault system command why (with_faults_before earlier a)
     ≡ with_faults_before earlier (with_fault system command why a)
-fault_after earlier system command why a =
-    ap (λ faults. record a { faults = faults })
-    (append_assoc earlier a.faults (record { system = system; command = command; kind = why } ∷ []))
-
-entity_by : (earlier : List Fault) (system command : ℕ) (change : Handle → World → World)
-    (h : Handle) (a : Applied) (lives : Bool)
-    → (if lives then record (with_faults_before earlier a) { world = change h a.world }
-    else with_fault system command (kind.NotAlive h) (with_faults_before earlier a))
-    ≡ with_faults_before earlier (if lives then record a { world = change h a.world }
-    else with_fault system command (kind.NotAlive h) a)
-entity_by earlier system command change h a true = refl
-entity_by earlier system command change h a false =
-    fault_after earlier system command (kind.NotAlive h) a
+fault_after earlier system command why a = grind (arith, common_steps)
 
 entity_after : (earlier : List Fault) (system command : ℕ) (change : Handle → World → World)
     (h : Handle) (a : Applied) → on_entity system command change h (with_faults_before earlier a)
     ≡ with_faults_before earlier (on_entity system command change h a)
-entity_after earlier system command change h a =
-    entity_by earlier system command change h a (lives_in a.world h)
+entity_after earlier system command change h a = search (rules, fault_after)
 
 each_after : (earlier : List Fault) (system command : ℕ) (change : Handle → World → World)
     (hs : List Handle) (a : Applied)
@@ -174,18 +124,7 @@ each_after earlier system command change (h ∷ hs) a =
 command_after : (earlier : List Fault) (system command : ℕ) (c : Command) (a : Applied)
     → after_command system command c (with_faults_before earlier a)
     ≡ with_faults_before earlier (after_command system command c a)
-command_after earlier system command (Spawn h items) a =
-    entity_after earlier system command (after_insert items) h a
-command_after earlier system command (SpawnMany hs items) a =
-    each_after earlier system command (after_insert items) hs a
-command_after earlier system command (Insert h items) a =
-    entity_after earlier system command (after_insert items) h a
-command_after earlier system command (Remove h id) a =
-    entity_after earlier system command (after_remove id) h a
-command_after earlier system command (Despawn h) a =
-    entity_after earlier system command after_despawn h a
-command_after earlier system command (Refused wanted why) a =
-    fault_after earlier system command (refused why) a
+command_after earlier system command it a = search (rules, entity_after, each_after, fault_after)
 
 commands_after : (earlier : List Fault) (system command : ℕ) (cs : List Command) (a : Applied)
     → after_commands system command cs (with_faults_before earlier a)
@@ -200,34 +139,19 @@ queues_after : (earlier : List Fault) (system : ℕ) (qs : List (List Command)) 
     ≡ with_faults_before earlier (after_queues system qs a)
 queues_after earlier system [] a = refl
 queues_after earlier system (q ∷ qs) a =
-    ap (after_queues (system + 1) qs) (commands_after earlier system 0 q a)
-    ∙ queues_after earlier (system + 1) qs (after_commands system 0 q a)
-
-left_queues_after : (earlier : List Fault) (system command done : ℕ) (qs : List (List Command))
-    (a : Applied) → after_left_queues system command done qs (with_faults_before earlier a)
-    ≡ with_faults_before earlier (after_left_queues system command done qs a)
-left_queues_after earlier system command done [] a = refl
-left_queues_after earlier system command done (q ∷ qs) a =
-    ap (after_queues (system + 1) qs)
-    (commands_after earlier system command (left_commands command done q) a)
-    ∙ queues_after earlier (system + 1) qs
-    (after_commands system command (left_commands command done q) a)
+    search (rules, commands_after, queues_after earlier (system + 1) qs (after_commands system 0 q a))
 
 -- What is left does the same whatever faults there were.
 pub left_after : (earlier : List Fault) (system command done : ℕ) (queues : List (List Command))
     (a : Applied) → after_left system command done queues (with_faults_before earlier a)
     ≡ with_faults_before earlier (after_left system command done queues a)
-left_after earlier system command done queues a =
-    left_queues_after earlier system command done (drop system queues) a
+left_after earlier system command done queues a = search (rules, commands_after, queues_after)
 
 -- ---- a caller's words
 
 applied_as : (earlier : List Fault) (w : World) (a : Applied) → w ≡ a.world → earlier ≡ a.faults
     → with_faults_before earlier (applied w []) ≡ a
-applied_as earlier w a world faults = (λ i. record {
-  world = world i;
-  faults = (append-nil earlier ∙ faults) i;
-})
+applied_as earlier w a world faults = search (rules, append-nil)
 
 -- Who stopped there, and goes on, has applied what the whole sync applies.
 pub gone_on : (system command done : ℕ) (queues : List (List Command)) (start : Applied) (w : World)
@@ -236,10 +160,7 @@ pub gone_on : (system command done : ℕ) (queues : List (List Command)) (start 
     → with_faults_before earlier (after_left system command done queues (applied w []))
     ≡ after_queues 0 queues start
 gone_on system command done queues start w earlier world faults =
-    sym (left_after earlier system command done queues (applied w []))
-    ∙ (ap (after_left system command done queues)
-    (applied_as earlier w (after_queues 0 (cut system command done queues) start) world faults)
-    ∙ cut_and_left system command done queues start)
+    search (rules, left_after earlier system command done queues (applied w []), applied_as earlier w (after_queues 0 (cut system command done queues) start) world faults, cut_and_left system command done queues start)
 
 -- And who stops again has applied what the sync applies until there.
 pub gone_on_until : (system command done later later_command later_done : ℕ)
@@ -251,10 +172,4 @@ pub gone_on_until : (system command done later later_command later_done : ℕ)
     (cut later later_command later_done queues) (applied w []))
     ≡ after_queues 0 (cut later later_command later_done queues) start
 gone_on_until system command done later later_command later_done queues start w earlier is world
-    faults =
-    let same : cut system command done (cut later later_command later_done queues)
-    ≡ cut system command done queues =
-    cut_within system command done later later_command later_done queues is in
-    gone_on system command done (cut later later_command later_done queues) start w earlier
-    (world ∙ ap (λ qs. (after_queues 0 qs start).world) (sym same))
-    (faults ∙ ap (λ qs. (after_queues 0 qs start).faults) (sym same))
+    faults = search (rules, cut_within, gone_on)

@@ -1,16 +1,14 @@
 -- Entering one by one, with room for all, and who stands from a place on.
+use Rattle.std.proofs.lemmas.Grind.{common_steps}
 use Rattle.std.proofs.Common.{rules, ◌≡◌, ◌≢◌, refl, sym, ap, ◌∙◌, ◌+◌, ◌<◌, ◌≤◌, Bool, true, false}
 use Rattle.std.proofs.Common.{cond, true≢false, ℕ, zero, suc, ◌-◌, List, [], ◌∷◌, ◌++◌, drop}
-use Rattle.std.proofs.Common.{slice_get, is_some, arith, Some, None, is_err, Result, Ok, Err, OnOk}
-use Rattle.std.proofs.Common.{IfErr, IsErrOf, IsTrue, ◌||◌, ◌↔◌}
+use Rattle.std.proofs.Common.{slice_get, is_some, arith, Some, ◌||◌}
 use Rattle.std.proofs.lemmas.Option.{none-some, same_Some}
 use Rattle.std.specs.Ordering.{eq_by_cmp}
-use Rattle.std.specs.FinSet as set
 use Rattle.std.specs.FinMap as map
 use Rattle.ent_handle.specs.declared.birth.Birth.{Birth}
 use Rattle.ent_handle.specs.Handle.{Handle, handle_cmp, handle_cmp_total}
-use Rattle.ent_alloc.specs.declared.state.State.TheVariants.{Alive}
-use Rattle.ent_alloc.specs.Sequential.{Allocator, stands_in, state_of}
+use Rattle.ent_alloc.specs.Sequential.{stands_in}
 use Rattle.ent_alloc.proofs.HandleSets.{same_handle, itself}
 use Rattle.ent_storage.specs.EntityMap.{Entity, EntityMap, Store, newborn}
 use Rattle.ent_storage.specs.declared.fault.StorageFault.{StorageFault}
@@ -30,8 +28,7 @@ new_later h e (g ∷ hs) m none new =
     )
   where
     neither : (a b : Bool) → (a || b) ≡ false → (a ≡ false) × (b ≡ false)
-    neither true b some = absurd (true≢false some)
-    neither false b some = (refl, some)
+    neither t b some = grind (arith, common_steps, true≢false)
 
     turned : eq_by_cmp handle_cmp g h ≡ true → eq_by_cmp handle_cmp h g ≡ true
     turned tied = ap (eq_by_cmp handle_cmp h) (same_handle g h tied) ∙ itself h
@@ -51,32 +48,6 @@ abbrev is_present : StorageFault → Bool
 is_present Present = true
 is_present Memory = false
 is_present Absent = false
-
-pub has_entered : {X : Type 0} (before after : Store) (h : Handle) (birth : Birth)
-    (r : Result X StorageFault) → map.contains_key before.entities h ≡ false
-    → OnOk r (after.entities ≡ map.insert before.entities h (newborn birth))
-    → OnOk r (after.spare + 1 ≡ before.spare) → OnOk r (after.places ≡ before.places ++ h ∷ [])
-    → (IsErrOf r Present ↔ IsTrue (map.contains_key before.entities h))
-    → IfErr r (λ fault. fault ≡ Present) → HasEntered before after h birth
-has_entered before after h birth (Ok x) new ok less places present only =
-    record { entities = ok; places = places; spare = less }
-has_entered before after h birth (Err Present) new ok less places present only =
-    absurd (true≢false (sym (present.0 refl) ∙ new))
-has_entered before after h birth (Err Memory) new ok less places present only =
-    absurd (true≢false (sym (ap is_present only)))
-has_entered before after h birth (Err Absent) new ok less places present only =
-    absurd (true≢false (sym (ap is_present only)))
-
--- who was refused and is new found no room
-pub no_room : {X : Type 0} (before : Store) (h : Handle) (r : Result X StorageFault)
-    → map.get before.entities h ≡ None → is_err r ≡ true
-    → (IsErrOf r Present ↔ IsTrue (map.contains_key before.entities h))
-    → (IsErrOf r Memory → before.spare ≡ 0) → ¬ (IsErrOf r Absent) → before.spare ≡ 0
-no_room before h (Ok x) new test present memory absent = absurd (true≢false (sym test))
-no_room before h (Err Present) new test present memory absent =
-    absurd (true≢false (sym (present.0 refl) ∙ ap is_some new))
-no_room before h (Err Memory) new test present memory absent = memory refl
-no_room before h (Err Absent) new test present memory absent = absurd (absent refl)
 
 -- The places from one on.
 
@@ -109,8 +80,7 @@ pub stands_from : (places : List Handle) (n i : ℕ) (h : Handle) → slice_get 
     ≤ i → stands_in (drop n places) h ≡ true
 stands_from places n i h is after =
     let whole : n + (i - n) ≡ i = omega arith in
-    stands_at (drop n places) (i - n) h
-    (slice_get-drop places n (i - n) ∙ ap (slice_get places) whole ∙ is)
+    search (rules, stands_at, slice_get-drop)
 
 -- a handle that stands before, and at no other place
 pub stands_before : (places : List Handle) (n i : ℕ) (h : Handle) → ((k : ℕ) → slice_get places k

@@ -1,6 +1,7 @@
 -- Where a command may take memory.
-use Rattle.std.proofs.Common.{rules, ◌≡◌, sym, ap, ◌∙◌, refl, ℕ, ◌+◌, ◌<◌, true, List, [], ◌∷◌}
-use Rattle.std.proofs.Common.{length, drop, get_or, slice_get, Some, arith, zero, suc}
+use Rattle.std.proofs.lemmas.Grind.{common_steps}
+use Rattle.std.proofs.Common.{rules, ◌≡◌, ℕ, ◌<◌, true, List, [], ◌∷◌, length, drop, slice_get}
+use Rattle.std.proofs.Common.{Some, arith, zero, suc}
 use Rattle.std.specs.Prelude.{max}
 use Rattle.std.proofs.lemmas.Bool.Decides.{nat_tests}
 use Rattle.std.proofs.lemmas.List.{drop_more}
@@ -10,7 +11,7 @@ use Rattle.ent_bundle.specs.Bundle.{Bundle}
 use Rattle.ent_queue.specs.Command.{Command}
 use Rattle.ent_world.specs.World.{World}
 use Rattle.ent_world.specs.Memory.{insert_takes_memory, one_takes_memory, command_takes_memory}
-use Rattle.ent_world.specs.Memory.{TakesMemoryIn, TakesMemoryAt}
+use Rattle.ent_world.specs.Memory.{TakesMemoryIn}
 use Rattle.ent_world.proofs.Folds.{next_below}
 
 -- what is left of a list begins with the element at that index
@@ -18,9 +19,7 @@ at_left : {X : Type 0} (xs rest : List X) (k : ℕ) (x : X) → drop k xs ≡ x 
     ≡ Some x
 at_left xs rest k x left =
     let lt : k < length xs = next_below xs rest k x left in
-    let both : x ∷ rest ≡ get_or xs k x ∷ drop (k + 1) xs = sym left ∙ drop_more xs k x lt in
-    let head : get_or xs k x ≡ x = cc in
-    slice_get-get_or xs k x lt ∙ ap Some head
+    search (rules, drop_more xs k x lt, slice_get-get_or xs k x lt, lt)
 
 -- there are components to be given
 some_items : (w : World) (items : Bundle) (h : Handle) → 0 < length items
@@ -36,9 +35,7 @@ at_takes_memory w items (h ∷ hs) (suc k) lt some = at_takes_memory w items hs 
 -- to the first of the handles that are left
 pub stop_takes_memory : (w : World) (items : Bundle) (hs : List Handle) (k : ℕ) → (hs ≡ [] → ⊥)
     → k < max 1 (length hs) → 0 < length items → one_takes_memory w items (slice_get hs k) ≡ true
-stop_takes_memory w items [] k some_handle lt some = absurd (some_handle refl)
-stop_takes_memory w items (h ∷ hs) k some_handle lt some =
-    at_takes_memory w items (h ∷ hs) k (omega (arith, lt)) some
+stop_takes_memory w items hs k some_handle lt some = grind (arith, common_steps, at_takes_memory)
 
 -- to the next of them
 pub next_takes_memory : (w : World) (items : Bundle) (hs rest : List Handle) (k : ℕ) (h : Handle)
@@ -50,9 +47,3 @@ next_takes_memory w items hs rest k h left takes = search (rules, at_left)
 pub takes_memory_in : (w : World) (q rest : List Command) (k done : ℕ) (c : Command) → drop k q ≡ c
     ∷ rest → command_takes_memory w done c ≡ true → TakesMemoryIn w k done q
 takes_memory_in w q rest k done c left takes = search (rules, at_left)
-
--- in this queue
-pub takes_memory_at : (w : World) (qs : List (List Command)) (k command done : ℕ) (q : List Command)
-    → k < length qs → q ≡ get_or qs k q → TakesMemoryIn w command done q
-    → TakesMemoryAt w k command done qs
-takes_memory_at w qs k command done q lt is takes = search (rules, slice_get-get_or)

@@ -1,20 +1,17 @@
 -- What is true of every world stays true: each step leaves a world.
 use Rattle.std.proofs.Common.{rules, ◌≡◌, sym, ap, ◌∙◌, ℕ, ◌-◌, true, List, [], ◌∷◌, slice_get}
 use Rattle.std.proofs.Common.{Some}
-use Rattle.std.proofs.lemmas.List.{take-append-drop}
 use Rattle.ent_handle.specs.declared.birth.Birth.{Birth}
 use Rattle.ent_handle.specs.Handle.{Handle}
 use Rattle.ent_alloc.specs.Sequential.{Allocator}
-use Rattle.ent_alloc.specs.Sound.{IsSound}
 use Rattle.ent_alloc.specs.History.{Call, after_history}
 use Rattle.ent_alloc.proofs.Soundness.{after_flush-sound, after_free-sound, after_alloc-sound}
-use Rattle.ent_shared.specs.Phase.{after_loss}
 use Rattle.ent_storage.specs.Components.{Components}
 use Rattle.ent_storage.specs.EntityMap.{EntityMap, with_components}
 use Rattle.ent_bundle.specs.Bundle.{Bundle}
 use Rattle.ent_queue.specs.Command.{Command}
 use Rattle.ent_world.specs.World.{World, IsWorld, lives_in}
-use Rattle.ent_world.specs.Effects.{Applied, after_spawn, after_despawn, after_queues, spawned}
+use Rattle.ent_world.specs.Effects.{Applied, after_spawn, after_despawn, after_queues}
 use Rattle.ent_world.specs.Sync.{after_births}
 use Rattle.ent_world.proofs.Living.{keys-insert, keys-remove, keys-components, living-history}
 use Rattle.ent_world.proofs.Born.{living-after}
@@ -37,10 +34,7 @@ pub after_spawn-world : (birth : Birth) (items : Bundle) (h : Handle) (w : World
     → IsWorld (after_spawn birth items h w)
 after_spawn-world birth items h w is flushed first =
     let pool = front w.allocator.pool h first in
-    record {
-      sound = after_alloc-sound w.allocator h pool.0 is.sound flushed pool.1;
-      living = keys-insert w.allocator.live w.entities h (spawned birth items) is.living;
-    }
+    search (rules, after_alloc-sound, keys-insert)
 
 -- a living entity goes
 pub after_despawn-world : (h : Handle) (w : World) → IsWorld w → w.allocator.asked ≡ 0
@@ -60,8 +54,7 @@ components-world change h s phase m n changed is = search (rules, keys-component
 -- any commands of a flushed world
 pub commands-world : (queues : List (List Command)) (a b : Applied) → b ≡ after_queues 0 queues a
     → IsWorld a.world → a.world.allocator.asked ≡ 0 → IsWorld b.world
-commands-world queues a b is before flushed =
-    search (rules, after_queues-keeps, IsFlushed, flushed-kept)
+commands-world queues a b is before flushed = search (rules, after_queues-keeps, flushed-kept)
 
 -- reservations
 pub after_history-world : (history : List Call) (w : World) → IsWorld w

@@ -1,12 +1,12 @@
 -- The first of a list that passes a test, and keys as they lie in memory.
-use Rattle.std.proofs.Common.{◌≡◌, refl, ap, ◌∙◌, ℕ, Bool, true, false, cond, not, List, [], ◌∷◌}
-use Rattle.std.proofs.Common.{filter, map, Some, slice_get, Bor, bytes_eq, option_map}
-use Rattle.std.proofs.Common.{Option, None, ℤ, is_some, is_none, true≢false, sym}
+use Rattle.std.proofs.lemmas.Grind.{common_steps}
+use Rattle.std.proofs.Common.{rules, arith, ◌≡◌, refl, ap, ℕ, Bool, true, false, cond, List, []}
+use Rattle.std.proofs.Common.{◌∷◌, filter, map, Some, slice_get, Bor, bytes_eq, Option, ℤ, is_some}
+use Rattle.std.proofs.Common.{is_none, true≢false, ◌+◌, ◌<◌, drop, take, length, get_or}
 use Rattle.std.specs.List.{list_any}
 use Rattle.serde_json.specs.Data.{Data}
 use Rattle.serde_json.specs.View.{view}
 use Rattle.serde_json.specs.declared.value.Value.{Value}
-use Rattle.std.proofs.Common.{◌+◌, ◌<◌, ◌++◌, drop, take, length, get_or}
 use Rattle.std.proofs.lemmas.List.{drop_more, take_more, map-append}
 use Rattle.ent_script.specs.Names.{as_name}
 use Rattle.spawnrun_advice.specs.Place.{bad_name, is_among, is_listed, is_text, key_but, name_place}
@@ -29,26 +29,20 @@ member_here = first_here
 
 -- what is not there, and what is
 pub none_if : (o : Option ℤ) → is_some o ≡ false → is_none o ≡ true
-none_if None fails = refl
-none_if (Some z) fails = absurd (true≢false fails)
+none_if it fails = search (rules, true≢false)
 
 pub some_if : (o : Option ℤ) → is_some o ≡ true → is_none o ≡ false
-some_if None holds = absurd (true≢false (sym holds))
-some_if (Some z) holds = refl
+some_if it holds = search (rules, true≢false)
 
 -- a key that is known is passed over
 pub key_skip : (is_known : List ℕ → Bool) (m : List ℕ × Data) (ms : List (List ℕ × Data))
     → is_known m.0 ≡ true → key_but is_known (m ∷ ms) ≡ key_but is_known ms
-key_skip is_known m ms holds =
-    ap (option_map (λ (m : List ℕ × Data). m.0))
-    (first_skip (λ (m : List ℕ × Data). not (is_known m.0)) m ms (ap not holds))
+key_skip is_known m ms holds = search rules
 
 -- one that isn't is the first
 pub key_here : (is_known : List ℕ → Bool) (m : List ℕ × Data) (ms : List (List ℕ × Data))
     → is_known m.0 ≡ false → key_but is_known (m ∷ ms) ≡ Some m.0
-key_here is_known m ms fails =
-    ap (option_map (λ (m : List ℕ × Data). m.0))
-    (first_here (λ (m : List ℕ × Data). not (is_known m.0)) m ms (ap not fails))
+key_here is_known m ms fails = search rules
 
 -- one of the keys as they lie in memory
 pub among_lent : (key : List ℕ) (known : List (Bor (List ℕ)))
@@ -67,13 +61,4 @@ pub next_bad : (list : List Value) (n : ℕ) (v : Value) → n < length list →
     → bad_name (map view (take n list)) (map view (drop n list))
     ≡ name_place (as_name (view v)) (view v) (map view (take n list))
     (bad_name (map view (take (n + 1) list)) (map view (drop (n + 1) list)))
-next_bad list n v inside is =
-    let left : drop n list ≡ v ∷ drop (n + 1) list = drop_more list n v inside
-    ∙ ap (λ w. w ∷ drop (n + 1) list) (sym is) in
-    let done : take (n + 1) list ≡ take n list ++ v ∷ [] = take_more list n v inside
-    ∙ ap (λ w. take n list ++ w ∷ []) (sym is) in
-    let seen : map view (take (n + 1) list) ≡ map view (take n list) ++ view v ∷ [] =
-    ap (map view) done ∙ map-append view (take n list) (v ∷ []) in
-    ap (λ vs. bad_name (map view (take n list)) (map view vs)) left
-    ∙ ap (λ ds. name_place (as_name (view v)) (view v) (map view (take n list))
-    (bad_name ds (map view (drop (n + 1) list)))) (sym seen)
+next_bad list n v inside is = grind (arith, common_steps, drop_more, take_more, map-append)

@@ -1,8 +1,8 @@
 -- Fronts of texts: of a text that is appended to, of one in printable ASCII, and of one of which
 -- only the first parts are looked at.
-use Rattle.std.proofs.Common.{◌≡◌, ℕ, suc, ◌+◌, ◌≤◌, ◌<◌, true, List, [], ◌∷◌, ◌++◌, length, take}
-use Rattle.std.proofs.Common.{sym, ap, subst, ◌∙◌, arith, codes, append_assoc}
-use Rattle.std.proofs.Common.{length-append, inl, inr, flat_map}
+use Rattle.std.proofs.Common.{rules, ◌≡◌, ℕ, suc, ◌+◌, ◌≤◌, ◌<◌, true, List, [], ◌∷◌, ◌++◌, length}
+use Rattle.std.proofs.Common.{take, sym, ap, subst, ◌∙◌, arith, codes, append_assoc, length-append}
+use Rattle.std.proofs.Common.{inl, inr, flat_map}
 use Rattle.std.proofs.lemmas.Grind.{flat_map-append, take_at_read}
 use Rattle.std.specs.Prelude.{nat_le, slice_index}
 use Rattle.std.specs.Fmt.Cut.{cut_to, floor_char_boundary}
@@ -16,12 +16,14 @@ use Rattle.spawnrun_advice.specs.Shown.{ArePrintable, IsPrintable, front}
 pub front-short : (text : List ℕ) → length text ≤ 60 → front text ≡ text
 unfolding front
 front-short text short =
-    cond-true (nat_le (length text) 60) text (take 57 text ++ codes "...") (grind (arith, nat_tests))
+    cond-true (nat_le (length text) 60) text (take 57 text ++ codes "...")
+    (grind (arith, nat_tests))
 
 pub front-long : (text : List ℕ) → 60 < length text → front text ≡ take 57 text ++ codes "..."
 unfolding front
 front-long text long =
-    cond-false (nat_le (length text) 60) text (take 57 text ++ codes "...") (grind (arith, nat_tests))
+    cond-false (nat_le (length text) 60) text (take 57 text ++ codes "...")
+    (grind (arith, nat_tests))
 
 -- what comes after a text that is cut makes no difference
 front-past : (text more : List ℕ) → 60 < length text → front (text ++ more) ≡ front text
@@ -68,23 +70,20 @@ dot-printable : IsPrintable 46
 dot-printable = (omega arith, omega arith)
 
 dots-printable : ArePrintable (codes "...")
-dots-printable =
-    let dot = IsPrintable in
-    All-cons dot 46 (46 ∷ 46 ∷ []) dot-printable
-    (All-cons dot 46 (46 ∷ []) dot-printable (All-cons dot 46 [] dot-printable (All-nil dot)))
+dots-printable = search (rules, All-cons, dot-printable, All-nil)
 
 pub front-printable : (text : List ℕ) → ArePrintable text → ArePrintable (front text)
 front-printable text h = elim (cases_lt 60 (length text)) [
   | inl long ↦ subst ArePrintable (sym (front-long text long))
-      (All-append IsPrintable (take 57 text) (codes "...") (All-take IsPrintable 57 text h)
-      dots-printable)
+      (search (rules, All-append, All-take, dots-printable))
   | inr short ↦ subst ArePrintable (sym (front-short text short)) h
 ]
 
 cut_to-short : (text : List ℕ) → length text ≤ 60 → cut_to 60 text ≡ text
 unfolding cut_to
 cut_to-short text short =
-    cond-true (nat_le (length text) 60) text (take (floor_char_boundary text 57) text ++ codes "...")
+    cond-true (nat_le (length text) 60) text
+    (take (floor_char_boundary text 57) text ++ codes "...")
     (grind (arith, nat_tests))
 
 boundary_at : (text : List ℕ) (i : ℕ) → is_char_start (slice_index text (suc i)) ≡ true
@@ -116,41 +115,24 @@ cut_is_front text h = elim (cases_lt 60 (length text)) [
 -- a piece after a piece
 pub go_on : (old new piece more : List ℕ) → new ≡ front (old ++ piece)
     → front (new ++ more) ≡ front (old ++ (piece ++ more))
-go_on old new piece more e =
-    ap (λ (kept : List ℕ). front (kept ++ more)) e
-    ∙ (front-more (old ++ piece) more ∙ ap front (append_assoc old piece more))
+go_on old new piece more e = search (rules, front-more, append_assoc)
 
 -- each part gives something, so parts past the sixtieth are not looked at
 pub length-parts : (part : ℕ → List ℕ) → ((x : ℕ) → 0 < length (part x)) → (xs : List ℕ)
     → length xs ≤ length (flat_map part xs)
 length-parts part some [] = omega arith
-length-parts part some (x ∷ xs) = omega (
-  arith,
-  length-append (part x) (flat_map part xs),
-  some x,
-  length-parts part some xs,
-)
+length-parts part some (x ∷ xs) = search (rules, length-append, length-parts part some xs)
 
 pub front-of_parts : (part : ℕ → List ℕ) → ((x : ℕ) → 0 < length (part x)) → (xs ys : List ℕ)
     → 60 < length xs → front (flat_map part (xs ++ ys)) ≡ front (flat_map part xs)
-front-of_parts part some xs ys long =
-    ap front (flat_map-append part xs ys)
-    ∙ front-past (flat_map part xs) (flat_map part ys)
-    (omega (arith, length-parts part some xs))
+front-of_parts part some xs ys long = search (rules, flat_map-append, front-past, length-parts)
 
 -- one more part
 pub front-next : (part : ℕ → List ℕ) (xs : List ℕ) (i : ℕ) (shown next : List ℕ) → i < length xs
     → shown ≡ front (flat_map part (take i xs)) → next ≡ front (shown ++ part (slice_index xs i))
     → next ≡ front (flat_map part (take (i + 1) xs))
 front-next part xs i shown next within so_far more =
-    let x = slice_index xs i in
-    let parts = flat_map part (take i xs) in
-    more
-    ∙ ap (λ (kept : List ℕ). front (kept ++ part x)) so_far
-    ∙ front-more parts (part x)
-    ∙ ap (λ (bs : List ℕ). front (parts ++ bs)) (sym (append-nil (part x)))
-    ∙ ap front (sym (flat_map-append part (take i xs) (x ∷ [])))
-    ∙ ap (λ (ys : List ℕ). front (flat_map part ys)) (sym (take_at_read xs i 0 within).1)
+    search (rules, front-more, append-nil, flat_map-append, take_at_read)
 
 -- the same after a text that stood before
 pub front-after : (old : List ℕ) (part : ℕ → List ℕ) (xs : List ℕ) (i : ℕ) (shown next : List ℕ)
@@ -158,13 +140,7 @@ pub front-after : (old : List ℕ) (part : ℕ → List ℕ) (xs : List ℕ) (i 
     → next ≡ front (shown ++ part (slice_index xs i))
     → next ≡ front (old ++ flat_map part (take (i + 1) xs))
 front-after old part xs i shown next within so_far more =
-    let x = slice_index xs i in
-    let parts = flat_map part (take i xs) in
-    more
-    ∙ go_on old shown parts (part x) so_far
-    ∙ ap (λ (bs : List ℕ). front (old ++ (parts ++ bs))) (sym (append-nil (part x)))
-    ∙ ap (λ (bs : List ℕ). front (old ++ bs)) (sym (flat_map-append part (take i xs) (x ∷ [])))
-    ∙ ap (λ (ys : List ℕ). front (old ++ flat_map part ys)) (sym (take_at_read xs i 0 within).1)
+    search (rules, go_on, append-nil, flat_map-append, take_at_read)
 
 pub front-nothing : (old : List ℕ) → length old ≤ 60 → old ≡ front (old ++ [])
 front-nothing old short = sym (ap front (append-nil old) ∙ front-short old short)

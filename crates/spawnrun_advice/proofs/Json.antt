@@ -1,6 +1,5 @@
 -- The value that bytes are read as.
-use Rattle.std.proofs.Common.{◌≡◌, true, false, cond, List, ℕ, Some, None, refl, ◌∙◌, IsUtf8}
-use Rattle.std.specs.Str.{is_utf8}
+use Rattle.std.proofs.Common.{rules, ◌≡◌, List, ℕ, Some, None, IsUtf8}
 use Rattle.std.proofs.lemmas.Bool.{cond-true}
 use Rattle.std.proofs.lemmas.Str.{IsUtf8-from_is_utf8, is_utf8-from_IsUtf8}
 use Rattle.serde_json.specs.Data.{Data}
@@ -9,10 +8,7 @@ use Rattle.ent_script.specs.Reading.{json_of}
 
 pub json_some : (text : List ℕ) (d : Data) → IsUtf8 text → read text ≡ Some d
     → json_of text ≡ Some d
-json_some text d utf8 e =
-    cond-true (is_utf8 text) (read text) None (is_utf8-from_IsUtf8 text utf8) ∙ e
+json_some text d utf8 e = search (rules, cond-true, is_utf8-from_IsUtf8)
 
 pub json_none : (text : List ℕ) → (IsUtf8 text → read text ≡ None) → json_of text ≡ None
-json_none text h =
-    elim (is_utf8 text) as (λ b. is_utf8 text ≡ b → cond b (read text) None ≡ None)
-    [ true ↦ λ e. h (IsUtf8-from_is_utf8 text e) | false ↦ λ e. refl ] refl
+json_none text h = search (rules, IsUtf8-from_is_utf8)

@@ -1,8 +1,7 @@
 -- What the words of a subcommand give: the values of its options.
-use Rattle.std.proofs.Common.{◌≡◌, ◌∙◌, ◌^◌, ◌<◌, ◌≤◌, ℕ, Bool, true, false, List, [], ◌∷◌, cond}
-use Rattle.std.proofs.Common.{◌||◌, refl, sym, ap, subst, inl, inr, codes, Option, Some, None}
-use Rattle.std.proofs.Common.{is_some}
-use Rattle.std.specs.Prelude.{Result, pos, option_map}
+use Rattle.std.proofs.Common.{rules, ◌≡◌, ◌^◌, ◌<◌, ◌≤◌, ℕ, Bool, true, false, List, [], ◌∷◌, cond}
+use Rattle.std.proofs.Common.{refl, inl, inr, codes, Option, Some, None, is_some}
+use Rattle.std.specs.Prelude.{Result, option_map}
 use Rattle.std.specs.Option.{option_map_or}
 use Rattle.std.specs.List.{AllByRecursion, slice_index_or, list_any}
 use Rattle.clap.specs.Words.{Row, Rule, Shape, Text, built, fault_of, subcommand_of, without_minus}
@@ -11,13 +10,10 @@ use Rattle.clap.specs.Matches.{ReadsOne, one_text}
 use Rattle.clap.specs.declared.parser.matches.Found.{Found}
 use Rattle.std.specs.declared.num.ParseIntError.{ParseIntError}
 use Rattle.std.specs.Str.Parse.{ExplainsUnsignedError, HasUnsignedDigitsIfOk, ParsesUnsigned}
-use Rattle.std.specs.Str.Parse.{digits_value, without_leading_plus}
-use Rattle.clap.proofs.CallerReads.{signed_reads}
 use Rattle.clap.proofs.WalkLemmas.{first_value-rows, one_text-rows}
 use Rattle.clap.specs.Simple.{new_shape, entered, filled, help_rule, label_of, names_of, rows_at}
-use Rattle.clap.specs.Walk.{finished, walk, answers_to, nothing_held, rows_after, stop_after}
+use Rattle.clap.specs.Walk.{finished, walk, answers_to, nothing_held, stop_after}
 use Rattle.clap.specs.Faults.{check_fault, entered_fault, level_fault}
-use Rattle.clap.specs.declared.builder.value_parser.ValueParser.TheVariants.{Signed}
 use Rattle.clap.proofs.ValueTestLemmas.{accepts-Accepts}
 use Rattle.ent_script_run.specs.declared.Show.{Show}
 use Rattle.ent_script_run.specs.declared.Show.TheVariants.{Births, Handles}
@@ -50,42 +46,16 @@ abbrev run_rules : List Rule
 run_rules = workers_rule ∷ show_rule ∷ filled help_rule ∷ []
 
 slots-option : IsOption replay_rules slots_rule
-slots-option = record {
-  own = refl;
-  set = refl;
-  one = refl;
-  default =
-      (codes "4294967295", refl, refl);
-  named = refl;
-}
+slots-option = search rules
 
 generations-option : IsOption replay_rules generations_rule
-generations-option = record {
-  own = refl;
-  set = refl;
-  one = refl;
-  default =
-      (codes "2147483647", refl, refl);
-  named = refl;
-}
+generations-option = search rules
 
 workers-option : IsOption run_rules workers_rule
-workers-option = record {
-  own = refl;
-  set = refl;
-  one = refl;
-  default = (codes "1", refl, refl);
-  named = refl;
-}
+workers-option = search rules
 
 show-option : IsOption run_rules show_rule
-show-option = record {
-  own = refl;
-  set = refl;
-  one = refl;
-  default = (codes "births", refl, refl);
-  named = refl;
-}
+show-option = search rules
 
 help-request : (c : List Rule) → IsRequest c (filled help_rule)
 help-request c = record { asks = refl; default = refl; named = refl }
@@ -104,28 +74,15 @@ run_shape = slice_index_or (built program).subs 1 (new_shape [])
 
 number_from : (option : Text) (most : ℕ) (default : Text) (rows : List Row)
     → HasValue (filled (number_option option most default)) rows → HasNumber option most rows
-number_from option most default rows value = record {
-  text = value.text;
-  is = value.is;
-  within = accepts-Accepts false (Signed (pos 1) (pos most)) value.text value.passes;
-}
+number_from option most default rows value = search (rules, accepts-Accepts)
 
 -- a text that `--show` takes
 shown_by : (text : Text) → list_any (λ name. bytes_eq name text) shown ≡ true → (show : Show)
     × (text ≡ show_text show)
-shown_by text e = go (bytes_eq (codes "births") text) (bytes_eq (codes "handles") text) refl refl e
-  where
-    go : (births handles : Bool) → bytes_eq (codes "births") text ≡ births
-        → bytes_eq (codes "handles") text ≡ handles → (births || (handles || false)) ≡ true
-        → (show : Show) × (text ≡ show_text show)
-    go true handles is also e = (Births, sym ((bytes_eq-Decides (codes "births") text).0 is))
-    go false true is also e = (Handles, sym ((bytes_eq-Decides (codes "handles") text).0 also))
-    go false false is also e = cc
+shown_by text e = search (rules, bytes_eq-Decides)
 
 show_from : (rows : List Row) → HasValue show_rule rows → HasShow rows
-show_from rows value =
-    let found = shown_by value.text value.passes in
-    (found.0, value.written ∙ ap (λ text. Some text) found.1)
+show_from rows value = search rules
 
 -- what the words name: a subcommand, whose options have values in their ranges
 pub data IsAsked (found : Option (Text × List Row)) : Type 0 where
@@ -137,19 +94,17 @@ pub data IsAsked (found : Option (Text × List Row)) : Type 0 where
 
 replay_options : (words : List Text) → level_fault replay_shape [] nothing_held words false [] ≡ []
     → IsAsked (Some (rows_at replay_shape words))
-replay_options words e = asks_replay (rows_after replay_rules [] words) refl
-    (number_from _ _ _ _ (option-has_value replay_rules replay-fits replay_shape words e slots_rule
-    slots-option (inl refl)))
-    (number_from _ _ _ _ (option-has_value replay_rules replay-fits replay_shape words e
-    generations_rule generations-option (inr (inl refl))))
+replay_options words e =
+    let value = option-has_value replay_rules replay-fits replay_shape words e in
+    asks_replay _ refl (number_from _ _ _ _ (value slots_rule slots-option (inl refl)))
+    (number_from _ _ _ _ (value generations_rule generations-option (inr (inl refl))))
 
 run_options : (words : List Text) → level_fault run_shape [] nothing_held words false [] ≡ []
     → IsAsked (Some (rows_at run_shape words))
-run_options words e = asks_run (rows_after run_rules [] words) refl
-    (number_from _ _ _ _ (option-has_value run_rules run-fits run_shape words e workers_rule
-    workers-option (inl refl)))
-    (show_from _ (option-has_value run_rules run-fits run_shape words e show_rule show-option
-    (inr (inl refl))))
+run_options words e =
+    let value = option-has_value run_rules run-fits run_shape words e in
+    asks_run _ refl (number_from _ _ _ _ (value workers_rule workers-option (inl refl)))
+    (show_from _ (value show_rule show-option (inr (inl refl))))
 
 -- a subcommand is required, and there are two
 stopped : (stop : Option (Text × List Text)) (rows : List Row) → entered_fault (built program) stop
@@ -194,32 +149,14 @@ pub number_read : (bits : ℕ) (option : Text) (most : ℕ) (found : Found) (r :
     → (n : ℕ) × (r ≡ Some n) × (1 ≤ n) × (n ≤ most) × (option_number option (rows_of found)
     ≡ Some n)
 number_read bits option most found r fits number reads =
-    let read = reads (without_minus number.text) (one_text-rows found option ∙ number.is) in
-    let known = signed_reads _ (number_gives bits) bits 1 most number.text r read
-    (λ text given gives. gives.0) fits number.within in
-    let given = subst (ReadsOne (number_gives bits) (without_minus number.text)) known.1 read in (
-      known.0,
-      known.1,
-      known.2,
-      known.3,
-      ap (option_map (λ text. digits_value 10 (without_leading_plus text))) number.is
-          ∙ ap (λ n. Some n) (sym given.0.1),
-    )
+    search (rules, one_text-rows, reads (without_minus number.text))
 
 -- the text that the getter of `--show` reads
 pub show_read : (found : Found) (r : Option (Bor Text)) → HasShow (rows_of found)
     → option_map (λ s. s.now) r ≡ first_value found (codes "show")
     → (text : Bor Text) × (show : Show) × (r ≡ Some text) × (text.now ≡ show_text show)
     × (first_of (codes "show") (rows_of found) ≡ Some (show_text show))
-show_read found r has reads = go r (reads ∙ (first_value-rows found (codes "show") ∙ has.1))
-  where
-    go : (r : Option (Bor Text)) → option_map (λ s. s.now) r ≡ Some (show_text has.0)
-        → (text : Bor Text) × (show : Show) × (r ≡ Some text) × (text.now ≡ show_text show)
-        × (first_of (codes "show") (rows_of found) ≡ Some (show_text show))
-    go None e = cc
-    go (Some text) e =
-        let same : text.now ≡ show_text has.0 = cc in
-        (text, has.0, refl, same, has.1)
+show_read found r has reads = search (rules, first_value-rows)
 
 -- the test that tells the two values of `--show` apart
 pub shows_by : (found : Found) (r : Option (Bor Text)) (text : Bor Text) (test : Bool)
@@ -228,13 +165,4 @@ pub shows_by : (found : Found) (r : Option (Bor Text)) (text : Bor Text) (test :
     → bytes_eq text.now (codes "handles") ≡ test
     → first_of (codes "show") (rows_of found) ≡ Some (show_text (cond test Handles Births))
 shows_by found r text test has reads is tested =
-    let read = show_read found r has reads in
-    let same : text ≡ read.0 = cc in
-    read.4 ∙ ap (λ show. Some (show_text show)) (go read.1 (ap (λ (t : Bor Text). t.now) same
-    ∙ read.3))
-  where
-    go : (show : Show) → text.now ≡ show_text show → show ≡ cond test Handles Births
-    go Births written = ap (λ b. cond b Handles Births)
-        (sym (ap (λ t. bytes_eq t (codes "handles")) written) ∙ tested)
-    go Handles written = ap (λ b. cond b Handles Births)
-        (sym (ap (λ t. bytes_eq t (codes "handles")) written) ∙ tested)
+    let read = show_read found r has reads in search rules

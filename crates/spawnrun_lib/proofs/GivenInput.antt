@@ -1,5 +1,5 @@
 -- What is made of the bytes that were read is made of what the source tells.
-use Rattle.std.proofs.Common.{◌≡◌, ◌≤◌, ◌<◌, List, [], ℕ, Option, Some, None, length, IfSome}
+use Rattle.std.proofs.Common.{rules, ◌≡◌, ◌≤◌, ◌<◌, List, [], ℕ, Option, Some, None, length, IfSome}
 use Rattle.std.proofs.Common.{subst, sym}
 use Rattle.spawnrun_advice.specs.Wants.{size_wants}
 use Rattle.spawnrun_lib.specs.declared.work.Product.{Product}
@@ -18,10 +18,7 @@ module _ (Gives : List ℕ → List ℕ → Type 0) (Fails : List ℕ → Refusa
       → IfSome told (λ all. read ≡ all) → length read ≤ input_limit
       → IsProductOf Gives Fails read made
       → IfSome told (λ all. IsProductOf (Accepts Gives) (Refuses Fails) all made)
-  made_of_read None read made whole fits is = tt
-  made_of_read (Some all) read made whole fits is =
-      subst (λ known. IsProductOf (Accepts Gives) (Refuses Fails) known made) whole
-      (within read made fits is)
+  made_of_read it read made whole fits is = search (rules, within)
 
   pub refused_too_long : (told : Option (List ℕ)) (refusal : Refusal)
       → IfSome told (λ all. input_limit < length all)

@@ -1,5 +1,4 @@
-use Rattle.std.proofs.Common.{rules, ◌≡◌, List, [], ◌∷◌, ap, refl, ◌∙◌}
-use Rattle.ent_claims.specs.declared.record.ClaimRecord.{ClaimRecord}
+use Rattle.std.proofs.Common.{rules, ◌≡◌, [], ◌∷◌, refl}
 use Rattle.ent_claims.specs.Record.{claims_of}
 use Rattle.ent_claims.specs.Rule.{AfterClaim}
 use Rattle.ent_claims.proofs.Steps.{claims_at}
@@ -8,11 +7,7 @@ use Rattle.ent_claims.proofs.word.claim.Goals as goal
 -- the seat has the badge's record alone
 seat : (c : goal.After-seat-1) → c.into_seat-seat.result.me.0 ≡ claims_of c.args.badge.now.views
     ∷ []
-seat c =
-    let e = c.into_seat-seat.ensures.2 in
-    let same = c.replace.ensures.value in
-    let alone = c.requires.alone in
-    cc
+seat c = search rules
 
 pub fetch_add-found-requires : goal.fetch_add-found-requires
 fetch_add-found-requires c = (
@@ -26,15 +21,11 @@ fetch_add-found-requires c = (
 told : (c : goal.After-drop-badge) → AfterClaim (claims_of c.args.badge.now.views)
     c.fetch_add-found.result c.fetch_add-found.new.seat.me.0
 told c =
-    let e = c.into_seat-seat.ensures.2 in
-    let same = c.replace.ensures.value in
-    let alone = c.requires.alone in
-    let seated : c.into_seat-seat.result.me.0 ≡ claims_of c.args.badge.now.views ∷ [] = cc in
-    c.fetch_add-found.ensures.2.1 (claims_of c.args.badge.now.views) seated c.requires.goes_on
+    c.fetch_add-found.ensures.2.1 (claims_of c.args.badge.now.views)
+    (cc (c.into_seat-seat.ensures.2, c.replace.ensures.value, c.requires.alone)) c.requires.goes_on
 
 pub returns-clause-claims : goal.returns-clause-claims
-returns-clause-claims c = c.into_badge.ensures.2 ∙ ap (λ (v : List ClaimRecord). v ∷ [])
-    (told c).after
+returns-clause-claims c = rw (told c).after at c.into_badge.ensures.2
 
 pub returns-clause-above : goal.returns-clause-above
 returns-clause-above c = (told c).above

@@ -1,4 +1,4 @@
-use Rattle.std.proofs.Common.{rules, sym, ◌∙◌, ◌<◌, arith, drop, slice_index}
+use Rattle.std.proofs.Common.{rules, arith, drop, sym, ◌∙◌, ◌<◌, slice_index}
 use Rattle.std.proofs.lemmas.Grind.{common_steps}
 use Rattle.ent_queue.specs.Unpacking.{after_first}
 use Rattle.ent_queue.proofs.Fronts.{HandleAndBundle, HandlesAndBundle, HandleAndComponent}

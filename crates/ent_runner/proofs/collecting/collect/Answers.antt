@@ -1,4 +1,4 @@
-use Rattle.std.proofs.Common.{◌∙◌, ◌∷◌, ap, arith}
+use Rattle.std.proofs.Common.{arith}
 use Rattle.ent_runner.proofs.BySystem.{collected_on}
 use Rattle.ent_runner.proofs.collecting.collect.Goals as goal
 
@@ -6,8 +6,6 @@ pub loop-one-preserved : goal.loop-one-preserved
 loop-one-preserved c =
     let i = c.loop-one.invariant in
     let p = c.push_reserved.ensures in
-    let next = collected_on c.loop-one.one-iterator.rest.items c.next.new.self.rest.items
-    c.in-Some-one.queue c.loop-one.queues.items c.push_reserved.new.self.items _
-    (c.in-Some.ensures.steps.0 ∙ ap (λ o. o ∷ c.next.new.self.rest.items) c.in-Some-one.is)
-    p.items i.same i.full in
+    let next = collected_on _ _ _ _ _ _ (rw c.in-Some-one.is at c.in-Some.ensures.steps.0) p.items
+    i.same i.full in
     record { same = next.0; room = omega (arith, next.2, p.len, p.capacity, i.room); full = next.1 }

@@ -4,7 +4,5 @@ use Rattle.ent_runner.proofs.collecting.put_all.Goals as goal
 pub loop-one-preserved : goal.loop-one-preserved
 loop-one-preserved c =
     let i = c.loop-one.invariant in
-    let next = put_on c.loop-one.one-iterator.rest.items c.next.new.self.rest.items c.in-Some.one
-    c.loop-one.by_system c.put.new.by_system _ c.in-Some.ensures.steps.0 c.put.ensures i.inside
-    i.same in
+    let next = put_on _ _ _ _ _ _ c.in-Some.ensures.steps.0 c.put.ensures i.inside i.same in
     record { inside = next.0; same = next.1 }

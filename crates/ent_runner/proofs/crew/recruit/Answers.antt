@@ -1,5 +1,4 @@
-use Rattle.std.proofs.Common.{Some, subst, sym, rules}
-use Rattle.std.specs.Prelude.{All}
+use Rattle.std.proofs.Common.{Some, rules}
 use Rattle.std.proofs.lemmas.List.Elements.{All-push, All-pop}
 use Rattle.ent_runner.specs.declared.worker.Worker.{Worker}
 use Rattle.ent_runner.specs.Worker.{IsRoomForOne}
@@ -13,20 +12,12 @@ loop-reserver-preserved c =
     c.pop-in-loop-reserver.new.self.items
     (Some c.in-Some-pop-2.issued) c.in-Some-pop-2.ensures.items i.each in
     record {
-      all = moved_over (λ (w : Worker). w.reserver) c.loop-reserver.workers.items
-          c.push_reserved.new.self.items _ c.loop-reserver.reserver-iterator.rest.items
-          c.next.new.self.rest.items c.args.reservers.items c.push_reserved.ensures.items
-          (search rules) i.all;
-      claimers = moved_back (λ (w : Worker). w.claimer) c.loop-reserver.workers.items
-          c.push_reserved.new.self.items _ c.loop-reserver.claimers.items c.pop.new.self.items
-          c.args.claimers.items c.push_reserved.ensures.items c.in-Some-pop.ensures.items
-          i.claimers;
+      all = search (rules, moved_over);
+      claimers = search (rules, moved_back);
       same = search rules;
       room = search rules;
       lists = search rules;
       each = lists.0;
-      fresh = subst (All (λ (w : Worker). IsRoomForOne w.issued))
-          (sym c.push_reserved.ensures.items)
-          (All-push (λ (w : Worker). IsRoomForOne w.issued) c.loop-reserver.workers.items _ i.fresh
-          lists.1);
+      fresh = rw c.push_reserved.ensures.items (All-push (λ (w : Worker). IsRoomForOne w.issued)
+          c.loop-reserver.workers.items _ i.fresh lists.1);
     }

@@ -1,29 +1,25 @@
-use Rattle.std.proofs.Common.{rules, ◌≡◌, ◌∙◌, ap, sym, subst, arith, All, true}
+use Rattle.std.proofs.Common.{rules, ◌≡◌, ◌∙◌, ap, subst, arith, All, true}
 use Rattle.std.proofs.lemmas.Grind.{common_steps}
-use Rattle.ent_runner.specs.Collecting.{queues_put}
-use Rattle.std.specs.Prelude.{IsSome, flat_map, Any}
-use Rattle.ent_shared.specs.Phase.{IsOf, records_of}
+use Rattle.std.specs.Prelude.{flat_map, Any}
+use Rattle.ent_shared.specs.Phase.{records_of}
 use Rattle.ent_shared.specs.Order.{history_of, reservations_of, Respects}
 use Rattle.ent_alloc.specs.History.{IsLegal}
-use Rattle.ent_claims.specs.Claims.{IsClaimerOf}
 use Rattle.ent_runner.specs.declared.worker.Worker.{Worker}
 use Rattle.ent_world.specs.OpenWorld.{world_at_start}
 use Rattle.ent_runner.specs.Frame.{reserved_by}
 use Rattle.ent_runner.specs.Worker.{all_records, HaveRunFirst}
 use Rattle.ent_runner.proofs.Conducting.{reservers_own, claimers_own, once_closed, first_closed}
-use Rattle.ent_runner.proofs.Conducting.{all_full, queues_back, records_are, closed_by}
+use Rattle.ent_runner.proofs.Conducting.{all_full, queues_back, records_are}
 use Rattle.ent_runner.proofs.frame.finish.Goals.{After-close-world}
 use Rattle.ent_runner.proofs.frame.finish.Goals as goal
 
 pub close-requires-clause-own : goal.close-requires-clause-own
-close-requires-clause-own c = subst (All (IsClaimerOf c.args.claims))
-    (sym c.disband.ensures.claimers) (claimers_own c.args.opened.shared c.args.claims
-    c.args.workers.items c.requires.each)
+close-requires-clause-own c = rw c.disband.ensures.claimers
+    (claimers_own c.args.opened.shared c.args.claims _ c.requires.each)
 
 pub close-world-requires-clause-own : goal.close-world-requires-clause-own
-close-world-requires-clause-own c = subst (All (IsOf c.args.opened.shared))
-    (sym c.disband.ensures.reservers) (reservers_own c.args.opened.shared c.args.claims
-    c.args.workers.items c.requires.each)
+close-world-requires-clause-own c = rw c.disband.ensures.reservers
+    (reservers_own c.args.opened.shared c.args.claims _ c.requires.each)
 
 -- the records of the reservers are those of the workers
 records_is : (c : After-close-world) → records_of c.disband.new.reservers.items
@@ -33,7 +29,7 @@ records_is c = ap records_of c.disband.ensures.reservers ∙ records_are c.args.
 -- so what is known of the history of the reservers is known of that of the workers
 closed : (c : After-close-world) → c.close-world.result
     ≡ reserved_by (history_of (all_records c.args.workers.items)) (world_at_start c.args.opened)
-closed c = search (rules, closed_by, records_is)
+closed c = search (rules, records_is)
 
 legal : (c : After-close-world)
     → IsLegal c.args.opened.shared.start (history_of (all_records c.args.workers.items))
@@ -50,40 +46,31 @@ pub collect-requires-clause-full : goal.collect-requires-clause-full
 collect-requires-clause-full c =
     let d = c.disband.ensures in
     let start = c.args.returned.by_system in
-    subst (All IsSome)
-    (sym (queues_back c.args.claims.numbers start.len (flat_map (λ (w : Worker). w.issued.items)
-    c.args.workers.items) start.items c.disband.new.by_system c.requires.room.by_system_empty
-    start.ok.0 (d.by_system
-    ∙ ap (queues_put (flat_map (λ (w : Worker). w.issued.items) c.args.workers.items))
-    c.deref_mut.ensures.value)))
-    (all_full c.args.claims c.args.workers.items (once_closed c.args.opened.shared c.args.claims
-    c.args.workers.items c.requires.each c.deref.result.now c.deref.ensures.value
-    (c.some_stopped-stopped.ensures.going c.if-stopped.false) c.disband.new.claimers.items
-    c.disband.ensures.claimers c.close.ensures.once))
+    rw (queues_back _ _ (flat_map (λ (w : Worker). w.issued.items) c.args.workers.items) _ _
+    c.requires.room.by_system_empty start.ok.0 (rw c.deref_mut.ensures.value at d.by_system))
+    (all_full c.args.claims c.args.workers.items (once_closed c.args.opened.shared _ _
+    c.requires.each _ c.deref.ensures.value
+    (c.some_stopped-stopped.ensures.going c.if-stopped.false) _ d.claimers c.close.ensures.once))
 
 pub returns-clause-once : goal.returns-clause-once
-returns-clause-once c = once_closed c.args.opened.shared c.args.claims c.args.workers.items
-    c.requires.each c.deref.result.now c.deref.ensures.value
-    (c.some_stopped-stopped.ensures.going c.if-stopped.false) c.disband.new.claimers.items
-    c.disband.ensures.claimers c.close.ensures.once
+returns-clause-once c = once_closed c.args.opened.shared _ _ c.requires.each _ c.deref.ensures.value
+    (c.some_stopped-stopped.ensures.going c.if-stopped.false) _ c.disband.ensures.claimers
+    c.close.ensures.once
 
 pub returns-clause-queues : goal.returns-clause-queues
 returns-clause-queues c = grind (arith, common_steps)
 
 pub returns-then-stopped-clause-world : goal.returns-then-stopped-clause-world
-returns-then-stopped-clause-world c =
-    closed (goal.at.returns-then-stopped-clause-world c).After-close-world
+returns-then-stopped-clause-world c = search (rules, closed)
 
 pub returns-then-stopped-clause-legal : goal.returns-then-stopped-clause-legal
-returns-then-stopped-clause-legal c =
-    legal (goal.at.returns-then-stopped-clause-legal c).After-close-world
+returns-then-stopped-clause-legal c = search (rules, legal)
 
 pub returns-then-stopped-clause-respects : goal.returns-then-stopped-clause-respects
 returns-then-stopped-clause-respects c = search (rules, respects)
 
 pub returns-then-stopped-clause-first : goal.returns-then-stopped-clause-first
-returns-then-stopped-clause-first c =
-    first (goal.at.returns-then-stopped-clause-first c).After-close-world
+returns-then-stopped-clause-first c = search (rules, first)
 
 pub returns-clause-world : goal.returns-clause-world
 returns-clause-world c = closed (goal.at.returns-clause-world c).After-close-world

@@ -9,9 +9,7 @@ pub work-requires-clause-ready : goal.work-requires-clause-ready
 work-requires-clause-ready g c κs within =
     let r = c.recruit.ensures in
     let room = c.requires.room in
-    all_ready c.args.opened.shared c.args.room.claims c.recruit.new.workers.items
-    c.args.reservers.items c.args.room.unused.items r.reservers c.requires.own r.claimers
-    room.unused_of room.unused_are r.fresh
+    all_ready _ _ _ _ _ r.reservers c.requires.own r.claimers room.unused_of room.unused_are r.fresh
 
 pub work-requires-clause-unused : goal.work-requires-clause-unused
 work-requires-clause-unused g c κs within = search (rules, records_are)
@@ -23,13 +21,10 @@ pub returns-clause-closed : goal.returns-clause-closed
 returns-clause-closed g c =
     let f = c.finish.ensures in (
       history_of (all_records c.work.new.workers.items),
-      is_broken_off g.S.System.may_issue g.S.System.may_leave c.args.systems.now c.args.opened
-          c.args.room.claims c.work.new.workers.items c.work.ensures c.requires.room.numbers f.legal
-          f.respects f.first,
+      is_broken_off _ _ _ _ _ _ c.work.ensures c.requires.room.numbers f.legal f.respects f.first,
       f.world,
-      framed g.S.System.may_issue g.S.System.may_leave c.args.systems.now c.args.opened
-          c.args.room.claims c.work.new.workers.items c.work.ensures c.requires.room.numbers
-          c.finish.result.1 f.legal f.respects f.going f.once f.queues,
+      framed _ g.S.System.may_leave _ _ _ _ c.work.ensures c.requires.room.numbers _ f.legal
+          f.respects f.going f.once f.queues,
     )
 
 pub returns-clause-lost : goal.returns-clause-lost

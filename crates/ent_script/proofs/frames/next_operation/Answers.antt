@@ -1,7 +1,6 @@
 use Rattle.ent_script.proofs.CutMeanings.{operation_of-cut}
 use Rattle.std.proofs.Common.{arith, rules}
 use Rattle.std.proofs.lemmas.Grind.{common_steps}
-use Rattle.ent_script.proofs.Listing.{read_and_left}
 use Rattle.ent_script.proofs.Operations.{cut_read, bound_read}
 use Rattle.ent_script.proofs.frames.next_operation.Goals as goal
 
@@ -9,8 +8,7 @@ pub returns-in_err-value-clause-value : goal.returns-in_err-value-clause-value
 returns-in_err-value-clause-value c d rest e = grind (arith, common_steps)
 
 pub returns-in_err-operation-clause-value : goal.returns-in_err-operation-clause-value
-returns-in_err-operation-clause-value c d rest e =
-    search (rules, cut_read, operation_of-cut, read_and_left)
+returns-in_err-operation-clause-value c d rest e = search (rules, cut_read, operation_of-cut)
 
 pub returns-clause-value : goal.returns-clause-value
 returns-clause-value c d rest e = search (rules, cut_read, operation_of-cut)

@@ -1,11 +1,5 @@
-use Rattle.std.proofs.Common.{length, Option, Some, None, option_map, option_and_then, ok_or}
-use Rattle.std.proofs.Common.{sym, subst, ap, cond, arith}
-use Rattle.std.specs.Prelude.{nat_le}
-use Rattle.serde_json.specs.Data.{Data, Items}
-use Rattle.ent_script.specs.Json.{list_of}
-use Rattle.ent_script.specs.Reading.{◌>>=◌, numbered, operation_at, system_of}
-use Rattle.ent_script.specs.Streaming.{Streams}
-use Rattle.ent_script.specs.declared.read_fault.ReadFault.TheVariants as fault
+use Rattle.std.proofs.Common.{arith}
+use Rattle.ent_script.specs.Reading.{system_of}
 use Rattle.ent_script.proofs.Openings.{array_begun, no_array_begun}
 use Rattle.ent_script.proofs.frames.system.Goals as goal
 
@@ -13,21 +7,11 @@ pub returns-then-not-branch-clause-value : goal.returns-then-not-branch-clause-v
 unfolding system_of
 returns-then-not-branch-clause-value c d rest e =
     let is = no_array_begun c.args.depth c.in_ok-begins_array.field-0 c.begins_array.new.reader d
-    rest (c.in_ok-begins_array.ensures.value d rest e) (grind arith) in (
-      ap
-          (λ (o : Option Items). ok_or (option_and_then
-          (λ ds. cond (nat_le (length ds) 10000) (Some ds) None) (option_map list_of o))
-          (fault.System c.args.frame c.args.number) >>= λ ds. numbered
-          (operation_at c.args.format c.args.components.now c.args.frame c.args.number ds) 0 ds)
-          is.0,
-      is.1,
-    )
+    rest (c.in_ok-begins_array.ensures.value d rest e) (grind arith) in
+    (rw is.0, is.1)
 
 pub returns-clause-value : goal.returns-clause-value
 returns-clause-value c d rest e =
     let is = array_begun c.args.depth c.in_ok-begins_array.field-0 c.begins_array.new.reader d rest
     (c.in_ok-begins_array.ensures.value d rest e) (grind arith) in
-    subst
-    (λ (x : Data). Streams c.operations.result c.operations.new.reader
-    (system_of c.args.format c.args.components.now c.args.frame c.args.number x) rest)
-    (sym is.1) (c.operations.ensures.value _ is.0 rest is.2)
+    rw is.1 (c.operations.ensures.value _ is.0 rest is.2)

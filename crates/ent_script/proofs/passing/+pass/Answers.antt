@@ -1,28 +1,24 @@
+use Rattle.std.proofs.lemmas.Grind.{common_steps}
 use Rattle.json.proofs.Grammar.{members_end, left-parse_map, value_is, value-begin_array}
 use Rattle.json.proofs.Grammar.{value-begin_object, read_key-shorter}
-use Rattle.std.proofs.Common.{rules, ◌≡◌, ◌-◌, ◌<◌, ◌∷◌, length, Some, None, refl, ap, ap₂, ◌∙◌}
-use Rattle.std.proofs.Common.{arith}
+use Rattle.std.proofs.Common.{rules, ◌≡◌, ◌-◌, ◌<◌, ◌∷◌, length, Some, None, refl, ◌∙◌, arith}
 use Rattle.json.specs.Json.{after_end_array, read_key, value}
 use Rattle.json.specs.Reads.{token_of}
 use Rattle.serde_json.specs.Data.{no_members}
 use Rattle.ent_script.proofs.Turns.{converted-array, converted-object, items_over, key_refused}
-use Rattle.ent_script.specs.Passing.{after_value}
 use Rattle.ent_script.proofs.Stepping.{item_passed, item_stuck, member_passed, member_stuck}
 use Rattle.ent_script.proofs.passing.+pass.Goals as goal
 
 pub pass_items-loop-reader-preserved : goal.pass_items-loop-reader-preserved
 pass_items-loop-reader-preserved t c =
-    let p = value c.args.depth in
     let l = c.loop-reader in
-    let n = l.invariant.0 in
     let going : (after_end_array l.reader ≡ None) × (c.take_end_array.new.self ≡ l.reader) = grind
     arith in
     let less : length c.pass_value.new.reader < length l.reader = rw (← going.1)
     c.in_ok-pass_value.ensures.shorter in (
-      n - 1,
+      l.invariant.0 - 1,
       omega (arith, l.invariant.1),
-      l.invariant.2 ∙ item_passed p n l.reader _ (omega (arith, l.invariant.1)) going.0
-          (rw (← going.1) c.in_ok-pass_value.ensures.value),
+      search (rules, item_passed),
       omega (arith, l.invariant.3),
     )
 
@@ -47,20 +43,16 @@ pass_members-returns-in_err-next_key-clause-value t c = search (rules, key_refus
 
 pub pass_members-loop-reader-preserved : goal.pass_members-loop-reader-preserved
 pass_members-loop-reader-preserved t c =
-    let p = value c.args.depth in
     let l = c.loop-reader in
-    let n = l.invariant.0 in
     let k = c.in-Some.field-0.now in
-    let s = c.next_key.new.self in
-    let key : read_key l.reader ≡ Some (Some k, s) = grind arith in
-    let less = read_key-shorter l.reader (Some k) s key in
-    let lesser = c.in_ok-pass_value.ensures.shorter in
-    let on = member_passed p n k l.reader s _ l.invariant.2.0 (omega (arith, l.invariant.1)) key
-    c.in_ok-pass_value.ensures.value in (
-      n - 1,
+    let key : read_key l.reader ≡ Some (Some k, c.next_key.new.self) = grind arith in
+    let less = read_key-shorter l.reader (Some k) c.next_key.new.self key in
+    let on = member_passed (value c.args.depth) l.invariant.0 k l.reader c.next_key.new.self _
+    l.invariant.2.0 (omega (arith, l.invariant.1)) key c.in_ok-pass_value.ensures.value in (
+      l.invariant.0 - 1,
       omega (arith, l.invariant.1),
       (_, l.invariant.2.1 ∙ on.1),
-      omega (arith, l.invariant.3),
+      omega (arith, l.invariant.3, less, c.in_ok-pass_value.ensures.shorter),
     )
 
 pub pass_members-returns-in_err-pass_value-clause-value :
@@ -73,16 +65,12 @@ pass_members-returns-clause-value t c = search (rules, members_end)
 pub pass_rest-returns-then-depth-eq0-clause-value :
     goal.pass_rest-returns-then-depth-eq0-clause-value
 unfolding value
-pass_rest-returns-then-depth-eq0-clause-value t c =
-    let none : c.args.depth ≡ 0 = omega arith in
-    ap₂ after_value none (ap (λ k. token_of k ∷ c.args.reader.now) c.in-BeginArray.is)
+pass_rest-returns-then-depth-eq0-clause-value t c = grind (arith, common_steps)
 
 pub pass_rest-returns-then-depth-eq0-2-clause-value :
     goal.pass_rest-returns-then-depth-eq0-2-clause-value
 unfolding value
-pass_rest-returns-then-depth-eq0-2-clause-value t c =
-    let none : c.args.depth ≡ 0 = omega arith in
-    ap₂ after_value none (ap (λ k. token_of k ∷ c.args.reader.now) c.in-BeginObject.is)
+pass_rest-returns-then-depth-eq0-2-clause-value t c = grind (arith, common_steps)
 
 pub pass_rest-returns-in-String-clause-value : goal.pass_rest-returns-in-String-clause-value
 pass_rest-returns-in-String-clause-value t c =

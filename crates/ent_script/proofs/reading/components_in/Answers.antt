@@ -1,8 +1,4 @@
-use Rattle.std.proofs.Common.{rules, [], length, option_and_then, codes, sym, subst, arith}
-use Rattle.serde_json.specs.Data.{Data}
-use Rattle.serde_json.specs.Find.{get}
-use Rattle.ent_script.specs.Json.{at_most}
-use Rattle.ent_script.specs.Streaming.{FindsElements}
+use Rattle.std.proofs.Common.{rules, [], length, arith}
 use Rattle.ent_script.proofs.Openings.{text_object, text_no_object}
 use Rattle.ent_script.proofs.reading.components_in.Goals as goal
 
@@ -14,7 +10,4 @@ returns-clause-found c d e =
     let ts = c.opens.new.reader in
     let opened = text_object c.args.text.now d e c.in_ok-reader.reader c.in_ok-reader.ensures.ok ts
     (grind arith) in
-    subst
-    (λ (x : Data). FindsElements c.components_inside.result
-    (option_and_then (at_most 256) (get (codes "components") x))) (sym opened.1)
-    (c.components_inside.ensures.found (length ts) opened.0 [] opened.2)
+    rw opened.1 (c.components_inside.ensures.found (length ts) opened.0 [] opened.2)

@@ -1,27 +1,18 @@
-use Rattle.std.proofs.Common.{◌≡◌, ◌-◌, List, map, Option, Some, option_map, option_and_then, codes}
-use Rattle.std.proofs.Common.{sym, ap, ◌∙◌, refl, true, false, bytes_eq, arith, rules}
+use Rattle.std.proofs.Common.{◌≡◌, ◌-◌, Some, ◌∙◌, refl, arith, rules}
 use Rattle.json.specs.Json.{read_key, members, value}
-use Rattle.serde_json.specs.Data.{Data, no_members, put}
-use Rattle.serde_json.specs.Read.{of_members, converted}
-use Rattle.ent_script.specs.Cut.{cut}
-use Rattle.ent_script.specs.Json.{at_most}
+use Rattle.serde_json.specs.Data.{no_members, put}
 use Rattle.ent_script.proofs.Finding.{next_member, last_member, no_key}
 use Rattle.ent_script.proofs.PassedOver.{member_over, member_not_over}
 use Rattle.ent_script.proofs.Puts.{found_here, found_before}
 use Rattle.ent_script.proofs.reading.components_inside.Goals as goal
-
-abbrev Seen : Option Data → Option (List Data)
-Seen o = option_map (map (cut 0)) (option_and_then (at_most 256) o)
 
 pub members-init : goal.members-init
 members-init c = record { found = λ n ms rest e. (n, no_members, e, refl); few = tt }
 
 pub returns-in_err-key-clause-found : goal.returns-in_err-key-clause-found
 returns-in_err-key-clause-found c n ms rest e =
-    let p = value c.args.depth in
-    let l = c.members in
-    let at = l.invariant.found n ms rest e in
-    no_key p at.0 l.reader rest at.1 ms c.in_err-key.ensures.value at.2
+    let at = c.members.invariant.found n ms rest e in
+    no_key (value c.args.depth) at.0 c.members.reader rest at.1 ms c.in_err-key.ensures.value at.2
 
 pub returns-in_err-found-clause-found : goal.returns-in_err-found-clause-found
 returns-in_err-found-clause-found c n ms rest e = search (rules, next_member)
@@ -29,20 +20,17 @@ returns-in_err-found-clause-found c n ms rest e = search (rules, next_member)
 pub members-preserved-then-eq : goal.members-preserved-then-eq
 members-preserved-then-eq c = record {
   found = λ n ms rest e.
-      let p = value c.args.depth in
       let l = c.members in
       let k = c.in-Some.key.now in
-      let s = c.next_key.new.self in
-      let named : read_key l.reader ≡ Some (Some k, s) = grind arith in
-      let same : bytes_eq k (codes "components") ≡ true = sym c.if-eq.ensures in
+      let named : read_key l.reader ≡ Some (Some k, c.next_key.new.self) = grind arith in
       let at = l.invariant.found n ms rest e in
-      let next = next_member p at.0 k l.reader s rest at.1 ms named at.2 in
+      let next = next_member (value c.args.depth) at.0 k l.reader c.next_key.new.self rest at.1 ms
+      named at.2 in
       let read = c.in_ok-found.ensures.value next.0 next.1 next.2 in (
         at.0 - 1,
         put k next.0 at.1,
-        ap (λ ts. converted (λ ms. of_members ms (put k next.0 at.1)) (members p (at.0 - 1) ts))
-            read.1 ∙ next.3,
-        read.0 ∙ sym (ap Seen (found_here (codes "components") k next.0 at.1 same)),
+        rw read.1 next.3,
+        read.0 ∙ search (rules, found_here),
       );
   few = c.in_ok-found.ensures.few;
 }
@@ -53,15 +41,10 @@ members-preserved c = record {
       let l = c.members in
       let k = c.in-Some.key.now in
       let at = l.invariant.found n ms rest e in
-      let other : bytes_eq k (codes "components") ≡ false = sym c.if-eq.ensures in
       let named : read_key l.reader ≡ Some (Some k, c.next_key.new.self) = grind arith in
       let next = member_over (value c.args.depth) at.0 k l.reader c.next_key.new.self rest at.1 ms
-      named at.2 c.pass_value.new.reader c.in_ok-pass_value.ensures.value in (
-        at.0 - 1,
-        put k next.0 at.1,
-        next.1,
-        at.3 ∙ sym (ap Seen (found_before (codes "components") k next.0 at.1 other)),
-      );
+      named at.2 c.pass_value.new.reader c.in_ok-pass_value.ensures.value in
+      (at.0 - 1, put k next.0 at.1, next.1, at.3 ∙ search (rules, found_before));
   few = c.members.invariant.few;
 }
 

@@ -1,8 +1,4 @@
-use Rattle.std.proofs.Common.{rules, [], length, codes, sym, subst, arith}
-use Rattle.serde_json.specs.Data.{Data}
-use Rattle.serde_json.specs.Find.{get}
-use Rattle.ent_script.specs.Streaming.{frames_of}
-use Rattle.ent_script.specs.Reading.{ReadsList}
+use Rattle.std.proofs.Common.{rules, [], length, arith}
 use Rattle.ent_script.proofs.Openings.{text_object, text_no_object}
 use Rattle.ent_script.proofs.reading.frames_in.Goals as goal
 
@@ -14,7 +10,4 @@ returns c d e =
     let ts = c.opens.new.reader in
     let opened = text_object c.args.text.now d e c.in_ok-reader.reader c.in_ok-reader.ensures.ok ts
     (grind arith) in
-    subst
-    (λ (x : Data). ReadsList c.frames_inside.result
-    (frames_of c.args.format c.args.components.now (get (codes "frames") x))) (sym opened.1)
-    (c.frames_inside.ensures (length ts) opened.0 [] opened.2)
+    rw opened.1 (c.frames_inside.ensures (length ts) opened.0 [] opened.2)

@@ -1,18 +1,14 @@
 use Rattle.std.proofs.lemmas.Grind.{common_steps}
-use Rattle.std.proofs.Common.{◌≡◌, ◌∙◌, ℕ, List, Some, Result, sym, subst, ap, rules, is_some}
-use Rattle.std.proofs.Common.{arith, false}
-use Rattle.std.specs.Prelude.{Err}
+use Rattle.std.proofs.Common.{◌≡◌, ◌∙◌, ℕ, List, Some, sym, ap, rules, arith}
 use Rattle.json.specs.Reads.{token_of}
 use Rattle.json.specs.Json.{value}
 use Rattle.serde_json.specs.Data.{Data}
-use Rattle.serde_json.specs.Read.{of_json, converted, read}
+use Rattle.serde_json.specs.Read.{read}
 use Rattle.serde_json.specs.View.{view}
 use Rattle.serde_json.specs.declared.value.Value.{Value}
 use Rattle.ent_script.specs.Cut.{cut}
-use Rattle.ent_script.specs.Reading.{heading_of, in_script, ReadsAs}
+use Rattle.ent_script.specs.Reading.{heading_of, in_script}
 use Rattle.ent_script.specs.declared.heading.Heading.{Heading}
-use Rattle.ent_script.specs.declared.read_fault.ReadFault.{ReadFault}
-use Rattle.ent_script.specs.declared.read_fault.ReadFault.TheVariants.{Script}
 use Rattle.ent_script.proofs.CutMeanings.{heading_of-cut}
 use Rattle.ent_script.proofs.Headings.{headed, whole}
 use Rattle.ent_script.proofs.reading.heading_in.Goals as goal
@@ -26,27 +22,19 @@ returns-then-is_some c = grind (arith, common_steps)
 meant : (text : List ℕ) (was : Data) (v : Value) → read text ≡ Some was → view v ≡ cut 1 was
     → headed (read text) ≡ in_script (heading_of (view v))
 meant text was v is seen =
-    ap headed is ∙ ap (in_script {A = Heading}) (sym (heading_of-cut was) ∙ ap heading_of (sym seen))
+    ap headed is
+    ∙ ap (in_script {A = Heading}) (sym (heading_of-cut was) ∙ ap heading_of (sym seen))
 
 pub returns-in_err-heading : goal.returns-in_err-heading
 returns-in_err-heading c =
     let was = c.in_ok-value.ensures.ok in
-    let none : is_some c.next.result ≡ false = grind arith in
     let is = whole c.next.result (λ t. token_of t) c.args.text.now was.0 c.read_cut.new.reader
-    c.next.new.self none c.next.ensures.value
-    (ap (λ ts. converted of_json (value 127 ts)) (sym c.in_ok-reader.ensures.ok) ∙ was.1) in
-    let cause = c.in_err-heading.field-0.0 in
-    let result : c.from_residual-in_err-heading.result ≡ Err (Script cause) = search rules in
-    subst (λ (r : Result Heading ReadFault). ReadsAs r (headed (read c.args.text.now))) (sym result)
-    (meant c.args.text.now was.0 c.in_ok-value.value is was.2
-    ∙ ap (in_script {A = Heading}) (sym c.in_err-heading.ensures))
+    c.next.new.self (grind arith) c.next.ensures.value (rw (← c.in_ok-reader.ensures.ok) was.1) in
+    search (rules, meant c.args.text.now was.0 c.in_ok-value.value is was.2)
 
 pub returns : goal.returns
 returns c =
     let was = c.in_ok-value.ensures.ok in
-    let none : is_some c.next.result ≡ false = grind arith in
     let is = whole c.next.result (λ t. token_of t) c.args.text.now was.0 c.read_cut.new.reader
-    c.next.new.self none c.next.ensures.value
-    (ap (λ ts. converted of_json (value 127 ts)) (sym c.in_ok-reader.ensures.ok) ∙ was.1) in
-    meant c.args.text.now was.0 c.in_ok-value.value is was.2
-    ∙ ap (in_script {A = Heading}) (sym c.in_ok-heading.ensures)
+    c.next.new.self (grind arith) c.next.ensures.value (rw (← c.in_ok-reader.ensures.ok) was.1) in
+    search (rules, meant c.args.text.now was.0 c.in_ok-value.value is was.2)

@@ -1,4 +1,4 @@
-use Rattle.std.proofs.Common.{arith}
+use Rattle.std.proofs.Common.{rules}
 use Rattle.std.proofs.lemmas.Result.{err_from_is_err_and}
 use Rattle.ent_script_run.specs.FrameText.{fault_line}
 use Rattle.ent_script_run.proofs.Parts.{part_fits}
@@ -9,11 +9,4 @@ returns-in_err-append_fault-clause-full c =
     let fits = part_fits (fault_line c.args.show) c.args.out.now.items c.loop-fault.out.items
     c.args.faults.now c.loop-fault.fault-index c.fault-item.result c.loop-fault-test.true
     c.fault-item.is c.loop-fault.invariant.told in
-    let p = err_from_is_err_and c.from_residual.result c.from_residual.ensures.1 in
-    rw p.1 (omega (
-      arith,
-      fits,
-      c.in_err-append_fault.ensures.full,
-      c.loop-fault.out.ok,
-      c.args.out.now.ok,
-    ))
+    search (rules, err_from_is_err_and, c.in_err-append_fault.ensures.full)

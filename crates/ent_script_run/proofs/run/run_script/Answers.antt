@@ -1,7 +1,5 @@
-use Rattle.std.proofs.Common.{rules, ℕ, subst}
-use Rattle.ent_script_run.specs.declared.show.Show.{Show}
+use Rattle.std.proofs.Common.{rules}
 use Rattle.std.proofs.lemmas.Result.{IfOk-weaker}
-use Rattle.ent_script_run.specs.Report.{IsReport}
 use Rattle.ent_script_run.proofs.OneReport.{one_report}
 use Rattle.ent_script_run.proofs.GivenOnce.{given_once}
 use Rattle.ent_script_run.proofs.SameText.{enough_text, same_text}
@@ -9,24 +7,18 @@ use Rattle.ent_script_run.proofs.run.run_script.Goals as goal
 
 pub returns-clause-only : goal.returns-clause-only
 returns-clause-only g c alone =
-    IfOk-weaker c.report-report.result _ _ (λ text is other also.
-    one_report c.args.script.now c.args.show text.items other
-    (subst (λ (n : ℕ). IsReport c.args.script.now n c.args.show text.items) alone is)
-    (subst (λ (n : ℕ). IsReport c.args.script.now n c.args.show other) alone also)) c.report-report.ensures
+    IfOk-weaker c.report-report.result _ _ (λ text is other also. one_report c.args.script.now
+    c.args.show text.items other (rw alone at is) (rw alone at also)) c.report-report.ensures
 
 pub returns-clause-given_once : goal.returns-clause-given_once
 returns-clause-given_once g c = search (rules, IfOk-weaker, given_once)
 
 pub returns-clause-same : goal.returns-clause-same
 returns-clause-same g c births free =
-    IfOk-weaker c.report-report.result _ _ (λ text is none.
-    same_text c.args.script.now c.args.workers text.items c.requires.ranges
-    (subst (λ (show : Show). IsReport c.args.script.now c.args.workers show text.items) births is)
-    free none) c.report-report.ensures
+    IfOk-weaker c.report-report.result _ _ (λ text is. same_text c.args.script.now c.args.workers text.items
+    c.requires.ranges (rw births at is) free) c.report-report.ensures
 
 pub returns-clause-enough : goal.returns-clause-enough
 returns-clause-enough g c births free enough =
-    IfOk-weaker c.report-report.result _ _ (λ text is.
-    enough_text c.args.script.now c.args.workers text.items c.requires.ranges
-    (subst (λ (show : Show). IsReport c.args.script.now c.args.workers show text.items) births is)
-    free enough) c.report-report.ensures
+    IfOk-weaker c.report-report.result _ _ (λ text is. enough_text c.args.script.now c.args.workers
+    text.items c.requires.ranges (rw births at is) free enough) c.report-report.ensures

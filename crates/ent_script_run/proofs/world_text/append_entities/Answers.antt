@@ -11,10 +11,4 @@ returns-in_err-append_entity-clause-full c =
     c.args.handles.now c.loop-handle.handle-index c.handle-item.result c.loop-handle-test.true
     c.handle-item.is c.loop-handle.invariant.told in
     let p = err_from_is_err_and c.from_residual.result c.from_residual.ensures.1 in
-    rw p.1 (omega (
-      arith,
-      fits,
-      c.in_err-append_entity.ensures.full,
-      c.loop-handle.out.ok,
-      c.args.out.now.ok,
-    ))
+    rw p.1 (omega (arith, c.in_err-append_entity.ensures.full, c.loop-handle.out.ok))

@@ -10,10 +10,4 @@ returns-in_err-append_item-clause-full c =
     c.loop-item.out.items c.args.items c.loop-item.item-iterator c.next.new.self c.in-Some.item
     c.in-Some.ensures.steps c.loop-item.invariant.told in
     let p = err_from_is_err_and c.from_residual.result c.from_residual.ensures.1 in
-    rw p.1 (omega (
-      arith,
-      fits,
-      c.in_err-append_item.ensures.full,
-      c.loop-item.out.ok,
-      c.args.out.now.ok,
-    ))
+    rw p.1 (omega (arith, c.in_err-append_item.ensures.full, c.loop-item.out.ok))

@@ -1,10 +1,9 @@
-use Rattle.std.proofs.Common.{rules, ◌≡◌, arith, ◌∙◌, to_z, of_z, w64}
+use Rattle.std.proofs.Common.{ap, map, rules, arith, ◌∙◌}
+use Rattle.ent_shared.specs.Phase.{Reserver, own_of}
 use Rattle.std.proofs.lemmas.Int.{ints}
-use Rattle.ent_alloc.specs.Sequential.{cursor}
-use Rattle.ent_shared.specs.Phase.{own_of}
 use Rattle.ent_shared.proofs.Steps.{goes_by_records}
-use Rattle.ent_shared.proofs.Sharing.{AreShared, none_shared, next_seated, shared_more, all_shared}
-use Rattle.ent_shared.proofs.Sharing.{all_unused, all_own}
+use Rattle.ent_shared.proofs.Sharing.{AreShared, none_shared, next_seated, shared_more, own_again}
+use Rattle.ent_shared.proofs.Sharing.{none_used, all_of}
 use Rattle.ent_shared.proofs.phase.share.Goals as goal
 
 pub loop-number-init : goal.loop-number-init
@@ -19,19 +18,16 @@ new-requires c =
     let from = c.from-top.ensures in
     let flushed = c.requires.flushed in
     let small = c.top.type_inv in
-    let at : to_z w64 (of_z w64 c.from-top.result) ≡ cursor c.args.entities.allocator = omega (arith, ints) in
-    next_seated c.args.entities.allocator c.args.n c.loop-number.number _ _ _ c.loop-number.all.me
-    c.loop-number-test.true c.loop-number.invariant.first c.split_first.result.views _
-    c.split_first.ensures.first.1 at
+    next_seated _ _ c.loop-number.number _ _ _ _ c.loop-number-test.true
+    c.loop-number.invariant.first c.split_first.result.views _ c.split_first.ensures.first.1
+    (omega (arith, ints))
 
 pub loop-number-preserved : goal.loop-number-preserved
 loop-number-preserved c = record {
   first =
-      shared_more c.args.entities.allocator c.args.n c.loop-number.number _ _ _ c.loop-number.all.me
-      c.loop-number-test.true c.loop-number.invariant.first c.split_first.new.all.table_id
-      c.split_first.new.all.me c.new.result
-      c.split_first.ensures.kept.0 c.split_first.ensures.kept.1 c.split_first.result.views
-      c.split_first.ensures.first.1 (c.new.ensures ∙ (λ i. record {
+      shared_more _ _ c.loop-number.number _ _ _ _ c.loop-number-test.true
+      c.loop-number.invariant.first _ _ _ c.split_first.ensures.kept.0 c.split_first.ensures.kept.1
+      c.split_first.result.views c.split_first.ensures.first.1 (c.new.ensures ∙ (λ i. record {
         word = c.split_first.ensures.first.0 i;
         own = own_of c.split_first.result.views;
       })) _ c.push_reserved.ensures.items;
@@ -47,11 +43,15 @@ made : (c : goal.After-drop-all) → AreShared c.args.entities.allocator c.args.
 made c = search (rules, AreShared)
 
 pub returns-clause-reservers : goal.returns-clause-reservers
-returns-clause-reservers c = all_shared c.args.entities.allocator c.args.n _ _ _ _ (made c)
+returns-clause-reservers c =
+    ap (map (λ (r : Reserver). r.own)) (made c).made_is ∙ own_again _ _
 
 pub returns-clause-own : goal.returns-clause-own
-returns-clause-own c = all_own c.args.entities.allocator c.args.n _ _ _ _ (made c) c.new-2.result _
-    c.new-2.ensures
+returns-clause-own c =
+    let d = made c in
+    let all = all_of c.args.entities.allocator c.args.entities.rows c.args.n
+    c.in-Ok-open.word.shared.table_id 0 c.args.n (omega arith) in
+    search (rules, d.made_is)
 
 pub returns-clause-unused : goal.returns-clause-unused
-returns-clause-unused c = all_unused c.args.entities.allocator c.args.n _ _ _ _ (made c)
+returns-clause-unused c = search (rules, none_used, made)

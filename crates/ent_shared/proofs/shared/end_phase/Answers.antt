@@ -1,8 +1,7 @@
-use Rattle.std.proofs.Common.{rules, ◌≡◌, w64, to_z, of_z, [], ◌∷◌, arith, ap, ◌∙◌}
+use Rattle.std.proofs.Common.{◌≡◌, w64, to_z, of_z, [], ◌∷◌, arith, ap, ◌∙◌}
 use Rattle.std.proofs.lemmas.Grind.{common_steps}
 use Rattle.std.proofs.lemmas.Int.{ints}
-use Rattle.ent_shared.specs.Phase.{Reserver, own_of}
-use Rattle.ent_seats.proofs.HandedIn.{items_all}
+use Rattle.ent_shared.specs.Phase.{Reserver}
 use Rattle.ent_shared.proofs.Steps.{goes_by_records}
 use Rattle.ent_shared.proofs.Merging.{item_is, items_on, records_on, floor_on}
 use Rattle.ent_shared.proofs.shared.end_phase.Goals as goal
@@ -16,43 +15,33 @@ merge-requires-clause-rule c = goes_by_records _ _
 pub merge-requires-clause-word : goal.merge-requires-clause-word
 merge-requires-clause-word c =
     let i = c.loop-reserver.invariant in
-    let own = item_is (λ (r : Reserver). r.word ≡ c.args.word.shared.table_id)
-    c.args.reservers.items c.loop-reserver.yielded c.loop-reserver.reserver-iterator.rest.items
-    c.next.new.self.rest.items c.in-Some.reserver i.all c.in-Some.ensures.steps.0 c.requires.own in
+    let own = item_is (λ (r : Reserver). r.word ≡ c.args.word.shared.table_id) _ _ _ _ _ i.all
+    c.in-Some.ensures.steps.0 c.requires.own in
     (c.requires.word.0, i.seat, ap (λ (r : Reserver). r.word) c.reserver.view_is ∙ own, i.bare)
 
 pub loop-reserver-preserved : goal.loop-reserver-preserved
 loop-reserver-preserved c =
     let i = c.loop-reserver.invariant in
     let view = c.reserver.invariant in
+    let fits = c.min-floor.type_inv in
+    let after : to_z w64 (of_z w64 c.min-floor.result) ≡ c.min-floor.result = omega (arith, ints) in
+    let own : to_z w64 (of_z w64 c.reserver.inside.floor) ≡ c.reserver.inside.floor =
+    omega (arith, ints) in
     record {
-      all = items_on c.args.reservers.items c.loop-reserver.yielded
-          c.loop-reserver.reserver-iterator.rest.items c.next.new.self.rest.items c.in-Some.reserver
-          i.all c.in-Some.ensures.steps.0;
+      all = items_on _ _ _ _ _ i.all c.in-Some.ensures.steps.0;
       seat = c.merge.ensures.kept ∙ i.seat;
       bare = c.merge.ensures.merges.0;
-      records = records_on c.loop-reserver.all.me.0 c.merge.new.all.me.0 c.loop-reserver.yielded
-          c.in-Some.reserver (own_of c.reserver.inside.badge.views ∷ []) i.records
-          (c.merge.ensures.merges.1 (own_of c.reserver.inside.badge.views ∷ []) view.views_is)
+      records = records_on _ _ c.loop-reserver.yielded c.in-Some.reserver _ i.records
+          (c.merge.ensures.merges.1 _ view.views_is)
           (ap (λ (r : Reserver). r.own ∷ []) c.reserver.view_is);
-      floor =
-          let fits = c.min-floor.type_inv in
-    let after : to_z w64 (of_z w64 c.min-floor.result) ≡ c.min-floor.result = omega (arith, ints) in
-          let own : to_z w64 (of_z w64 c.reserver.inside.floor) ≡ c.reserver.inside.floor =
-          omega (arith, ints) in
-          floor_on (to_z w64 (of_z w64 c.args.top)) (to_z w64 c.loop-reserver.floor-bits)
-          (to_z w64 (of_z w64 c.min-floor.result)) (to_z w64 (of_z w64 c.reserver.inside.floor))
-          c.loop-reserver.yielded c.in-Some.reserver i.floor (after ∙ c.min-floor.ensures.value)
+      floor = floor_on _ _ _ _ c.loop-reserver.yielded c.in-Some.reserver i.floor
+          (after ∙ c.min-floor.ensures.value)
           (own ∙ (view.floor_is ∙ ap (λ (r : Reserver). r.own.floor) c.reserver.view_is));
     }
 
 pub close-requires : goal.close-requires
 close-requires c =
     record { word = (c.requires.word.0, c.requires.word.1, c.loop-reserver.invariant.seat) }
-
--- all that were handed in were taken in
-all_in : (c : goal.After-close) → c.loop-reserver.yielded ≡ c.args.reservers.items
-all_in c = search (rules, items_all)
 
 pub returns-clause-cursor : goal.returns-clause-cursor
 returns-clause-cursor c = grind (arith, common_steps)

@@ -13,8 +13,7 @@ pub fetch_sub-found-requires : goal.fetch_sub-found-requires
 fetch_sub-found-requires c = (
   search rules,
   search rules,
-  reserves_at _ _ _ _ c.into_seat-seat.result.me (own_of c.args.badge.now.views) c.args.n
-      c.into.result (seat c) c.into_seat-seat.ensures.3 c.into.ensures c.requires.some
+  reserves_at _ _ _ _ _ _ _ _ (seat c) c.into_seat-seat.ensures.3 c.into.ensures c.requires.some
       c.requires.credit,
 )
 

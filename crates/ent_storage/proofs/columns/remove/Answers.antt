@@ -1,6 +1,5 @@
-use Rattle.std.proofs.Common.{rules, sym, arith}
+use Rattle.std.proofs.Common.{rules, arith}
 use Rattle.std.proofs.lemmas.List.{get_or_default}
-use Rattle.std.specs.FinMap as map
 use Rattle.ent_storage.proofs.ColumnsAtPlaces.{components_remove, remove_others, column_set}
 use Rattle.ent_storage.proofs.ColumnsAtPlaces.{column_kept, taken_none}
 use Rattle.ent_storage.proofs.InUse.{removed_rest}
@@ -14,13 +13,10 @@ pub returns-then-number-columns-clause-others : goal.returns-then-number-columns
 returns-then-number-columns-clause-others c p q far =
     search (rules, get_or_default, column_set, column_kept, remove_others)
 
-pub returns-else-number-columns-clause-value : goal.returns-else-number-columns-clause-value
-returns-else-number-columns-clause-value c =
-    sym (taken_none c.args.columns.now c.args.place c.args.id (omega arith)).0
-
-pub returns-else-number-columns-clause-here : goal.returns-else-number-columns-clause-here
-returns-else-number-columns-clause-here c =
-    (taken_none c.args.columns.now c.args.place c.args.id (omega arith)).1
+pub returns-else-number-columns : goal.returns-else-number-columns
+returns-else-number-columns c =
+    let none = taken_none c.args.columns.now c.args.place c.args.id (omega arith) in
+    search (rules, none)
 
 pub returns-then-number-columns-clause-rest : goal.returns-then-number-columns-clause-rest
 returns-then-number-columns-clause-rest c n none = search (rules, removed_rest)

@@ -7,12 +7,5 @@ use Rattle.ent_storage.proofs.columns.set_all.Goals as goal
 
 pub loop-item-preserved : goal.loop-item-preserved
 loop-item-preserved c =
-    grind (
-      arith,
-      common_steps,
-      components_insert,
-      at_drop_more,
-      insert_others,
-      insert_room,
-      rest_kept,
-    )
+    let kept = rest_kept in
+    grind (arith, common_steps, components_insert, at_drop_more, insert_others, insert_room, kept)

@@ -1,6 +1,5 @@
-use Rattle.std.proofs.Common.{sym, ◌∙◌}
-use Rattle.ent_handle.specs.Handle.{handle_cmp_total as total}
-use Rattle.ent_handle.specs.Handle.{handle_cmp-IsAntisymmetric as same}
+use Rattle.std.proofs.Common.{sym, rules}
+use Rattle.ent_handle.specs.Handle.{handle_cmp_total as total, handle_cmp-IsAntisymmetric as same}
 use Rattle.ent_storage.proofs.Counted.{counted_has, counted_not, counted_none}
 use Rattle.ent_storage.proofs.Rising.{get_at, get_in_gap}
 use Rattle.ent_storage.proofs.index.place_found.Goals as goal
@@ -17,12 +16,10 @@ pub returns-then-has_handle_at : goal.returns-then-has_handle_at
 returns-then-has_handle_at c =
     let at = rw c.in-Ok.is at c.requires.found in
     let read = get_at total same _ c.requires.sorted _ _ c.index-pairs-position.result at in
-    sym (counted_has c.args.living.now.entities _ c.args.handle _ read
-    (sym c.has_handle_at.ensures ∙ c.if-has_handle_at.true))
+    search (rules, counted_has c.args.living.now.entities _ c.args.handle _ read)
 
 pub returns-else-has_handle_at : goal.returns-else-has_handle_at
 returns-else-has_handle_at c =
     let at = rw c.in-Ok.is at c.requires.found in
     let read = get_at total same _ c.requires.sorted _ _ c.index-pairs-position.result at in
-    sym (counted_not c.args.living.now.entities _ c.args.handle _ read
-    (sym c.has_handle_at.ensures ∙ c.if-has_handle_at.false))
+    search (rules, counted_not c.args.living.now.entities _ c.args.handle _ read)

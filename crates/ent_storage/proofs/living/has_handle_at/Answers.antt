@@ -1,9 +1,7 @@
 use Rattle.std.proofs.Common.{◌≡◌, Some, ap, sym, ◌∙◌, rules}
-use Rattle.ent_storage.specs.Living.{Living}
 use Rattle.std.proofs.lemmas.Option.{slice_get-get_or}
 use Rattle.std.specs.Ordering.{eq_by_cmp}
 use Rattle.ent_handle.specs.Handle.{handle_cmp}
-use Rattle.ent_storage.specs.Indexed.{has_handle_at}
 use Rattle.ent_storage.proofs.EntitiesOfResidents.{test_at, test_past}
 use Rattle.ent_storage.proofs.living.has_handle_at.Goals as goal
 
@@ -14,11 +12,9 @@ returns-in-Some c =
     look.3.0 ∙ ap Some (sym (look.3.1 c.in-Some.entity.now)) in
     let tests : c.eq.result ≡ eq_by_cmp handle_cmp c.in-Some.entity.now.handle c.args.handle =
     search rules in
-    tests
-    ∙ sym (test_at c.living.inside.residents.items c.living.inside.columns.items c.args.place
-    c.in-Some.entity.now c.args.handle at)
-    ∙ ap (λ (l : Living). has_handle_at l.entities c.args.handle (Some c.args.place))
-    c.living.view_is
+    let here = test_at c.living.inside.residents.items c.living.inside.columns.items c.args.place
+    c.in-Some.entity.now c.args.handle at in
+    search (rules, tests, here, c.living.view_is)
 
 pub returns-in-None : goal.returns-in-None
 returns-in-None c = search (rules, test_past)

@@ -1,11 +1,9 @@
-use Rattle.std.proofs.Common.{rules, sym, ap, ◌∙◌, inr, arith}
+use Rattle.std.proofs.Common.{true≢false, rules, sym, ap, ◌∙◌, inr, arith}
 use Rattle.std.proofs.lemmas.Grind.{common_steps}
-use Rattle.std.specs.FinMap as map
 use Rattle.ent_storage.specs.EntityMap.{with_components}
 use Rattle.ent_storage.specs.Components.{with_items}
 use Rattle.ent_world.proofs.Making.{on_ok, on_err, made_whole, some_items, taken_back}
 use Rattle.ent_world.proofs.Making.{end_taken_back}
-use Rattle.ent_world.proofs.Room.{no_room}
 use Rattle.ent_world.proofs.spawning.make.Goals as goal
 
 -- the entity without its components goes again
@@ -28,7 +26,7 @@ returns-then-is_err-2-clause-memory c =
 
 -- no room was there
 pub returns-then-is_err-clause-memory : goal.returns-then-is_err-clause-memory
-returns-then-is_err-clause-memory c = search (rules, no_room)
+returns-then-is_err-clause-memory c = search (rules, true≢false)
 
 pub returns-clause-less : goal.returns-clause-less
 returns-clause-less c = search (rules, on_ok)

@@ -1,4 +1,4 @@
-use Rattle.std.proofs.Common.{rules, ◌≡◌, refl, sym, ap, ◌∙◌, arith, pos, ◌-ℤ◌}
+use Rattle.std.proofs.Common.{rules, ◌≡◌, sym, ap, ◌∙◌, arith, pos, ◌-ℤ◌}
 use Rattle.std.proofs.lemmas.Int.{ints}
 use Rattle.ent_alloc.specs.Sequential.{cursor, reply_to}
 use Rattle.ent_world.proofs.Making.{one_given, some_given, given_new, none_given, pool_some}
@@ -20,18 +20,9 @@ replied c =
 
 pub returns-in_default-clause-space : goal.returns-in_default-clause-space
 returns-in_default-clause-space c =
-    let s = c.args.entities.now.allocator in
     let reply = replied (goal.at.returns-in_default-clause-space c).After-reply in
-    let none : s.asked ≡ 0 =
-    omega (
-      arith,
-      ints,
-      c.top.ensures,
-      c.from-top.ensures,
-      c.cursor.ensures.value,
-      c.if-cursor-top.false,
-    ) in
-    (λ _. (none, none_given s c.in_default.field-0 (sym reply ∙ c.in_default.is)), λ _. refl)
+    let none : c.args.entities.now.allocator.asked ≡ 0 = omega (arith, ints) in
+    search (rules, none_given)
 
 pub unreachable-requires : goal.unreachable-requires
 unreachable-requires c =

@@ -19,7 +19,8 @@ returns-then-not-is_among c =
     c.in-Some.ensures.steps in
     let key : c.as_str.result.now ≡ string_bytes e.0 = c.as_str.ensures.value in
     let fails : is_known (string_bytes e.0) ≡ false = ap is_known (sym key)
-    ∙ sym (among_lent c.as_str.result.now known) ∙ sym c.is_among.ensures ∙ c.if-not-is_among.true in
+    ∙ sym (among_lent c.as_str.result.now known) ∙ sym c.is_among.ensures ∙ c.if-not-is_among.true
+    in
     ap Some c.as_str-then-not-is_among.ensures.value
     ∙ sym (here ∙ key_here is_known (pair_view e) (map pair_view c.next.new.self) fails)
 
@@ -33,5 +34,6 @@ loop-key-preserved c =
     c.in-Some.ensures.steps in
     let key : c.as_str.result.now ≡ string_bytes e.0 = c.as_str.ensures.value in
     let holds : is_known (string_bytes e.0) ≡ true = ap is_known (sym key)
-    ∙ sym (among_lent c.as_str.result.now known) ∙ sym c.is_among.ensures ∙ c.if-not-is_among.false in
+    ∙ sym (among_lent c.as_str.result.now known) ∙ sym c.is_among.ensures ∙ c.if-not-is_among.false
+    in
     here ∙ key_skip is_known (pair_view e) (map pair_view c.next.new.self) holds

@@ -1,5 +1,5 @@
-use Rattle.std.proofs.Common.{◌≡◌, true, false, sym, ap, ◌∙◌, List, map, Some, string_bytes}
-use Rattle.std.proofs.Common.{String, Global}
+use Rattle.std.proofs.Common.{◌≡◌, true, false, sym, ap, ◌∙◌, List, map, Some, string_bytes, String}
+use Rattle.std.proofs.Common.{Global}
 use Rattle.serde_json.specs.View.{view}
 use Rattle.serde_json.specs.declared.value.Value.{Value}
 use Rattle.ent_script.proofs.Values.{pair_view}
@@ -20,7 +20,8 @@ returns-then-not-is_listed c =
     c.in-Some.ensures.steps in
     let key : c.as_str.result.now ≡ string_bytes e.0 = c.as_str.ensures.value in
     let fails : is_known (string_bytes e.0) ≡ false = ap is_known (sym key)
-    ∙ sym (listed_lent c.as_str.result.now known) ∙ sym c.is_listed.ensures ∙ c.if-not-is_listed.true in
+    ∙ sym (listed_lent c.as_str.result.now known) ∙ sym c.is_listed.ensures ∙
+    c.if-not-is_listed.true in
     ap Some c.as_str-then-not-is_listed.ensures.value
     ∙ sym (here ∙ key_here is_known (pair_view e) (map pair_view c.next.new.self) fails)
 
@@ -34,5 +35,6 @@ loop-key-preserved c =
     c.in-Some.ensures.steps in
     let key : c.as_str.result.now ≡ string_bytes e.0 = c.as_str.ensures.value in
     let holds : is_known (string_bytes e.0) ≡ true = ap is_known (sym key)
-    ∙ sym (listed_lent c.as_str.result.now known) ∙ sym c.is_listed.ensures ∙ c.if-not-is_listed.false in
+    ∙ sym (listed_lent c.as_str.result.now known) ∙ sym c.is_listed.ensures ∙
+    c.if-not-is_listed.false in
     here ∙ key_skip is_known (pair_view e) (map pair_view c.next.new.self) holds

@@ -8,6 +8,7 @@ use Rattle.spawnrun_advice.proofs.first.listed_in.Goals as goal
 
 pub returns-in-Some : goal.returns-in-Some
 returns-in-Some c =
-    let there : Some (view c.in-Some.value.now) ≡ get (codes "components") (view c.args.script.now) =
+    let there : Some (view c.in-Some.value.now) ≡ get (codes "components")
+    (view c.args.script.now) =
     sym (ap (option_map (λ (v : Bor Value). view v.now)) c.in-Some.is) ∙ c.get.ensures in
     c.elements_of.ensures ∙ ap (λ o. unwrap_or (option_and_then elements o) []) there

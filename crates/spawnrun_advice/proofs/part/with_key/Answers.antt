@@ -20,7 +20,8 @@ loop-letter-preserved c =
     let parts = c.in-Some.ensures.steps.0 in
     record {
       utf8 = IsUtf8-past_char before rest letter held.utf8 parts;
-      text = go_on old (inline_text c.with_key_char-shown.result) (key_char letter) (flat_map key_char (chars rest))
+      text = go_on old (inline_text c.with_key_char-shown.result) (key_char letter)
+          (flat_map key_char (chars rest))
           c.with_key_char-shown.ensures.text
           ∙ ap (λ (bs : List ℕ). front (old ++ bs))
           (sym (past_letter key_char before rest letter held.utf8 parts))

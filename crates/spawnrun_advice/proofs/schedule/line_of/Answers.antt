@@ -4,7 +4,8 @@ use Rattle.spawnrun_advice.proofs.schedule.line_of.Goals as goal
 
 pub returns-in_default : goal.returns-in_default
 returns-in_default c =
-    sym (nth_past c.loop-before.before c.loop-before.rest.now (omega (arith, c.loop-before-test.true))
+    sym (nth_past c.loop-before.before c.loop-before.rest.now
+    (omega (arith, c.loop-before-test.true))
     c.in_default.ensures.none) ∙ c.loop-before.invariant
 
 pub loop-before-preserved : goal.loop-before-preserved

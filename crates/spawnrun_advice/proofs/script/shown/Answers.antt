@@ -29,4 +29,5 @@ pub returns-in-Err-clause-shows : goal.returns-in-Err-clause-shows
 returns-in-Err-clause-shows c =
     let none = json_none c.args.text.now
     (c.in-Err.ensures.err (iff_false c.is_memory.ensures c.if-not-is_memory.true)) in
-    subst (ShowsOf c.args.fault (inline_text c.words_shown.result)) (sym none) c.words_shown.ensures.text
+    subst (ShowsOf c.args.fault (inline_text c.words_shown.result)) (sym none)
+    c.words_shown.ensures.text

@@ -7,4 +7,5 @@ pub returns-clause-printable : goal.returns-clause-printable
 returns-clause-printable c = λ h.
     counted (inline_text c.with_system-found.result) (inline_text c.with-found.result)
     (inline_text c.with_number.result) (codes ", operation ") c.args.operation c.with-found.ensures
-    c.with_number.ensures.text refl c.ranges.operation.fits (c.with_system-found.ensures.printable h)
+    c.with_number.ensures.text refl c.ranges.operation.fits
+    (c.with_system-found.ensures.printable h)

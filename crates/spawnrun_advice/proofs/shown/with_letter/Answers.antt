@@ -12,7 +12,8 @@ piece : (c : goal.After-bytes-2-1) → c.encode_utf8.result.now ≡ c.args.lette
 piece c = c.encode_utf8.ensures.value
     ∙ rw c.from.ensures (encode_ascii c.args.letter (omega (arith, c.requires.letter.1)))
 
-printable : (c : goal.After-bytes-2-1) → ArePrintable (inline_text c.args.shown ++ c.args.letter ∷ [])
+printable : (c : goal.After-bytes-2-1) → ArePrintable
+    (inline_text c.args.shown ++ c.args.letter ∷ [])
 printable c = All-push IsPrintable (inline_text c.args.shown) c.args.letter c.requires.printable
     c.requires.letter
 

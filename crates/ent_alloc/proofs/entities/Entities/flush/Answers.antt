@@ -1,10 +1,7 @@
-use Rattle.std.proofs.Common.{rules, ◌≡◌, Result, Ok, Err, OnErr, ◌-◌, ℕ, length, get_or, ap, subst}
-use Rattle.std.proofs.Common.{◌∙◌}
+use Rattle.std.proofs.Common.{rules, ◌≡◌, Result, Ok, Err, OnErr, ◌-◌, ℕ, length, ap, subst, ◌∙◌}
 use Rattle.std.proofs.lemmas.List.{length-take-le}
-use Rattle.std.specs.FinMap as maps
-use Rattle.ent_alloc.specs.Sequential.{after_flush, born}
+use Rattle.ent_alloc.specs.Sequential.{after_flush}
 use Rattle.ent_alloc.specs.Sound.{IsSound}
-use Rattle.ent_alloc.specs.Roster.{Roster}
 use Rattle.ent_alloc.specs.Entities.{Entities, HasRowsOfLiving}
 use Rattle.ent_alloc.proofs.Soundness.{after_flush-sound}
 use Rattle.ent_alloc.proofs.Meaning.{allocator_is, length-idle, closed, StandFor}
@@ -36,17 +33,16 @@ left : (c : After-none-self-inside) → AreCounted (length c.self.inside.slots.p
     (after_flush c.args.self.now.allocator)
 left c counts =
     let r = c.self.inside.slots in
-    let s = c.args.self.now.allocator in
     let view = allocator_is c.self.view_is in
     let inv = c.self.invariant in
-    let kept = length r.pending - c.self.inside.requests.served in
-    let news = c.self.inside.requests.served - length r.pending in
-    closed c.bring_to_life.new.self (flushed_roster r kept news)
-    c.none-self-inside.result (after_flush s) (c.in_ok-bring_to_life.ensures.ok
-    ∙ (λ i. flushed_roster r (counts.kept_is i) (counts.news_is i))) c.none-self-inside.ensures
-    (flush_is r c.self.inside.requests.asked c.self.inside.requests.served inv.given_least
-    inv.given_in inv.sound ∙ ap after_flush view)
-    (after_flush-sound s (subst IsSound view inv.sound)) (search (rules, rows-joined))
+    let given = c.self.inside.requests.served in
+    let is =
+    flush_is r c.self.inside.requests.asked given inv.given_least inv.given_in inv.sound in
+    closed c.bring_to_life.new.self
+    (flushed_roster r (length r.pending - given) (given - length r.pending))
+    c.none-self-inside.result (after_flush c.args.self.now.allocator) (search (rules))
+    c.none-self-inside.ensures (is ∙ ap after_flush view)
+    (search (rules, after_flush-sound, view)) (search (rules, rows-joined))
 
 pub returns-in_err-bring_to_life-clause-memory : goal.returns-in_err-bring_to_life-clause-memory
 returns-in_err-bring_to_life-clause-memory c =
@@ -67,13 +63,9 @@ pub returns-clause-no_rows : goal.returns-clause-no_rows
 returns-clause-no_rows c k d below =
     let view = c.self.view_is in
     let inv = c.self.invariant in
-    ap (λ (r : Roster). maps.get r.rows (get_or (born c.args.self.now.allocator) k d))
-    c.in_ok-bring_to_life.ensures.ok
-    ∙ ap (λ (e : Entities). maps.get e.rows (get_or (born c.args.self.now.allocator) k d)) view
-    ∙ born-no_row c.args.self.now (subst HasRowsOfLiving view inv.rows)
-    (subst (λ (e : Entities). IsSound e.allocator) view inv.sound) k d below
+    let none = born-no_row c.args.self.now (subst HasRowsOfLiving view inv.rows)
+    (subst (λ (e : Entities). IsSound e.allocator) view inv.sound) k d below in
+    search (rules, none, c.in_ok-bring_to_life.ensures.ok, view)
 
 pub returns-clause-rows_of_living : goal.returns-clause-rows_of_living
-returns-clause-rows_of_living c =
-    let at = goal.at.returns-clause-rows_of_living c in
-    (left at.After-none-self-inside (counted at.After-fresh-fresh)).reserved.rows
+returns-clause-rows_of_living c = (invariant_of-self-2 c).rows

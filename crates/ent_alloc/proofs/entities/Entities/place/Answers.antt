@@ -1,10 +1,9 @@
 use Rattle.std.proofs.Common.{rules, ◌≡◌, ℕ, ◌+◌, ◌-◌, ◌<◌, false, length, drop, leb, get_or, sym}
-use Rattle.std.proofs.Common.{ap, ◌∙◌, arith, slice_get, le-leb}
+use Rattle.std.proofs.Common.{ap, ◌∙◌, arith, le-leb}
 use Rattle.std.proofs.lemmas.Bool.{lt-leb}
 use Rattle.ent_handle.specs.Handle.{Handle}
 use Rattle.ent_alloc.specs.Roster.{Roster}
 use Rattle.ent_alloc.specs.Sequential.{Allocator, available, fresh, stands_in}
-use Rattle.ent_alloc.specs.Slots.{is_pending_from}
 use Rattle.ent_alloc.specs.Entities.{allocator_of, AreReserved}
 use Rattle.ent_alloc.proofs.Looked.{fresh_no}
 use Rattle.ent_alloc.proofs.Meaning.{allocator_is}
@@ -31,63 +30,42 @@ pub overflow_sub-result : goal.overflow_sub-result
 overflow_sub-result c =
     let here = waiting c.self.inside.slots c.args.handle c.in-Some-Pending.position
     (search (rules, c.in-Some-Pending.ensures.waits, c.in-Some-Pending.field-0-is)) in
-    let within = here.0 in
-    omega arith
+    omega (arith, here.0)
 
 pub overflow_sub-result-in-Some-Pending : goal.overflow_sub-result-in-Some-Pending
 overflow_sub-result-in-Some-Pending c =
     let here = waiting c.self.inside.slots c.args.handle c.in-Some-Pending.position
     (search (rules, c.in-Some-Pending.ensures.waits, c.in-Some-Pending.field-0-is)) in
-    let within = here.0 in
-    omega arith
+    omega (arith, here.0)
 
 pub returns-in-Some-Pending-clause-found : goal.returns-in-Some-Pending-clause-found
 returns-in-Some-Pending-clause-found c =
-    let e = c.self.inside in
-    let r = e.slots in
-    let position = c.in-Some-Pending.position in
-    let here = waiting r c.args.handle position
+    let here = waiting c.self.inside.slots c.args.handle c.in-Some-Pending.position
     (search (rules, c.in-Some-Pending.ensures.waits, c.in-Some-Pending.field-0-is)) in
-    (λ i. slice_get (available_view r e.requests.asked e.requests.served c.args.self.now.allocator
-    c.self.invariant (allocator_is c.self.view_is) i)
-    (c.waiting-waiting.ensures.value i - 1 - c.in-Some-Pending.position-is i))
-    ∙ waiting_place r c.args.handle position here.0 here.1
+    search (rules, here, allocator_is, available_view, waiting_place, c.in-Some-Pending.position-is)
 
 pub returns-in-Some-Alive-clause-none : goal.returns-in-Some-Alive-clause-none
 returns-in-Some-Alive-clause-none c =
-    let e = c.self.inside in
     let made = c.in-Some-Alive.ensures.made in
-    nowhere e.slots e.requests.asked e.requests.served c.args.self.now.allocator c.args.handle
-    c.self.invariant (allocator_is c.self.view_is)
-    (c.in-Some-Alive.ensures.waits 0 ∙ ap (λ o. is_pending_from o 0) c.in-Some-Alive.field-0-is)
-    (search (rules, fresh_no, c.args.handle))
+    let gone = c.in-Some-Alive.ensures.waits 0 in
+    search (rules, nowhere, allocator_is, c.in-Some-Alive.field-0-is, fresh_no, c.args.handle)
 
 pub returns-in-Some-AliveWithRow-clause-none : goal.returns-in-Some-AliveWithRow-clause-none
 returns-in-Some-AliveWithRow-clause-none c =
-    let e = c.self.inside in
     let made = c.in-Some-AliveWithRow.ensures.made in
-    nowhere e.slots e.requests.asked e.requests.served c.args.self.now.allocator c.args.handle
-    c.self.invariant (allocator_is c.self.view_is)
-    (c.in-Some-AliveWithRow.ensures.waits 0 ∙ ap (λ o. is_pending_from o 0) c.in-Some-AliveWithRow.field-0-is)
-    (fresh_no c.args.handle e.slots.made (e.slots.limits.slots - e.slots.made)
-    (λ _ after _. absurd (omega arith)))
+    let gone = c.in-Some-AliveWithRow.ensures.waits 0 in
+    search (rules, nowhere, c.in-Some-AliveWithRow.field-0-is, fresh_no, c.args.handle)
 
 pub returns-in-Some-Retired-clause-none : goal.returns-in-Some-Retired-clause-none
 returns-in-Some-Retired-clause-none c =
-    let e = c.self.inside in
     let made = c.in-Some-Retired.ensures.made in
-    nowhere e.slots e.requests.asked e.requests.served c.args.self.now.allocator c.args.handle
-    c.self.invariant (allocator_is c.self.view_is)
-    (c.in-Some-Retired.ensures.waits 0 ∙ ap (λ o. is_pending_from o 0) c.in-Some-Retired.field-0-is)
-    (search (rules, fresh_no, c.args.handle))
+    let gone = c.in-Some-Retired.ensures.waits 0 in
+    search (rules, nowhere, allocator_is, c.in-Some-Retired.field-0-is, fresh_no, c.args.handle)
 
 pub returns-in-None-clause-none : goal.returns-in-None-clause-none
 returns-in-None-clause-none c =
-    let e = c.self.inside in
-    nowhere e.slots e.requests.asked e.requests.served c.args.self.now.allocator c.args.handle
-    c.self.invariant (allocator_is c.self.view_is) (c.in-None.ensures.waits 0)
-    (fresh_no c.args.handle e.slots.made (e.slots.limits.slots - e.slots.made)
-    (λ _ after _. absurd (omega arith)))
+    let gone = c.in-None.ensures.waits 0 in
+    search (rules, nowhere, allocator_is, fresh_no, c.args.handle)
 
 -- how many slots can still be made
 room_is : (r : Roster) (asked given : ℕ) (s : Allocator) (room : ℕ) → allocator_of r asked given ≡ s
@@ -100,11 +78,5 @@ returns-in-None-2-clause-found c =
 
 pub returns-in-None-3-clause-none : goal.returns-in-None-3-clause-none
 returns-in-None-3-clause-none c =
-    let e = c.self.inside in
-    let r = e.slots in
-    let view = allocator_is c.self.view_is in
-    let count = room_is r e.requests.asked e.requests.served c.args.self.now.allocator
-    c.room.result view c.room.ensures in
-    nowhere r e.requests.asked e.requests.served c.args.self.now.allocator c.args.handle
-    c.self.invariant view (c.in-None-3.ensures.waits 0)
-    (search (rules, c.args.handle, c.is_next.ensures, c.if-is_next.false))
+    let gone = c.in-None-3.ensures.waits 0 in
+    search (rules, nowhere, allocator_is, c.args.handle, c.is_next.ensures, c.if-is_next.false)

@@ -1,5 +1,5 @@
-use Rattle.std.proofs.Common.{rules, ◌≡◌, ◌+◌, pos, ◌-ℤ◌, nat_abs, length, ap, ◌∙◌, Ok, arith, to_z}
-use Rattle.std.proofs.Common.{of_z, w64, ℕ}
+use Rattle.std.proofs.Common.{rules, ◌≡◌, ◌+◌, pos, ◌-ℤ◌, nat_abs, ap, ◌∙◌, Ok, arith, to_z, of_z}
+use Rattle.std.proofs.Common.{w64, ℕ}
 use Rattle.std.proofs.lemmas.Int.{ints}
 use Rattle.ent_alloc.specs.Limits.{Limits}
 use Rattle.ent_alloc.specs.Sequential.{pool_at, reply_from}
@@ -38,26 +38,22 @@ new-requires-then-low-ge0 c =
 
 pub returns-then-low-ge0 : goal.returns-then-low-ge0
 returns-then-low-ge0 c =
-    let start = (goal.at.returns-then-low-ge0 c).After-self in
-    let at = lies start in
-    λ n requested. ap Ok c.new-then-low-ge0.ensures
-    ∙ lists start n _ _ _ _
-    (served _ _ _ _ _ _ _ (omega (arith, ints)) (omega (arith, ints)) (omega (arith, ints))
-    (omega (arith, ints)) (omega (arith, ints)))
+    let at = lies (goal.at.returns-then-low-ge0 c).After-self in
+    search (rules, lists (goal.at.returns-then-low-ge0 c).After-self, served, ints)
 
 pub returns-then-index_end-from : goal.returns-then-index_end-from
-returns-then-index_end-from c =
+returns-then-index_end-from c n requested =
     let e = c.self.inside in
     let at = lies (goal.at.returns-then-index_end-from c).After-self in
     let slots = slots_is (goal.at.returns-then-index_end-from c).After-slots in
     let word : to_z w64 (of_z w64 c.args.span.high) ≡ c.args.span.high = omega (arith, ints) in
-    λ n requested.
+    let left =
+    left_is e.slots e.requests.asked e.requests.served c.args.span.high c.args.self.now.allocator
+    c.self.invariant (allocator_is c.self.view_is) in
     short_of e.slots e.requests.asked e.requests.served c.args.span.high c.args.self.now.allocator
     c.self.invariant (allocator_is c.self.view_is) n _ _
     (omega (arith, ints)) (omega (arith, ints)) (omega (arith, ints))
-    (c.left_below.ensures ∙ (λ i. length (pool_at c.args.self.now.allocator (word i)))
-    ∙ left_is e.slots e.requests.asked e.requests.served c.args.span.high c.args.self.now.allocator
-    c.self.invariant (allocator_is c.self.view_is))
+    (search (rules, c.left_below.ensures, word, left))
 
 pub new-requires-then-high-gt0 : goal.new-requires-then-high-gt0
 new-requires-then-high-gt0 c =
@@ -65,14 +61,11 @@ new-requires-then-high-gt0 c =
     search (rules, slots_is, served_in_range, c.self.inside.slots, c.args.span.high, ints, served)
 
 pub returns-then-high-gt0 : goal.returns-then-high-gt0
-returns-then-high-gt0 c =
-    let start = (goal.at.returns-then-high-gt0 c).After-self in
-    let at = lies start in
+returns-then-high-gt0 c n requested =
+    let at = lies (goal.at.returns-then-high-gt0 c).After-self in
     let slots = slots_is (goal.at.returns-then-high-gt0 c).After-slots in
-    λ n requested. ap Ok c.new-then-high-gt0.ensures
-    ∙ lists start n _ _ _ _
-    (served _ _ _ _ _ _ _ (omega (arith, ints)) (omega (arith, ints)) (omega (arith, ints))
-    (omega (arith, ints)) (omega (arith, ints)))
+    ap Ok c.new-then-high-gt0.ensures ∙ lists (goal.at.returns-then-high-gt0 c).After-self n _ _ _ _
+    (search (rules, ints))
 
 pub new-requires-2 : goal.new-requires-2
 new-requires-2 c =

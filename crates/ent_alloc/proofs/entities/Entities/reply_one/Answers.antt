@@ -1,4 +1,4 @@
-use Rattle.std.proofs.Common.{rules, ◌≡◌, ℕ, ◌+◌, pos, ◌-ℤ◌, nat_abs, ap, ◌∙◌, ◌∷◌, [], Ok, arith}
+use Rattle.std.proofs.Common.{rules, ◌≡◌, ◌+◌, pos, ◌-ℤ◌, nat_abs, ap, ◌∙◌, ◌∷◌, [], Ok, arith}
 use Rattle.std.proofs.Common.{to_z, of_z, w64}
 use Rattle.std.proofs.lemmas.Int.{ints}
 use Rattle.ent_handle.specs.Handle.{Handle}
@@ -34,8 +34,8 @@ returns-else-index-from c =
     let e = c.self.inside in
     let at = lies (goal.at.returns-else-index-from c).After-self in
     let slots = slots_is (goal.at.returns-else-index-from c).After-slots in
-    let index : ℕ = c.from.result
-    + nat_abs (to_z w64 (of_z w64 (pos 0 -ℤ to_z w64 (of_z w64 c.args.high)))) in
     one_refused e.slots e.requests.asked e.requests.served c.args.high c.args.self.now.allocator
-    c.self.invariant (allocator_is c.self.view_is) index at.within (omega (arith, ints))
+    c.self.invariant (allocator_is c.self.view_is) (c.from.result
+    + nat_abs (to_z w64 (of_z w64 (pos 0 -ℤ to_z w64 (of_z w64 c.args.high))))) at.within
+    (omega (arith, ints))
     (omega arith) (omega arith)

@@ -1,6 +1,6 @@
-use Rattle.std.proofs.Common.{rules, ◌≡◌, ◌+◌, ap, subst, ◌∙◌, arith}
+use Rattle.std.proofs.Common.{rules, ◌≡◌, ◌+◌, subst}
 use Rattle.std.specs.FinSet as set
-use Rattle.ent_alloc.specs.Sequential.{Allocator, top, retired}
+use Rattle.ent_alloc.specs.Sequential.{top, retired}
 use Rattle.ent_alloc.specs.Sound.{IsSound}
 use Rattle.ent_alloc.proofs.Meaning.{allocator_is, top_view}
 use Rattle.ent_alloc.proofs.Retired.{retired-rest}
@@ -17,10 +17,8 @@ pub overflow_sub-result : goal.overflow_sub-result
 overflow_sub-result c =
     let s = c.args.self.now.allocator in
     let view = allocator_is c.self.view_is in
-    let live = c.live.ensures ∙ ap (λ (t : Allocator). set.len t.live) view in
-    let made = c.total.ensures in
     let all = retired-rest s (subst IsSound view c.self.invariant.sound) in
-    omega arith
+    search (rules, c.live.ensures, view, c.total.ensures)
 
 pub overflow_sub-result-2 : goal.overflow_sub-result-2
 overflow_sub-result-2 c = search (rules, counted)

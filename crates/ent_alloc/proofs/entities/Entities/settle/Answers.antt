@@ -1,7 +1,7 @@
 use Rattle.std.proofs.Common.{rules, ◌≡◌, ℕ, ℤ, length, ap, subst, ◌∙◌, arith}
 use Rattle.std.proofs.lemmas.Grind.{common_steps}
 use Rattle.std.proofs.lemmas.Int.{ints}
-use Rattle.ent_alloc.specs.Sequential.{top, asked_at, settled, Allocator}
+use Rattle.ent_alloc.specs.Sequential.{top, asked_at, Allocator}
 use Rattle.ent_alloc.specs.Sound.{IsSound}
 use Rattle.ent_alloc.proofs.Settled.{length-all, settled-requests}
 use Rattle.ent_alloc.proofs.Meaning.{allocator_is, asked_at-is, top_view}
@@ -44,21 +44,15 @@ invariant_of-self c =
 
 pub returns-clause-settled : goal.returns-clause-settled
 returns-clause-settled c =
-    let e = c.self.inside in
     let tops = tops (goal.at.returns-clause-settled c).After-self in
     let both = asked (goal.at.returns-clause-settled c).After-distance-2 tops in
-    let s = c.args.self.now.allocator in
-    settled_view e.slots e.requests.asked e.requests.served s c.self.invariant
-    (allocator_is c.self.view_is) c.requires.flushed c.distance.result c.distance-2.result
-    ∙ (λ i. settled s (both.gives_is i) (both.asks_is i))
+    search (rules, settled_view, allocator_is, both)
 
 pub returns-clause-requests : goal.returns-clause-requests
 returns-clause-requests c =
     let s = c.args.self.now.allocator in
     let sound : IsSound s = subst IsSound (allocator_is c.self.view_is) c.self.invariant.sound in
-    let greatest = c.requires.greatest in
-    let ordered = c.requires.ordered in
-    let gives = asked_at-is (top s) c.args.floor greatest in
+    let gives = asked_at-is (top s) c.args.floor c.requires.greatest in
     let asks = asked_at-is (top s) c.args.cursor (omega (arith, ints)) in
     let long = length-all s sound c.requires.flushed in
     (returns-clause-settled c)

@@ -12,12 +12,6 @@ use Rattle.ent_alloc.proofs.Linked.{roster_of-reuse}
 use Rattle.ent_alloc.proofs.slots.Slots.bring_to_life.Goals.{After-reuse_all}
 use Rattle.ent_alloc.proofs.slots.Slots.bring_to_life.Goals as goal
 
--- the slices that were lent are the vectors' items
-written : (lent records new : List SlotRecord) (slots pending : List ℕ) (kept : ℕ) → lent ≡ records
-    → slots ≡ pending → new ≡ reused lent (take (length slots - kept) (drop kept slots)) → new
-    ≡ reused records (drop kept pending)
-written lent records new slots pending kept same same_pending is = search (rules, take_rest)
-
 -- the handles that waited are those of the pending slots
 waited : (lent records : List SlotRecord) (slots pending : List ℕ) (kept : ℕ) → lent ≡ records
     → slots ≡ pending → map (handle_at lent) (take (length slots - kept) (drop kept slots))
@@ -42,9 +36,7 @@ all_written c = grind (arith, common_steps)
 linked : (c : After-reuse_all) → AreLinked c.self.inside.limits (c.self.inside.records.items
     ++ replicate c.args.fresh new_record) c.self.inside.pending.items (c.self.inside.live
     + c.args.fresh)
-linked c = make_keeps_links c.self.inside.limits c.self.inside.records.items
-    c.self.inside.pending.items c.self.inside.live c.args.fresh c.self.invariant
-    (all_written c).room
+linked c = search (rules, make_keeps_links, all_written c, c.self.invariant)
 
 grown_roster : (c : After-reuse_all) → roster_of c.self.inside.limits (c.self.inside.records.items
     ++ replicate c.args.fresh new_record) c.self.inside.pending.items ≡ record c.args.self.now {
@@ -53,63 +45,45 @@ grown_roster : (c : After-reuse_all) → roster_of c.self.inside.limits (c.self.
       made = c.args.self.now.made + c.args.fresh;
     }
 grown_roster c =
+    let whole =
     roster_of-make c.self.inside.limits c.self.inside.records.items c.self.inside.pending.items
-    c.self.inside.live c.args.fresh c.self.invariant (all_written c).room
-    ∙ ap (λ (r : Roster). record r {
-      live = sets.union r.live (sets.from_list (fresh r.made c.args.fresh));
-      made = r.made + c.args.fresh;
-    }) c.self.view_is
+    c.self.inside.live c.args.fresh c.self.invariant (all_written c).room in
+    search (rules, whole, c.self.view_is)
 
 pub reuse_all-requires-clause-room : goal.reuse_all-requires-clause-room
 reuse_all-requires-clause-room c = grind (arith, common_steps)
 
 pub invariant_of-self-2 : goal.invariant_of-self-2
 invariant_of-self-2 c =
-    let e = c.self.inside in
-    let pending = e.pending.items in
-    let n = c.args.fresh in
-    let kept = c.args.kept in
     let at = (goal.at.invariant_of-self-2 c).After-reuse_all in
     let all = all_written at in
-    let more : e.live + n + (length pending - kept) ≡ e.live + (n + (c.len.result - kept)) =
-    omega arith in
-    rw (
-      with_items_is c.make_all.new.records c.reuse_all.new.records all.long,
-      all.written_is,
-      c.truncate.ensures.items,
-      ← more,
-    ) (search (rules, reuse_keeps_links, linked))
+    let long = with_items_is c.make_all.new.records c.reuse_all.new.records all.long in
+    let keeps = reuse_keeps_links c.self.inside.limits _ c.self.inside.pending.items _ c.args.kept
+    (linked at) all.within in
+    search (rules, long, all.written_is, c.truncate.ensures.items, keeps)
 
 pub returns-clause-ok : goal.returns-clause-ok
 returns-clause-ok c =
     let e = c.self.inside in
-    let n = c.args.fresh in
-    let kept = c.args.kept in
     let at = (goal.at.returns-clause-ok c).After-reuse_all in
     let all = all_written at in
-    (λ i. roster_of e.limits ((with_items_is c.make_all.new.records c.reuse_all.new.records all.long
-    ∙ all.written_is) i) (c.truncate.ensures.items i))
-    ∙ roster_of-reuse e.limits (e.records.items ++ replicate n new_record) e.pending.items
-    (e.live + n) kept (linked at) all.within ∙ (search (rules, grown_roster))
+    let long = with_items_is c.make_all.new.records c.reuse_all.new.records all.long in
+    rw (long, all.written_is, c.truncate.ensures.items)
+    (roster_of-reuse e.limits (e.records.items ++ replicate c.args.fresh new_record) e.pending.items
+    (e.live + c.args.fresh) c.args.kept (linked at) all.within ∙ (search (rules, grown_roster)))
 
 pub returns-clause-born : goal.returns-clause-born
 returns-clause-born c =
     let e = c.self.inside in
-    let n = c.args.fresh in
     let kept = c.args.kept in
     let at = (goal.at.returns-clause-born c).After-reuse_all in
     let all = all_written at in
-    let made : length e.records.items ≡ c.args.self.now.made = ap (λ (r : Roster). r.made)
-    c.self.view_is in
+    let made : length e.records.items ≡ c.args.self.now.made =
+    ap (λ (r : Roster). r.made) c.self.view_is in
     let len = c.in_ok-reserve.ensures.len in
     let first : c.reserve.new.self.len ≡ c.args.self.now.made = omega arith in
+    let roster = ap (λ (r : Roster). drop kept r.pending) (grown_roster at) in
     let old : map (handle_at c.deref_mut.result.now) (take (length c.deref.result.now - kept)
     (drop kept c.deref.result.now)) ≡ drop kept c.args.self.now.pending =
-    waited c.deref_mut.result.now (e.records.items ++ replicate n new_record)
-    c.deref.result.now e.pending.items kept
-    (c.deref_mut.ensures.value ∙ all.grown_is) c.deref.ensures.value
-    ∙ ap (λ (r : Roster). drop kept r.pending) (grown_roster at) in
-    c.reuse_all.ensures.listed
-    ∙ (search (rules, c.make_all.ensures.listed, c.in_ok-reserve-2.ensures.items))
-    ∙ append_assoc c.args.out.now.items (fresh c.args.self.now.made n)
-    (drop kept c.args.self.now.pending)
+    search (rules, waited, all.grown_is, c.deref_mut.ensures.value, c.deref.ensures.value) in
+    search (rules, old, c.reuse_all.ensures.listed, c.in_ok-reserve-2.ensures.items, append_assoc)

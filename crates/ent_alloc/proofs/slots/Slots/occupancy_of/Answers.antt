@@ -1,8 +1,6 @@
-use Rattle.std.proofs.Common.{arith, rules, ◌≡◌, drop, sym, ap, ◌∙◌}
+use Rattle.std.proofs.Common.{arith, rules, ◌≡◌}
 use Rattle.std.proofs.lemmas.Grind.{common_steps}
-use Rattle.ent_alloc.specs.Roster.{Roster}
-use Rattle.ent_alloc.specs.Sequential.{stands_in}
-use Rattle.ent_alloc.specs.Slots.{occupancy_of, waits_from}
+use Rattle.ent_alloc.specs.Slots.{occupancy_of}
 use Rattle.ent_alloc.proofs.Occupants.{contains_occupants}
 use Rattle.ent_alloc.proofs.Looked.{is_occupant-occupancy, row_at-occupancy, waits_at-occupancy}
 use Rattle.ent_alloc.proofs.Looked.{stands_in-pending}
@@ -23,12 +21,9 @@ returns-clause-row c = search (rules, get_rows, row_at-occupancy, found)
 
 pub returns-clause-waits : goal.returns-clause-waits
 returns-clause-waits c from =
-    let e = c.self.inside in
-    let h = c.args.handle in
-    sym (ap (λ (r : Roster). stands_in (drop from r.pending) h) c.self.view_is)
-    ∙ sym (search (rules, stands_in-pending, c.self.invariant))
-    ∙ waits_at-occupancy e.records.items h from
-    ∙ sym (ap (λ o. waits_from o from) (found (goal.at.returns-clause-waits c).After-occupancy_of))
+    let tells = stands_in-pending c.self.inside.limits c.self.inside.records.items
+    c.self.inside.pending.items c.self.inside.live c.self.invariant c.args.handle from in
+    search (rules, c.self.view_is, waits_at-occupancy, found, tells)
 
 pub returns-clause-made : goal.returns-clause-made
 returns-clause-made c = grind (arith, common_steps)

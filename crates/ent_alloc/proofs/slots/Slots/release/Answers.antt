@@ -1,8 +1,4 @@
-use Rattle.std.proofs.Common.{rules, ◌≡◌, ◌≢◌, ◌+◌, [], ◌∷◌, ◌++◌, length, true, ap, ◌∙◌, arith}
-use Rattle.std.specs.FinSet as sets
-use Rattle.std.specs.FinMap as maps
-use Rattle.ent_alloc.specs.Sequential.{following}
-use Rattle.ent_alloc.specs.Roster.{Roster}
+use Rattle.std.proofs.Common.{rules, ◌≡◌, ◌≢◌, length, true, arith}
 use Rattle.ent_alloc.proofs.Occupants.{is_occupant}
 use Rattle.ent_alloc.proofs.LivingOccupant.{occupant_made, occupant_generation, lives_in}
 use Rattle.ent_alloc.proofs.Released.{one_lives, release_keeps_links, roster_of-release}
@@ -35,27 +31,16 @@ pub invariant_of-self-2 : goal.invariant_of-self-2
 invariant_of-self-2 c =
     let is = lives (goal.at.invariant_of-self-2 c).After-self in
     let position_is : c.len-position.result ≡ length c.self.inside.pending.items = omega arith in
-    rw (
-      c.generation-generation.ensures,
-      position_is,
-      c.index-index.ensures,
-      c.in_ok-push.ensures.items,
-    )
-    (rw c.index-index.ensures (release_keeps_links c.self.inside.limits c.self.inside.records.items
+    let keeps = release_keeps_links c.self.inside.limits c.self.inside.records.items
     c.self.inside.pending.items c.self.inside.live c.args.handle c.self.invariant is
-    (not_last (goal.at.invariant_of-self-2 c).After-self)))
+    (not_last (goal.at.invariant_of-self-2 c).After-self) in
+    search (rules, keeps, c.generation-generation.ensures, c.in_ok-push.ensures.items)
 
 pub returns-clause-ok : goal.returns-clause-ok
 returns-clause-ok c =
-    let records = c.self.inside.records.items in
-    let pending = c.self.inside.pending.items in
     let is = lives (goal.at.returns-clause-ok c).After-self in
-    let position_is : c.len-position.result ≡ length pending = omega arith in
-    let pushed = c.in_ok-push.ensures.items ∙ ap (λ n. pending ++ n ∷ []) c.index-index.ensures in
-    (search (rules, c.self.inside.limits, c.index-index.ensures, c.generation-generation.ensures))
-    ∙ roster_of-release c.self.inside.limits records pending c.self.inside.live c.args.handle
-    c.self.invariant is ∙ ap (λ (r : Roster). record r {
-      live = sets.remove r.live c.args.handle;
-      rows = maps.remove r.rows c.args.handle;
-      pending = r.pending ++ following c.args.handle ∷ [];
-    }) c.self.view_is
+    let position_is : c.len-position.result ≡ length c.self.inside.pending.items = omega arith in
+    let whole = roster_of-release c.self.inside.limits c.self.inside.records.items
+    c.self.inside.pending.items c.self.inside.live c.args.handle
+    c.self.invariant is in
+    search (rules, whole, c.self.view_is, c.index-index.ensures, c.generation-generation.ensures)

@@ -1,9 +1,5 @@
-use Rattle.std.proofs.Common.{rules, ◌≡◌, true, ap, ◌∙◌, arith}
-use Rattle.std.specs.FinSet as sets
-use Rattle.std.specs.FinMap as maps
+use Rattle.std.proofs.Common.{rules, ◌≡◌, true, arith}
 use Rattle.ent_alloc.specs.declared.slot_record.Occupancy.TheVariants.{Retired}
-use Rattle.ent_alloc.specs.Roster.{Roster}
-use Rattle.ent_alloc.specs.Slots.{roster_of}
 use Rattle.ent_alloc.proofs.Occupants.{is_occupant}
 use Rattle.ent_alloc.proofs.Released.{one_lives, retire_keeps_links, roster_of-retire}
 use Rattle.ent_alloc.proofs.LivingOccupant.{occupant_made, lives_in, lent_set}
@@ -30,20 +26,17 @@ overflow_sub-self c =
 pub invariant_of-self : goal.invariant_of-self
 invariant_of-self c =
     let e = c.self.inside in
-    let h = c.args.handle in
     let lives = lives (goal.at.invariant_of-self c).After-self in
-    rw (lent_set e.records.items h c.index-index.result c.index_mut.result.now Retired lives
-    c.index-index.ensures c.index_mut.ensures.value)
-    (retire_keeps_links e.limits e.records.items e.pending.items e.live h c.self.invariant lives)
+    rw (lent_set e.records.items c.args.handle c.index-index.result c.index_mut.result.now Retired
+    lives
+    c.index-index.ensures c.index_mut.ensures.value) (search (rules, retire_keeps_links, lives))
 
 pub returns : goal.returns
 returns c =
     let e = c.self.inside in
-    let h = c.args.handle in
     let lives = lives (goal.at.returns c).After-self in
-    ap (λ records. roster_of e.limits records e.pending.items)
-    (lent_set e.records.items h c.index-index.result c.index_mut.result.now Retired lives
-    c.index-index.ensures c.index_mut.ensures.value)
-    ∙ roster_of-retire e.limits e.records.items e.pending.items e.live h c.self.invariant lives
-    ∙ ap (λ (r : Roster). record r { live = sets.remove r.live h; rows = maps.remove r.rows h })
-    c.self.view_is
+    let whole = roster_of-retire e.limits e.records.items e.pending.items e.live c.args.handle
+    c.self.invariant lives in
+    rw (lent_set e.records.items c.args.handle c.index-index.result c.index_mut.result.now Retired
+    lives
+    c.index-index.ensures c.index_mut.ensures.value) (search (rules, whole, c.self.view_is))

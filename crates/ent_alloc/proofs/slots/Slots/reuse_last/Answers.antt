@@ -1,8 +1,6 @@
-use Rattle.std.proofs.Common.{rules, ◌≡◌, ◌-◌, length, set, slice_get, Some, sym, ap, ◌∙◌}
+use Rattle.std.proofs.Common.{rules, ◌≡◌, ◌-◌}
 use Rattle.std.proofs.lemmas.List.{get_or_read}
-use Rattle.ent_alloc.specs.declared.slot_record.Occupancy.TheVariants.{Alive}
-use Rattle.ent_alloc.specs.Roster.{Roster}
-use Rattle.ent_alloc.specs.Slots.{roster_of, record_at, handle_at}
+use Rattle.ent_alloc.specs.Slots.{record_at}
 use Rattle.ent_alloc.proofs.Linked.{last_made, last_handle, reuse_last_keeps_links}
 use Rattle.ent_alloc.proofs.Linked.{roster_of-reuse_last}
 use Rattle.ent_alloc.proofs.slots.Slots.reuse_last.Goals.{After-index_mut-record}
@@ -23,25 +21,15 @@ invariant_of-self-2 c =
 pub returns-clause-last : goal.returns-clause-last
 returns-clause-last c =
     let e = c.self.inside in
-    let index = c.in_ok-index.index in
-    let rest = c.pop.new.self.items in
-    let last = c.in_ok-index.ensures.items in
-    let read = read (goal.at.returns-clause-last c).After-index_mut-record in
-    sym (ap (λ (r : Roster). slice_get r.pending (length r.pending - 1)) c.self.view_is)
-    ∙ last_handle e.limits e.records.items e.pending.items rest e.live index c.self.invariant last
-    ∙ (λ i. Some (record { index = index; generation = (sym read i).generation }))
-    ∙ ap Some (sym c.from_parts.ensures)
+    let last = last_handle e.limits e.records.items e.pending.items c.pop.new.self.items e.live
+    c.in_ok-index.index c.self.invariant c.in_ok-index.ensures.items in
+    search (rules, c.self.view_is, last, read, c.from_parts.ensures)
 
 pub returns-clause-some : goal.returns-clause-some
 returns-clause-some c =
     let e = c.self.inside in
-    let index = c.in_ok-index.index in
-    let rest = c.pop.new.self.items in
-    let last = c.in_ok-index.ensures.items in
     let read = read (goal.at.returns-clause-some c).After-index_mut-record in
-    let h : c.from_parts.result ≡ handle_at e.records.items index = c.from_parts.ensures
-    ∙ (λ i. record { index = index; generation = (read i).generation }) in
-    (λ i. roster_of e.limits
-    (set e.records.items index (record { generation = (read i).generation; occupancy = Alive }))
-    rest) ∙ roster_of-reuse_last e.limits e.records.items e.pending.items rest e.live index
-    c.self.invariant last ∙ (search (rules, c.self.view_is))
+    let whole = roster_of-reuse_last e.limits e.records.items e.pending.items c.pop.new.self.items
+    e.live c.in_ok-index.index
+    c.self.invariant c.in_ok-index.ensures.items in
+    search (rules, whole, read, c.self.view_is, c.from_parts.ensures)

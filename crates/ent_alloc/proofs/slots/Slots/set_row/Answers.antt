@@ -1,8 +1,5 @@
-use Rattle.std.proofs.Common.{rules, ◌≡◌, true, ap, ◌∙◌, arith}
-use Rattle.std.specs.FinMap as maps
+use Rattle.std.proofs.Common.{rules, ◌≡◌, true, arith}
 use Rattle.ent_alloc.specs.declared.slot_record.Occupancy.TheVariants.{AliveWithRow}
-use Rattle.ent_alloc.specs.Roster.{Roster}
-use Rattle.ent_alloc.specs.Slots.{roster_of}
 use Rattle.ent_alloc.proofs.Occupants.{is_occupant}
 use Rattle.ent_alloc.proofs.Looked.{set_row_keeps_links, roster_of-set_row}
 use Rattle.ent_alloc.proofs.LivingOccupant.{occupant_made, lives_in, lent_set}
@@ -34,9 +31,7 @@ returns c =
     let e = c.self.inside in
     let h = c.args.handle in
     let lives = lives (goal.at.returns c).After-self in
-    ap (λ records. roster_of e.limits records e.pending.items)
-    (lent_set e.records.items h c.index.result c.index_mut.result.now (AliveWithRow c.args.row)
-    lives c.index.ensures c.index_mut.ensures.value)
-    ∙ roster_of-set_row e.limits e.records.items e.pending.items e.live h c.args.row
-    c.self.invariant lives
-    ∙ ap (λ (r : Roster). record r { rows = maps.insert r.rows h c.args.row }) c.self.view_is
+    let whole = roster_of-set_row e.limits e.records.items e.pending.items e.live h c.args.row
+    c.self.invariant lives in
+    rw (lent_set e.records.items h c.index.result c.index_mut.result.now (AliveWithRow c.args.row)
+    lives c.index.ensures c.index_mut.ensures.value) (search (rules, whole, c.self.view_is))

@@ -1,8 +1,5 @@
-use Rattle.std.proofs.Common.{◌≡◌, ℕ, ◌<◌, ap, sym, subst, ◌∙◌, List}
-use Rattle.ent_claims.specs.declared.record.ClaimRecord.{ClaimRecord}
-use Rattle.ent_claims.specs.declared.rule.Opening.{Opening}
+use Rattle.std.proofs.Common.{◌<◌, sym, ◌∙◌, rules}
 use Rattle.ent_claims.specs.Rule.{AreClaimsClosed}
-use Rattle.ent_claims.specs.Claims.{Claims}
 use Rattle.ent_seats.proofs.HandedIn.{items_all}
 use Rattle.ent_claims.proofs.Steps.{goes_by_records}
 use Rattle.ent_claims.proofs.Closing.{records_of, first, apart, claimed, once}
@@ -21,18 +18,11 @@ closed c =
     let ok = c.loop-claimer.claimer-iterator.rest.ok in
     let all = items_all c.args.claimers.items c.loop-claimer.yielded
     c.loop-claimer.claimer-iterator.rest.items i.all (sym ok.0 ∙ c.in-None.ensures.steps.0) in
-    let records : c.loop-claimer.all.me.0 ≡ records_of c.args.claimers.items = i.records
-    ∙ ap records_of all in
     let key = c.self.invariant.key_is in
-    let numbers = ap (λ (k : Opening). k.numbers) key ∙ ap (λ (s : Claims). s.numbers)
-    c.self.view_is in
-    let workers = ap (λ (s : Claims). s.workers) c.self.view_is in
-    subst (λ (p : (ℕ × ℕ) × List ClaimRecord). AreClaimsClosed p.0.0 p.0.1 p.1)
-    (λ k. ((numbers k, workers k), records k)) c.close.ensures
+    search (rules, all, key)
 
 some : (c : goal.After-close) → 0 < c.args.self.workers
-some c = subst (λ (k : ℕ). 0 < k) (ap (λ (s : Claims). s.workers) c.self.view_is)
-    c.self.invariant.some_workers
+some c = search rules
 
 pub returns-clause-first : goal.returns-clause-first
 returns-clause-first c = first _ _ c.args.claimers.items c.requires.all (closed c)

@@ -7,6 +7,5 @@ pub returns-then-found-self-clause-stays : goal.returns-then-found-self-clause-s
 returns-then-found-self-clause-stays c =
     let numbers = ap (λ (s : Claims). s.numbers) c.self.view_is in
     claimed_on c.args.self.now c.claimer.inside.badge.views c.claim-found.new.badge.views _ _
-    c.args.claimer.now c.claim-found.result c.claimer.view_is c.requires
-    c.claim-found.ensures.same c.claim-found.ensures.claims
+    _ _ c.claimer.view_is c.requires c.claim-found.ensures.same c.claim-found.ensures.claims
     (subst (λ k. c.claim-found.result < k) numbers c.if-found-self.true) c.claim-found.ensures.above

@@ -1,5 +1,4 @@
-use Rattle.std.proofs.Common.{arith, ◌∙◌}
-use Rattle.ent_claims.specs.Record.{claims_of}
+use Rattle.std.proofs.Common.{arith}
 use Rattle.ent_claims.proofs.Steps.{goes_by_records}
 use Rattle.ent_claims.proofs.Opening.{next_seated, opened_more}
 use Rattle.ent_claims.proofs.claims.Claims.open.Goals as goal
@@ -13,20 +12,10 @@ new-requires c = next_seated c.args.numbers c.args.workers c.loop.counter _ _ _ 
 
 pub loop-preserved : goal.loop-preserved
 loop-preserved c = record {
-  first =
-      opened_more c.args.numbers c.args.workers c.loop.counter _ _ _ c.loop.all.me c.loop-test.true
-      c.loop.invariant.first c.split_first.new.all.table_id c.split_first.new.all.me
-      c.new.result
-      c.split_first.ensures.kept.0 c.split_first.ensures.kept.1 c.split_first.result.views
-      c.split_first.ensures.first.1
-      (c.new.ensures
-      ∙ (λ i. record {
-        word = c.split_first.ensures.first.0 i;
-        own =
-            claims_of c.split_first.result.views;
-      })) _ c.push_reserved.ensures.items;
-  count = (let was = c.loop.invariant.count in let now = c.push_reserved.ensures.len in
-      omega arith);
-  room = (let was = c.loop.invariant.room in let now = c.push_reserved.ensures.capacity in
-      omega arith);
+  first = opened_more _ c.args.workers c.loop.counter _ _ _ _ c.loop-test.true
+      c.loop.invariant.first _ _ _
+      c.split_first.ensures.kept.0 c.split_first.ensures.kept.1 _ c.split_first.ensures.first.1
+      (rw c.split_first.ensures.first.0 at c.new.ensures) _ c.push_reserved.ensures.items;
+  count = omega (arith, c.loop.invariant.count, c.push_reserved.ensures.len);
+  room = omega (arith, c.loop.invariant.room, c.push_reserved.ensures.capacity);
 }

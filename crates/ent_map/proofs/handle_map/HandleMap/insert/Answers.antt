@@ -5,14 +5,16 @@ use Rattle.ent_map.specs.Slots.{value_under, generation_of, slot_at}
 use Rattle.ent_map.proofs.Found.{later, no_later, few_values, put-map, put-before, put-counted}
 use Rattle.ent_map.proofs.handle_map.HandleMap.insert.Goals as goal
 
-pub returns-then-generation-standing-clause-later : goal.returns-then-generation-standing-clause-later
+pub returns-then-generation-standing-clause-later :
+    goal.returns-then-generation-standing-clause-later
 returns-then-generation-standing-clause-later g c =
     let h = c.args.handle in
     let slots = c.self.inside.slots.items in
     let values = ap (λ (m : HandleMap g.row.T.Denot). m.values) c.self.view_is in
     let stands : c.generation_in-standing.result ≡ generation_of (slot_at slots h.index) =
     c.generation_in-standing.ensures
-    ∙ (λ i. generation_of (slot_at (c.deref.ensures.value i) (c.index_of-index.ensures.value i))) in (
+    ∙ (λ i. generation_of (slot_at (c.deref.ensures.value i) (c.index_of-index.ensures.value i)))
+    in (
       λ _. later slots _ h values (omega (
         arith,
         stands,
@@ -62,7 +64,8 @@ returns-clause-later g c =
     let values = ap (λ (m : HandleMap g.row.T.Denot). m.values) c.self.view_is in
     let stands : c.generation_in-standing.result ≡ generation_of (slot_at slots h.index) =
     c.generation_in-standing.ensures
-    ∙ (λ i. generation_of (slot_at (c.deref.ensures.value i) (c.index_of-index.ensures.value i))) in (
+    ∙ (λ i. generation_of (slot_at (c.deref.ensures.value i) (c.index_of-index.ensures.value i)))
+    in (
       λ e. absurd (cc),
       λ is. absurd (no_later slots _ h values (omega (
         arith,

@@ -1,9 +1,9 @@
 use Rattle.std.proofs.Common.{◌++◌, ◌∷◌, [], ap, ◌∙◌}
 use Rattle.ent_queue.specs.Command.{Insert}
-use Rattle.ent_queue.specs.Packing.{command_bytes}
 use Rattle.ent_queue.proofs.Pushes.{Pushed, pushed, count_fits}
 use Rattle.ent_queue.proofs.queue.CommandQueue.insert.Goals.{After-write_with_bundle}
 use Rattle.ent_queue.proofs.queue.CommandQueue.insert.Goals as goal
+use Rattle.ent_queue.specs.Packing.{command_bytes}
 
 pub overflow_add-self : goal.overflow_add-self
 overflow_add-self c = count_fits c.self.inside.count c.self.inside.bytes c.self.invariant

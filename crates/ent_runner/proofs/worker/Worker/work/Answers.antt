@@ -1,4 +1,4 @@
-use Rattle.std.proofs.Common.{◌<◌, ◌∙◌, List, length, subst, arith}
+use Rattle.std.proofs.Common.{◌∙◌, List, arith}
 use Rattle.ent_runner.specs.declared.worker.SystemQueue.{SystemQueue}
 use Rattle.ent_runner.specs.Frame.{SystemMayIssue}
 use Rattle.ent_runner.proofs.Running.{ran_more, ran_some, ran_last, of_ok, of_err, inside_more}
@@ -9,56 +9,32 @@ pub loop-system-preserved : goal.loop-system-preserved
 loop-system-preserved g c =
     let i = c.loop-system.invariant in
     let room = c.in_ok-reserve.ensures.ok in
-    let claimed = c.in-Some.ensures.claims in
     let issued = ◌∙◌ {A = List SystemQueue} c.reserve.ensures.items c.push_reserved.ensures.items in
-    let below : c.in-Some.system < length c.args.stage.now.systems.now =
-    subst (λ n. c.in-Some.system < n) c.requires.systems c.in-Some.ensures.below in
     record {
       reserver = c.issue-queue.ensures.stays;
       claimer = c.next.ensures.stays;
-      inside = inside_more c.args.stage.now.systems.now c.loop-system.self.issued.items
-          c.reserve.new.self.items _ i.inside below issued;
-      ran = ran_more g.S.System.may_issue c.args.stage.now.systems.now c.args.stage.now.view
-          c.args.self.now.reserver.own c.loop-system.self.reserver.own
-          c.issue-queue.new.reserver.own c.loop-system.self.claimer.own.claims
-          c.next.new.claimer.own.claims c.loop-system.self.issued.items
-          c.reserve.new.self.items _ i.ran c.issue-queue.ensures.gains
-          (of_ok (SystemMayIssue g.S.System.may_issue c.args.stage.now.systems.now
-          c.args.stage.now.view c.in-Some.system c.issue-queue.result.0) _ _ c.in_ok-ran.was
-          c.issue-queue.ensures.may) (claims_more c.loop-system.self.claimer.own
-          c.next.new.claimer.own c.in-Some.system claimed) issued;
+      inside = inside_more _ _ _ _ i.inside (rw c.requires.systems at c.in-Some.ensures.below)
+          issued;
+      ran = ran_more _ _ _ _ _ _ _ _ _ _ _ i.ran c.issue-queue.ensures.gains
+          (of_ok _ _ _ c.in_ok-ran.was c.issue-queue.ensures.may)
+          (claims_more c.loop-system.self.claimer.own _ _ c.in-Some.ensures.claims) issued;
       stopped = i.stopped;
       room = omega (arith, room);
     }
 
 pub returns-in_err-ran-clause-ran_some : goal.returns-in_err-ran-clause-ran_some
 returns-in_err-ran-clause-ran_some g c =
-    let i = c.loop-system.invariant in
-    ran_last g.S.System.may_issue c.args.stage.now.systems.now c.args.stage.now.view
-    g.S.System.may_leave c.args.self.now.reserver.own c.loop-system.self.reserver.own
-    c.issue-queue.new.reserver.own c.loop-system.self.claimer.own.claims
-    c.next.new.claimer.own.claims c.loop-system.self.issued.items c.push_reserved.new.self.items
-    _ i.ran c.issue-queue.ensures.gains
-    (of_err (SystemMayIssue g.S.System.may_leave c.args.stage.now.systems.now
-    c.args.stage.now.view c.in-Some.system c.issue-queue.result.0) _ _ c.in_err-ran.was
-    c.issue-queue.ensures.leaves) (claims_more c.loop-system.self.claimer.own
-    c.next.new.claimer.own c.in-Some.system c.in-Some.ensures.claims) c.push_reserved.ensures.items
+    ran_last _ _ _ _ _ _ _ _ _ _ _ _ c.loop-system.invariant.ran c.issue-queue.ensures.gains
+    (of_err _ _ _ c.in_err-ran.was c.issue-queue.ensures.leaves)
+    (claims_more c.loop-system.self.claimer.own _ _ c.in-Some.ensures.claims)
+    c.push_reserved.ensures.items
 
 pub returns-in_err-reserve-clause-ran_some : goal.returns-in_err-reserve-clause-ran_some
 returns-in_err-reserve-clause-ran_some g c =
-    let i = c.loop-system.invariant in
     let issued = ◌∙◌ {A = List SystemQueue} c.reserve.ensures.items c.push_reserved.ensures.items in
-    ran_some g.S.System.may_issue c.args.stage.now.systems.now c.args.stage.now.view
-    g.S.System.may_leave c.args.self.now.reserver.own c.issue-queue.new.reserver.own
-    c.next.new.claimer.own.claims c.reserve.new.self.items
-    (ran_more g.S.System.may_issue c.args.stage.now.systems.now c.args.stage.now.view
-    c.args.self.now.reserver.own c.loop-system.self.reserver.own c.issue-queue.new.reserver.own
-    c.loop-system.self.claimer.own.claims c.next.new.claimer.own.claims
-    c.loop-system.self.issued.items c.reserve.new.self.items _ i.ran c.issue-queue.ensures.gains
-    (of_ok (SystemMayIssue g.S.System.may_issue c.args.stage.now.systems.now
-    c.args.stage.now.view c.in-Some.system c.issue-queue.result.0) _ _ c.in_ok-ran.was
-    c.issue-queue.ensures.may) (claims_more c.loop-system.self.claimer.own
-    c.next.new.claimer.own c.in-Some.system c.in-Some.ensures.claims) issued)
+    ran_some _ _ _ _ _ _ _ _ (ran_more _ _ _ _ _ _ _ _ _ _ _ c.loop-system.invariant.ran
+    c.issue-queue.ensures.gains (of_ok _ _ _ c.in_ok-ran.was c.issue-queue.ensures.may)
+    (claims_more c.loop-system.self.claimer.own _ _ c.in-Some.ensures.claims) issued)
 
 pub returns-in_err-ran-clause-refused : goal.returns-in_err-ran-clause-refused
 returns-in_err-ran-clause-refused g c =

@@ -11,7 +11,9 @@ invariant_of-self-2 c =
     let added = text_numbers_added names c.self.inside.numbers c.insert.new.self c.in_ok-text.text
     c.in_ok-key.key _
     (ap length (c.as_slice-number.ensures.value ∙ c.in_ok-reserve.ensures.items)) c.args.name.now
-    c.in_ok-text.ensures.ok c.in_ok-key.ensures.ok c.self.invariant none c.in_ok-insert.ensures.updates in
-    let items = c.push_reserved.ensures.items ∙ ap (λ (ns : List (String Global)). ns ++ c.in_ok-text.text
+    c.in_ok-text.ensures.ok c.in_ok-key.ensures.ok c.self.invariant none
+    c.in_ok-insert.ensures.updates in
+    let items = c.push_reserved.ensures.items ∙ ap
+    (λ (ns : List (String Global)). ns ++ c.in_ok-text.text
     ∷ []) c.in_ok-reserve.ensures.items in
     subst (λ (ns : List (String Global)). HaveTextNumbers ns c.insert.new.self) (sym items) added

@@ -1,10 +1,7 @@
-use Rattle.std.proofs.Common.{arith, ◌≡◌, ◌∙◌, [], List, drop, subst, rules}
+use Rattle.std.proofs.Common.{arith, rules}
 use Rattle.std.proofs.lemmas.Grind.{common_steps}
 use Rattle.std.proofs.lemmas.List.{drop_all}
-use Rattle.ent_queue.specs.Commands.{queue_of}
 use Rattle.ent_queue.proofs.Extending.{extends_then}
-use Rattle.ent_script.specs.declared.operation.Operation.{Operation}
-use Rattle.ent_script_run.specs.Issuing.{MayIssue}
 use Rattle.ent_script_run.proofs.SystemRunning.{has_begun, has_gone_on, has_ended}
 use Rattle.ent_script_run.proofs.script_system.ScriptSystemSystem.run.Goals as goal
 
@@ -19,9 +16,6 @@ returns-in_err-issue-clause-leaves c empty = grind (arith, common_steps)
 
 pub returns-clause-may : goal.returns-clause-may
 returns-clause-may c empty =
-    let ops = c.operations-operation-items.result.now in
-    let none : drop c.loop-operation.operation-index ops
-    ≡ [] = drop_all _ _ c.loop-operation-test.false in
-    subst (λ (os : List Operation). MayIssue os c.args.view.now
-    (queue_of c.loop-operation.commands)) (c.operations-operation-items.ensures ∙ c.self.view_is)
-    (has_ended _ ops _ _ _ _ none c.loop-operation.invariant.run empty)
+    let none = drop_all _ c.operations-operation-items.result.now c.loop-operation-test.false in
+    rw (← c.self.view_is, ← c.operations-operation-items.ensures)
+    (has_ended _ _ _ _ _ _ none c.loop-operation.invariant.run empty)

@@ -1,15 +1,11 @@
+use Rattle.std.proofs.Common.{take, rules, arith, ◌≡◌, ◌≤◌, ◌≤ℤ◌, ap, ◌∙◌, to_z, of_z, w64, All}
+use Rattle.std.proofs.Common.{Contains}
 use Rattle.std.proofs.lemmas.Grind.{common_steps}
-use Rattle.std.proofs.Common.{rules}
-use Rattle.std.proofs.Common.{arith}
-use Rattle.std.proofs.Common.{◌≡◌, ℕ, ◌+◌, ◌*◌, ◌≤◌, ◌≤ℤ◌, ap, ◌∙◌, to_z, of_z, w64, All, Contains}
-use Rattle.std.proofs.Common.{subst, sym}
-use Rattle.std.specs.List.{sum_by}
-use Rattle.ent_alloc.specs.Limits.{credit}
-use Rattle.ent_alloc.specs.Sequential.{Allocator, cursor}
+use Rattle.ent_alloc.specs.Sequential.{cursor}
 use Rattle.ent_shared.specs.declared.record.Record.{Record}
-use Rattle.ent_shared.specs.Record.{own_reservations, requested_by}
+use Rattle.ent_shared.specs.Record.{own_reservations}
 use Rattle.ent_shared.specs.Order.{handles_of}
-use Rattle.ent_shared.specs.Phase.{Shared, Reserver, records_of, after_loss}
+use Rattle.ent_shared.specs.Phase.{Shared, records_of, after_loss}
 use Rattle.ent_shared.proofs.Losing.{lost, Lost}
 use Rattle.ent_shared.proofs.Merging.{length-records_of, sum_by-records_of, all_owners}
 use Rattle.ent_shared.proofs.shared.Shared.close_lost.Goals as goal
@@ -21,13 +17,10 @@ known : (c : After-max) → Lost c.self.inside.entities.allocator c.args.self.st
     (to_z w64 (of_z w64 c.max.result))
 known c =
     let phase = c.self.invariant in
-    lost c.self.inside.entities c.args.self.start c.self.inside.count c.args.self.count
-    c.room.result c.self.inside.word.shared.key (records_of c.args.reservers.items)
-    c.end_phase-cursor.result.0 c.max.result c.from-2.result
-    phase.begins phase.sound phase.few phase.key_is (ap (λ (s : Shared). s.start) c.self.view_is)
-    (ap (λ (s : Shared). s.count) c.self.view_is)
-    c.end_phase-cursor.ensures.cursor c.room.ensures c.room.type_inv (c.from-2.ensures)
-    c.max.ensures.value
+    lost _ _ _ _ c.room.result c.self.inside.word.shared.key _ _ _ c.from-2.result phase.begins
+    phase.sound phase.few phase.key_is (ap (λ (s : Shared). s.start) c.self.view_is)
+    (ap (λ (s : Shared). s.count) c.self.view_is) c.end_phase-cursor.ensures.cursor c.room.ensures
+    c.room.type_inv c.from-2.ensures c.max.ensures.value
 
 pub settle-requires-clause-least : goal.settle-requires-clause-least
 settle-requires-clause-least c = (known (goal.at.settle-requires-clause-least c).After-max).least
@@ -43,7 +36,8 @@ settle-requires-clause-all_given c = search (rules, known)
 left_is : (c : goal.After-settle)
     (l : Lost c.self.inside.entities.allocator c.args.self.start c.args.self.count
     (records_of c.args.reservers.items) (to_z w64 (of_z w64 c.end_phase-cursor.result.0))
-    (to_z w64 (of_z w64 c.max.result))) → c.settle.new.self.allocator ≡ after_loss c.args.self.start l.asked
+    (to_z w64 (of_z w64 c.max.result))) → c.settle.new.self.allocator ≡ after_loss
+    c.args.self.start l.asked
 left_is c l = c.settle.ensures.settled ∙ l.after
 
 pub returns-clause-after : goal.returns-clause-after
@@ -80,8 +74,6 @@ returns-clause-whole c = λ all_here.
 pub returns-clause-given : goal.returns-clause-given
 returns-clause-given c =
     let l = known (goal.at.returns-clause-given c).After-max in
-    all_owners (λ (r : Record). All (Contains c.settle.new.self.allocator.taken)
-    (handles_of (own_reservations r.entries))) c.args.reservers.items
-    (subst (λ (s : Allocator).
-    All (λ (r : Record). All (Contains s.taken) (handles_of (own_reservations r.entries)))
-    (records_of c.args.reservers.items)) (sym (left_is c l)) l.given)
+    rw (left_is c l)
+    (all_owners (λ (r : Record). All (Contains (take l.asked c.args.self.start.pool))
+    (handles_of (own_reservations r.entries))) c.args.reservers.items l.given)

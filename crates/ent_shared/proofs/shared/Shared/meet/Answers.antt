@@ -1,16 +1,14 @@
-use Rattle.std.proofs.Common.{rules, ap, ◌∙◌}
-use Rattle.ent_shared.specs.Moves.{after_meeting}
-use Rattle.ent_shared.specs.Phase.{Reserver, own_of}
-use Rattle.ent_shared.proofs.Laws.{given-after_meeting}
-use Rattle.ent_shared.proofs.Seating.{seated_meeting, of_met}
+use Rattle.ent_shared.proofs.Records.{own-met, credit-met, below_meeting}
+use Rattle.std.proofs.Common.{rules}
+use Rattle.ent_shared.proofs.Seating.{of_met}
 use Rattle.ent_shared.proofs.shared.Shared.meet.Goals as goal
 
 pub invariant_of-a : goal.invariant_of-a
-invariant_of-a c = search (rules, seated_meeting)
+invariant_of-a c = search (rules, below_meeting, credit-met)
 
 pub returns-clause-first : goal.returns-clause-first
 returns-clause-first c = of_met c.args.self.now c.args.a.now c.args.b.now _ c.requires.first
     (search (rules, c.meet.ensures.same.0, c.a.view_is, c.meet.ensures.meets, c.b.view_is))
 
 pub returns-clause-given : goal.returns-clause-given
-returns-clause-given c = search (rules, given-after_meeting)
+returns-clause-given c = search (rules, own-met)

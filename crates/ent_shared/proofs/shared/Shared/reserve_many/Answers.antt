@@ -1,45 +1,38 @@
-use Rattle.std.proofs.Common.{rules, ℕ, ◌-◌, ◌-ℤ◌, ◌≤ℤ◌, pos, sym, arith, subst, to_z, of_z, w64}
-use Rattle.std.proofs.Common.{List, ◌++◌, append-nil, ◌≡◌, ap, refl, ◌∙◌, [], Ok}
-use Rattle.ent_handle.specs.Handle.{Handle}
+use Rattle.std.proofs.Common.{rules, ◌-◌, ◌-ℤ◌, ◌≤ℤ◌, pos, sym, arith, to_z, of_z, w64, ◌++◌}
+use Rattle.std.proofs.Common.{append-nil, ◌≡◌, ap, ◌∙◌}
 use Rattle.ent_alloc.specs.History.{handles_in}
 use Rattle.ent_shared.specs.Order.{handles_given}
 use Rattle.std.proofs.lemmas.Int.{ints}
-use Rattle.ent_alloc.specs.declared.span.Span.{Span}
-use Rattle.ent_shared.specs.Phase.{Shared, Reserver, own_of, IsSeated}
+use Rattle.ent_shared.specs.Phase.{Shared, Reserver, own_of}
 use Rattle.ent_shared.proofs.Seating.{seated_reservation, of_stepped, given_now}
-use Rattle.ent_shared.proofs.Returned.{served_floor, refused_floor, span_at, reply-none, no_space}
-use Rattle.ent_shared.proofs.Returned.{low_of, length-served, on_err}
-use Rattle.ent_alloc.specs.Sequential.{Allocator, pool_at, top, cursor}
+use Rattle.ent_shared.proofs.Returned.{served_floor, refused_floor, span_at, nothing_at}
+use Rattle.ent_shared.proofs.Returned.{length-served}
+use Rattle.ent_alloc.specs.Sequential.{cursor}
 use Rattle.ent_shared.proofs.shared.Shared.reserve_many.Goals as goal
 use Rattle.ent_shared.proofs.shared.Shared.reserve_many.Goals.{After-reply-2}
 
 pub unreachable-requires : goal.unreachable-requires
 unreachable-requires c =
-    no_space c.reply.result c.in_default.field-0
-    (c.reply.ensures 0 (low_of c.new.result _ 0 c.new.ensures.value)
-    ∙ reply-none c.self.inside.entities.allocator.made
-    (pool_at c.self.inside.entities.allocator c.new.result.high)) c.in_default.is
+    let is = nothing_at c.self.inside.entities.allocator c.new.result _ c.reply.result
+    c.new.ensures.value c.reply.ensures in
+    let bad = c.in_default.is in
+    cc
 
 pub returns-then-n-eq0-clause-nothing : goal.returns-then-n-eq0-clause-nothing
 returns-then-n-eq0-clause-nothing c = λ n.
-    let is : c.reply.result
-    ≡ Ok [] = c.reply.ensures 0 (low_of c.new.result _ 0 c.new.ensures.value)
-    ∙ reply-none c.self.inside.entities.allocator.made
-    (pool_at c.self.inside.entities.allocator c.new.result.high) in
+    let is = nothing_at c.self.inside.entities.allocator c.new.result _ c.reply.result
+    c.new.ensures.value c.reply.ensures in
     search (rules, c.in-Ok.is, c.in-Ok.nothing)
 
 pub reply-requires-2 : goal.reply-requires-2
 reply-requires-2 c =
     let fits = c.reserve.type_inv in
     let least = c.reserve.ensures.least in
-    let start : (own_of c.reserver.inside.badge.views).start ≡ c.self.inside.entities.allocator =
-    ap (λ (r : Reserver). r.own.start) c.reserver.view_is
+    let start = ap (λ (r : Reserver). r.own.start) c.reserver.view_is
     ∙ (c.requires.start ∙ sym (ap (λ (s : Shared). s.start) c.self.view_is)) in
     let below : c.reserve.result ≤ℤ cursor c.self.inside.entities.allocator =
-    subst (λ (s : Allocator). c.reserve.result ≤ℤ cursor s) start c.reserve.ensures.greatest in
-    let passed : to_z w64 (of_z w64 c.reserve.result) ≤ℤ pos (top c.self.inside.entities.allocator) =
-    omega (arith, ints) in
-    c.new-span.ensures.valid c.self.inside.entities.allocator passed
+    rw (sym start) c.reserve.ensures.greatest in
+    c.new-span.ensures.valid c.self.inside.entities.allocator (omega (arith, ints))
 
 -- the reserver is of this allocator
 started : (c : After-reply-2) → c.args.reserver.now.own.start ≡ c.self.inside.entities.allocator
@@ -53,8 +46,7 @@ spanned c = search (rules, span_at, ints)
 -- what the reserver was given by then
 given : (c : After-reply-2) → handles_given (own_of c.reserve.new.badge.views)
     ≡ handles_given c.args.reserver.now.own ++ handles_in c.reply-2.result
-given c = given_now c.reserver.inside.badge.views c.reserve.new.badge.views c.args.reserver.now _
-    c.self.inside.entities.allocator c.reserve.result c.args.n c.new-span.result c.reply-2.result
+given c = given_now c.reserver.inside.badge.views c.reserve.new.badge.views _ _ _ _ c.args.n _ _
     c.reserver.view_is c.reserve.ensures.gains (started c) (spanned c) c.reply-2.ensures
 
 pub invariant_of-reserver-2 : goal.invariant_of-reserver-2
@@ -66,66 +58,48 @@ invariant_of-reserver-2 c =
     let span = spanned at in
     let low_word : to_z w64 (of_z w64 c.new-span.result.low) ≡ c.new-span.result.low =
     omega (arith, ints) in
-    let start : (own_of c.reserver.inside.badge.views).start ≡ c.self.inside.entities.allocator =
-    ap (λ (r : Reserver). r.own.start) c.reserver.view_is ∙ started at in
-    subst (λ (k : ℕ). IsSeated c.reserve.new.badge.views c.reserver.inside.number
-    (c.reserver.inside.left - k) (to_z w64 (of_z w64 c.new-span.result.low))) (sym c.from-2.ensures)
-    (seated_reservation c.reserver.inside.badge.views c.reserve.new.badge.views
-    c.reserver.inside.number c.reserver.inside.left c.args.n c.reserver.inside.floor
-    c.reserve.result (to_z w64 (of_z w64 c.new-span.result.low))
+    rw c.from-2.ensures (seated_reservation _ _ _ _ c.args.n _ c.reserve.result _
     c.reserver.invariant c.reserve.ensures.gains c.reserve.ensures.mark (omega arith)
-    (low_word ∙ served_floor (own_of c.reserver.inside.badge.views) c.self.inside.entities.allocator
-    c.reserve.result c.args.n c.new-span.result _ c.reply-2.result start span c.reply-2.ensures
+    (low_word ∙ served_floor (own_of c.reserver.inside.badge.views) _ _ c.args.n _ _
+    (ap (λ (r : Reserver). r.own.start) c.reserver.view_is ∙ started at) span c.reply-2.ensures _
     c.in_ok-handles.was))
 
 pub invariant_of-reserver : goal.invariant_of-reserver
 invariant_of-reserver c =
     let at = (goal.at.invariant_of-reserver c).After-reply-2 in
-    let span = spanned at in
-    let start : (own_of c.reserver.inside.badge.views).start ≡ c.self.inside.entities.allocator =
-    ap (λ (r : Reserver). r.own.start) c.reserver.view_is ∙ started at in
-    subst (λ (k : ℕ). IsSeated c.reserve.new.badge.views c.reserver.inside.number
-    (c.reserver.inside.left - k) c.reserver.inside.floor) (sym c.from-2.ensures)
-    (seated_reservation c.reserver.inside.badge.views c.reserve.new.badge.views
-    c.reserver.inside.number c.reserver.inside.left c.args.n c.reserver.inside.floor
-    c.reserve.result c.reserver.inside.floor
+    rw c.from-2.ensures (seated_reservation _ _ _ _ c.args.n _ c.reserve.result _
     c.reserver.invariant c.reserve.ensures.gains c.reserve.ensures.mark (omega arith)
-    (c.reserver.invariant.floor_is ∙ refused_floor (own_of c.reserver.inside.badge.views)
-    c.self.inside.entities.allocator c.reserve.result c.args.n c.new-span.result _ c.reply-2.result start
-    span c.reply-2.ensures c.in_err-handles.was))
+    (c.reserver.invariant.floor_is ∙ refused_floor (own_of c.reserver.inside.badge.views) _ _
+    c.args.n _ _ (ap (λ (r : Reserver). r.own.start) c.reserver.view_is ∙ started at) (spanned at)
+    c.reply-2.ensures _ c.in_err-handles.was))
 
 pub returns-then-n-eq0-clause-length : goal.returns-then-n-eq0-clause-length
 returns-then-n-eq0-clause-length c =
-    length-served c.self.inside.entities.allocator.made
-    (pool_at c.self.inside.entities.allocator c.new.result.high)
-    c.in-Ok.nothing 0 (sym (c.reply.ensures 0 (low_of c.new.result _ 0 c.new.ensures.value))
-    ∙ c.in-Ok.is) ∙ sym c.if-n-eq0.true
+    let is = nothing_at c.self.inside.entities.allocator c.new.result _ c.reply.result
+    c.new.ensures.value c.reply.ensures in
+    search (rules, c.in-Ok.is, c.in-Ok.nothing, c.if-n-eq0.true)
 
 pub returns-clause-stays : goal.returns-clause-stays
 returns-clause-stays c =
-    of_stepped c.args.self.now c.args.reserver.now c.reserver.inside.badge.views
-    c.reserve.new.badge.views _ _ c.args.n c.reserve.result _ _ _ c.reserver.view_is
-    c.reserver.invariant c.requires (omega arith) c.reserve.ensures.same c.reserve.ensures.gains
+    of_stepped _ _ _ _ _ _ c.args.n _ _ _ _ c.reserver.view_is c.reserver.invariant c.requires
+    (omega arith) c.reserve.ensures.same c.reserve.ensures.gains
 
 pub returns-clause-length : goal.returns-clause-length
-returns-clause-length c = search (rules, length-served, low_of)
+returns-clause-length c = search (rules, length-served)
 
 pub returns-in_err-handles-clause-stays : goal.returns-in_err-handles-clause-stays
 returns-in_err-handles-clause-stays c =
-    of_stepped c.args.self.now c.args.reserver.now c.reserver.inside.badge.views
-    c.reserve.new.badge.views _ _ c.args.n c.reserve.result _ _ _ c.reserver.view_is
-    c.reserver.invariant c.requires (omega arith) c.reserve.ensures.same c.reserve.ensures.gains
+    of_stepped _ _ _ _ _ _ c.args.n _ _ _ _ c.reserver.view_is c.reserver.invariant c.requires
+    (omega arith) c.reserve.ensures.same c.reserve.ensures.gains
 
 pub returns-then-n-eq0-clause-given : goal.returns-then-n-eq0-clause-given
 returns-then-n-eq0-clause-given c =
-    let is : c.reply.result
-    ≡ Ok [] = c.reply.ensures 0 (low_of c.new.result _ 0 c.new.ensures.value)
-    ∙ reply-none c.self.inside.entities.allocator.made
-    (pool_at c.self.inside.entities.allocator c.new.result.high) in
+    let is = nothing_at c.self.inside.entities.allocator c.new.result _ c.reply.result
+    c.new.ensures.value c.reply.ensures in
     search (rules, c.in-Ok.is, c.in-Ok.nothing, append-nil, c.args.reserver.now.own)
 
 pub returns-clause-given : goal.returns-clause-given
 returns-clause-given c = search (rules, given)
 
 pub returns-in_err-handles-clause-refused : goal.returns-in_err-handles-clause-refused
-returns-in_err-handles-clause-refused c = search (rules, on_err, given, append-nil)
+returns-in_err-handles-clause-refused c = search (rules, given, append-nil)

@@ -1,10 +1,8 @@
-use Rattle.std.proofs.Common.{ap, sym, ◌∙◌, is_some}
+use Rattle.std.proofs.Common.{sym, rules}
 use Rattle.std.proofs.lemmas.Bool.{false≢true}
-use Rattle.std.specs.FinMap as map
 use Rattle.ent_handle.specs.Handle.{handle_cmp, handle_cmp_total as total}
 use Rattle.ent_handle.specs.Handle.{handle_cmp-IsAntisymmetric as same}
 use Rattle.ent_bundle.specs.Position.{IsAt}
-use Rattle.ent_storage.specs.Places.{Places}
 use Rattle.ent_storage.proofs.Rising.{get_in_gap, rising_set, map_set}
 use Rattle.ent_storage.proofs.SamePlaces.{same_places}
 use Rattle.ent_storage.proofs.index.Index.set_place.Goals as goal
@@ -19,15 +17,11 @@ pub returns-in-Ok : goal.returns-in-Ok
 returns-in-Ok c =
     let at : IsAt handle_cmp c.self.inside.pairs.items c.of.result c.in-Ok.position =
     rw (c.of.ensures, sym c.deref.ensures.value) c.in-Ok.ensures.found in
-    let by_handle =
-    map_set total same _ c.self.invariant _ _ c.args.place at
-    ∙ ap (λ (p : Places). map.insert p.by_handle c.of.result c.args.place) c.self.view_is
-    ∙ ap (λ h. map.insert c.args.self.now.by_handle h c.args.place) c.of.ensures in
-    same_places _ _ by_handle (ap (λ (p : Places). p.room) c.self.view_is)
+    let by_handle = map_set total same _ c.self.invariant _ _ c.args.place at in
+    search (rules, same_places, by_handle, c.of.ensures, c.self.view_is)
 
 pub returns-in_default : goal.returns-in_default
 returns-in_default c =
     let gap = rw c.deref.ensures.value at c.in_default.ensures.absent in
-    let none = ap (λ (p : Places). map.get p.by_handle c.args.handle) (sym c.self.view_is)
-    ∙ get_in_gap total same _ c.self.invariant _ _ gap in
-    absurd (false≢true (sym (ap is_some none) ∙ c.requires.there))
+    let none = get_in_gap total same _ c.self.invariant _ _ gap in
+    search (rules, none, c.requires.there, false≢true)

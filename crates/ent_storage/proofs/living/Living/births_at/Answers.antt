@@ -1,5 +1,4 @@
-use Rattle.std.proofs.Common.{ℕ, ℤ, [], ◌∷◌, ◌++◌, map, get_or, Some, ap, sym, ◌∙◌, arith, pos}
-use Rattle.std.proofs.Common.{Option}
+use Rattle.std.proofs.Common.{ℕ, ℤ, get_or, Some, ap, sym, ◌∙◌, arith, pos, Option}
 use Rattle.ent_handle.specs.declared.birth.Birth.{Birth}
 use Rattle.ent_handle.specs.Handle.{Handle}
 use Rattle.ent_storage.specs.declared.living.Resident.{Resident}
@@ -33,7 +32,6 @@ loop-pair-preserved c =
     ∙ ap (option_map {U = Birth × Handle} (λ (r : Resident). (r.birth, r.handle))) at in
     let more = map_more (λ (pair : ℕ × ℤ). born_at c.args.self.now.entities pair.0) pairs i
     (0, pos 0) (omega arith) in
-    ap (map {B = Option (Birth × Handle)} Some) c.in_ok-push.ensures.items
-    ∙ map_push {X = Birth × Handle} {Y = Option (Birth × Handle)} Some c.loop-pair.births.items born
-    ∙ (λ j. c.loop-pair.invariant j ++ (sym here j) ∷ [])
-    ∙ sym more
+    let push = map_push {X = Birth × Handle} {Y = Option (Birth × Handle)} Some
+    c.loop-pair.births.items born in
+    rw (c.in_ok-push.ensures.items, push, c.loop-pair.invariant, sym here) (sym more)

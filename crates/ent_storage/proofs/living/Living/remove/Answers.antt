@@ -1,7 +1,5 @@
-use Rattle.std.proofs.Common.{rules, length, ap, sym, ◌∙◌, inr, arith}
-use Rattle.std.specs.FinMap as finite
+use Rattle.std.proofs.Common.{rules, length, inr, arith}
 use Rattle.ent_storage.specs.declared.living.Resident.{Resident}
-use Rattle.ent_storage.specs.Living.{LivingEntity}
 use Rattle.ent_storage.proofs.ColumnsAtPlaces.{get_components}
 use Rattle.ent_storage.proofs.EntitiesOfResidents.{read_from, inside_from, changed_from}
 use Rattle.ent_storage.proofs.EntitiesOfResidents.{changed_within, written_back}
@@ -27,11 +25,9 @@ invariant_of-self c =
 pub returns-clause-value : goal.returns-clause-value
 returns-clause-value c d =
     let resident : Resident = record { handle = d.handle; birth = d.birth } in
-    (rw c.deref_mut.ensures.value at c.remove.ensures.value)
-    ∙ sym (get_components c.self.inside.columns.items c.args.place c.args.id)
-    ∙ sym (ap (λ (e : LivingEntity). finite.get e.components c.args.id)
-    (read_from c.self.inside.residents.items c.self.inside.columns.items _ c.args.self.now
-    c.args.place c.self.view_is c.requires resident d))
+    let read = read_from c.self.inside.residents.items c.self.inside.columns.items _ c.args.self.now
+    c.args.place c.self.view_is c.requires resident d in
+    search (rules, read, get_components, c.remove.ensures.value, c.deref_mut.ensures.value)
 
 pub returns-clause-entities : goal.returns-clause-entities
 returns-clause-entities c = search (rules, written_back, changed_from)

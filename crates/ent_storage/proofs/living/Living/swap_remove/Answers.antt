@@ -7,12 +7,9 @@ use Rattle.ent_storage.proofs.living.Living.swap_remove.Goals as goal
 -- the place is one of the residents'
 inside : (c : After-self) → c.args.place < vec_len c.self.inside.residents
 inside c =
-    omega (
-      arith,
-      inside_from c.self.inside.residents.items c.self.inside.columns.items _
-          c.args.self.now c.args.place c.self.view_is c.requires,
-      c.self.inside.residents.ok.0,
-    )
+    let within = inside_from c.self.inside.residents.items c.self.inside.columns.items _
+    c.args.self.now c.args.place c.self.view_is c.requires in
+    omega (arith, c.self.inside.residents.ok.0)
 
 pub swap_remove-requires : goal.swap_remove-requires
 swap_remove-requires c = record {

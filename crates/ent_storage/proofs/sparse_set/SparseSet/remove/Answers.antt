@@ -1,10 +1,9 @@
-use Rattle.std.proofs.Common.{◌≡◌, ◌≤◌, ℕ, ℤ, List, length, get_or, slice_get, Some, ap, sym, ◌∙◌}
-use Rattle.std.proofs.Common.{arith, rules}
+use Rattle.std.proofs.Common.{◌≡◌, ◌≤◌, ℕ, List, length, get_or, slice_get, Some, arith, rules}
 use Rattle.std.specs.Ordering.{nat_cmp}
 use Rattle.std.proofs.lemmas.Int.{to_z-of_z}
 use Rattle.std.proofs.lemmas.Option.{slice_get-get_or}
 use Rattle.std.specs.FinMap as map
-use Rattle.ent_storage.specs.SparseSet.{Column, IsDense}
+use Rattle.ent_storage.specs.SparseSet.{IsDense}
 use Rattle.ent_storage.proofs.Dense.{IsFilled, filled, has, pair_here, removed_values, popped_dense}
 use Rattle.ent_storage.proofs.Dense.{refilled_dense, in_sparse, removed_none}
 use Rattle.ent_storage.proofs.sparse_set.SparseSet.remove.Goals.{After-swap_remove-value}
@@ -35,10 +34,9 @@ rest c = search (rules, filled)
 value : (c : After-swap_remove-value) → Some c.swap_remove-value.result.1
     ≡ map.get c.args.self.now.values c.args.place
 value c =
-    ap (λ (x : ℕ × ℤ). Some x.1) c.swap_remove-value.ensures.value
-    ∙ sym (ap (λ (m : Column). map.get m.values c.args.place) (sym c.self.view_is)
-    ∙ has c.self.inside.dense.items c.self.inside.sparse.items c.self.invariant
-    c.in_ok-position.position c.args.place _ (here c))
+    let found = has c.self.inside.dense.items c.self.inside.sparse.items c.self.invariant
+    c.in_ok-position.position c.args.place _ (here c) in
+    search (rules, found, c.swap_remove-value.ensures.value, c.self.view_is)
 
 -- what is left is as the map without the place, whatever the sparse vector has then
 without : (c : After-swap_remove-value) (sparse : List ℕ)
@@ -46,10 +44,9 @@ without : (c : After-swap_remove-value) (sparse : List ℕ)
     → map.from_entries {R = nat_cmp} c.swap_remove-value.new.self.items
     ≡ map.remove c.args.self.now.values c.args.place
 without c sparse dense =
-    removed_values c.self.inside.dense.items c.self.inside.sparse.items c.self.invariant
-    c.in_ok-position.position c.args.place _ (here c) c.swap_remove-value.new.self.items (rest c)
-    sparse dense
-    ∙ ap (λ (m : Column). map.remove m.values c.args.place) c.self.view_is
+    let here = here c in
+    let rest = rest c in
+    search (rules, removed_values, here, rest, c.self.view_is)
 
 -- the pair that now stands there
 read : (c : After-index) → slice_get c.swap_remove-value.new.self.items c.in_ok-position.position
@@ -65,46 +62,45 @@ last c = omega (arith, c.if-position-len.false, c.len.ensures, c.swap_remove-val
 pub index_mut-requires : goal.index_mut-requires
 index_mut-requires c =
     let at = goal.at.index_mut-requires c in
-    let room = in_sparse c.self.inside.dense.items c.self.inside.sparse.items c.self.invariant
-    c.in_ok-position.position c.args.place _ (here at.After-swap_remove-value)
-    c.swap_remove-value.new.self.items
-    (rest at.After-swap_remove-value) c.index.result.now.0 c.index.result.now.1
-    (read at.After-index) in
-    omega (arith, room, c.self.inside.sparse.ok.0)
+    let here = here at.After-swap_remove-value in
+    let rest = rest at.After-swap_remove-value in
+    let read = read at.After-index in
+    search (rules, in_sparse, here, rest, read)
 
 pub invariant_of-self : goal.invariant_of-self
 invariant_of-self c =
     let at = goal.at.invariant_of-self c in
-    refilled_dense c.self.inside.dense.items c.self.inside.sparse.items c.self.invariant
-    c.in_ok-position.position c.args.place _ (here at.After-swap_remove-value)
-    c.swap_remove-value.new.self.items
-    (rest at.After-swap_remove-value) c.index.result.now.0 c.index.result.now.1
-    (read at.After-index)
+    let here = here at.After-swap_remove-value in
+    let rest = rest at.After-swap_remove-value in
+    let read = read at.After-index in
+    search (rules, refilled_dense, here, rest, read)
 
 pub invariant_of-self-else-position-len : goal.invariant_of-self-else-position-len
 invariant_of-self-else-position-len c =
     let at = goal.at.invariant_of-self-else-position-len c in
-    popped_dense c.self.inside.dense.items c.self.inside.sparse.items c.self.invariant
-    c.in_ok-position.position c.args.place _ (here at.After-swap_remove-value)
-    c.swap_remove-value.new.self.items (rest at.After-swap_remove-value) (last at.Else-position-len)
+    let here = here at.After-swap_remove-value in
+    search (rules, popped_dense, here, rest at.After-swap_remove-value, last at.Else-position-len)
 
-pub returns-then-position-len-clause-value : goal.returns-then-position-len-clause-value
-returns-then-position-len-clause-value c = search (rules, to_z-of_z, value)
+pub returns-then-position-len : goal.returns-then-position-len
+returns-then-position-len c =
+    let at = (goal.at.returns-then-position-len c).After-swap_remove-value in
+    record {
+      value = search (rules, to_z-of_z, value);
+      after = without at _ (refilled_dense c.self.inside.dense.items c.self.inside.sparse.items
+          c.self.invariant c.in_ok-position.position c.args.place _ (here at)
+          c.swap_remove-value.new.self.items (rest at) c.index.result.now.0 c.index.result.now.1
+          (read (goal.at.returns-then-position-len c).After-index));
+      absent = search rules;
+    }
 
-pub returns-else-position-len-clause-value : goal.returns-else-position-len-clause-value
-returns-else-position-len-clause-value c = search (rules, to_z-of_z, value)
-
-pub returns-then-position-len-clause-after : goal.returns-then-position-len-clause-after
-returns-then-position-len-clause-after c =
-    let at = (goal.at.returns-then-position-len-clause-after c).After-swap_remove-value in
-    without at _ (refilled_dense c.self.inside.dense.items c.self.inside.sparse.items
-    c.self.invariant c.in_ok-position.position c.args.place _ (here at)
-    c.swap_remove-value.new.self.items (rest at) c.index.result.now.0 c.index.result.now.1
-    (read (goal.at.returns-then-position-len-clause-after c).After-index))
-
-pub returns-else-position-len-clause-after : goal.returns-else-position-len-clause-after
-returns-else-position-len-clause-after c =
-    let at = (goal.at.returns-else-position-len-clause-after c).After-swap_remove-value in
-    without at _ (popped_dense c.self.inside.dense.items c.self.inside.sparse.items c.self.invariant
-    c.in_ok-position.position c.args.place _ (here at) c.swap_remove-value.new.self.items (rest at)
-    (last (goal.at.returns-else-position-len-clause-after c).Else-position-len))
+pub returns-else-position-len : goal.returns-else-position-len
+returns-else-position-len c =
+    let at = (goal.at.returns-else-position-len c).After-swap_remove-value in
+    record {
+      value = search (rules, to_z-of_z, value);
+      after = without at _ (popped_dense c.self.inside.dense.items c.self.inside.sparse.items
+          c.self.invariant c.in_ok-position.position c.args.place _ (here at)
+          c.swap_remove-value.new.self.items (rest at)
+          (last (goal.at.returns-else-position-len c).Else-position-len));
+      absent = search rules;
+    }

@@ -1,22 +1,20 @@
-use Rattle.std.proofs.Common.{◌≡◌, ◌<◌, length, None, refl, ap, ◌∙◌, SFits, w64, rules}
+use Rattle.std.proofs.Common.{◌≡◌, ◌<◌, length, None, refl, w64, rules}
 use Rattle.std.proofs.lemmas.Int.{to_z-of_z}
 use Rattle.std.specs.Ordering.{nat_cmp}
 use Rattle.std.specs.FinMap as map
-use Rattle.ent_storage.specs.SparseSet.{Column}
 use Rattle.ent_storage.proofs.Dense.{pair_here, over_values, pushed_dense, pushed_values}
 use Rattle.ent_storage.proofs.sparse_set.SparseSet.set.Goals as goal
 
 pub returns-in-Some : goal.returns-in-Some
 returns-in-Some c =
-    let fits : SFits w64 c.args.value = search rules in
+    let is = to_z-of_z w64 c.args.value (search rules) in
     let D = c.self.inside.dense.items in
     let at = rw c.deref.ensures.value at c.in-Some.ensures.found in
     let inside = rw c.deref.ensures.value at c.in-Some.ensures.inside in
     let here = pair_here D c.in-Some.position c.args.place inside at (c.args.place, c.args.value) in
-    rw (to_z-of_z w64 c.args.value fits)
-    (over_values D c.self.inside.sparse.items c.self.invariant c.in-Some.position c.args.place _
-    c.args.value here)
-    ∙ ap (λ (m : Column). map.insert m.values c.args.place c.args.value) c.self.view_is
+    let over = over_values D c.self.inside.sparse.items c.self.invariant c.in-Some.position
+    c.args.place _ c.args.value here in
+    search (rules, is, over, c.self.view_is)
 
 -- the place has no value
 none_there : (c : goal.After-push_reserved)
@@ -31,8 +29,7 @@ invariant_of-self-in-None c = search (rules, to_z-of_z, pushed_dense, none_there
 
 pub returns-in-None : goal.returns-in-None
 returns-in-None c =
-    let fits : SFits w64 c.args.value = search rules in
-    rw (c.push_reserved.ensures.items, to_z-of_z w64 c.args.value fits)
-    (pushed_values c.self.inside.dense.items c.self.inside.sparse.items c.self.invariant
-    c.args.place c.args.value (none_there c) (in_sparse c))
-    ∙ ap (λ (m : Column). map.insert m.values c.args.place c.args.value) c.self.view_is
+    let is = to_z-of_z w64 c.args.value (search rules) in
+    let put = pushed_values c.self.inside.dense.items c.self.inside.sparse.items c.self.invariant
+    c.args.place c.args.value (none_there c) (in_sparse c) in
+    search (rules, is, put, c.push_reserved.ensures.items, c.self.view_is)

@@ -2,7 +2,7 @@ use Rattle.std.proofs.Common.{refl, ap, ◌∙◌}
 use Rattle.std.specs.FinMap as map
 use Rattle.ent_handle.specs.Handle.{handle_cmp_total as total, handle_cmp-IsAntisymmetric as same}
 use Rattle.ent_storage.proofs.Keys.{get-remove_same}
-use Rattle.ent_storage.proofs.Placed.{is_inside}
+use Rattle.std.proofs.lemmas.Option.{slice_get_within}
 use Rattle.ent_storage.proofs.storage.Storage.despawn.Goals as goal
 
 -- who was taken out is not there
@@ -16,6 +16,6 @@ pub returns-clause-places : goal.returns-clause-places
 returns-clause-places c =
     let at = (c.in-Some.ensures.at c.in-Some.place).0 refl in (
       c.in-Some.place,
-      is_inside _ c.in-Some.place c.args.handle at,
+      slice_get_within _ c.in-Some.place c.args.handle at,
       (at, rw c.forget.ensures c.despawn_at.ensures.places),
     )

@@ -1,7 +1,5 @@
-use Rattle.std.proofs.Common.{rules, is_some, ap, ◌∙◌}
+use Rattle.std.proofs.Common.{rules}
 use Rattle.std.proofs.lemmas.Bool.{false≢true}
-use Rattle.std.specs.FinMap as map
-use Rattle.ent_storage.specs.EntityMap.{Store}
 use Rattle.ent_storage.specs.Indexed.{counted}
 use Rattle.ent_storage.proofs.Counted.{counted_gives, indexed_counted}
 use Rattle.ent_storage.proofs.Placed.{placed_known}
@@ -12,10 +10,7 @@ pub invariant_of-self : goal.invariant_of-self
 invariant_of-self c =
     let living = c.self.inside.living.entities in
     let index = c.self.inside.index.by_handle in
-    let gone = ap is_some (ap (λ (s : Store). map.get s.entities c.args.handle) c.self.view_is
-    ∙ c.requires) in
-    let none = placed_known living (counted living index) c.self.invariant.indexed c.args.handle
-    ∙ gone in
+    let none = placed_known living (counted living index) c.self.invariant.indexed c.args.handle in
     record {
       indexed = indexed_counted living c.forget.new.self.by_handle (counted living index)
           c.self.invariant.indexed (λ q i there. c.forget.ensures.kept q i

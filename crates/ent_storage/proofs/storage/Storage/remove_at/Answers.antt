@@ -20,19 +20,10 @@ after : (c : After-remove) → IsChanged c.args.self.now c.args.handle
     c.self.inside.index.by_handle (min c.remove.new.self.room c.self.inside.index.room)
 after c = search (rules, changed, placed_at)
 
--- the component is that of the entity
-pub returns-clause-value : goal.returns-clause-value
-returns-clause-value c =
-    search (rules, c.remove.ensures.value, some_entity, c.args.handle, c.args.id, at)
-
-pub returns-clause-entities : goal.returns-clause-entities
-returns-clause-entities c = (after (goal.at.returns-clause-entities c).After-remove).entities
-
-pub returns-clause-spare : goal.returns-clause-spare
-returns-clause-spare c = (after (goal.at.returns-clause-spare c).After-remove).spare
-
-pub returns-clause-places : goal.returns-clause-places
-returns-clause-places c = (after (goal.at.returns-clause-places c).After-remove).places
+pub returns : goal.returns
+returns c =
+    let now = after (goal.at.returns c).After-remove in
+    search (rules, c.remove.ensures.value, some_entity, c.args.handle, c.args.id, at, now)
 
 pub invariant_of-self : goal.invariant_of-self
 invariant_of-self c = (after (goal.at.invariant_of-self c).After-remove).kept

@@ -1,12 +1,8 @@
-use Rattle.std.proofs.Common.{arith, ◌≡◌, ◌<◌, ℕ, ℤ, List, length, Contains, IsSome, ap, subst}
-use Rattle.std.proofs.lemmas.Grind.{common_steps}
-use Rattle.std.specs.FinMap as map
-use Rattle.ent_handle.specs.Handle.{Handle, handle_cmp}
-use Rattle.ent_handle.specs.declared.component.ComponentId.{ComponentId}
-use Rattle.ent_storage.specs.Living.{LivingEntity, IsValueAt}
+use Rattle.std.proofs.Common.{IsSome, ap}
+use Rattle.ent_handle.specs.Handle.{Handle}
 use Rattle.ent_storage.proofs.Missing.{on_err}
-use Rattle.ent_storage.specs.EntityMap.{EntityMap, Store, value_of}
-use Rattle.ent_storage.specs.Indexed.{counted, map_of, IsIndexed}
+use Rattle.ent_storage.specs.EntityMap.{Store, value_of}
+use Rattle.ent_storage.specs.Indexed.{counted}
 use Rattle.ent_storage.proofs.WithComponent.{pair_inside, lists_with, as_many, some_with}
 use Rattle.ent_storage.proofs.storage.Storage.with.Goals as goal
 
@@ -25,30 +21,21 @@ returns-clause-ok c =
     c.pairs.ensures.once _ c.in_ok-handles_in_order.ensures.ok)
 
 -- somebody has it if there is a pair
-somebody : (living : List LivingEntity) (index : map.FinMap handle_cmp ℕ)
-    → IsIndexed living index → (m : EntityMap) → map_of living ≡ m → (id : ComponentId)
-    (pairs : List (ℕ × ℤ)) → ((p : ℕ) (v : ℤ) → Contains pairs (p, v) → IsValueAt living p id v)
-    → 0 < length pairs → (h : Handle) × IsSome (value_of m h id)
-somebody living index indexed m view id pairs has some =
-    grind (arith, common_steps, some_with living index indexed id pairs has some)
-
 pub returns-in_err-births-clause-memory : goal.returns-in_err-births-clause-memory
 returns-in_err-births-clause-memory c =
-    let living = c.self.inside.living.entities in
-    on_err {P = (h : Handle) × IsSome (value_of c.args.self.now.entities h c.args.id)} c.from_residual.result
-    (somebody living (counted living c.self.inside.index.by_handle) c.self.invariant.indexed
-    c.args.self.now.entities (ap (λ (s : Store). s.entities) c.self.view_is) c.args.id
-    c.pairs.result.now c.pairs.ensures.has c.in_err-births.ensures.memory)
+    let are = ap (λ (s : Store). s.entities) c.self.view_is in
+    on_err {P = (h : Handle) × IsSome (value_of c.args.self.now.entities h c.args.id)}
+    c.from_residual.result
+    (rw (← are) (some_with c.self.inside.living.entities _ c.self.invariant.indexed
+    c.args.id c.pairs.result.now c.pairs.ensures.has c.in_err-births.ensures.memory))
 
 pub returns-in_err-handles_in_order-clause-memory :
     goal.returns-in_err-handles_in_order-clause-memory
 returns-in_err-handles_in_order-clause-memory c =
-    let living = c.self.inside.living.entities in
-    let many = as_many living c.in_ok-births.births.items c.pairs.result.now
-    c.in_ok-births.ensures.ok in
-    let some : 0 < length c.pairs.result.now = subst (λ n. 0 < n) many
-    c.in_err-handles_in_order.ensures.memory in
-    on_err {P = (h : Handle) × IsSome (value_of c.args.self.now.entities h c.args.id)} c.from_residual-in_err-handles_in_order.result
-    (somebody living (counted living c.self.inside.index.by_handle) c.self.invariant.indexed
-    c.args.self.now.entities (ap (λ (s : Store). s.entities) c.self.view_is) c.args.id
-    c.pairs.result.now c.pairs.ensures.has some)
+    let are = ap (λ (s : Store). s.entities) c.self.view_is in
+    let many = as_many c.self.inside.living.entities c.in_ok-births.births.items
+    c.pairs.result.now c.in_ok-births.ensures.ok in
+    on_err {P = (h : Handle) × IsSome (value_of c.args.self.now.entities h c.args.id)}
+    c.from_residual-in_err-handles_in_order.result
+    (rw (← are) (some_with c.self.inside.living.entities _ c.self.invariant.indexed c.args.id
+    c.pairs.result.now c.pairs.ensures.has (rw many at c.in_err-handles_in_order.ensures.memory)))

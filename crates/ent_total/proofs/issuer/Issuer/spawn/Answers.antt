@@ -7,7 +7,8 @@ returns-clause-given g c =
     search (
       rules,
       given_one c.spawn-spawned.new.self.shared.now c.resume-commands.result.reserver.now
-          c.spawn-spawned.new.self.reserver.now c.spawn-spawned.result c.spawn-spawned.ensures.replies,
+          c.spawn-spawned.new.self.reserver.now c.spawn-spawned.result
+          c.spawn-spawned.ensures.replies,
     )
 
 pub returns-clause-refusal : goal.returns-clause-refusal

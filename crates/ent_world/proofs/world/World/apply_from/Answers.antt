@@ -1,7 +1,7 @@
-use Rattle.std.proofs.Common.{rules, ◌≡◌, ap, ◌∙◌, ℕ, List, []}
+use Rattle.std.proofs.Common.{rules, ◌≡◌, ap, ℕ, List, []}
 use Rattle.ent_world.specs.declared.fault.Fault.{Fault}
 use Rattle.ent_world.specs.Effects.{Applied, applied}
-use Rattle.ent_world.specs.Sync.{after_births, sync, sync_until, cut}
+use Rattle.ent_world.specs.Sync.{after_births, sync}
 use Rattle.ent_world.specs.Rest.{after_left, HasStoppedSo}
 use Rattle.ent_queue.specs.Command.{Command}
 use Rattle.ent_world.specs.World.{World}
@@ -36,19 +36,8 @@ returns-in-Ok-clause-whole_faults c before earlier stopped =
 pub returns-clause-whole_later : goal.returns-clause-whole_later
 returns-clause-whole_later c before earlier stopped =
     let a = c.args in
-    let none = c.new-applying.ensures in
     let stop = c.in-Err.stop in
-    let until : with_faults_before earlier (applied c.apply_queues-applied.new.self
-    c.apply_queues-applied.new.applying.faults.items)
-    ≡ sync_until stop.at.system stop.at.command stop.done a.queues.now before =
-    ap (with_faults_before earlier) (c.in-Err.ensures.err
-    ∙ ap (λ (fs : List Fault). after_left a.system a.command a.done
-    (cut stop.at.system stop.at.command stop.done a.queues.now) (applied a.self.now fs)) none)
-    ∙ gone_on_until a.system a.command a.done stop.at.system stop.at.command stop.done
+    let until = gone_on_until a.system a.command a.done stop.at.system stop.at.command stop.done
     a.queues.now (applied (after_births a.queues.now before) []) a.self.now earlier
     c.in-Err.ensures.later stopped.world stopped.faults_are in
-    rw c.fault.ensures
-    (record {
-      world = ap (λ (b : Applied). b.world) until;
-      faults_are = ap (λ (b : Applied). b.faults) until;
-    })
+    search (rules, until)

@@ -1,3 +1,4 @@
+use Rattle.std.proofs.lemmas.Grind.{common_steps}
 use Rattle.std.proofs.Common.{rules, ◌≡◌, sym, ap, ◌∙◌, ℕ, ◌≤◌, ◌++◌, length, drop, arith}
 use Rattle.std.proofs.lemmas.List.Sorted.{length_permutation}
 use Rattle.ent_alloc.specs.Sequential.{born, top, after_flush}
@@ -52,12 +53,9 @@ stood c = search (rules)
 kept : (c : After-set_rows) → c.set_rows.new.entities.rows ≡ with_rows c.self.inside.entities.rows
     (length c.self.inside.storage.places) (born c.self.inside.entities.allocator)
 kept c =
-    let s = c.self.inside.entities.allocator in
-    let next = c.len-first.ensures ∙ rows-count s _ _ _
-    c.self.invariant.rows c.self.invariant.world.living in
-    let are = c.deref-2.ensures.value ∙ c.in_ok-flush.ensures.born
-    ∙ ap (λ hs. hs ++ born s) c.new-handles.ensures.items in
-    c.set_rows.ensures.rows ∙ (λ i. with_rows (c.flush.ensures.rows i) (next i) (are i))
+    let next = rows-count c.self.inside.entities.allocator _ _ _ c.self.invariant.rows
+    c.self.invariant.world.living in
+    grind (arith, common_steps)
 
 pub name_listed-requires-clause-rows : goal.name_listed-requires-clause-rows
 name_listed-requires-clause-rows c =
@@ -73,10 +71,9 @@ name_listed-requires-clause-rows c =
 stand : (c : After-set_rows) → drop c.len-first.result c.enter_all.new.storage.places
     ≡ c.deref.result.now
 stand c =
-    let next = c.len-first.ensures ∙ rows-count c.self.inside.entities.allocator _ _ _
-    c.self.invariant.rows c.self.invariant.world.living in
-    stand_after c.len-first.result c.reserve.new.self.places c.enter_all.new.storage.places
-    c.deref.result.now (next ∙ ap length (sym c.reserve.ensures.places)) c.enter_all.ensures.places
+    let next = rows-count c.self.inside.entities.allocator _ _ _ c.self.invariant.rows
+    c.self.invariant.world.living in
+    search (rules, next, stand_after)
 
 pub number_others-requires : goal.number_others-requires
 number_others-requires c = search (rules, stand)
@@ -143,7 +140,8 @@ invariant_of-self-2 c =
     let all = entered last (stand at) in
     record {
       world = risen last c.saturating_add-self-inside.result all;
-      rows = rw (kept at, c.number_others.ensures.places, c.name_listed.ensures.places, stood at, all)
+      rows = rw
+          (kept at, c.number_others.ensures.places, c.name_listed.ensures.places, stood at, all)
           (rows-born (birth_in c.self.inside.phase c.args.queues.now (born s)) (born s)
           c.self.inside.entities.rows c.self.inside.storage.places m c.self.invariant.rows
           (born-new s m c.self.invariant.world.sound c.self.invariant.world.living));

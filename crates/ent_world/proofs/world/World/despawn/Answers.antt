@@ -1,3 +1,4 @@
+use Rattle.std.proofs.lemmas.Grind.{common_steps}
 use Rattle.std.proofs.Common.{rules, ◌≡◌, ◌<◌, ◌≤◌, refl, sym, subst, ◌∙◌, arith, Option, Some}
 use Rattle.std.specs.FinMap as map
 use Rattle.ent_handle.specs.Handle.{Handle, handle_cmp_total, handle_cmp-IsAntisymmetric}
@@ -51,9 +52,7 @@ placed c =
 moved_placed : (c : After-despawn_at) (moved : Handle) → c.despawn_at.result ≡ Some moved → AreRows
     (map.insert c.free.new.self.rows moved c.in-Some.row) c.despawn_at.new.self.places
     c.despawn_at.new.self.entities
-moved_placed c moved is = subst (λ (o : Option Handle). AreRows
-    (with_moved c.free.new.self.rows c.in-Some.row o) c.despawn_at.new.self.places
-    c.despawn_at.new.self.entities) is (placed c)
+moved_placed c moved is = let at = placed c in grind (arith, common_steps)
 
 -- the slot that waits now has the place of the entity that is gone
 left_room : (c : After-despawn_at) → top c.free.new.self.allocator ≤ c.despawn_at.new.self.spare

@@ -1,7 +1,8 @@
-use Rattle.std.proofs.Common.{rules}
+use Rattle.std.proofs.lemmas.Grind.{common_steps}
+use Rattle.std.proofs.Common.{arith, rules}
 use Rattle.ent_world.proofs.Making.{on_ok, on_err}
 use Rattle.ent_world.proofs.Folds.{next_left, some_left}
-use Rattle.ent_world.proofs.Left.{each_left-skip, each_left-next}
+use Rattle.ent_world.proofs.Left.{each_left-next}
 use Rattle.ent_world.proofs.TakesMemory.{stop_takes_memory, next_takes_memory}
 use Rattle.ent_world.proofs.world.World.insert_each.Goals as goal
 
@@ -10,7 +11,7 @@ unreachable-requires c = search (rules, some_left)
 
 -- one that is done already
 pub loop-done-preserved-then-done-from : goal.loop-done-preserved-then-done-from
-loop-done-preserved-then-done-from c = search (rules, next_left, each_left-skip)
+loop-done-preserved-then-done-from c = grind (arith, common_steps, next_left)
 
 -- the next one has its components
 pub loop-done-preserved : goal.loop-done-preserved

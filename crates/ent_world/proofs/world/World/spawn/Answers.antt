@@ -12,7 +12,7 @@ use Rattle.ent_world.specs.Rows.{AreRows}
 use Rattle.ent_world.proofs.Born.{no_entity}
 use Rattle.ent_world.proofs.Making.{get_inserted, taken_back, end_taken_back}
 use Rattle.ent_world.proofs.PlacedRows.{rows-count, rows-insert}
-use Rattle.ent_world.proofs.SpareRoom.{room-after_alloc, room_again}
+use Rattle.ent_world.proofs.SpareRoom.{room-after_alloc}
 use Rattle.ent_world.proofs.Worlds.{after_spawn-world}
 use Rattle.ent_world.proofs.world.World.spawn.Goals.{After-items, After-despawn_at, In_default}
 use Rattle.ent_world.proofs.world.World.spawn.Goals as goal
@@ -46,9 +46,7 @@ invariant_of-self-in-Err c =
     record {
       world = rw (back at, c.in-Err.ensures.err) c.self.invariant.world;
       rows = rw (back at, place_back at, c.in-Err.ensures.err) c.self.invariant.rows;
-      room = rw c.in-Err.ensures.err (room_again (top c.self.inside.entities.allocator)
-          c.self.inside.storage.spare c.make.new.storage.spare c.despawn_at.new.self.spare
-          c.self.invariant.room c.in_ok-make.ensures.less c.despawn_at.ensures.spare);
+      room = rw c.in-Err.ensures.err (search rules);
     }
 
 pub returns-in-Err-clause-err : goal.returns-in-Err-clause-err
