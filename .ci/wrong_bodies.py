@@ -152,50 +152,19 @@ def lacks_only_holes(said):
 
 
 def put_holes(room, crate, functions):
-    """Takes the proofs of all other functions away, and leaves a hole for each: for those with answers, and for those with a plain name."""
-    answered = {it.parent.relative_to(room / "proofs").parts for it in room.glob("proofs/**/Answers.antt")}
-    for path in sorted(answered.union(named_functions(room / "src"))):
+    """Takes the answers of all other functions away, and leaves a hole for the proof of each."""
+    for answers in sorted(room.glob("proofs/**/Answers.antt")):
+        path = answers.parent.relative_to(room / "proofs").parts
         is_tried = any(f"::{'::'.join(path)}".endswith(f"::{it}") for it in functions)
         if is_tried or path[-1].startswith("+"):
             continue
-        folder, name, module = room.joinpath("proofs", *path), path[-1], ".".join(path)
-        folder.mkdir(parents=True, exist_ok=True)
-        for part in ("Answers", "Invariants"):
-            (folder / f"{part}.antt").unlink(missing_ok=True)
-        (folder / "Proof.antt").write_text(
+        answers.unlink()
+        answers.with_name("Invariants.antt").unlink(missing_ok=True)
+        name, module = path[-1], ".".join(path)
+        answers.with_name("Proof.antt").write_text(
             f"use Rattle.{crate}.proofs.{module}.Statement.{{statement}}\n\n"
             f"pub {name}_spec : {{M : Type 1}} → statement M\n{name}_spec = ?\n"
         )
-
-
-def named_functions(src):
-    """The functions of a crate that stand in no trait and in no impl of one, each as the path of its proofs' folder. A method's leads
-    through the module of its type, wherever the method stands."""
-    files = {it: module_of(it.relative_to(src)) for it in sorted(src.rglob("*.rt"))}
-    texts = {it: it.read_text().partition("#[cfg(test)]")[0] for it in files}
-    types = {name: files[it] for it in files for name in re.findall(r"(?m)^(?:pub(?:\([a-z]+\))? )?(?:struct|enum) (\w+)", texts[it])}
-    for file, text in texts.items():
-        owner = ""
-        for line in text.splitlines():
-            name = re.match(r"( {4})?(?:pub(?:\([a-z]+\))? )?(?:const )?fn (\w+)", line)
-            if re.match(r"\S.*\b(impl|trait|mod)\b.*\{$", line) or line == "}":
-                owner = owner_of(line)
-            elif name and not name[1]:
-                yield *files[file], name[2]
-            elif name and owner in types:
-                yield *types[owner], owner, name[2]
-
-
-def module_of(path):
-    """The path of the module that a file of sources holds."""
-    parts = path.with_suffix("").parts
-    return parts[:-1] if parts[-1] in ("lib", "main", "mod") else parts
-
-
-def owner_of(line):
-    """The type of an impl of its own, by its first line, or an empty text."""
-    said = re.sub(r"<[^<>]*(?:<[^<>]*>)?[^<>]*>", "", line).partition("{")[0].split()
-    return said[1].split("::")[-1] if said[:1] == ["impl"] and "for" not in said else ""
 
 
 def with_functions(room, said):
