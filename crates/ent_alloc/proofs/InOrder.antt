@@ -5,8 +5,6 @@ use Rattle.std.proofs.lemmas.List.Kept.{AllPairs-cons}
 use Rattle.ent_alloc.specs.declared.slot_record.SlotRecord.{SlotRecord}
 use Rattle.ent_alloc.specs.Slots.{occupants}
 
--- ---- one record after the other
-
 -- ---- by rising slot
 
 -- the occupants from an index on

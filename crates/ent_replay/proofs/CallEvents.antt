@@ -1,3 +1,4 @@
+-- What the events of a call do to the fields of a `Machine`, and that they keep them in order.
 use Rattle.std.specs.FinMap.{get-remove, FinMap}
 use Rattle.ent_replay.proofs.Maps.{maps_alike, get-inserted, get-insert_other, get-removed}
 use Rattle.ent_replay.proofs.Maps.{get-remove_other, get-map_values, map_values-insert}
@@ -33,8 +34,6 @@ use Rattle.ent_replay.proofs.Conditions.{when, unless}
 use Rattle.ent_replay.proofs.Giving.{all_held-next}
 use Rattle.ent_replay.proofs.Totals.{sum_below-changed, sum_below-part}
 use Rattle.ent_replay.proofs.ExclusiveEvents.{asked-bound}
-
--- What the events of a call do to the fields of a `Machine`, and that they keep them in order.
 
 module _ (s : Allocator) (spent : FinMap nat_cmp ℕ) (calls : FinMap nat_cmp StoredCall) where
   module _ (caller : ℕ) (below : caller < callers) where

@@ -1,3 +1,5 @@
+-- What the events that need the allocator to themselves do to the fields of a `Machine`, and that
+-- they keep them in order.
 use Rattle.std.proofs.lemmas.List.Elements.{All-nil}
 use Rattle.std.proofs.Common.{rules, ◌≡◌, ◌≢◌, refl, sym, ap, ◌∙◌, ℕ, ◌+◌, ◌*◌, ◌^◌, ◌<◌, ◌≤◌, Bool}
 use Rattle.std.proofs.Common.{true, false, not, [], length, slice_get, Some, None, Ok, Err, arith}
@@ -32,9 +34,6 @@ use Rattle.ent_replay.proofs.Giving.{all_held-none}
 use Rattle.ent_replay.proofs.Totals.{sum_below-bound, sum_below-none}
 use Rattle.ent_replay.proofs.Maps.{maps_alike, get-map_values, map_values-empty}
 use Rattle.ent_replay.proofs.MachineAnswers.{front, none_is_none, some_handles, not_false}
-
--- What the events that need the allocator to themselves do to the fields of a `Machine`, and that
--- they keep them in order.
 
 module _ (s : Allocator) (spent : FinMap nat_cmp ℕ) (calls : FinMap nat_cmp StoredCall) where
   -- ---- whether a call is open

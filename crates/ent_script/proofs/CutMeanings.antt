@@ -1,3 +1,4 @@
+-- One law, with a step for each test of the format: a value that is cut means the same.
 use Rattle.std.proofs.lemmas.List.{take-map}
 use Rattle.std.proofs.Common.{arith, rules, ◌≡◌, ℕ, suc, ◌+◌, List, [], ◌∷◌, map, refl, Option}
 use Rattle.std.proofs.Common.{option_map, Result, Ok, is_some, ok_or, codes}
@@ -19,8 +20,6 @@ use Rattle.ent_script.specs.declared.heading.Heading.{Heading}
 use Rattle.ent_script.specs.declared.kind.Kind.{Kind}
 use Rattle.ent_script.specs.declared.kind.Kind.TheVariants as kinds
 use Rattle.ent_script.specs.declared.cause.Cause.TheVariants as cause
-
--- One law, with a step for each test of the format: a value that is cut means the same.
 
 get_member-cut : (l : ℕ) (k : List ℕ) (ms : Members) → get_member k (cut_members l ms) ≡ option_map
     (cut l) (get_member k ms)

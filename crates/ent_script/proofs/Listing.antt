@@ -1,3 +1,4 @@
+-- Reading the elements of an array one after another, of at most so many.
 use Rattle.std.proofs.Common.{le-leb, add-one, rules, ◌≡◌, ℕ, ◌+◌, ◌-◌, ◌<◌, ◌≤◌, List, [], ◌∷◌}
 use Rattle.std.proofs.Common.{◌++◌, length, Some, None, Result, Ok, Err, false, cond, ok_or}
 use Rattle.std.proofs.lemmas.Bool.{lt-leb}
@@ -16,8 +17,6 @@ use Rattle.ent_script.specs.declared.read_fault.ReadFault.{ReadFault}
 use Rattle.ent_script.specs.declared.read_fault.ReadFault.TheVariants.{Json, Memory}
 use Rattle.ent_script.proofs.Numbering.{onto, onto_one}
 use Rattle.ent_script.proofs.Finding.{next_item, last_item}
-
--- Reading the elements of an array one after another, of at most so many.
 
 pub streams_fault : {A : Type 0} (e : ReadFault) (left : List Token) (read : Result A ReadFault)
     (rest : List Token)

@@ -1,3 +1,4 @@
+-- Names and their numbers.
 use Rattle.std.proofs.lemmas.List.{length-map, map-append}
 use Rattle.std.proofs.Common.{rules, ◌≡◌, ℕ, ◌+◌, ◌<◌, Bool, true, false, List, [], ◌∷◌, ◌++◌}
 use Rattle.std.proofs.Common.{length, map, Option, Some, None, option_map, is_some, IfSome, cond}
@@ -13,8 +14,6 @@ use Rattle.serde_json.specs.Data.{Data}
 use Rattle.ent_script.specs.Names.{as_name, number_among, with_name}
 use Rattle.ent_script.specs.Reading.{new_name}
 use Rattle.ent_script.specs.Numbers.{HaveNumbers}
-
--- Names and their numbers.
 
 -- a name's number is less than how many there are
 pub number_within : (name : List ℕ) (names : List (List ℕ)) → IfSome (number_among name names)

@@ -1,3 +1,4 @@
+-- A script that is read is in its ranges: its systems, its frames and the whole.
 use Rattle.std.proofs.Common.{rules, ℕ, ◌+◌, ◌≤◌, List, [], ◌∷◌, length, take, Option, ok_or}
 use Rattle.std.proofs.Common.{Result, Ok, Err, IfSome, codes, arith, lit≤}
 use Rattle.ent_script.specs.Reading.{◌>>=◌, numbered, or_absent, at_operation, operation_at}
@@ -19,8 +20,6 @@ use Rattle.ent_script.specs.Json.{whole_within}
 use Rattle.ent_script.specs.Names.{names_in}
 use Rattle.ent_script.specs.Script.{Script}
 use Rattle.ent_script.specs.Ranges.{AllFrom, IsOperationAt, IsSystemOf, IsFrameOf, IsScript}
-
--- A script that is read is in its ranges: its systems, its frames and the whole.
 
 at_in : {A : Type 0} (P : A → Type 0) (f s o : ℕ) (r : Result A Cause) → IfOk r P
     → IfOk (at_operation f s o r) P

@@ -72,7 +72,6 @@ module _ (name : Handle → Birth) (m : EntityMap) where
     are : (n : ℕ) → births n ≡ map name (names n)
 
   -- also after a spawn
-  -- also after a spawn
   stand_bound : (names : Bindings) (births : BirthBindings) (n : ℕ) (hs : List Handle)
       (bs : List Birth) → StandFor names births → All (IsThere m) hs → bs ≡ map name hs
       → StandFor (bound n hs names) (with_binding (Some n) bs births)

@@ -1,3 +1,4 @@
+-- The calls of one caller among those of all, and records of which no two have one number.
 use Rattle.std.proofs.Common.{suc, ◌≡◌, ◌≢◌, ℕ, ◌≤◌, List, [], ◌∷◌, refl, arith}
 use Rattle.std.proofs.lemmas.Grind.{common_steps}
 use Rattle.std.specs.Prelude.{cond, ◌==◌, count_by}
@@ -9,8 +10,6 @@ use Rattle.ent_shared.specs.declared.record.Reservation.{Reservation}
 use Rattle.ent_shared.specs.declared.record.Record.{Record}
 use Rattle.ent_shared.specs.Order.{reservations_by}
 use Rattle.ent_shared.proofs.Sorting.{contains_cases}
-
--- The calls of one caller among those of all, and records of which no two have one number.
 
 -- one caller's calls weigh what its own calls weigh
 abbrev pub only : ℕ → (Reservation → ℕ) → Reservation → ℕ

@@ -1,3 +1,5 @@
+-- The end of a phase: the history of all records is legal, and the cursor and the least floor tell
+-- the allocator after it.
 use Rattle.ent_shared.proofs.Histories.{falls_apart, reservations_are, respects_all}
 use Rattle.std.proofs.Common.{rules, ◌≡◌, ◌≢◌, ℕ, ◌+◌, ◌-◌, ◌^◌, ◌<◌, ◌≤◌, ℤ, pos, ◌+ℤ◌, ◌-ℤ◌, ◌≤ℤ◌}
 use Rattle.std.proofs.Common.{◌<ℤ◌, List, length, map, refl, sym, ap, subst, ◌∙◌, arith, sum}
@@ -32,9 +34,6 @@ use Rattle.ent_shared.proofs.Sorting.{follow_falls}
 use Rattle.ent_shared.proofs.Callers.{numbers_differ}
 use Rattle.ent_shared.proofs.Settling.{IsLater, legal_from, min_right, floor_below, taken_floor}
 use Rattle.ent_shared.proofs.Settling.{floor_sorted, floor_of_all}
-
--- The end of a phase: the history of all records is legal, and the cursor and the least floor tell
--- the allocator after it.
 
 -- what the closing call owes and gives, in the numbers of its code
 pub record Ended (here start : Allocator) (records : List Record) (at floor : ℤ) : Type 0 where

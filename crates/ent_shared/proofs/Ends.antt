@@ -1,3 +1,4 @@
+-- The rule at the ends of a phase: it holds before the first step, and what it says after the last.
 use Rattle.std.proofs.lemmas.Int.{ints}
 use Rattle.std.proofs.lemmas.Grind.{common_steps}
 use Rattle.std.proofs.Common.{rules, ◌≡◌, ℕ, zero, suc, ◌+◌, ◌<◌, ◌≤◌, ℤ, ◌≤ℤ◌, List, [], ◌∷◌}
@@ -17,8 +18,6 @@ use Rattle.ent_shared.specs.declared.record.Record.{Record}
 use Rattle.ent_shared.specs.Record.{own_reservations, opened, opened_records}
 use Rattle.ent_shared.specs.Rule.{cursor_of, weigh, HasItsReply, IsKept, IsStart, IsRuled, IsClosed}
 use Rattle.ent_shared.proofs.Words.{left_of, numbered, all_credit}
-
--- The rule at the ends of a phase: it holds before the first step, and what it says after the last.
 
 module _ (start : Allocator) (count : ℕ) where
   abbrev St : Type 0

@@ -1,3 +1,5 @@
+-- What all records together tell once no thread steps any more: their own calls are the calls that
+-- lead from the top to the cursor.
 use Rattle.std.proofs.lemmas.Grind.{common_steps}
 use Rattle.std.proofs.lemmas.List.{get_or_default}
 use Rattle.std.specs.List.{AllPairs, sum_by, All, Contains}
@@ -25,9 +27,6 @@ use Rattle.ent_shared.proofs.Callers.{only, sum_by_caller, own_by_caller, of_num
 use Rattle.ent_shared.proofs.Sorting.{contains_cases, Falls, FallsStrictly, WeighSame, all_sorted}
 use Rattle.ent_shared.proofs.Sorting.{sum_sorted, falls_sorted, same_fall, follow_falls}
 use Rattle.ent_shared.proofs.Sorting.{follow_requests}
-
--- What all records together tell once no thread steps any more: their own calls are the calls that
--- lead from the top to the cursor.
 
 -- a record's own calls
 abbrev own_calls : Record → List Reservation

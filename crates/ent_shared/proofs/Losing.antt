@@ -1,3 +1,4 @@
+-- The end of a phase where some reservers are lost: the front of the pool counts as reserved.
 use Rattle.std.proofs.lemmas.Bool.{cases_eq}
 use Rattle.std.proofs.Common.{rules, ◌≡◌, ℕ, ◌+◌, ◌-◌, ◌*◌, ◌^◌, ◌<◌, ◌≤◌, ℤ, pos, ◌+ℤ◌, ◌-ℤ◌, ◌≤ℤ◌}
 use Rattle.std.proofs.Common.{get_or, List, [], ◌∷◌, length, take, drop, sym, ap, subst, ◌∙◌, arith}
@@ -36,8 +37,6 @@ use Rattle.ent_shared.specs.Order.{history_of, handles_of}
 use Rattle.ent_shared.proofs.Words.{requested}
 use Rattle.ent_shared.proofs.Records.{all_own}
 use Rattle.ent_shared.proofs.Closing.{asked_in_all, cursor_least, cursor_greatest, final_cursor}
-
--- The end of a phase where some reservers are lost: the front of the pool counts as reserved.
 
 -- what lies inside the front of a list is in it
 front_contains : (xs : List Handle) (k n asked : ℕ) → k + n ≤ asked → All (Contains (take asked xs))

@@ -1,3 +1,4 @@
+-- What a reservation and a meeting add to a record.
 use Rattle.std.proofs.Common.{suc, rules, ◌≡◌, ℕ, ◌+◌, ◌≤◌, ℤ, pos, ◌-ℤ◌, ◌≤ℤ◌, List, [], ◌∷◌, ◌++◌}
 use Rattle.std.proofs.Common.{length, sym, refl, ap, subst, ◌∙◌, arith, append-nil, add-zero}
 use Rattle.std.proofs.lemmas.Grind.{common_steps}
@@ -20,8 +21,6 @@ use Rattle.ent_shared.specs.Record.{low, reservations_in, own_reservations, know
 use Rattle.ent_shared.specs.Record.{requested_by, reservation_at, after_reservation}
 use Rattle.ent_shared.specs.Moves.{after_meeting}
 use Rattle.ent_shared.specs.Rule.{floor_of, InOrder, IsKept}
-
--- What a reservation and a meeting add to a record.
 
 pub own-made : (es : List RecordEntry) (c : Reservation) → own_reservations (es ++ Own c ∷ [])
     ≡ own_reservations es ++ c ∷ []

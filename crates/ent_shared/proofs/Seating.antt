@@ -1,3 +1,5 @@
+-- A reserver after a reservation and after a meeting: its fields say what its record says, and it
+-- stays of its allocator.
 use Rattle.std.proofs.lemmas.Grind.{common_steps}
 use Rattle.std.proofs.Common.{arith, append-nil, rules, ◌≡◌, ℕ, ◌-◌, ◌≤◌, ℤ, pos, ◌-ℤ◌, ◌≤ℤ◌, List}
 use Rattle.std.proofs.Common.{[], ◌∷◌, ◌++◌}
@@ -19,9 +21,6 @@ use Rattle.ent_shared.specs.Moves.{after_meeting}
 use Rattle.ent_shared.specs.Phase.{Shared, Reserver, IsOf, own_of, IsSeated}
 use Rattle.ent_shared.specs.Order.{handles_given}
 use Rattle.ent_shared.proofs.Returned.{recorded_reply}
-
--- A reserver after a reservation and after a meeting: its fields say what its record says, and it
--- stays of its allocator.
 
 pub seated_reservation : (views after : List (List Record)) (number left n : ℕ) (was high now : ℤ)
     → IsSeated views number left was → after ≡ (after_reservation (own_of views) high n ∷ []) ∷ []

@@ -1,3 +1,5 @@
+-- Calls that lead from the top down to the cursor are a legal history, and two numbers tell the
+-- allocator after it.
 use Rattle.std.proofs.Common.{suc, rules, ◌≡◌, ℕ, ◌+◌, ◌<◌, ◌≤◌, ⊎_elim, ℤ, pos, ◌-ℤ◌, ◌≤ℤ◌, List}
 use Rattle.std.proofs.Common.{[], ◌∷◌, ◌++◌, length, map, refl, arith, le-leb, length-append}
 use Rattle.std.proofs.lemmas.Grind.{common_steps}
@@ -22,9 +24,6 @@ use Rattle.ent_shared.specs.declared.record.Record.{Record}
 use Rattle.ent_shared.specs.Record.{low, own_reservations}
 use Rattle.ent_shared.specs.Rule.{Follow, HasItsReply, floor_after, floor_of, least_floor, IsKept}
 use Rattle.ent_shared.specs.Order.{insert_reservation, by_falling_high, as_call}
-
--- Calls that lead from the top down to the cursor are a legal history, and two numbers tell the
--- allocator after it.
 
 -- the same things to give, and the same slots made
 pub record IsLater (start s : Allocator) : Type 0 where

@@ -1,3 +1,5 @@
+-- The calls by falling high: a list that falls, has the same elements and weighs the same is the
+-- same list.
 use Rattle.std.proofs.Common.{suc, get_or, rules, ◌≡◌, ℕ, ◌<◌, ◌⊎◌, ℤ, ◌≤ℤ◌, ◌<ℤ◌, List, [], ◌∷◌}
 use Rattle.std.proofs.Common.{refl, arith}
 use Rattle.std.proofs.lemmas.Grind.{common_steps}
@@ -13,9 +15,6 @@ use Rattle.ent_shared.specs.declared.record.Reservation.{Reservation}
 use Rattle.ent_shared.specs.Record.{low}
 use Rattle.ent_shared.specs.Rule.{Follow}
 use Rattle.ent_shared.specs.Order.{insert_reservation, by_falling_high}
-
--- The calls by falling high: a list that falls, has the same elements and weighs the same is the
--- same list.
 
 pub contains_cases : {X : Type 0} (y : X) (ys : List X) (x : X) → Contains (y ∷ ys) x → (x ≡ y)
     ⊎ Contains ys x

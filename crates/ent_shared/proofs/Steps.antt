@@ -1,3 +1,4 @@
+-- Each step keeps the rule over the cursor word and the records.
 use Rattle.ent_shared.specs.Record.{known_reservations, low, own_reservations, reservation_at}
 use Rattle.ent_shared.specs.Record.{after_reservation}
 use Rattle.std.proofs.Common.{rules, ◌≡◌, ℕ, ◌+◌, ◌-◌, ◌%◌, ◌^◌, ◌<◌, ◌≤◌, ℤ, pos, ◌-ℤ◌, ◌≤ℤ◌, List}
@@ -27,8 +28,6 @@ use Rattle.ent_shared.specs.Rule.{ReserveTells}
 use Rattle.ent_shared.proofs.Records.{own-made, own-met, kept_on, kept_reserved, kept_met}
 use Rattle.ent_shared.proofs.Words.{follow_asked, word_least, word_greatest, lowered}
 use Rattle.ent_shared.proofs.Words.{lowered_cursor, numbered}
-
--- Each step keeps the rule over the cursor word and the records.
 
 follow-snoc : (high : ℤ) (cs : List Reservation) (c : Reservation) (end : ℤ)
     → Follow high cs end → c.high ≡ end → 0 < c.requested → Follow high (cs ++ c ∷ []) (low c)

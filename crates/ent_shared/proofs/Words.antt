@@ -1,3 +1,4 @@
+-- The cursor word stays in its range, and what the code makes of it.
 use Rattle.std.proofs.Common.{suc, rules, ◌≡◌, ℕ, ◌+◌, ◌*◌, ◌-◌, ◌%◌, ◌^◌, ◌<◌, ◌≤◌, ℤ, pos, ◌+ℤ◌}
 use Rattle.std.proofs.Common.{◌-ℤ◌, ◌≤ℤ◌, List, [], ◌∷◌, length, arith, suc-mul, add-mul}
 use Rattle.std.proofs.lemmas.Grind.{common_steps}
@@ -16,8 +17,6 @@ use Rattle.ent_shared.specs.declared.record.Reservation.{Reservation}
 use Rattle.ent_shared.specs.declared.record.Record.{Record}
 use Rattle.ent_shared.specs.Record.{low}
 use Rattle.ent_shared.specs.Rule.{offset, cursor_of, Follow, weigh, IsKept, IsRuled}
-
--- The cursor word stays in its range, and what the code makes of it.
 
 abbrev pub requested : Reservation → ℕ
 requested c = c.requested

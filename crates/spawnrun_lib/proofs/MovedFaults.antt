@@ -1,3 +1,5 @@
+-- The faults that clap finds in words stay the same if the names that an option takes move in
+-- memory.
 use Rattle.spawnrun_lib.proofs.MovedNames.{any_name-moved, moved_rule, moved_shape, both_arms}
 use Rattle.spawnrun_lib.proofs.MovedNames.{either, values_fault-moved, missing-moved, default-moved}
 use Rattle.spawnrun_lib.proofs.MovedNames.{found-moved, settled-moved, reacted-moved}
@@ -16,9 +18,6 @@ use Rattle.clap.specs.Faults.{other_fault, positional_fault, react_fault, settle
 use Rattle.clap.specs.Faults.{step_fault, turn_fault, use_fault, walk_fault}
 use Rattle.clap.specs.declared.builder.ArgAction.{ArgAction}
 use Rattle.clap.proofs.WalkLemmas.{list_any-map}
-
--- The faults that clap finds in words stay the same if the names that an option takes move in
--- memory.
 
 count_fault-moved : (a : Rule) (values : List Text) (rows : List Row) → count_fault (moved_rule a)
     values rows ≡ count_fault a values rows
