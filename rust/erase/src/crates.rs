@@ -149,7 +149,8 @@ fn is_declared_member(source: &Source<'_>, at: usize) -> bool {
 
 #[cfg(test)]
 mod tests {
-    use super::below;
+    use super::{below, Crate, File};
+    use std::path::PathBuf;
 
     const LISTED: &str =
         "# A comment: with a colon.\n\na: itoa\nb staticlib: a\nc:\nd: b c\ne: a\n";
@@ -157,6 +158,33 @@ mod tests {
     fn names(tops: &[&str]) -> Result<Vec<String>, String> {
         let tops: Vec<String> = tops.iter().map(|top| (*top).to_owned()).collect();
         below(LISTED, &tops)
+    }
+
+    fn file(path: &str, result: &str, text: &str) -> File {
+        File {
+            path: format!("crates/a/src/{path}"),
+            result: PathBuf::from(result),
+            text: text.to_owned(),
+        }
+    }
+
+    #[test]
+    fn a_module_is_left_out_with_all_below_it() {
+        let root = "mod b;\n#[cfg(test)]\nmod c;\n#[cfg(test)]\nmod c_more;\n";
+        let mut krate = Crate {
+            name: "a".to_owned(),
+            files: vec![
+                file("b.rt", "b.rs", "b"),
+                file("c/d.rt", "c/d.rs", "d"),
+                file("c.rt", "c.rs", "mod d;\n"),
+                file("c_more.rt", "c_more.rs", "more"),
+                file("lib.rt", "mod.rs", root),
+            ],
+        };
+        krate.leave_out("c");
+        let left: Vec<&str> = krate.files.iter().map(|file| file.text.as_str()).collect();
+        let root_left = "mod b;\n#[cfg(test)]\nmod c_more;\n";
+        assert_eq!(left, ["b", "more", root_left]);
     }
 
     #[test]
