@@ -19,18 +19,24 @@ is_value : (residents : List Resident) (columns : List Column) (room : ℕ) (liv
     (slice_get living.entities place) ≡ value_at columns place id
 is_value residents columns room living place id is within = search (rules, value_from)
 
-pub returns-in-Some : goal.returns-in-Some
-returns-in-Some c =
+pub returns-in-Some-clause-has : goal.returns-in-Some-clause-has
+returns-in-Some-clause-has c place v at =
     let column = (rw c.deref.ensures.value at c.in-Some.ensures.lookup).3.1 no_column in
-    let value = λ (place : ℕ). is_value c.self.inside.residents.items c.self.inside.columns.items _
-    c.args.self.now place c.args.id c.self.view_is c.self.invariant.0 in
-    record {
-      has = λ place v at. value place ∙ ap (λ (m : Column). finite.get m.values place) (sym column)
-          ∙ c.pairs.ensures.has place v at;
-      all = λ place v is. c.pairs.ensures.all place v
-          (ap (λ (m : Column). finite.get m.values place) column ∙ sym (value place) ∙ is);
-      once = λ i j d l k e. search (rules, slice_get-get_or);
-    }
+    is_value c.self.inside.residents.items c.self.inside.columns.items _ c.args.self.now place
+    c.args.id c.self.view_is c.self.invariant.0
+    ∙ ap (λ (m : Column). finite.get m.values place) (sym column)
+    ∙ c.pairs.ensures.has place v at
+
+pub returns-in-Some-clause-all : goal.returns-in-Some-clause-all
+returns-in-Some-clause-all c place v is =
+    let column = (rw c.deref.ensures.value at c.in-Some.ensures.lookup).3.1 no_column in
+    c.pairs.ensures.all place v
+    (ap (λ (m : Column). finite.get m.values place) column
+    ∙ sym (is_value c.self.inside.residents.items c.self.inside.columns.items _ c.args.self.now
+    place c.args.id c.self.view_is c.self.invariant.0) ∙ is)
+
+pub returns-in-Some-clause-once : goal.returns-in-Some-clause-once
+returns-in-Some-clause-once c i j d l k e = search (rules, slice_get-get_or)
 
 pub returns-in-None-clause-all : goal.returns-in-None-clause-all
 returns-in-None-clause-all c place v is =

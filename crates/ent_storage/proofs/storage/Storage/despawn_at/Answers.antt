@@ -6,8 +6,7 @@ use Rattle.std.proofs.lemmas.List.{length-map}
 use Rattle.std.proofs.lemmas.Option.{slice_get_past}
 use Rattle.ent_handle.specs.Handle.{Handle}
 use Rattle.ent_storage.specs.EntityMap.{Store}
-use Rattle.ent_storage.specs.Places.{AreWithout}
-use Rattle.ent_storage.specs.Living.{LivingEntity, IsMovedInto}
+use Rattle.ent_storage.specs.Living.{LivingEntity}
 use Rattle.ent_storage.specs.Indexed.{counted, handles_by_place}
 use Rattle.ent_storage.proofs.Indexed.{some_entity}
 use Rattle.ent_storage.proofs.Counted.{kept_moved, kept_popped, moved_counts}
@@ -67,28 +66,27 @@ invariant_of-self c =
     (min c.self.inside.living.room c.self.inside.index.room) c.self.invariant c.args.handle
     c.args.place (placed at.After-self) _ c.swap_remove.ensures.entities moved.room _ moved.read)
 
-places : (c : After-self) (left : List LivingEntity)
-    → IsMovedInto c.self.inside.living.entities c.args.place left
-    → AreWithout c.args.place c.args.self.now.places (handles_by_place left)
-places c left rest =
-    rw (← ap (λ (s : Store). s.places) c.self.view_is)
-    (handles_without c.self.inside.living.entities left c.args.place c.args.handle
-    (at_place c.self.inside.living.entities c.args.place c.args.handle (at c)).0 rest)
+pub returns-then-place-len-clause-entities : goal.returns-then-place-len-clause-entities
+returns-then-place-len-clause-entities c =
+    let at = goal.at.returns-then-place-len-clause-entities c in
+    let moved = moved at.After-handle-moved in
+    entities_moved c.self.inside.living.entities _ c.self.invariant.indexed c.args.handle
+    c.args.place (placed at.After-self) _ c.swap_remove.ensures.entities moved.room _ moved.read
+    ∙ ap (λ (s : Store). map.remove s.entities c.args.handle) c.self.view_is
 
-pub returns-then-place-len : goal.returns-then-place-len
-returns-then-place-len c =
-    let at = goal.at.returns-then-place-len c in
-    let now = moved at.After-handle-moved in
-    record {
-      entities = entities_moved c.self.inside.living.entities _ c.self.invariant.indexed
-          c.args.handle c.args.place (placed at.After-self) _ c.swap_remove.ensures.entities
-          now.room _ now.read
-          ∙ ap (λ (s : Store). map.remove s.entities c.args.handle) c.self.view_is;
-      spare = search rules;
-      places = places at.After-self _ c.swap_remove.ensures.entities;
-      moved = ap Some now.is ∙ sym (from_place c.swap_remove.new.self.entities c.args.place
-          (some_entity c.args.handle) now.room);
-    }
+pub returns-then-place-len-clause-places : goal.returns-then-place-len-clause-places
+returns-then-place-len-clause-places c =
+    rw (← ap (λ (s : Store). s.places) c.self.view_is)
+    (handles_without c.self.inside.living.entities c.swap_remove.new.self.entities c.args.place
+    c.args.handle (at_place c.self.inside.living.entities c.args.place c.args.handle
+    (at (goal.at.returns-then-place-len-clause-places c).After-self)).0
+    c.swap_remove.ensures.entities)
+
+pub returns-then-place-len-clause-moved : goal.returns-then-place-len-clause-moved
+returns-then-place-len-clause-moved c =
+    let moved = moved (goal.at.returns-then-place-len-clause-moved c).After-handle-moved in
+    ap Some moved.is ∙ sym (from_place c.swap_remove.new.self.entities c.args.place
+    (some_entity c.args.handle) moved.room)
 
 pub invariant_of-self-else-place-len : goal.invariant_of-self-else-place-len
 invariant_of-self-else-place-len c =
@@ -98,10 +96,22 @@ invariant_of-self-else-place-len c =
     (min c.self.inside.living.room c.self.inside.index.room) c.self.invariant c.args.handle
     c.args.place (placed at.After-self) _ c.swap_remove.ensures.entities (last at.Else-place-len))
 
-pub returns-else-place-len : goal.returns-else-place-len
-returns-else-place-len c = record {
-  entities = search (rules, entities_popped, placed, last);
-  spare = search rules;
-  places = places (goal.at.returns-else-place-len c).After-self _ c.swap_remove.ensures.entities;
-  moved = search (rules, last, slice_get_past, length-map);
-}
+pub returns-else-place-len-clause-entities : goal.returns-else-place-len-clause-entities
+returns-else-place-len-clause-entities c = search (rules, entities_popped, placed, last)
+
+pub returns-else-place-len-clause-places : goal.returns-else-place-len-clause-places
+returns-else-place-len-clause-places c =
+    rw (← ap (λ (s : Store). s.places) c.self.view_is)
+    (handles_without c.self.inside.living.entities c.swap_remove.new.self.entities c.args.place
+    c.args.handle (at_place c.self.inside.living.entities c.args.place c.args.handle
+    (at (goal.at.returns-else-place-len-clause-places c).After-self)).0
+    c.swap_remove.ensures.entities)
+
+pub returns-else-place-len-clause-moved : goal.returns-else-place-len-clause-moved
+returns-else-place-len-clause-moved c = search (rules, last, slice_get_past, length-map)
+
+pub returns-then-place-len-clause-spare : goal.returns-then-place-len-clause-spare
+returns-then-place-len-clause-spare c = search (rules)
+
+pub returns-else-place-len-clause-spare : goal.returns-else-place-len-clause-spare
+returns-else-place-len-clause-spare c = search (rules)

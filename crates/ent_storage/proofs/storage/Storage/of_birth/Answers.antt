@@ -3,19 +3,23 @@ use Rattle.std.proofs.lemmas.Option.{IfSome_then}
 use Rattle.ent_storage.specs.EntityMap.{Store, birth_of}
 use Rattle.ent_storage.proofs.OfBirth.{to_map, from_map, least_if, none_if}
 use Rattle.ent_storage.proofs.storage.Storage.of_birth.Goals as goal
-use Rattle.ent_handle.specs.Handle.{Handle}
 
-pub returns : goal.returns
-returns c =
-    let has = λ (h : Handle). birth_of c.args.self.now.entities h ≡ Some c.args.birth in
-    let before = λ (h : Handle) (at : birth_of c.args.self.now.entities h ≡ Some c.args.birth).
-    c.of_birth.ensures.before h (from_map c.self.inside.living.entities _
+pub returns-clause-found : goal.returns-clause-found
+returns-clause-found c =
+    IfSome_then c.of_birth.result c.of_birth.ensures.listed (λ h at.
+    ap (λ (s : Store). birth_of s.entities h) (sym c.self.view_is)
+    ∙ to_map c.self.inside.living.entities _ c.self.invariant.indexed c.args.birth h at)
+
+pub returns-clause-least : goal.returns-clause-least
+returns-clause-least c =
+    least_if c.of_birth.result (λ h. birth_of c.args.self.now.entities h ≡ Some c.args.birth)
+    (λ h at. c.of_birth.ensures.before h (from_map c.self.inside.living.entities _
     c.self.invariant.indexed c.args.birth h
-    (ap (λ (s : Store). birth_of s.entities h) c.self.view_is ∙ at)) in
-    record {
-      found = IfSome_then c.of_birth.result c.of_birth.ensures.listed (λ h at.
-          ap (λ (s : Store). birth_of s.entities h) (sym c.self.view_is)
-          ∙ to_map c.self.inside.living.entities _ c.self.invariant.indexed c.args.birth h at);
-      least = least_if c.of_birth.result has before;
-      none = none_if c.of_birth.result has before;
-    }
+    (ap (λ (s : Store). birth_of s.entities h) c.self.view_is ∙ at)))
+
+pub returns-clause-none : goal.returns-clause-none
+returns-clause-none c =
+    none_if c.of_birth.result (λ h. birth_of c.args.self.now.entities h ≡ Some c.args.birth)
+    (λ h at. c.of_birth.ensures.before h (from_map c.self.inside.living.entities _
+    c.self.invariant.indexed c.args.birth h
+    (ap (λ (s : Store). birth_of s.entities h) c.self.view_is ∙ at)))

@@ -1,5 +1,6 @@
-use Rattle.std.proofs.Common.{rules, min}
+use Rattle.std.proofs.Common.{rules, Option, min, option_and_then, ap, sym, ◌∙◌}
 use Rattle.std.specs.FinMap as map
+use Rattle.ent_storage.specs.EntityMap.{Entity}
 use Rattle.ent_storage.proofs.Indexed.{some_entity}
 use Rattle.ent_storage.proofs.Placed.{IsEntityAt, entity_at, placed_at}
 use Rattle.ent_storage.proofs.Changed.{IsChanged, changed}
@@ -20,10 +21,21 @@ after : (c : After-remove) → IsChanged c.args.self.now c.args.handle
     c.self.inside.index.by_handle (min c.remove.new.self.room c.self.inside.index.room)
 after c = search (rules, changed, placed_at)
 
-pub returns : goal.returns
-returns c =
-    let now = after (goal.at.returns c).After-remove in
-    search (rules, c.remove.ensures.value, some_entity, c.args.handle, c.args.id, at, now)
+-- the component is that of the entity
+pub returns-clause-value : goal.returns-clause-value
+returns-clause-value c =
+    c.remove.ensures.value (some_entity c.args.handle)
+    ∙ sym (ap (λ (o : Option Entity). option_and_then (λ e. map.get e.components c.args.id) o)
+    (at (goal.at.returns-clause-value c).After-self).found)
+
+pub returns-clause-entities : goal.returns-clause-entities
+returns-clause-entities c = (after (goal.at.returns-clause-entities c).After-remove).entities
+
+pub returns-clause-spare : goal.returns-clause-spare
+returns-clause-spare c = (after (goal.at.returns-clause-spare c).After-remove).spare
+
+pub returns-clause-places : goal.returns-clause-places
+returns-clause-places c = (after (goal.at.returns-clause-places c).After-remove).places
 
 pub invariant_of-self : goal.invariant_of-self
 invariant_of-self c = (after (goal.at.invariant_of-self c).After-remove).kept

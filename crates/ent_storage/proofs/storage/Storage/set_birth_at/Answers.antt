@@ -1,6 +1,6 @@
 use Rattle.std.proofs.Common.{rules, ◌≡◌, min, Some, slice_get, ap, ◌∙◌}
 use Rattle.std.specs.FinMap as map
-use Rattle.ent_storage.specs.EntityMap.{Store}
+use Rattle.ent_storage.specs.EntityMap.{Store, with_birth}
 use Rattle.ent_storage.specs.Indexed.{counted, handles_by_place}
 use Rattle.ent_storage.proofs.Placed.{placed_from_place, at_place}
 use Rattle.ent_storage.proofs.Reborn.{reborn_entities, reborn_handles, reborn_kept, length_reborn}
@@ -26,14 +26,23 @@ invariant_of-self c =
     (min c.self.inside.living.room c.self.inside.index.room) c.self.invariant c.args.handle
     c.args.place (placed (goal.at.invariant_of-self c).After-self) c.args.birth)
 
--- the entity has the new birth, and no handle is changed
-pub returns : goal.returns
-returns c =
-    let at = placed (goal.at.returns c).After-self in
-    let entities = reborn_entities c.self.inside.living.entities c.self.inside.index.by_handle
-    (min c.self.inside.living.room c.self.inside.index.room) c.self.invariant c.args.handle
-    c.args.place at c.args.birth in
-    let handles = reborn_handles c.self.inside.living.entities c.self.inside.index.by_handle
-    (min c.self.inside.living.room c.self.inside.index.room) c.self.invariant c.args.handle
-    c.args.place at c.args.birth in
-    search (rules, entities, handles, length_reborn, c.set_birth.ensures.entities)
+-- the entity has the new birth
+pub returns-clause-entities : goal.returns-clause-entities
+returns-clause-entities c =
+    rw c.set_birth.ensures.entities (reborn_entities c.self.inside.living.entities
+    c.self.inside.index.by_handle (min c.self.inside.living.room c.self.inside.index.room)
+    c.self.invariant c.args.handle c.args.place
+    (placed (goal.at.returns-clause-entities c).After-self) c.args.birth)
+    ∙ ap (λ (s : Store). with_birth s.entities c.args.handle c.args.birth) c.self.view_is
+
+pub returns-clause-spare : goal.returns-clause-spare
+returns-clause-spare c = search (rules, length_reborn)
+
+-- no handle is changed
+pub returns-clause-places : goal.returns-clause-places
+returns-clause-places c =
+    rw c.set_birth.ensures.entities (reborn_handles c.self.inside.living.entities
+    c.self.inside.index.by_handle (min c.self.inside.living.room c.self.inside.index.room)
+    c.self.invariant c.args.handle c.args.place
+    (placed (goal.at.returns-clause-places c).After-self) c.args.birth)
+    ∙ ap (λ (s : Store). s.places) c.self.view_is
