@@ -1,14 +1,14 @@
 -- What a reservation and a meeting add to a record.
-use Rattle.std.proofs.Common.{suc, rules, ◌≡◌, ℕ, ◌+◌, ◌≤◌, ℤ, pos, ◌-ℤ◌, ◌≤ℤ◌, List, [], ◌∷◌, ◌++◌}
+use Rattle.std.proofs.Common.{rules, ◌≡◌, ℕ, ◌+◌, ◌≤◌, ℤ, pos, ◌-ℤ◌, ◌≤ℤ◌, List, [], ◌∷◌, ◌++◌}
 use Rattle.std.proofs.Common.{length, sym, refl, ap, subst, ◌∙◌, arith, append-nil, add-zero}
 use Rattle.std.proofs.lemmas.Grind.{common_steps}
-use Rattle.std.specs.Prelude.{nat_le, cond}
+use Rattle.std.specs.Prelude.{nat_le, cond, Bool, true, false}
 use Rattle.std.specs.List.{All, Contains}
 use Rattle.std.specs.Int.{int_min}
 use Rattle.std.proofs.lemmas.List.Elements.{All-head, All-tail, All-nil, All-cons, All-append}
 use Rattle.std.proofs.lemmas.List.Elements.{All-weaker, Contains-append_left, Contains-push}
 use Rattle.std.proofs.lemmas.List.Sums.{sum_by-cons, sum_by-append}
-use Rattle.std.proofs.lemmas.Int.{ints}
+use Rattle.std.proofs.lemmas.Int.{ints, int_min_is}
 use Rattle.ent_seats.proofs.Weighing.{all_one}
 use Rattle.ent_alloc.specs.Sequential.{Allocator, cursor, pool_at}
 use Rattle.ent_alloc.proofs.ListLaws.{All-left, All-right}
@@ -20,17 +20,19 @@ use Rattle.ent_alloc.specs.Limits.{credit}
 use Rattle.ent_shared.specs.Record.{low, reservations_in, own_reservations, known_reservations}
 use Rattle.ent_shared.specs.Record.{requested_by, reservation_at, after_reservation}
 use Rattle.ent_shared.specs.Moves.{after_meeting}
-use Rattle.ent_shared.specs.Rule.{floor_of, InOrder, IsKept}
+use Rattle.ent_shared.specs.Rule.{floor_after, floor_of, InOrder, IsKept}
 
 pub own-made : (es : List RecordEntry) (c : Reservation) → own_reservations (es ++ Own c ∷ [])
     ≡ own_reservations es ++ c ∷ []
 own-made [] c = refl
-own-made (e ∷ es) c = search (rules, own-made es c)
+own-made (Own d ∷ es) c = ap (λ ds. d ∷ ds) (own-made es c)
+own-made (Met ds ∷ es) c = own-made es c
 
 pub own-met : (es : List RecordEntry) (cs : List Reservation) → own_reservations (es ++ Met cs ∷ [])
     ≡ own_reservations es
 own-met [] cs = refl
-own-met (e ∷ es) cs = grind (arith, common_steps, own-met es cs)
+own-met (Own d ∷ es) cs = ap (λ ds. d ∷ ds) (own-met es cs)
+own-met (Met ds ∷ es) cs = own-met es cs
 
 pub known-more : (es : List RecordEntry) (e : RecordEntry) → known_reservations (es ++ e ∷ [])
     ≡ known_reservations es ++ reservations_in e
@@ -42,6 +44,9 @@ pub requested-reserved : (r : Record) (high : ℤ) (n : ℕ) → requested_by (a
     ≡ requested_by r + n
 requested-reserved r high n = search (rules, sum_by-append, sum_by-cons, add-zero, own-made)
 
+pub requested-met : (r met : Record) → requested_by (after_meeting r met) ≡ requested_by r
+requested-met r met = search (rules, own-met)
+
 pub credit-reserved : (r : Record) (high : ℤ) (n : ℕ) → n ≤ r.left → r.left + requested_by r
     ≡ credit → (after_reservation r high n).left + requested_by (after_reservation r high n)
     ≡ credit
@@ -49,13 +54,15 @@ credit-reserved r high n within adds_up = let more = requested-reserved r high n
 
 pub credit-met : (r met : Record) → r.left + requested_by r ≡ credit → (after_meeting r met).left
     + requested_by (after_meeting r met) ≡ credit
-credit-met r met adds_up = ap (λ (k : ℕ). r.left + k) (search (rules, own-met)) ∙ adds_up
+credit-met r met adds_up = ap (λ (k : ℕ). r.left + k) (requested-met r met) ∙ adds_up
 
 -- own reservations are known
 pub all_own : (P : Reservation → Type 0) (es : List RecordEntry) → All P (known_reservations es)
     → All P (own_reservations es)
 all_own P [] all = All-nil P
-all_own P (Own c ∷ es) all = search (rules, All-cons, All-head, all_own P es, All-tail)
+all_own P (Own c ∷ es) all = All-cons P c (own_reservations es)
+    (All-head P c (known_reservations es) all)
+    (all_own P es (All-tail P c (known_reservations es) all))
 all_own P (Met cs ∷ es) all = all_own P es (All-right P cs (known_reservations es) all)
 
 -- a reservation after all others
@@ -65,15 +72,27 @@ pub order-made : (es : List RecordEntry) (c : Reservation) → InOrder es
 order-made [] c order below = search (rules, All-nil)
 order-made (e ∷ es) c order below =
     let P : Reservation → Type 0 = λ (d : Reservation). c.high ≤ℤ low d in
-    let rest = order-made es c order.1
-    (All-right P (reservations_in e) (known_reservations es) below) in
-    let here = All-left P (reservations_in e) (known_reservations es) below in
-    grind (arith, common_steps, own-made, All-append, all_one)
+    let Q : Reservation → Type 0 = λ (later : Reservation).
+    All (λ (earlier : Reservation). later.high ≤ℤ low earlier) (reservations_in e) in (
+      subst (All Q) (sym (own-made es c)) (All-append Q (own_reservations es) (c ∷ []) order.0
+          (all_one Q c (All-left P (reservations_in e) (known_reservations es) below))),
+      order-made es c order.1 (All-right P (reservations_in e) (known_reservations es) below),
+    )
 
 pub order-met : (es : List RecordEntry) (cs : List Reservation) → InOrder es
     → InOrder (es ++ Met cs ∷ [])
 order-met [] cs order = search (rules, All-nil)
 order-met (e ∷ es) cs order = search (rules, own-met, order-met es cs order.1)
+
+-- the least of a reservation that is lower than all others
+lower_first : (a b c : ℤ) (served : Bool) → b ≤ℤ a → int_min a (cond served b c)
+    ≡ cond served b (int_min a c)
+lower_first a b c true le = grind (arith, ints)
+lower_first a b c false le = refl
+
+least_after : (start : Allocator) (at : ℤ) (c : Reservation) → at ≤ℤ low c → at ≤ℤ cursor start
+    → at ≤ℤ floor_after start c
+least_after start at c le top = search (rules)
 
 pub floor-made : (start : Allocator) (cs : List Reservation) (c : Reservation)
     → All (λ (d : Reservation). low c ≤ℤ low d) cs → low c ≤ℤ cursor start
@@ -81,9 +100,12 @@ pub floor-made : (start : Allocator) (cs : List Reservation) (c : Reservation)
     (low c) (floor_of start cs)
 floor-made start [] c below top = search (rules, ints)
 floor-made start (d ∷ cs) c below top =
-    let rest = floor-made start cs c (λ i e lt. below (suc i) e (omega arith)) top in
-    let here = below 0 d (omega arith) in
-    grind (arith, ints, common_steps)
+    let P : Reservation → Type 0 = λ (e : Reservation). low c ≤ℤ low e in
+    let rest = floor-made start cs c (All-tail P d cs below) top in
+    ap (int_min (floor_after start d)) rest
+    ∙ lower_first (floor_after start d) (low c) (floor_of start cs)
+    (nat_le c.requested (length (pool_at start c.high)))
+    (least_after start (low c) d (All-head P d cs below) top)
 
 -- a record stays kept while the cursor goes down and the log grows
 pub kept_on : (start : Allocator) (at now : ℤ) (log more : List Reservation) (r : Record)
@@ -96,51 +118,76 @@ pub kept_reserved : (start : Allocator) (at : ℤ) (log : List Reservation) (n :
 kept_reserved start at log n r within top k =
     let c : Reservation = reservation_at r at n in
     let es : List RecordEntry = r.entries in
+    let own : List Reservation = own_reservations es in
     let mark = k.marks.mark in
+    let P : Reservation → Type 0 = λ (d : Reservation). at ≤ℤ low d in
+    let below : All P (known_reservations es) = All-weaker (λ (d : Reservation). r.mark ≤ℤ low d) P
+    (λ d h. omega (arith, ints)) (known_reservations es) k.marks.below in
     let Q : Reservation → Type 0 = λ (d : Reservation). (at -ℤ pos n) ≤ℤ low d in
-    let below : All (λ (d : Reservation). at ≤ℤ low d) (known_reservations es) = λ i d lt.
-    let le = k.marks.below i d lt in omega (arith, ints) in
-    let lower : All Q (known_reservations es) = λ i d lt. let le = below i d lt in
-    omega (arith, ints) in
-    let floor = floor-made start (own_reservations es) c (all_own Q es lower) (omega (arith, ints))
-    in
-    let more = known-more es (Own c) in
+    let lower : All Q (known_reservations es) = All-weaker P Q (λ d h. omega (arith, ints))
+    (known_reservations es) below in
     record {
       start_is = k.start_is;
-      caller = grind (arith, common_steps, own-made es c);
+      caller = subst (All (λ (d : Reservation). d.caller ≡ r.number)) (sym (own-made es c))
+          (All-append (λ (d : Reservation). d.caller ≡ r.number) own (c ∷ []) k.caller
+          (all_one (λ (d : Reservation). d.caller ≡ r.number) c refl));
       credit = record {
         credit = credit-reserved r at n within k.credit.credit;
-        floor = rw (own-made es c, floor) (rw (k.start_is, k.credit.floor) refl);
+        floor =
+            rw (own-made es c, floor-made start own c (all_own Q es lower) (omega (arith, ints)))
+            (rw (k.start_is, k.credit.floor) refl);
       };
       marks = record {
         mark = omega (arith, ints);
-        below = rw more (All-append Q _ (c ∷ []) lower (all_one Q c (omega (arith, ints))));
+        below = subst (All Q) (sym (known-more es (Own c))) (All-append Q (known_reservations es)
+            (c ∷ []) lower (all_one Q c (omega (arith, ints))));
         order = order-made es c k.marks.order below;
-        known = subst (All (Contains (log ++ c ∷ []))) (sym more)
-            (search (rules, All-append, All-weaker, Contains-append_left, all_one, Contains-push));
+        known = subst (All (Contains (log ++ c ∷ []))) (sym (known-more es (Own c)))
+            (All-append (Contains (log ++ c ∷ [])) (known_reservations es) (c ∷ [])
+            (All-weaker (Contains log) (Contains (log ++ c ∷ []))
+            (λ d h. Contains-append_left log (c ∷ []) d h) (known_reservations es) k.marks.known)
+            (all_one (Contains (log ++ c ∷ [])) c (Contains-push log c)));
       };
     }
 
 pub kept_met : (start : Allocator) (at : ℤ) (log : List Reservation) (r met : Record)
     → IsKept start at log r → IsKept start at log met → IsKept start at log (after_meeting r met)
 kept_met start at log r met k m =
+    let es : List RecordEntry = r.entries in
     let cs : List Reservation = known_reservations met.entries in
+    let here = k.marks.mark in
+    let there = m.marks.mark in
+    let lesser = int_min_is r.mark met.mark in
     let P : Reservation → Type 0 = λ (d : Reservation). int_min r.mark met.mark ≤ℤ low d in
-    let mine : All P (known_reservations r.entries) = λ i d lt. let le = k.marks.below i d lt in
-    grind (arith, ints) in
-    let theirs : All P cs = λ i d lt. let le = m.marks.below i d lt in grind (arith, ints) in
     record {
       start_is = k.start_is;
-      caller = search (rules, own-met, k.caller);
-      credit = search (rules, credit-met, own-met);
+      caller = subst (All (λ (d : Reservation). d.caller ≡ r.number)) (sym (own-met es cs))
+          k.caller;
+      credit = record {
+        credit = credit-met r met k.credit.credit;
+        floor = rw (own-met es cs) k.credit.floor;
+      };
       marks = record {
-        mark = let here = k.marks.mark in let there = m.marks.mark in grind (arith, ints);
-        below = rw (known-more r.entries (Met cs)) (All-append P _ cs mine theirs);
-        order = order-met r.entries cs k.marks.order;
-        known = rw (known-more r.entries (Met cs))
-            (All-append (Contains log) _ cs k.marks.known m.marks.known);
+        mark = grind (arith, ints);
+        below = subst (All P) (sym (known-more es (Met cs))) (All-append P (known_reservations es)
+            cs
+            (All-weaker (λ (d : Reservation). r.mark ≤ℤ low d) P (λ d h. grind (arith, ints))
+            (known_reservations es) k.marks.below)
+            (All-weaker (λ (d : Reservation). met.mark ≤ℤ low d) P (λ d h. grind (arith, ints)) cs
+            m.marks.below));
+        order = order-met es cs k.marks.order;
+        known = subst (All (Contains log)) (sym (known-more es (Met cs)))
+            (All-append (Contains log) (known_reservations es) cs k.marks.known m.marks.known);
       };
     }
+
+-- a record's mark is below every reservation that it knows, after a reservation and after a meeting
+pub below_reservation : (r : Record) (high : ℤ) (n : ℕ) → All (λ (c : Reservation). r.mark ≤ℤ low c)
+    (known_reservations r.entries) → high ≤ℤ r.mark
+    → All (λ (c : Reservation). (after_reservation r high n).mark ≤ℤ low c)
+    (known_reservations (after_reservation r high n).entries)
+below_reservation r high n below le =
+    grind (arith, common_steps, All-weaker, ints, known-more, All-append, all_one)
 
 pub met_below : (r met : Record) → All (λ (c : Reservation). met.mark ≤ℤ low c)
     (known_reservations met.entries)
@@ -155,6 +202,7 @@ pub below_meeting : (r met : Record) → All (λ (c : Reservation). r.mark ≤�
     (known_reservations (after_meeting r met).entries)
 below_meeting r met mine theirs =
     let P : Reservation → Type 0 = λ (d : Reservation). int_min r.mark met.mark ≤ℤ low d in
-    rw (known-more r.entries (Met (known_reservations met.entries))) (All-append P _ _
-    (λ i d lt. let le = mine i d lt in grind (arith, ints))
-    (λ i d lt. let le = theirs i d lt in grind (arith, ints)))
+    subst (All P) (sym (known-more r.entries (Met (known_reservations met.entries))))
+    (All-append P (known_reservations r.entries) (known_reservations met.entries)
+    (All-weaker (λ (d : Reservation). r.mark ≤ℤ low d) P (λ d h. grind (arith, ints))
+    (known_reservations r.entries) mine) (met_below r met theirs))

@@ -1,17 +1,19 @@
 -- Calls that lead from the top down to the cursor are a legal history, and two numbers tell the
 -- allocator after it.
-use Rattle.std.proofs.Common.{suc, rules, ◌≡◌, ℕ, ◌+◌, ◌<◌, ◌≤◌, ⊎_elim, ℤ, pos, ◌-ℤ◌, ◌≤ℤ◌, List}
-use Rattle.std.proofs.Common.{[], ◌∷◌, ◌++◌, length, map, refl, arith, le-leb, length-append}
+use Rattle.std.proofs.Common.{rules, ◌≡◌, ℕ, ◌+◌, ◌<◌, ◌≤◌, ⊎_elim, ℤ, pos, ◌-ℤ◌, ◌≤ℤ◌, List, []}
+use Rattle.std.proofs.Common.{◌∷◌, ◌++◌, length, map, take, refl, sym, ap, subst, ◌∙◌, arith}
+use Rattle.std.proofs.Common.{le-leb, length-append}
 use Rattle.std.proofs.lemmas.Grind.{common_steps}
-use Rattle.std.specs.Prelude.{true, nat_le}
+use Rattle.std.specs.Prelude.{Bool, true, false, cond, nat_le}
 use Rattle.std.specs.List.{All, filter, flat_map}
 use Rattle.std.specs.Int.{int_min}
 use Rattle.std.proofs.lemmas.Bool.{cases_lt, lt-leb}
 use Rattle.std.proofs.lemmas.List.{length-take-le}
-use Rattle.std.proofs.lemmas.List.Elements.{All-tail}
+use Rattle.std.proofs.lemmas.List.Elements.{All-head, All-tail}
 use Rattle.std.proofs.lemmas.Int.{ints}
+use Rattle.ent_handle.specs.Handle.{Handle}
 use Rattle.ent_alloc.specs.Sequential.{Allocator, available, cursor, top, is_old, pool_at}
-use Rattle.ent_alloc.specs.Sequential.{after_take}
+use Rattle.ent_alloc.specs.Sequential.{reply_from, after_take}
 use Rattle.ent_alloc.specs.Sound.{IsSound}
 use Rattle.ent_alloc.specs.History as history
 use Rattle.ent_alloc.proofs.Soundness.{after_take-sound}
@@ -37,10 +39,13 @@ later_take start s n l = search (rules, after_take-sound, available-after_take, 
 top_later : (start s : Allocator) → IsLater start s → top s ≡ top start
 top_later start s l = λ i. length (filter (is_old (l.made_is i)) (l.available_is i))
 
+pool_later : (start s : Allocator) → IsLater start s → pool_at start (cursor s) ≡ s.pool
+pool_later start s l = search (rules, top_later, pool_at-cursor)
+
 -- the pool where a call's high is the cursor
 pool_there : (start s : Allocator) (c : Reservation) → IsLater start s → c.high ≡ cursor s
     → pool_at start c.high ≡ s.pool
-pool_there start s c l at = search (rules, top_later, pool_at-cursor, at)
+pool_there start s c l at = ap (pool_at start) at ∙ pool_later start s l
 
 follow_on : (s : Allocator) (c : Reservation) (cs : List Reservation) (end : ℤ) → IsSound s → c.high
     ≡ cursor s → Follow (low c) cs end → Follow (cursor (after_take s c.requested)) cs end
@@ -50,9 +55,13 @@ pub legal_from : (start s : Allocator) (cs : List Reservation) (end : ℤ) → I
     → Follow (cursor s) cs end → All (HasItsReply start) cs → history.IsLegal s (map as_call cs)
 legal_from start s [] end l f replied = tt
 legal_from start s (c ∷ cs) end l f replied =
-    let rest = legal_from start (after_take s c.requested) cs end (later_take start s c.requested l)
-    (follow_on s c cs end l.sound f.0 f.2) (All-tail (HasItsReply start) c cs replied) in
-    search (rules, replied 0 c (omega arith), pool_there, rest, l.made_is)
+    let here : c.reply ≡ reply_from start.made (pool_at start c.high) c.requested =
+    All-head (HasItsReply start) c cs replied in (
+      f.1,
+      here ∙ (λ i. reply_from (sym l.made_is i) (pool_there start s c l f.0 i) c.requested),
+      legal_from start (after_take s c.requested) cs end (later_take start s c.requested l)
+          (follow_on s c cs end l.sound f.0 f.2) (All-tail (HasItsReply start) c cs replied),
+    )
 
 -- the lesser of two that is known
 pub min_right : (a b : ℤ) → b ≤ℤ a → int_min a b ≡ b
@@ -80,29 +89,53 @@ taken_floor start s [] end flushed l f = grind (arith, common_steps)
 taken_floor start s (c ∷ cs) end flushed l f =
     let n : ℕ = c.requested in
     let t : Allocator = after_take s n in
+    let a : ℤ = pos (top start) -ℤ pos (length s.taken) in
     let rest = taken_floor start t cs end flushed (later_take start s n l)
     (follow_on s c cs end l.sound f.0 f.2) in
     let tops = top_later start s l in
     let high : c.high ≡ cursor s = f.0 in
-    let pool = pool_there start s c l f.0 in
+    let pool : pool_at start c.high ≡ s.pool = pool_there start s c l f.0 in
     let some_request : 0 < n = f.1 in
-    ⊎_elim (search (rules, c.high, lt-leb, after_take-refused, ints, min_assoc, min_left))
+    let goal : ℤ → Type 0 = λ z. int_min a (int_min z (floor_of start cs))
+    ≡ pos (top start) -ℤ pos (length (history.after_history t (map as_call cs)).taken) in
+    ⊎_elim
+    (λ (short : length s.pool < n).
+    let test : nat_le n (length (pool_at start c.high))
+    ≡ false = ap (λ (hs : List Handle). nat_le n (length hs)) pool
+    ∙ lt-leb n (length s.pool) short in
+    let same : length t.taken ≡ length s.taken = ap (λ (x : Allocator). length x.taken)
+    (after_take-refused s n short) in
+    let at_top : a ≤ℤ cursor start = omega (arith, ints) in
+    let begins : int_min a (int_min (cursor start) (floor_of start cs))
+    ≡ int_min a (floor_of start cs) = sym (min_assoc a (cursor start) (floor_of start cs))
+    ∙ ap (λ (z : ℤ). int_min z (floor_of start cs)) (min_left a (cursor start) at_top) in
+    subst goal (sym (ap (λ (b : Bool). cond b (low c) (cursor start)) test))
+    (begins ∙ (ap (λ (k : ℕ). int_min (pos (top start) -ℤ pos k) (floor_of start cs)) (sym same)
+    ∙ rest)))
     (λ (enough : n ≤ length s.pool).
-    let test : nat_le n (length (pool_at start c.high)) ≡ true = search (rules, le-leb, pool) in
+    let test : nat_le n (length (pool_at start c.high))
+    ≡ true = ap (λ (hs : List Handle). nat_le n (length hs)) pool
+    ∙ le-leb n (length s.pool) enough in
     let left = length-pool s l.sound in
-    let taken = length-taken s l.sound (omega arith) in
-    let more : length t.taken ≡ length s.taken + n =
-    search (rules, after_take-served, length-append, length-take-le) in
-    let same : floor_after start c ≡ pos (top start) -ℤ pos (length t.taken) =
-    rw test (omega (arith, ints)) in
-    let down = min_right (pos (top start) -ℤ pos (length s.taken)) (floor_after start c)
-    (omega (arith, ints)) in
-    search (rules, min_assoc, down, same, rest)) (cases_lt (length s.pool) n)
+    let taken : length s.taken ≡ s.asked = length-taken s l.sound (omega arith) in
+    let joined : length t.taken ≡ length (s.taken ++ take n s.pool) =
+    ap (λ (x : Allocator). length x.taken) (after_take-served s n enough) in
+    let more : length (s.taken ++ take n s.pool) ≡ length s.taken + length (take n s.pool) =
+    length-append s.taken (take n s.pool) in
+    let long : length (take n s.pool) ≡ n = length-take-le n s.pool enough in
+    let here : low c ≡ pos (top start) -ℤ pos (length t.taken) = omega (arith, ints) in
+    let down : low c ≤ℤ a = omega (arith, ints) in
+    let begins : int_min a (int_min (low c) (floor_of start cs))
+    ≡ int_min (low c) (floor_of start cs) = sym (min_assoc a (low c) (floor_of start cs))
+    ∙ ap (λ (z : ℤ). int_min z (floor_of start cs)) (min_right a (low c) down) in
+    subst goal (sym (ap (λ (b : Bool). cond b (low c) (cursor start)) test))
+    (begins ∙ (ap (λ (z : ℤ). int_min z (floor_of start cs)) here ∙ rest)))
+    (cases_lt (length s.pool) n)
 
 -- the floor of a list does not depend on its order
 floor-append : (start : Allocator) (xs ys : List Reservation) → floor_of start (xs ++ ys)
     ≡ int_min (floor_of start xs) (floor_of start ys)
-floor-append start [] ys = search (rules, min_right, floor_below)
+floor-append start [] ys = sym (min_right (cursor start) (floor_of start ys) (floor_below start ys))
 floor-append start (x ∷ xs) ys = search (rules, min_assoc, floor-append start xs ys)
 
 floor_inserted : (start : Allocator) (c : Reservation) (cs : List Reservation)
@@ -120,11 +153,13 @@ pub floor_of_all : (start : Allocator) (at : ℤ) (log : List Reservation) (reco
     ≡ floor_of start (flat_map (λ (r : Record). own_reservations r.entries) records)
 floor_of_all start at log [] all = refl
 floor_of_all start at log (r ∷ records) all =
-    let kept = all 0 r (omega arith) in
-    let rest = floor_of_all start at log records (λ i d lt. all (suc i) d (omega arith)) in
-    search (rules, floor-append)
+    let kept = All-head (IsKept start at log) r records all in
+    let rest = floor_of_all start at log records (All-tail (IsKept start at log) r records all) in
+    (λ i. int_min (kept.credit.floor i) (rest i))
+    ∙ sym (floor-append start (own_reservations r.entries)
+    (flat_map (λ (x : Record). own_reservations x.entries) records))
 
 pub least_floor-more : (high : ℤ) (rs : List Record) (r : Record) → least_floor high (rs ++ r ∷ [])
     ≡ int_min (least_floor high rs) r.floor
-least_floor-more high [] r = grind (arith, ints)
-least_floor-more high (x ∷ rs) r = grind (arith, ints, least_floor-more high rs r)
+least_floor-more high [] r = min_comm r.floor high
+least_floor-more high (x ∷ rs) r = search (rules, min_assoc, least_floor-more high rs r)
