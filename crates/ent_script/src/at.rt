@@ -1,5 +1,5 @@
 /// Where an operation stands in a script. All three are numbered from 0.
-#[derive(Clone, Copy, Debug, PartialEq, Eq)]
+#[derive(Clone, Copy)]
 pub(crate) struct At {
     pub(crate) frame: usize,
     pub(crate) system: usize,

@@ -9,7 +9,7 @@ use crate::elements::{are_keys_among, members};
 use serde_json::Value;
 
 /// What an operation does.
-#[derive(Clone, Copy, Debug, PartialEq, Eq)]
+#[derive(Clone, Copy)]
 pub(crate) enum Kind {
     Spawn,
     SpawnMany,

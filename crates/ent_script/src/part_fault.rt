@@ -5,7 +5,7 @@ use crate::cause::Cause;
 use ent_handle::Memory;
 
 /// Why an operation could not be read.
-#[derive(Clone, Copy, Debug, PartialEq, Eq)]
+#[derive(Clone, Copy)]
 pub(crate) enum PartFault {
     /// A test fails.
     Refused(Cause),

@@ -15,7 +15,7 @@ use ent_trace::{AllocReply, Checker, Line, ReadFault, ReserveReply, Stop, read_l
 use std::alloc::{AllocError, Global};
 
 /// Why the lines of a trace are not taken any further.
-#[derive(Debug, Drop)]
+#[derive(Drop)]
 pub enum End {
     /// What is to be said of the trace.
     Verdict(Verdict),

@@ -23,7 +23,7 @@ const PROGRAM_END: &str = "A trace of two lines:\n  \
      4  reading or writing failed";
 
 /// Why words ask for no check.
-#[derive(Debug, Drop)]
+#[derive(Drop)]
 pub enum LineFault {
     /// They are no command line of the program, or they ask for help. The error's `Display` is the
     /// text to show.

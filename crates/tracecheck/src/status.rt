@@ -3,7 +3,7 @@ ghost use Rattle.std.specs.Prelude.{◌≡◌};
 ghost use Rattle.tracecheck.specs.Status.{exit_number};
 
 /// How a run of the program ended. Its number is the program's exit status.
-#[derive(Clone, Copy, Debug, PartialEq, Eq)]
+#[derive(Clone, Copy)]
 pub enum Status {
     /// The trace agrees, and that was written.
     Agrees,

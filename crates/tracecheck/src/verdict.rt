@@ -12,7 +12,7 @@ use std::alloc::Global;
 const SHOWN: usize = 8;
 
 /// Why a text is no trace.
-#[derive(Clone, Copy, Debug, PartialEq, Eq)]
+#[derive(Clone, Copy)]
 pub enum Refusal {
     /// The line is no call with its answer.
     Line(Cause),
@@ -21,7 +21,7 @@ pub enum Refusal {
 }
 
 /// What is said of a trace.
-#[derive(Debug, Drop)]
+#[derive(Drop)]
 pub enum Verdict {
     /// It agrees.
     Agrees {

@@ -6,7 +6,7 @@ use crate::proved::ent_alloc::Span;
 ///
 /// It stores no reply. The positions that the call's step passed determine the reply, however much
 /// is reserved after them, so `Answer` reads it from the allocator.
-#[derive(Clone, Copy, Debug)]
+#[derive(Clone, Copy)]
 pub(super) struct StoredCall {
     /// How many handles the call requests.
     pub(super) requested: u32,
