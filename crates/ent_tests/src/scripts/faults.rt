@@ -3,7 +3,7 @@ use ent_script::{Cause, ReadFault, ScriptCause};
 use std::test::Fail;
 
 // Why a text is no script, and how that is printed.
-const SCRIPT_FAULTS: [(ReadFault, &str); 6] = [
+const SCRIPT_FAULTS: &[(ReadFault, &str)] = &[
     (ReadFault::Json, "no JSON text"),
     (ReadFault::Script(ScriptCause::Slots), "no script"),
     (ReadFault::Frame { frame: 7 }, "no frame at 7"),
@@ -30,7 +30,7 @@ const SCRIPT_FAULTS: [(ReadFault, &str); 6] = [
 fn a_fault_of_a_script_is_printed(rt: HostRuntime) -> Result<(), Fail> {
     for (fault, text) in SCRIPT_FAULTS {
         assert!(rt;
-            format!(in rt.alloc(); "{fault}")?.as_str() == text,
+            format!(in rt.alloc(); "{fault}")?.as_str() == *text,
             "at {text}"
         );
     }
