@@ -1,6 +1,6 @@
 #!/bin/sh
 # Shows that a program which closes a `Shared` while it holds a reply of it doesn't compile: keeps a reply in a copy of the example of two
-# threads in crates/examples, uses it after the close, and fails unless the compiler refuses the move. It proves nothing, and needs `rt`,
+# threads in crates/cases_and_examples, uses it after the close, and fails unless the compiler refuses the move. It proves nothing, and needs `rt`,
 # `patch` and `timeout` on the path.
 set -eu
 top=$(cd "$(dirname "$0")/.." && pwd)
@@ -8,22 +8,22 @@ copy=$(mktemp -d)
 trap 'rm -rf "$copy"' EXIT
 
 tar -C "$top" --exclude=out -c crates crates.txt HANDLES | tar -x -C "$copy"
-cd "$copy/crates/examples"
+cd "$copy/crates/cases_and_examples"
 # The other examples and what they use are left out, which takes less time.
-sed -i 's/^examples:.*/examples: ent_shared ent_alloc ent_handle anyhow/' ../../crates.txt
+sed -i 's/^cases_and_examples:.*/cases_and_examples: ent_shared ent_alloc ent_handle anyhow/' ../../crates.txt
 find src -name '*.rt' ! -name caller.rt ! -name two_threads.rt -delete
 rm -r specs proofs
 cat >src/main.rt <<'MAIN'
-mod caller;
-mod two_threads;
+mod examples;
 
 fn main(rt: HostRuntime) -> anyhow::Result<()> {
-    two_threads::show(&rt)
+    examples::two_threads::show(&rt)
 }
 MAIN
+printf '%s\n' 'mod caller;' 'pub mod two_threads;' >src/examples.rt
 patch --quiet -p1 <<'PATCH'
---- a/src/two_threads.rt
-+++ b/src/two_threads.rt
+--- a/src/examples/two_threads.rt
++++ b/src/examples/two_threads.rt
 @@ -3,5 +3,7 @@
      // From now on a reserves after all that b has reserved.
      a.meet(&shared, &mut b);

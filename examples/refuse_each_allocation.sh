@@ -2,7 +2,7 @@
 # Runs the programs with each of their allocations refused in turn: schedules, scripts on one worker and on eight, with a bundle that takes
 # memory and with many births as targets, a script that is refused, and traces that agree, differ or are none. Each run must end as an
 # undisturbed one does (the program may do without that piece of memory), or with status 3, `memory` on standard error and nothing else. Then
-# it runs each test of refused memory in the same way, and the files `*_refused.txt` of `crates/cases`: they must pass, whichever allocation
+# it runs each test of refused memory in the same way, and the files `*_refused.txt` of `crates/cases_and_examples`: they must pass, whichever allocation
 # is refused. And it counts what tests of things that take no memory ask for. It needs `cc` on the path, and the programs, the tests and the
 # cases as `.ci/run` built them. If a program wasn't built, `rt`, which then proves it first; what else wasn't built is left out.
 set -eu
@@ -151,9 +151,9 @@ tested() {
 
 # answered: the files of calls that take whichever allocation is refused.
 answered() {
-    cases=$top/crates/cases/out/cases
+    cases=$top/crates/cases_and_examples/out/cases_and_examples
     [ -x "$cases" ] || { echo "the cases are not built, .ci/run builds them"; return; }
-    cd "$top/crates/cases/data"
+    cd "$top/crates/cases_and_examples/data"
     for file in *_refused.txt; do
         passes "$file" "$cases" "$file"
     done

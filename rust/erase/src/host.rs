@@ -15,12 +15,11 @@ pub static HOST: Forms = Forms {
     macros: &[
         import("assert", "crate::host::assert"),
         import("assert_eq", "crate::host::assert_eq"),
-        import("format", "crate::host::format"),
+        import("print", "crate::host::print"),
         import("println", "crate::host::println"),
         import("panic", "crate::host::panic"),
-        import("vec", "crate::host::vec"),
     ],
-    kept_macros: &["ensure", "writeln"],
+    kept_macros: &["anyhow", "ensure", "writeln"],
     renamed: RENAMED,
     methods: METHODS,
     associated: ASSOCIATED,
@@ -32,7 +31,7 @@ const fn import(name: &'static str, path: &'static str) -> Import {
 }
 
 const MODULES: &[Module] = &[
-    module("anyhow", "crate::host::anyhow", &["Result", "ensure"]),
+    module("anyhow", "crate::host::anyhow", &["Result", "anyhow", "ensure"]),
     module(
         "std::collections",
         "crate::host::collections",
@@ -56,6 +55,12 @@ const MODULES: &[Module] = &[
 ];
 
 const RENAMED: &[Renamed] = &[
+    Renamed {
+        from: "append",
+        arguments: &[&["&", "mut"]],
+        to: "append_copies",
+        import: "crate::host::slice::AppendCopies",
+    },
     Renamed {
         from: "expect",
         arguments: &[&["rt", ","], &["&", "rt", ","]],

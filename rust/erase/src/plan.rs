@@ -17,7 +17,7 @@ use std::path::{Path, PathBuf};
 const TOPS: &[&str] = &["ent_map", "ent_runner", "ent_total", "ent_trace"];
 
 /// The tests of those crates.
-const TESTS: &[&str] = &["cases", "ent_tests"];
+const TESTS: &[&str] = &["cases_and_examples", "ent_tests"];
 
 /// A module of the tests that isn't erased: the package has no scripts.
 const SCRIPTS: &str = "scripts";
@@ -59,7 +59,7 @@ pub static TESTED: Target = Target {
 //! The repository's own tests of the proved crates as plain Rust, each crate a module.
 //!
 //! `rust/erase --tests` makes all files here.
-#![allow(dead_code, unused_imports, unused_variables, clippy::all)]
+#![allow(dead_code, unused_imports, unused_variables, non_shorthand_field_patterns, clippy::all)]
 ",
 };
 

@@ -43,11 +43,11 @@ fn a_program_is_called_by_a_test() {
 fn macros_that_take_it_are_imported() {
     gives(
         "use super::b;\n\nfn a(rt: R) {\n    assert!(rt; b());\n    assert_eq!(rt; b(), 1, \"{c}\");\n    \
-         panic!(rt; \"d\");\n    let e = (vec![in f; 0; 1], format!(in f; \"\"));\n}\n",
-        "use crate::host::assert;\nuse crate::host::assert_eq;\nuse crate::host::format;\n\
-         use crate::host::panic;\nuse crate::host::vec;\nuse super::b;\n\n#[inline]\nfn a(rt: R) {\n    \
+         panic!(rt; \"d\");\n    let e = (print!(rt; \"\"), println!(rt; \"\"));\n}\n",
+        "use crate::host::assert;\nuse crate::host::assert_eq;\nuse crate::host::panic;\n\
+         use crate::host::print;\nuse crate::host::println;\nuse super::b;\n\n#[inline]\nfn a(rt: R) {\n    \
          assert!(rt; b());\n    assert_eq!(rt; b(), 1, \"{c}\");\n    panic!(rt; \"d\");\n    \
-         let e = (vec![in f; 0; 1], format!(in f; \"\"));\n}\n",
+         let e = (print!(rt; \"\"), println!(rt; \"\"));\n}\n",
     );
 }
 

@@ -1,17 +1,17 @@
-//! The calls of `crates/cases/data`, each with what it has to return, made of the erased code.
+//! The calls of `crates/cases_and_examples/data`, each with what it has to return, made of the erased code.
 
 use crate::host::env::start_with;
 use crate::host::rt::{printed, HostRuntime};
-use crate::made::cases;
+use crate::made::cases_and_examples;
 
 /// The files, and what the program has to print of them.
-const WORDS: &str = include_str!("../../../crates/cases/args");
-const PRINTED: &str = include_str!("../../../crates/cases/stdout");
+const WORDS: &str = include_str!("../../../crates/cases_and_examples/args");
+const PRINTED: &str = include_str!("../../../crates/cases_and_examples/stdout");
 
 #[test]
 fn each_call_returns_what_it_has_to() {
     start_with(WORDS.lines());
-    let ended = cases::main(HostRuntime);
+    let ended = cases_and_examples::main(HostRuntime);
     assert_eq!(printed(), PRINTED);
     ended.expect("no answer differs");
 }

@@ -1,5 +1,6 @@
 //! A small game of projectiles: systems that launch, age and aim at them, on threads of this
-//! program. `src/game.rt` of `crates/examples` is the same game in Rattle.
+//! program. `src/examples/game.rt` of `crates/cases_and_examples` is the same game in
+//! Rattle.
 //!
 //! The whole game is played twice, on one thread and on four. Commands take effect in the order of
 //! the systems, so both games tell the same story, and it is printed once. Handles are no part of

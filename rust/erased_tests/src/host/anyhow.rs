@@ -23,3 +23,11 @@ macro_rules! ensure {
     };
 }
 pub(crate) use ensure;
+
+/// An error that says this.
+macro_rules! anyhow {
+    ($text:expr) => {
+        $crate::host::anyhow::Fault($text.to_owned())
+    };
+}
+pub(crate) use anyhow;

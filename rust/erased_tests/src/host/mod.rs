@@ -32,26 +32,17 @@ macro_rules! panic {
 }
 pub(crate) use panic;
 
-/// `println!` that is handed the runtime.
+/// `print!` that is handed the runtime.
+macro_rules! print {
+    ($rt:expr; $($part:tt)*) => {
+        $crate::host::rt::print_text($rt, &::std::format!($($part)*))
+    };
+}
+pub(crate) use print;
+
 macro_rules! println {
     ($rt:expr; $($part:tt)*) => {
-        $crate::host::rt::print_line($rt, &::std::format!($($part)*))
+        $crate::host::rt::print_text($rt, &(::std::format!($($part)*) + "\n"))
     };
 }
 pub(crate) use println;
-
-/// `format!` that is handed the right to allocate.
-macro_rules! format {
-    (in $alloc:expr; $($part:tt)*) => {
-        $crate::host::string::String::of($alloc, ::std::format!($($part)*))
-    };
-}
-pub(crate) use format;
-
-/// A list of copies of a value.
-macro_rules! vec {
-    (in $alloc:expr; $value:expr; $count:expr) => {
-        $crate::host::slice::copies($alloc, $value, $count)
-    };
-}
-pub(crate) use vec;

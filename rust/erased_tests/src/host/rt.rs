@@ -9,12 +9,9 @@ std::thread_local! {
     static PRINTED: RefCell<String> = const { RefCell::new(String::new()) };
 }
 
-/// Prints a line, for a test to read.
-pub fn print_line(_rt: &impl Print, line: &str) -> io::Result<()> {
-    PRINTED.with_borrow_mut(|text| {
-        text.push_str(line);
-        text.push('\n');
-    });
+/// Prints a text, for a test to read.
+pub fn print_text(_rt: &impl Print, text: &str) -> io::Result<()> {
+    PRINTED.with_borrow_mut(|printed| printed.push_str(text));
     Ok(())
 }
 

@@ -1,5 +1,0 @@
-use Rattle.ent_queue.specs.Commands.{Extends}
-use Rattle.cases.proofs.frames.ListedSystem.run.Given as goal
-
-abbrev pub invariant-loop-call : goal.invariant-loop-call
-invariant-loop-call l = Extends l.initial.commands l.commands

@@ -1,6 +1,0 @@
-use Rattle.std.proofs.Common.{◌≡◌, drop}
-use Rattle.cases.proofs.queues.stops_of.Given as goal
-
--- the first ones were yielded
-abbrev pub invariant-loop-number : goal.invariant-loop-number
-invariant-loop-number l = l.entries ≡ drop l._number l.queue

@@ -1,0 +1,5 @@
+use Rattle.ent_queue.specs.Commands.{Extends}
+use Rattle.cases_and_examples.proofs.cases.frames.ListedSystem.run.Given as goal
+
+abbrev pub invariant-loop-call : goal.invariant-loop-call
+invariant-loop-call l = Extends l.initial.commands l.commands

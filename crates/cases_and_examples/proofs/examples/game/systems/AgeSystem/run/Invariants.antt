@@ -1,0 +1,12 @@
+use Rattle.std.specs.Prelude.{◌≡◌, []}
+use Rattle.std.specs.List.{All}
+use Rattle.ent_queue.specs.Commands.{Extends, queue_of}
+use Rattle.cases_and_examples.specs.Issuing.{IsOnProjectile}
+use Rattle.cases_and_examples.proofs.examples.game.systems.AgeSystem.run.Given as goal
+
+-- Commands were added. If the queue was empty, all of them are on projectiles.
+abbrev pub invariant-loop-handle : goal.invariant-loop-handle
+invariant-loop-handle l = record {
+  extends : Extends l.initial.commands l.commands;
+  may : queue_of l.initial.commands ≡ [] → All (IsOnProjectile l.view) (queue_of l.commands);
+}

@@ -1,0 +1,192 @@
+//! Calls of an allocator.
+
+use crate::cases::call::Call;
+use crate::cases::case::Layer;
+use crate::cases::sharing::Sharing;
+use crate::cases::worlding::Worlding;
+use crate::cases::writing::Out;
+use ent_alloc::{Entities, Limits, State};
+use ent_handle::Handle;
+use std::alloc::Global;
+
+/// An allocator, as calls change it.
+#[derive(Drop)]
+pub struct Allocating {
+    /// It is there unless it is shared.
+    entities: Option<Entities>,
+    sharing: Option<Sharing>,
+    alloc: Global,
+}
+
+impl Allocating {
+    pub fn new(alloc: Global) -> Self {
+        Allocating {
+            entities: Some(Entities::new(alloc, Limits::default_limits())),
+            sharing: None,
+            alloc,
+        }
+    }
+
+    /// An allocator of so many slots and generations.
+    fn renew(&mut self, slots: u32, generations: u32) -> &'static str {
+        let Some(limits) = Limits::new(slots, generations) else {
+            return "no limits";
+        };
+        self.sharing = None;
+        self.entities = Some(Entities::new(self.alloc, limits));
+        "done"
+    }
+
+    fn share(&mut self, reservers: usize) -> &'static str {
+        match self.entities.take() {
+            Some(entities) => self.share_entities(entities, reservers),
+            None => "it is shared",
+        }
+    }
+
+    fn share_entities(&mut self, entities: Entities, reservers: usize) -> &'static str {
+        if entities.needs_flush() || reservers < 1 || reservers > 1024 {
+            self.entities = Some(entities);
+            return "refused";
+        }
+        match Sharing::begin(self.alloc, entities, reservers) {
+            Ok(sharing) => {
+                self.sharing = Some(sharing);
+                "done"
+            }
+            Err(entities) => {
+                self.entities = Some(entities);
+                "out of memory"
+            }
+        }
+    }
+
+    fn close(&mut self, is_lost: bool) -> &'static str {
+        match self.sharing.take() {
+            Some(sharing) => {
+                self.entities = Some(sharing.close(is_lost));
+                "done"
+            }
+            None => "it is not shared",
+        }
+    }
+
+    fn tell(&mut self, call: &Call<'_>, out: &mut Out) {
+        match (&mut self.entities, &mut self.sharing) {
+            (Some(entities), _) => change(entities, self.alloc, call, out),
+            (None, Some(sharing)) => sharing.answer(call, out),
+            (None, None) => out.word("no allocator"),
+        }
+    }
+}
+
+impl Layer for Allocating {
+    fn worlding(&mut self) -> Option<&mut Worlding> {
+        None
+    }
+
+    fn holds(&mut self, _when: &Call<'_>) -> bool {
+        false
+    }
+
+    fn answer(&mut self, call: &Call<'_>, out: &mut Out) {
+        let [first, second, _] = call.numbers;
+        match call.name {
+            "limits" => out.word(self.renew(first, second)),
+            "share" => out.word(self.share(first as usize)),
+            "close" => out.word(self.close(false)),
+            "close_lost" => out.word(self.close(true)),
+            _ => self.tell(call, out),
+        }
+    }
+}
+
+fn change(entities: &mut Entities, alloc: Global, call: &Call<'_>, out: &mut Out) {
+    match call.name {
+        "alloc" => out.given(entities.alloc()),
+        "free" => free(entities, call.handle, out),
+        "set_row" => set_row(entities, call.handle, call.number(), out),
+        "reserve" => reserve(entities, call.number(), out),
+        "flush" => flush(entities, Vec::new(alloc), out),
+        "flush_after" => flush_after(entities, alloc, call.handle, out),
+        _ => look(entities, call, out),
+    }
+}
+
+fn free(entities: &mut Entities, handle: Handle, out: &mut Out) {
+    match entities.free(handle) {
+        Ok(freed) => out.value(freed.next),
+        Err(fault) => out.show(&fault),
+    }
+}
+
+fn set_row(entities: &mut Entities, handle: Handle, row: u32, out: &mut Out) {
+    if entities.state(handle) != State::Alive {
+        return out.word("not alive");
+    }
+    entities.set_row(handle, row);
+    out.word("done");
+}
+
+fn reserve(entities: &mut Entities, n: u32, out: &mut Out) {
+    if entities.asked() > 1 << 49 {
+        return out.word("too much was asked");
+    }
+    let span = entities.lower(n);
+    match entities.reply(span) {
+        Ok(reserved) => out.reserved(reserved),
+        Err(space) => out.show(&space),
+    }
+}
+
+/// Flushes into this list.
+fn flush(entities: &mut Entities, mut list: Vec<Handle>, out: &mut Out) {
+    match entities.flush(&mut list) {
+        Ok(()) => out.handles(&list),
+        Err(fault) => out.show(&fault),
+    }
+}
+
+/// Flushes into a list that has this handle.
+fn flush_after(entities: &mut Entities, alloc: Global, there: Handle, out: &mut Out) {
+    match Vec::from_slice(alloc, &[there]) {
+        Ok(list) => flush(entities, list, out),
+        Err(_) => out.word("out of memory"),
+    }
+}
+
+/// The calls that read.
+fn look(entities: &Entities, call: &Call<'_>, out: &mut Out) {
+    match call.name {
+        "state" => out.word(word_of(entities.state(call.handle))),
+        "row" => out.value(entities.row(call.handle)),
+        "cursor" => out.show(&entities.cursor()),
+        "asked" => out.show(&entities.asked()),
+        "needs_flush" => out.show(&entities.needs_flush()),
+        "is_empty" => out.show(&entities.is_empty()),
+        _ => match number_of(entities, call.name) {
+            Some(number) => out.show(&number),
+            None => out.word("no such call"),
+        },
+    }
+}
+
+fn number_of(entities: &Entities, name: &str) -> Option<u32> {
+    match name {
+        "len" => Some(entities.len()),
+        "total" => Some(entities.total()),
+        "room" => Some(entities.room()),
+        "top" => Some(entities.top()),
+        "retired" => Some(entities.retired()),
+        "reserved" => Some(entities.reserved()),
+        _ => None,
+    }
+}
+
+fn word_of(state: State) -> &'static str {
+    match state {
+        State::Alive => "alive",
+        State::Reserved => "reserved",
+        State::Gone => "gone",
+    }
+}

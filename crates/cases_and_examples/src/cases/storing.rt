@@ -1,0 +1,150 @@
+//! Calls of a storage.
+
+use crate::cases::call::Call;
+use crate::cases::case::Layer;
+use crate::cases::worlding::Worlding;
+use crate::cases::writing::Out;
+use ent_storage::{Storage, StorageFault};
+use std::alloc::Global;
+
+/// A storage, as calls change it.
+#[derive(Drop)]
+pub struct Storing {
+    storage: Storage,
+    /// The spare room when it was noted.
+    noted: usize,
+    alloc: Global,
+}
+
+impl Storing {
+    pub fn new(alloc: Global) -> Self {
+        Storing {
+            storage: Storage::new(alloc),
+            noted: 0,
+            alloc,
+        }
+    }
+}
+
+impl Layer for Storing {
+    fn worlding(&mut self) -> Option<&mut Worlding> {
+        None
+    }
+
+    fn holds(&mut self, _when: &Call<'_>) -> bool {
+        false
+    }
+
+    fn answer(&mut self, call: &Call<'_>, out: &mut Out) {
+        match call.name {
+            "new" => {
+                self.storage = Storage::new(self.alloc);
+                out.word("done");
+            }
+            "note_spare" => {
+                self.noted = self.storage.spare();
+                out.word("done");
+            }
+            "spare_since" => write_change(self.noted, self.storage.spare(), out),
+            "born" | "insert" | "despawn" | "reserve" => out.done(change(&mut self.storage, call)),
+            "remove" => remove(&mut self.storage, call, out),
+            name => match name.strip_suffix("_at") {
+                Some(name) => at_place(&mut self.storage, name, call, out),
+                None => look(&self.storage, call, out),
+            },
+        }
+    }
+}
+
+/// How much more there is now, or less.
+fn write_change(before: usize, now: usize, out: &mut Out) {
+    if now < before {
+        out.word("-");
+        out.show(&(before - now));
+    } else {
+        out.show(&(now - before));
+    }
+}
+
+fn change(storage: &mut Storage, call: &Call<'_>) -> Result<(), StorageFault> {
+    match call.name {
+        "born" => storage.born(call.handle, call.birth),
+        "insert" => storage.insert(call.handle, &call.items),
+        "despawn" => storage.despawn(call.handle),
+        _ => Ok(storage.reserve(call.number() as usize)?),
+    }
+}
+
+fn remove(storage: &mut Storage, call: &Call<'_>, out: &mut Out) {
+    match storage.remove(call.handle, call.id()) {
+        Ok(value) => out.value(value),
+        Err(fault) => out.show(&fault),
+    }
+}
+
+/// The calls whose name ends with `_at`: they are given the place of their handle.
+fn at_place(storage: &mut Storage, name: &str, call: &Call<'_>, out: &mut Out) {
+    let handle = call.handle;
+    let Some(place) = storage.place(handle) else {
+        return out.word("no place");
+    };
+    match name {
+        "get" => out.value(storage.get_at(place, handle, call.id())),
+        "birth" => out.birth(Some(storage.birth_at(place, handle))),
+        "items" => out.entity(Some(storage.items_at(place, handle))),
+        "set_birth" => {
+            storage.set_birth_at(place, handle, call.birth);
+            out.word("done");
+        }
+        "insert" => out.done(storage.insert_at(place, handle, &call.items)),
+        "remove" => out.value(storage.remove_at(place, handle, call.id())),
+        "despawn" => out.value(storage.despawn_at(place, handle)),
+        _ => out.word("no such call"),
+    }
+}
+
+/// The calls that read.
+fn look(storage: &Storage, call: &Call<'_>, out: &mut Out) {
+    match call.name {
+        "contains" => out.show(&storage.contains(call.handle)),
+        "birth" => out.birth(storage.birth(call.handle)),
+        "get" => out.value(storage.get(call.handle, call.id())),
+        "items" => out.entity(storage.items(call.handle)),
+        "place" => out.value(storage.place(call.handle)),
+        "of_birth" => out.value(storage.of_birth(call.birth)),
+        _ => look_at_all(storage, call, out),
+    }
+}
+
+fn look_at_all(storage: &Storage, call: &Call<'_>, out: &mut Out) {
+    match call.name {
+        "len" => out.show(&storage.len()),
+        "is_empty" => out.show(&storage.is_empty()),
+        "spare" => out.show(&storage.spare()),
+        // Whether there is room for that many more.
+        "has_room" => out.show(&(storage.spare() >= call.number() as usize)),
+        "by_birth" => out.list(storage.by_birth()),
+        "with" => out.list(storage.with(call.id())),
+        "dense" => write_dense(storage.dense(call.id()), storage.len(), out),
+        // How many pairs there are.
+        "dense_len" => out.show(&storage.dense(call.id()).len()),
+        _ => out.word("no such call"),
+    }
+}
+
+/// The pairs by rising places, since they come in no order.
+fn write_dense(pairs: &[(usize, i64)], places: usize, out: &mut Out) {
+    if pairs.is_empty() {
+        out.word("empty");
+    }
+    for place in 0..places {
+        for (at, value) in pairs {
+            if *at == place {
+                out.word(" ");
+                out.show(at);
+                out.word("=");
+                out.show(value);
+            }
+        }
+    }
+}

@@ -1,0 +1,411 @@
+//! Calls of a world, of its phases, and of the queues that are issued in them.
+
+use crate::cases::call::Call;
+use crate::cases::case::Layer;
+use crate::cases::frames::Listed;
+use crate::cases::phase::Phase;
+use crate::cases::queues::{stops_at, write_queue};
+use crate::cases::viewing::{look, view};
+use crate::cases::writing::Out;
+use ent_alloc::Limits;
+use ent_handle::{Handle, Memory};
+use ent_queue::{Bundle, CommandQueue};
+use ent_runner::{FrameFault, FrameReport, NoGate, run_frame};
+use ent_world::{Fault, SyncFault, SyncReport, World};
+use std::alloc::Global;
+use std::thread::Threads;
+
+/// What a frame answers whose systems were refused memory.
+const LOST: &str = "out of memory while the systems ran";
+
+/// A world, as calls change it.
+#[derive(Drop)]
+pub struct Worlding {
+    /// It is there unless a phase is open.
+    world: Option<World>,
+    phase: Option<Phase>,
+    /// The queues of the last phase or frame.
+    queues: Vec<CommandQueue>,
+    /// The systems of the next frame.
+    systems: Vec<Listed>,
+    /// Who was born at the last sync point.
+    born: Vec<Handle>,
+    /// The faults of the last sync point.
+    faults: Vec<Fault>,
+    /// Where that sync point stopped: a system, a command and how many handles of it are done.
+    stop: Option<(usize, usize, usize)>,
+    /// A line has told that place.
+    is_told: bool,
+    /// The last frame that might be lost was.
+    is_lost: bool,
+    alloc: Global,
+}
+
+impl Worlding {
+    pub fn new(alloc: Global) -> Self {
+        Worlding {
+            world: Some(World::new(alloc, Limits::default_limits())),
+            phase: None,
+            queues: Vec::new(alloc),
+            systems: Vec::new(alloc),
+            born: Vec::new(alloc),
+            faults: Vec::new(alloc),
+            stop: None,
+            is_told: false,
+            is_lost: false,
+            alloc,
+        }
+    }
+
+    fn set_up(&mut self, call: &Call<'_>) -> &'static str {
+        let [first, second, _] = call.numbers;
+        match call.name {
+            "world" => self.renew(first, second),
+            "open" => self.open(first as usize),
+            "close" => self.close(false),
+            _ => self.close(true),
+        }
+    }
+
+    fn sync(&mut self, call: &Call<'_>) -> &'static str {
+        match call.name {
+            "flush" => self.flush(),
+            "apply" => self.apply(),
+            "go_on" => self.go_on(),
+            _ => self.apply_from(call.numbers),
+        }
+    }
+
+    fn set_systems(&mut self, call: &Call<'_>) -> &'static str {
+        match call.name {
+            "system" => self.add_system(call.line),
+            _ => {
+                self.systems.clear();
+                "done"
+            }
+        }
+    }
+
+    /// A world of so many slots and generations.
+    fn renew(&mut self, slots: u32, generations: u32) -> &'static str {
+        let Some(limits) = Limits::new(slots, generations) else {
+            return "no limits";
+        };
+        self.phase = None;
+        self.queues.clear();
+        self.systems.clear();
+        self.world = Some(World::new(self.alloc, limits));
+        "done"
+    }
+
+    fn open(&mut self, reservers: usize) -> &'static str {
+        self.queues.clear();
+        match self.world.take() {
+            Some(world) => self.open_world(world, reservers),
+            None => "a phase is open",
+        }
+    }
+
+    fn open_world(&mut self, world: World, reservers: usize) -> &'static str {
+        if world.needs_flush() || reservers < 1 || reservers > 1024 {
+            self.world = Some(world);
+            return "refused";
+        }
+        match Phase::open(world, reservers) {
+            Ok(phase) => {
+                self.phase = Some(phase);
+                "done"
+            }
+            Err(world) => {
+                self.world = Some(world);
+                "out of memory"
+            }
+        }
+    }
+
+    fn close(&mut self, is_lost: bool) -> &'static str {
+        match self.phase.take() {
+            Some(phase) => {
+                self.world = Some(phase.close(is_lost));
+                "done"
+            }
+            None => "no phase is open",
+        }
+    }
+
+    fn flush(&mut self) -> &'static str {
+        match &mut self.world {
+            Some(world) => match world.flush() {
+                Ok(()) => "done",
+                Err(Memory) => "out of memory",
+            },
+            None => "a phase is open",
+        }
+    }
+
+    fn apply(&mut self) -> &'static str {
+        let Some(world) = &mut self.world else {
+            return "a phase is open";
+        };
+        if self.queues.len() > 65_536 {
+            return "too many queues";
+        }
+        let applied = world.apply(&self.queues);
+        self.keep(applied)
+    }
+
+    /// Goes on with the queues at that handle of that command of that system.
+    fn apply_from(&mut self, [system, command, done]: [u32; 3]) -> &'static str {
+        match self.applied_from(system as usize, command as usize, done as usize) {
+            Some(applied) => self.keep(applied),
+            None => "no such command",
+        }
+    }
+
+    /// What is left of the queues there. `None` if there is no such place, or the world can't go on.
+    fn applied_from(
+        &mut self,
+        system: usize,
+        command: usize,
+        done: usize,
+    ) -> Option<Result<SyncReport, SyncFault>> {
+        let Some(world) = &mut self.world else {
+            return None;
+        };
+        if world.needs_flush() || done >= stops_at(&self.queues, system, command) {
+            return None;
+        }
+        Some(world.apply_from(&self.queues, system, command, done))
+    }
+
+    /// Whether the sync point stopped there.
+    fn is_at(&mut self, [system, command, done]: [u32; 3]) -> bool {
+        let is_here = self.stop == Some((system as usize, command as usize, done as usize));
+        self.is_told = self.is_told || is_here;
+        is_here
+    }
+
+    /// Whether there is a world in which so many live.
+    fn lives(&self, count: usize) -> bool {
+        match &self.world {
+            Some(world) => world.len() == count,
+            None => false,
+        }
+    }
+
+    /// Goes on where the sync point stopped, if it did. A line has told that place before.
+    fn go_on(&mut self) -> &'static str {
+        let Some((system, command, done)) = self.stop else {
+            return "done";
+        };
+        if !self.is_told {
+            return "it stopped at no place that is told";
+        }
+        match self.applied_from(system, command, done) {
+            Some(Ok(rest)) => self.keep_rest(&rest),
+            Some(Err(_)) => "out of memory",
+            None => "no such command",
+        }
+    }
+
+    /// Nobody more is born, and there may be more faults.
+    fn keep_rest(&mut self, rest: &SyncReport) -> &'static str {
+        self.stop = None;
+        if !rest.born.is_empty() {
+            return "more are born";
+        }
+        match self.faults.extend_from_slice(&rest.faults) {
+            Ok(()) => "done",
+            Err(_) => "out of memory",
+        }
+    }
+
+    /// A call of one of the systems.
+    fn in_phase(&mut self, system: usize, call: &Call<'_>, out: &mut Out) {
+        match &mut self.phase {
+            Some(phase) => phase.answer(self.alloc, &mut self.queues, system, call, out),
+            None => out.word("no phase is open"),
+        }
+    }
+
+    /// A call that is no system's and that leaves the phase.
+    fn tell(&mut self, call: &Call<'_>, out: &mut Out) {
+        match call.name {
+            "born" => out.handles(&self.born),
+            "born_len" => out.show(&self.born.len()),
+            "queues_len" => out.show(&self.queues.len()),
+            "faults" => out.faults(&self.faults),
+            "bundle" => write_put(self.alloc, call, out),
+            "bundle_of" => write_list(self.alloc, call, out),
+            "queue" | "queue_len" | "bytes" => match self.queues.get(call.number() as usize) {
+                Some(queue) => look_at_queue(queue, call, out),
+                None => out.word("no queue"),
+            },
+            _ => self.tell_world(call, out),
+        }
+    }
+
+    fn tell_world(&mut self, call: &Call<'_>, out: &mut Out) {
+        match (&mut self.world, &self.phase) {
+            (Some(world), _) => match call.name {
+                "spawn" => spawn(world, self.alloc, call, out),
+                "despawn" => despawn(world, call, out),
+                _ => look(world, call, out),
+            },
+            (None, Some(phase)) => view(&phase.view(), call, out),
+            (None, None) => out.word("no world"),
+        }
+    }
+
+    /// One more system, with the calls of this line.
+    fn add_system(&mut self, line: &str) -> &'static str {
+        let calls = line.strip_prefix("system").unwrap_or("");
+        let Ok(calls) = String::from_str(self.alloc, calls) else {
+            return "out of memory";
+        };
+        match self.systems.push(Listed { calls }) {
+            Ok(()) => "done",
+            Err(_) => "out of memory",
+        }
+    }
+
+    pub fn answer_frame<R: Threads + Sync>(&mut self, rt: &R, call: &Call<'_>) -> &'static str {
+        let answer = self.frame(rt, call.number() as usize);
+        if call.name == "frame" {
+            return answer;
+        }
+        self.is_lost = answer == LOST;
+        if self.is_lost { "done" } else { answer }
+    }
+
+    /// A frame of the systems that were listed.
+    fn frame<R: Threads + Sync>(&mut self, rt: &R, workers: usize) -> &'static str {
+        let Some(world) = &mut self.world else {
+            return "a phase is open";
+        };
+        if world.needs_flush() || self.systems.len() > 65_536 || workers < 1 || workers > 64 {
+            return "refused";
+        }
+        match run_frame(rt, self.alloc, world, &self.systems, workers, &NoGate) {
+            Ok(FrameReport { queues, sync }) => {
+                self.queues = queues;
+                self.keep(Ok(sync))
+            }
+            Err(FrameFault::Memory) => "out of memory",
+            Err(FrameFault::Lost) => LOST,
+            Err(FrameFault::Sync { fault, queues }) => {
+                self.queues = queues;
+                match fault {
+                    SyncFault::FlushMemory => self.apply(),
+                    stopped => self.keep(Err(stopped)),
+                }
+            }
+        }
+    }
+
+    /// Keeps the report, also that of a sync point which stopped at a command.
+    fn keep(&mut self, applied: Result<SyncReport, SyncFault>) -> &'static str {
+        self.stop = None;
+        self.is_told = false;
+        match applied {
+            Ok(report) => self.keep_report(report),
+            Err(
+                SyncFault::Memory {
+                    system,
+                    command,
+                    done,
+                    so_far,
+                },
+            ) => {
+                self.stop = Some((system, command, done));
+                self.keep_report(so_far)
+            }
+            Err(SyncFault::FlushMemory) => "out of memory",
+        }
+    }
+
+    fn keep_report(&mut self, report: SyncReport) -> &'static str {
+        let SyncReport { born, faults } = report;
+        self.born = born;
+        self.faults = faults;
+        "done"
+    }
+}
+
+impl Layer for Worlding {
+    fn worlding(&mut self) -> Option<&mut Worlding> {
+        Some(self)
+    }
+
+    fn holds(&mut self, when: &Call<'_>) -> bool {
+        match when.name {
+            "at" => self.is_at(when.numbers),
+            "lost" => self.is_lost,
+            "lost_of" => self.is_lost && self.lives(when.number() as usize),
+            _ => !self.is_lost,
+        }
+    }
+
+    fn answer(&mut self, call: &Call<'_>, out: &mut Out) {
+        if let Some(system) = call.system {
+            return self.in_phase(system, call, out);
+        }
+        match call.name {
+            "world" | "open" | "close" | "close_lost" => out.word(self.set_up(call)),
+            "flush" | "apply" | "apply_from" | "go_on" => out.word(self.sync(call)),
+            "system" | "no_systems" => out.word(self.set_systems(call)),
+            _ => self.tell(call, out),
+        }
+    }
+}
+
+fn spawn(world: &mut World, alloc: Global, call: &Call<'_>, out: &mut Out) {
+    match Bundle::of(alloc, &call.items) {
+        Ok(bundle) => out.given(world.spawn(call.birth, &bundle)),
+        Err(fault) => out.show(&fault),
+    }
+}
+
+fn despawn(world: &mut World, call: &Call<'_>, out: &mut Out) {
+    match world.despawn(call.handle) {
+        Ok(freed) => out.value(freed.next),
+        Err(fault) => out.show(&fault),
+    }
+}
+
+fn write_list(alloc: Global, call: &Call<'_>, out: &mut Out) {
+    match Bundle::of(alloc, &call.items) {
+        Ok(bundle) => out.bundle(bundle.items()),
+        Err(fault) => out.show(&fault),
+    }
+}
+
+/// The bundle into which the components were put one by one.
+fn write_put(alloc: Global, call: &Call<'_>, out: &mut Out) {
+    let mut bundle = Bundle::new(alloc);
+    for (id, value) in &call.items {
+        // A refused put leaves the bundle as it was, so the next one goes on with it.
+        if bundle.put(*id, *value).is_err() && bundle.put(*id, *value).is_err() {
+            out.word("out of memory");
+        }
+    }
+    out.bundle(bundle.items());
+}
+
+fn look_at_queue(queue: &CommandQueue, call: &Call<'_>, out: &mut Out) {
+    match call.name {
+        "queue" => write_queue(queue, out),
+        "queue_len" => out.show(&queue.len()),
+        _ => write_bytes(queue.bytes(), out),
+    }
+}
+
+fn write_bytes(bytes: &[u8], out: &mut Out) {
+    if bytes.is_empty() {
+        out.word("empty");
+    }
+    for byte in bytes {
+        out.word(" ");
+        out.show(byte);
+    }
+}

@@ -1,0 +1,26 @@
+//! How the libraries are used, from one thread to frames. Each example is a module, which stands for
+//! itself.
+
+mod by_hand;
+mod caller;
+mod frames;
+mod game;
+mod going_on;
+mod meadow;
+mod one_thread;
+mod two_threads;
+
+use anyhow::Result;
+use std::thread::Threads;
+
+/// Shows them all.
+pub fn show<R: Threads + Sync + Print + AllocGlobal>(rt: &R) -> Result<()> {
+    println!(rt; "One thread:")?;
+    one_thread::show(rt)?;
+    println!(rt; "Two threads:")?;
+    two_threads::show(rt)?;
+    println!(rt; "The meadow:")?;
+    frames::show(rt)?;
+    println!(rt; "The game:")?;
+    game::show(rt)
+}

@@ -1,6 +1,0 @@
-use Rattle.std.proofs.Common.{◌≡◌}
-use Rattle.examples.proofs.game.play.Given as goal
-
--- each frame ends with a flush
-abbrev pub invariant-loop-frame : goal.invariant-loop-frame
-invariant-loop-frame _ l = l.world.allocator.asked ≡ 0

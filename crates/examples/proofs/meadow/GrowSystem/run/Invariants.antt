@@ -1,6 +1,0 @@
-use Rattle.ent_queue.specs.Commands.{Extends}
-use Rattle.examples.proofs.meadow.GrowSystem.run.Given as goal
-
--- Commands were added, and the reserver has gained what they stand for.
-abbrev pub invariant-loop-plant : goal.invariant-loop-plant
-invariant-loop-plant l = Extends l.initial.commands l.commands
