@@ -22,7 +22,7 @@ use Rattle.ent_shared.specs.Order.{reservations_of, history_of, Respects}
 use Rattle.ent_queue.specs.Command.{Command}
 use Rattle.ent_queue.specs.Reserving.{Gains}
 use Rattle.ent_world.specs.OpenWorld.{OpenWorld, View, world_at_start}
-use Rattle.ent_claims.specs.Claims.{Claims, Claimer, HaveEnded, AreFirst, IsClaimerOf}
+use Rattle.ent_runner.specs.Claims.{Claims, Claimer, HaveEnded, AreFirst, IsClaimerOf}
 use Rattle.ent_runner.specs.declared.worker.SystemQueue.{SystemQueue}
 use Rattle.ent_runner.specs.declared.worker.Worker.{Worker}
 use Rattle.ent_runner.specs.Frame.{IsFrame, IsBrokenOff, view_of}

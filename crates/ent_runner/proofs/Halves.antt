@@ -6,7 +6,7 @@ use Rattle.std.proofs.lemmas.List.{length-append, get_or_append_left, get_or-app
 use Rattle.ent_shared.specs.Phase.{Shared}
 use Rattle.ent_queue.specs.Command.{Command}
 use Rattle.ent_world.specs.OpenWorld.{View}
-use Rattle.ent_claims.specs.Claims.{Claims}
+use Rattle.ent_runner.specs.Claims.{Claims}
 use Rattle.ent_runner.specs.declared.worker.Worker.{Worker}
 use Rattle.ent_runner.specs.Worker.{HasWorked, HaveAllWorked}
 

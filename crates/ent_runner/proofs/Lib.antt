@@ -1,3 +1,8 @@
+pub mod Steps
+pub mod Claiming
+pub mod Opening
+pub mod Counting
+pub mod Closing
 pub mod BySystem
 pub mod Lists
 pub mod Framed

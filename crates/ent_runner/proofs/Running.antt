@@ -13,7 +13,7 @@ use Rattle.ent_queue.specs.Command.{Command}
 use Rattle.ent_queue.specs.Reserving.{Gains}
 use Rattle.ent_queue.proofs.Gaining.{gains_then}
 use Rattle.ent_world.specs.OpenWorld.{View}
-use Rattle.ent_claims.specs.declared.record.ClaimRecord.{ClaimRecord as Claimed}
+use Rattle.ent_runner.specs.declared.record.ClaimRecord.{ClaimRecord as Claimed}
 use Rattle.ent_runner.specs.declared.worker.SystemQueue.{SystemQueue}
 use Rattle.ent_runner.specs.Frame.{SystemMayIssue, SystemMayHaveIssued}
 use Rattle.ent_runner.specs.Worker.{HasRun, HasRunSome, WasRefused, commands_issued, systems_of}

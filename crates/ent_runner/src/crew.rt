@@ -5,9 +5,10 @@ ghost use Rattle.std.specs.Prelude.{IfOk, None, true, false, flat_map, vec_capac
 ghost use Rattle.ent_runner.specs.Collecting.{queues_put};
 ghost use Rattle.ent_runner.specs.Worker.{IsRoomFor, IsRoomForOne, HasReturns};
 
+use crate::claimer::Claimer;
+use crate::claims::Claims;
 use crate::collecting::put_all;
 use crate::worker::{SystemQueue, Worker};
-use ent_claims::{Claimer, Claims};
 use ent_handle::Memory;
 use ent_queue::CommandQueue;
 use ent_shared::Reserver;

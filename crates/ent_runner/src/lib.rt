@@ -2,17 +2,25 @@
 //! sync point applies the queues in the order of the systems.
 #![tactic(auto)]
 
+mod claimer;
+mod claims;
 mod collecting;
 mod crew;
 mod frame;
 mod gate;
+mod record;
 mod report;
+mod rule;
 mod side;
 mod system;
+mod word;
 mod worker;
 
+pub use claimer::Claimer;
+pub use claims::Claims;
 pub use either::{Either, Left, Right};
 pub use frame::run_frame;
 pub use gate::{Gate, NoGate};
+pub use record::ClaimRecord;
 pub use report::{FrameFault, FrameReport};
 pub use system::System;

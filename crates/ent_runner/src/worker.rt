@@ -3,15 +3,16 @@ ghost use Rattle.std.specs.Prelude.{◌≡◌, ◌+◌, ◌<◌, ◌≤◌, ◌^
 ghost use Rattle.std.specs.Prelude.{All};
 ghost use Rattle.ent_shared.specs.Phase.{IsOf};
 ghost use Rattle.ent_queue.specs.Reserving.{Gains};
-ghost use Rattle.ent_claims.specs.Claims.{IsClaimerOf};
+ghost use Rattle.ent_runner.specs.Claims.{IsClaimerOf};
 ghost use Rattle.ent_runner.specs.Frame.{SystemMayIssue};
 ghost use Rattle.ent_runner.specs.Worker.{HasRun, HasRunSome, IsNewWorker, HasWorked, AreReady};
 ghost use Rattle.ent_runner.specs.Worker.{HaveAllWorked, WasRefused};
 ghost use denote.Param.Send.{IsSync};
 
+use crate::claimer::Claimer;
+use crate::claims::Claims;
 use crate::gate::Gate;
 use crate::system::System;
-use ent_claims::{Claimer, Claims};
 use ent_handle::Memory;
 use ent_queue::{CommandQueue, Commands};
 use ent_shared::{Reserver, Shared};

@@ -1,9 +1,9 @@
 //! Memory that is refused to the beginning of claiming.
 ghost use Rattle.std.specs.Prelude.{All};
-ghost use Rattle.ent_claims.specs.Claims.{IsClaimerOf};
+ghost use Rattle.ent_runner.specs.Claims.{IsClaimerOf};
 
-use ent_claims::{Claimer, Claims};
 use ent_handle::Memory;
+use ent_runner::{Claimer, Claims};
 use std::process::Abort;
 
 /// Passes whichever single allocation is refused.

@@ -2,7 +2,7 @@
 
 use crate::kit::alloc::Global;
 use crate::kit::vec::Vec;
-use crate::proved::ent_claims::{Claimer, Claims};
+use crate::proved::ent_runner::{Claimer, Claims};
 use std::sync::Barrier;
 use std::thread;
 

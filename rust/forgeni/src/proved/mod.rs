@@ -12,7 +12,6 @@
 
 pub mod ent_alloc;
 pub mod ent_bundle;
-pub mod ent_claims;
 pub mod ent_handle;
 pub mod ent_map;
 pub mod ent_queue;

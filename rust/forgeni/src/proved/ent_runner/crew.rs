@@ -4,9 +4,10 @@
 //! before the phase was opened.
 
 use crate::kit::vec::Vec;
+use crate::proved::ent_runner::claimer::Claimer;
+use crate::proved::ent_runner::claims::Claims;
 use crate::proved::ent_runner::collecting::put_all;
 use crate::proved::ent_runner::worker::{SystemQueue, Worker};
-use crate::proved::ent_claims::{Claimer, Claims};
 use crate::proved::ent_handle::Memory;
 use crate::proved::ent_queue::CommandQueue;
 use crate::proved::ent_shared::Reserver;

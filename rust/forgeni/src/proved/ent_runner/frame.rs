@@ -4,6 +4,7 @@
 //! queues.
 
 use crate::kit::vec::Vec;
+use crate::proved::ent_runner::claims::Claims;
 use crate::proved::ent_runner::collecting::collect;
 use crate::proved::ent_runner::crew::{Returned, Room, disband, recruit, some_stopped};
 use crate::proved::ent_runner::gate::Gate;
@@ -11,7 +12,6 @@ use crate::proved::ent_runner::report::{FrameFault, FrameReport};
 use crate::proved::ent_runner::system::System;
 use crate::proved::ent_runner::worker::{Stage, Worker, run_all};
 use crate::proved::ent_alloc::Limits;
-use crate::proved::ent_claims::Claims;
 use crate::proved::ent_queue::CommandQueue;
 use crate::proved::ent_shared::Reserver;
 use crate::proved::ent_world::{OpenWorld, SyncFault, World};

@@ -3,17 +3,25 @@
 //! Frames: systems run on workers over one shared world, each with a queue of its own, and the
 //! sync point applies the queues in the order of the systems.
 
+mod claimer;
+mod claims;
 mod collecting;
 mod crew;
 mod frame;
 mod gate;
+mod record;
 mod report;
+mod rule;
 mod side;
 mod system;
+mod word;
 mod worker;
 
+pub use claimer::Claimer;
+pub use claims::Claims;
 pub use crate::kit::either::{Either, Left, Right};
 pub use frame::run_frame;
 pub use gate::{Gate, NoGate};
+pub use record::ClaimRecord;
 pub use report::{FrameFault, FrameReport};
 pub use system::System;

@@ -3,9 +3,10 @@
 //! Workers: each claims systems, one after the other, runs them, and keeps their queues.
 
 use crate::kit::vec::Vec;
+use crate::proved::ent_runner::claimer::Claimer;
+use crate::proved::ent_runner::claims::Claims;
 use crate::proved::ent_runner::gate::Gate;
 use crate::proved::ent_runner::system::System;
-use crate::proved::ent_claims::{Claimer, Claims};
 use crate::proved::ent_handle::Memory;
 use crate::proved::ent_queue::{CommandQueue, Commands};
 use crate::proved::ent_shared::{Reserver, Shared};

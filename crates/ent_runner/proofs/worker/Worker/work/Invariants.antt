@@ -1,7 +1,7 @@
 use Rattle.std.proofs.Common.{◌≡◌, ◌-◌, ◌<◌, length}
 use Rattle.std.specs.Prelude.{All, vec_len, vec_capacity}
 use Rattle.ent_shared.specs.Phase.{IsOf}
-use Rattle.ent_claims.specs.Claims.{IsClaimerOf}
+use Rattle.ent_runner.specs.Claims.{IsClaimerOf}
 use Rattle.ent_runner.specs.declared.worker.SystemQueue.{SystemQueue}
 use Rattle.ent_runner.specs.Worker.{HasRun}
 use Rattle.ent_runner.proofs.worker.Worker.work.Given as goal

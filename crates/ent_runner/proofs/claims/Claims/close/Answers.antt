@@ -1,0 +1,37 @@
+use Rattle.std.proofs.Common.{◌<◌, sym, ◌∙◌, rules}
+use Rattle.ent_runner.specs.Rule.{AreClaimsClosed}
+use Rattle.ent_seats.proofs.HandedIn.{items_all}
+use Rattle.ent_runner.proofs.Steps.{goes_by_records}
+use Rattle.ent_runner.proofs.Closing.{records_of, first, apart, claimed, once}
+use Rattle.ent_runner.proofs.claims.Claims.close.Goals as goal
+
+pub new_seat-all-requires-clause-rule : goal.new_seat-all-requires-clause-rule
+new_seat-all-requires-clause-rule c = goes_by_records _ _
+
+pub merge-requires-clause-rule : goal.merge-requires-clause-rule
+merge-requires-clause-rule c = goes_by_records _ _
+
+closed : (c : goal.After-close) → AreClaimsClosed c.args.self.numbers c.args.self.workers
+    (records_of c.args.claimers.items)
+closed c =
+    let i = c.loop-claimer.invariant in
+    let ok = c.loop-claimer.claimer-iterator.rest.ok in
+    let all = items_all c.args.claimers.items c.loop-claimer.yielded
+    c.loop-claimer.claimer-iterator.rest.items i.all (sym ok.0 ∙ c.in-None.ensures.steps.0) in
+    let key = c.self.invariant.key_is in
+    search (rules, all, key)
+
+some : (c : goal.After-close) → 0 < c.args.self.workers
+some c = search rules
+
+pub returns-clause-first : goal.returns-clause-first
+returns-clause-first c = first _ _ c.args.claimers.items c.requires.all (closed c)
+
+pub returns-clause-apart : goal.returns-clause-apart
+returns-clause-apart c = apart _ _ c.args.claimers.items c.requires.all (closed c)
+
+pub returns-clause-claimed : goal.returns-clause-claimed
+returns-clause-claimed c = claimed _ _ c.args.claimers.items c.requires.all (closed c) (some c)
+
+pub returns-clause-once : goal.returns-clause-once
+returns-clause-once c = once _ _ c.args.claimers.items c.requires.all (closed c) (some c)

@@ -1,0 +1,30 @@
+//! The rule over the claim word and the records of all claimers, and what its steps tell.
+ghost use Rattle.ent_runner.specs.Rule.{AreClaimsRuled, ClaimTells};
+ghost use Rattle.ent_runner.specs.Record.{nothing_claimed};
+ghost use Rattle.std.specs.Prelude.{replicate};
+
+use crate::record::ClaimRecord;
+use atomic_table::{Play, TableRule};
+use ent_seats::SeatRecords;
+
+/// How many numbers there are to claim, and how many claimers.
+#[derive(Drop)]
+pub(crate) struct Opening {
+    pub(crate) numbers: usize,
+    pub(crate) workers: usize,
+}
+
+pub(crate) struct Numbers;
+
+impl TableRule<(), SeatRecords<ClaimRecord>, Opening> for Numbers {
+    ghost holds = { λ opening. AreClaimsRuled opening.numbers opening.workers };
+
+    ghost first = { λ opening. replicate opening.workers (nothing_claimed opening.numbers) };
+}
+
+/// A claim.
+pub(crate) struct Claim;
+
+impl Play<(), SeatRecords<ClaimRecord>> for Claim {
+    ghost then = { λ step before found after. ClaimTells before found after };
+}

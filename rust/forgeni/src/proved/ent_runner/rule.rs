@@ -1,0 +1,22 @@
+// Made of crates/ent_runner/src/rule.rt by rust/erase. It isn't edited by hand.
+
+//! The rule over the claim word and the records of all claimers, and what its steps tell.
+
+use crate::proved::ent_runner::record::ClaimRecord;
+use crate::kit::atomic_table::{Play, TableRule};
+use crate::proved::ent_seats::SeatRecords;
+
+/// How many numbers there are to claim, and how many claimers.
+pub(super) struct Opening {
+    pub(super) numbers: usize,
+    pub(super) workers: usize,
+}
+
+pub(super) struct Numbers;
+
+impl TableRule<(), SeatRecords<ClaimRecord>, Opening> for Numbers {}
+
+/// A claim.
+pub(super) struct Claim;
+
+impl Play<(), SeatRecords<ClaimRecord>> for Claim {}
