@@ -1,7 +1,7 @@
 -- What is made of the bytes that were read is made of what the source tells.
 use Rattle.std.proofs.Common.{rules, ◌≡◌, ◌≤◌, ◌<◌, List, [], ℕ, Option, Some, None, length, IfSome}
 use Rattle.std.proofs.Common.{subst, sym}
-use Rattle.spawnrun_advice.specs.Wants.{size_wants}
+use Rattle.spawnrun_lib.specs.Wants.{size_wants}
 use Rattle.spawnrun_lib.specs.declared.work.Product.{Product}
 use Rattle.spawnrun_lib.specs.declared.work.Product.TheVariants as product
 use Rattle.spawnrun_lib.specs.Work.{Accepts, IsProductOf, Refusal, Refuses, fails, input_limit}

@@ -1,3 +1,10 @@
+pub mod Fronts
+pub mod Lines
+pub mod Printable
+pub mod Letters
+pub mod Pieces
+pub mod Json
+pub mod Firsts
 pub mod ParsedOptions
 pub mod MovedNames
 pub mod MovedFaults

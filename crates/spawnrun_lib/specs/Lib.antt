@@ -1,3 +1,7 @@
+pub mod Wants
+pub mod Shown
+pub mod Place
+pub mod Found
 pub mod CommandLine
 pub mod Program
 pub mod Status

@@ -11,9 +11,9 @@ use Rattle.ent_script_run.specs.Given.{handles_in_run}
 use Rattle.ent_script_run.specs.Report.{Execution, IsReport, IsReportOf}
 use Rattle.ent_script_run.specs.SameReport.{IsWithoutHandles, HasEnoughSlots, TellsNoRefusal}
 use Rattle.ent_script_run.specs.ScriptAlone.{text_alone}
-use Rattle.spawnrun_advice.specs.Found.{TellsOfScript}
-use Rattle.spawnrun_advice.specs.Shown.{ArePrintable}
-use Rattle.spawnrun_advice.specs.Wants.{script_wants}
+use Rattle.spawnrun_lib.specs.Found.{TellsOfScript}
+use Rattle.spawnrun_lib.specs.Shown.{ArePrintable}
+use Rattle.spawnrun_lib.specs.Wants.{script_wants}
 use Rattle.spawnrun_lib.specs.Work.{Refusal}
 
 -- a report that the run of a script may write

@@ -2,7 +2,7 @@
 use Rattle.std.specs.Prelude.{◌≡◌, ℕ, ◌<◌, ◌≤◌, List, [], ◌++◌, length, codes, Option}
 use Rattle.std.specs.Fmt.InlineText.{inline_text}
 use Rattle.devices.specs.Device.{Writes}
-use Rattle.spawnrun_advice.specs.Wants.{size_wants}
+use Rattle.spawnrun_lib.specs.Wants.{size_wants}
 use Rattle.spawnrun_lib.specs.declared.work.Product.{Product}
 use Rattle.spawnrun_lib.specs.declared.work.Product.TheVariants as product
 use Rattle.spawnrun_lib.specs.declared.work.Refusal.{Refusal as RefusalValue}

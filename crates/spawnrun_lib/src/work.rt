@@ -2,18 +2,19 @@
 ghost use Rattle.std.specs.Prelude.{◌≡◌, ◌≢◌, ◌+◌, ◌⊎◌, ℕ, List, [], Err, IfOk, IfErr, IfSome};
 ghost use Rattle.std.specs.Prelude.{min, length};
 ghost use Rattle.devices.specs.Device.{OneFails, Takes, TakesAtMost};
-ghost use Rattle.spawnrun_advice.specs.Wants.{size_wants};
+ghost use Rattle.spawnrun_lib.specs.Wants.{size_wants};
 ghost use Rattle.spawnrun_lib.specs.Work.{Accepts, HasAdvised, HasDone, HasRefused, IsProductOf};
 ghost use Rattle.spawnrun_lib.specs.Work.{Refusal as Refused, Refuses, input_limit, refusal_of};
 ghost use Rattle.spawnrun_lib.specs.Work.{size_line};
 
+use crate::found::Found;
 use crate::input::{INPUT_LIMIT, InputFault, read_all};
 use crate::output::{refuse, write};
 use crate::status::Status;
+use crate::wants::size_wants;
 use devices::{Sink, Source};
 use ent_handle::Memory;
 use ent_script_run::Progress;
-use spawnrun_advice::{Found, size_wants};
 use std::alloc::Global;
 
 /// What is made of an input.

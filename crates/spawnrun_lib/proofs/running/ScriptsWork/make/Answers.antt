@@ -2,7 +2,7 @@ use Rattle.std.proofs.Common.{◌∙◌, ap, subst, sym}
 use Rattle.std.specs.Prelude.{Err}
 use Rattle.std.specs.Fmt.InlineText.{inline_text}
 use Rattle.ent_script.specs.Reading.{ReadsAs, script_of_text}
-use Rattle.spawnrun_advice.specs.Found.{TellsOfScript}
+use Rattle.spawnrun_lib.specs.Found.{TellsOfScript}
 use Rattle.spawnrun_lib.proofs.FaultRead.{fault_read}
 use Rattle.spawnrun_lib.proofs.running.ScriptsWork.make.Goals as goal
 

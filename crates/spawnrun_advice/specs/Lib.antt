@@ -1,4 +1,0 @@
-pub mod Wants
-pub mod Shown
-pub mod Place
-pub mod Found

@@ -1,0 +1,146 @@
+-- Fronts of texts: of a text that is appended to, of one in printable ASCII, and of one of which
+-- only the first parts are looked at.
+use Rattle.std.proofs.Common.{rules, ◌≡◌, ℕ, suc, ◌+◌, ◌≤◌, ◌<◌, true, List, [], ◌∷◌, ◌++◌, length}
+use Rattle.std.proofs.Common.{take, sym, ap, subst, ◌∙◌, arith, codes, append_assoc, length-append}
+use Rattle.std.proofs.Common.{inl, inr, flat_map}
+use Rattle.std.proofs.lemmas.Grind.{flat_map-append, take_at_read}
+use Rattle.std.specs.Prelude.{nat_le, slice_index}
+use Rattle.std.specs.Fmt.Cut.{cut_to, floor_char_boundary}
+use Rattle.std.specs.Fmt.{is_char_start}
+use Rattle.std.proofs.lemmas.Bool.{cond-true, cond-false, cases_lt}
+use Rattle.std.proofs.lemmas.Bool.Decides.{nat_tests}
+use Rattle.std.proofs.lemmas.List.{take-append-le, append-nil, length-take-le, take_all}
+use Rattle.std.proofs.lemmas.List.Elements.{All-append, All-take, All-cons, All-nil}
+use Rattle.spawnrun_lib.specs.Shown.{ArePrintable, IsPrintable, front}
+
+pub front-short : (text : List ℕ) → length text ≤ 60 → front text ≡ text
+unfolding front
+front-short text short =
+    cond-true (nat_le (length text) 60) text (take 57 text ++ codes "...")
+    (grind (arith, nat_tests))
+
+pub front-long : (text : List ℕ) → 60 < length text → front text ≡ take 57 text ++ codes "..."
+unfolding front
+front-long text long =
+    cond-false (nat_le (length text) 60) text (take 57 text ++ codes "...")
+    (grind (arith, nat_tests))
+
+-- what comes after a text that is cut makes no difference
+front-past : (text more : List ℕ) → 60 < length text → front (text ++ more) ≡ front text
+front-past text more long =
+    front-long (text ++ more) (omega (arith, length-append text more))
+    ∙ ap (λ (kept : List ℕ). kept ++ codes "...") (take-append-le 57 text more (omega arith))
+    ∙ sym (front-long text long)
+
+length-cut : (text : List ℕ) → 60 < length text → length (take 57 text ++ codes "...") ≡ 60
+length-cut text long =
+    omega (arith, length-append (take 57 text) (codes "..."), length-take-le 57 text (omega arith))
+
+-- what is cut stays as it is
+front-cut : (text more : List ℕ) → 60 < length text
+    → front ((take 57 text ++ codes "...") ++ more) ≡ take 57 text ++ codes "..."
+front-cut text [] long =
+    ap front (append-nil (take 57 text ++ codes "..."))
+    ∙ front-short (take 57 text ++ codes "...") (omega (arith, length-cut text long))
+front-cut text (x ∷ xs) long =
+    let cut = take 57 text ++ codes "..." in
+    let len = length-take-le 57 text (omega arith) in
+    front-long (cut ++ x ∷ xs)
+    (omega (arith, length-append cut (x ∷ xs), length-cut text long))
+    ∙ ap (λ (kept : List ℕ). kept ++ codes "...")
+    (take-append-le 57 cut (x ∷ xs) (omega (arith, length-cut text long))
+    ∙ (take-append-le 57 (take 57 text) (codes "...") (omega (arith, len))
+    ∙ take_all 57 (take 57 text) (omega (arith, len))))
+
+pub length-front : (text : List ℕ) → length (front text) ≤ 60
+length-front text = elim (cases_lt 60 (length text)) [
+  | inl long ↦ omega (arith, ap length (front-long text long), length-cut text long)
+  | inr short ↦ omega (arith, ap length (front-short text short), short)
+]
+
+pub front-more : (text more : List ℕ) → front (front text ++ more) ≡ front (text ++ more)
+front-more text more = elim (cases_lt 60 (length text)) [
+  | inl long ↦ ap (λ (kept : List ℕ). front (kept ++ more)) (front-long text long)
+      ∙ front-cut text more long
+      ∙ sym (front-past text more long ∙ front-long text long)
+  | inr short ↦ ap (λ (kept : List ℕ). front (kept ++ more)) (front-short text short)
+]
+
+dot-printable : IsPrintable 46
+dot-printable = (omega arith, omega arith)
+
+dots-printable : ArePrintable (codes "...")
+dots-printable = search (rules, All-cons, dot-printable, All-nil)
+
+pub front-printable : (text : List ℕ) → ArePrintable text → ArePrintable (front text)
+front-printable text h = elim (cases_lt 60 (length text)) [
+  | inl long ↦ subst ArePrintable (sym (front-long text long))
+      (search (rules, All-append, All-take, dots-printable))
+  | inr short ↦ subst ArePrintable (sym (front-short text short)) h
+]
+
+cut_to-short : (text : List ℕ) → length text ≤ 60 → cut_to 60 text ≡ text
+unfolding cut_to
+cut_to-short text short =
+    cond-true (nat_le (length text) 60) text
+    (take (floor_char_boundary text 57) text ++ codes "...")
+    (grind (arith, nat_tests))
+
+boundary_at : (text : List ℕ) (i : ℕ) → is_char_start (slice_index text (suc i)) ≡ true
+    → floor_char_boundary text (suc i) ≡ suc i
+unfolding floor_char_boundary
+boundary_at text i starts =
+    cond-true (is_char_start (slice_index text (suc i))) (suc i) (floor_char_boundary text i) starts
+
+starts : (code : ℕ) → code ≤ 126 → is_char_start code ≡ true
+starts code low = grind (arith, nat_tests)
+
+boundary : (text : List ℕ) → ArePrintable text → 60 < length text → floor_char_boundary text 57 ≡ 57
+boundary text h long = boundary_at text 56 (starts (slice_index text 57) (h 57 0 (omega arith)).1)
+
+cut_to-long : (text : List ℕ) → 60 < length text → floor_char_boundary text 57 ≡ 57
+    → cut_to 60 text ≡ take 57 text ++ codes "..."
+unfolding cut_to
+cut_to-long text long at =
+    cond-false (nat_le (length text) 60) text
+    (take (floor_char_boundary text 57) text ++ codes "...") (grind (arith, nat_tests))
+    ∙ ap (λ (n : ℕ). take n text ++ codes "...") at
+
+pub cut_is_front : (text : List ℕ) → ArePrintable text → cut_to 60 text ≡ front text
+cut_is_front text h = elim (cases_lt 60 (length text)) [
+  | inl long ↦ cut_to-long text long (boundary text h long) ∙ sym (front-long text long)
+  | inr short ↦ cut_to-short text short ∙ sym (front-short text short)
+]
+
+-- a piece after a piece
+pub go_on : (old new piece more : List ℕ) → new ≡ front (old ++ piece)
+    → front (new ++ more) ≡ front (old ++ (piece ++ more))
+go_on old new piece more e = search (rules, front-more, append_assoc)
+
+-- each part gives something, so parts past the sixtieth are not looked at
+pub length-parts : (part : ℕ → List ℕ) → ((x : ℕ) → 0 < length (part x)) → (xs : List ℕ)
+    → length xs ≤ length (flat_map part xs)
+length-parts part some [] = omega arith
+length-parts part some (x ∷ xs) = search (rules, length-append, length-parts part some xs)
+
+pub front-of_parts : (part : ℕ → List ℕ) → ((x : ℕ) → 0 < length (part x)) → (xs ys : List ℕ)
+    → 60 < length xs → front (flat_map part (xs ++ ys)) ≡ front (flat_map part xs)
+front-of_parts part some xs ys long = search (rules, flat_map-append, front-past, length-parts)
+
+-- one more part
+pub front-next : (part : ℕ → List ℕ) (xs : List ℕ) (i : ℕ) (shown next : List ℕ) → i < length xs
+    → shown ≡ front (flat_map part (take i xs)) → next ≡ front (shown ++ part (slice_index xs i))
+    → next ≡ front (flat_map part (take (i + 1) xs))
+front-next part xs i shown next within so_far more =
+    search (rules, front-more, append-nil, flat_map-append, take_at_read)
+
+-- the same after a text that stood before
+pub front-after : (old : List ℕ) (part : ℕ → List ℕ) (xs : List ℕ) (i : ℕ) (shown next : List ℕ)
+    → i < length xs → shown ≡ front (old ++ flat_map part (take i xs))
+    → next ≡ front (shown ++ part (slice_index xs i))
+    → next ≡ front (old ++ flat_map part (take (i + 1) xs))
+front-after old part xs i shown next within so_far more =
+    search (rules, go_on, append-nil, flat_map-append, take_at_read)
+
+pub front-nothing : (old : List ℕ) → length old ≤ 60 → old ≡ front (old ++ [])
+front-nothing old short = sym (ap front (append-nil old) ∙ front-short old short)

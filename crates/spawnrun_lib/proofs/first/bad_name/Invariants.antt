@@ -1,0 +1,10 @@
+use Rattle.std.proofs.Common.{◌≡◌, [], drop, map, take}
+use Rattle.serde_json.specs.View.{view}
+use Rattle.spawnrun_lib.specs.Place.{bad_name}
+use Rattle.spawnrun_lib.proofs.first.bad_name.Given as goal
+
+-- the first of all is the first of those that are left
+abbrev pub invariant-loop-number : goal.invariant-loop-number
+invariant-loop-number l =
+    bad_name [] (map view l.list)
+    ≡ bad_name (map view (take l.number l.list)) (map view (drop l.number l.list))

@@ -1,0 +1,21 @@
+use Rattle.std.proofs.Common.{◌≡◌, ◌∙◌, ◌++◌, Bool, true, false, List, ℕ, length, cond, refl, ap}
+use Rattle.std.proofs.Common.{arith}
+use Rattle.std.specs.Prelude.{nat_le}
+use Rattle.std.specs.Fmt.Cut.{cut_to}
+use Rattle.std.specs.Fmt.InlineText.{inline_text}
+use Rattle.std.proofs.lemmas.Bool.Decides.{nat_tests}
+use Rattle.spawnrun_lib.proofs.found.with.Goals as goal
+
+whole_by : (b : Bool) (text cut : List ℕ) → b ≡ true → cond b text cut ≡ text
+whole_by true text cut e = refl
+whole_by false text cut e = absurd (cc e)
+
+-- a text is not cut where there is room for it
+cut_to-whole : (text : List ℕ) → cut_to (length text) text ≡ text
+unfolding cut_to
+cut_to-whole text = whole_by (nat_le (length text) (length text)) text _ (grind (arith, nat_tests))
+
+pub returns : goal.returns
+returns c =
+    c.and_str.ensures.within (omega (arith, c.requires))
+    ∙ ap (λ t. inline_text c.args.found ++ t) (cut_to-whole c.args.text.now)

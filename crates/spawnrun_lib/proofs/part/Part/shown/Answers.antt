@@ -1,0 +1,76 @@
+use Rattle.std.proofs.Common.{rules, ◌++◌, refl, codes}
+use Rattle.std.specs.Fmt.{decimal}
+use Rattle.std.specs.Fmt.InlineText.{inline_text}
+use Rattle.serde_json.specs.View.{view}
+use Rattle.spawnrun_lib.specs.Place.{quoted}
+use Rattle.spawnrun_lib.specs.Shown.{plain}
+use Rattle.spawnrun_lib.proofs.Pieces.{from_nothing, if_some, more_text, two_pieces}
+use Rattle.spawnrun_lib.proofs.Printable.{decimal-printable, passes}
+use Rattle.spawnrun_lib.proofs.part.Part.shown.Goals as goal
+
+pub returns-in-Absent-clause-text : goal.returns-in-Absent-clause-text
+returns-in-Absent-clause-text c =
+    let nothing = inline_text c.new-nothing.result in
+    let new = inline_text c.with_text.result in
+    rw c.in-Absent.is (record {
+      text = codes "none";
+      spells = refl;
+      is = from_nothing nothing (codes "none") new c.new-nothing.ensures.text
+          (more_text nothing new (codes "none") (passes (codes "none") refl)
+          c.with_text.ensures.text);
+    })
+
+pub returns-in-Twice-clause-text : goal.returns-in-Twice-clause-text
+returns-in-Twice-clause-text c =
+    let nothing = inline_text c.new-nothing.result in
+    let key = inline_text c.with_quoted-in-Twice.result in
+    let new = inline_text c.with_text-in-Twice.result in
+    let name = c.in-Twice.name.now in
+    rw c.in-Twice.is (record {
+      text = quoted name ++ codes " twice";
+      spells = refl;
+      is = from_nothing nothing (quoted name ++ codes " twice") new c.new-nothing.ensures.text
+          (two_pieces nothing key new (quoted name) (codes " twice")
+          c.with_quoted-in-Twice.ensures.text
+          (more_text key new (codes " twice") (passes (codes " twice") refl)
+          c.with_text-in-Twice.ensures.text));
+    })
+
+pub returns-in-Long-clause-text : goal.returns-in-Long-clause-text
+returns-in-Long-clause-text c =
+    let nothing = inline_text c.new-nothing.result in
+    let number = inline_text c.with_text-shown-in-Long.result in
+    let new = inline_text c.with_text-in-Long.result in
+    let count = c.in-Long.count in
+    rw c.in-Long.is (record {
+      text = decimal count ++ codes " elements";
+      spells = refl;
+      is = from_nothing nothing (decimal count ++ codes " elements") new
+          c.new-nothing.ensures.text
+          (two_pieces nothing number new (decimal count) (codes " elements")
+          (more_text nothing number (decimal count) (decimal-printable count (search rules))
+          (rw c.format.ensures.text at c.with_text-shown-in-Long.ensures.text))
+          (more_text number new (codes " elements") (passes (codes " elements") refl)
+          c.with_text-in-Long.ensures.text));
+    })
+
+pub returns-in-Member-clause-text : goal.returns-in-Member-clause-text
+returns-in-Member-clause-text c =
+    let nothing = inline_text c.new-nothing.result in
+    let key = inline_text c.with_quoted-in-Member.result in
+    let colon = inline_text c.with_text-shown.result in
+    let name = c.in-Member.key.now in
+    let d = view c.in-Member.value.now in
+    let before = two_pieces nothing key colon (quoted name) (codes ":")
+    c.with_quoted-in-Member.ensures.text
+    (more_text key colon (codes ":") (passes (codes ":") refl)
+    c.with_text-shown.ensures.text) in
+    rw c.in-Member.is (if_some c.with_json-in-Member.result _ _
+    (λ shown h. record {
+      text = quoted name ++ codes ":" ++ plain h.0;
+      spells = (h.0, h.1, refl);
+      is = from_nothing nothing (quoted name ++ codes ":" ++ plain h.0) (inline_text shown)
+          c.new-nothing.ensures.text
+          (two_pieces nothing colon (inline_text shown) (quoted name ++ codes ":") (plain h.0)
+          before h.2);
+    }) c.with_json-in-Member.ensures.text)

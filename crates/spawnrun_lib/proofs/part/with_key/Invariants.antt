@@ -1,0 +1,17 @@
+use Rattle.std.proofs.Common.{◌≡◌, ◌≤◌, ◌++◌, IsUtf8, length}
+use Rattle.std.specs.Fmt.InlineText.{inline_text}
+use Rattle.std.specs.List.{flat_map}
+use Rattle.std.specs.Str.{chars}
+use Rattle.std.specs.Str.Iter.{chars_rest}
+use Rattle.spawnrun_lib.specs.Place.{key_char}
+use Rattle.spawnrun_lib.specs.Shown.{ArePrintable, front}
+use Rattle.spawnrun_lib.proofs.part.with_key.Given as goal
+
+abbrev pub invariant-loop-letter : goal.invariant-loop-letter
+invariant-loop-letter l = record {
+  utf8 : IsUtf8 (chars_rest l.letter-iterator);
+  text : front (inline_text l.shown ++ flat_map key_char (chars (chars_rest l.letter-iterator)))
+      ≡ front (inline_text l.fn.shown ++ flat_map key_char (chars l.fn.key));
+  short : length (inline_text l.shown) ≤ 60;
+  printable : ArePrintable (inline_text l.shown);
+}

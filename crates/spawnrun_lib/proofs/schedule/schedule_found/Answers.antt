@@ -1,0 +1,24 @@
+use Rattle.std.proofs.Common.{rules, ◌≡◌, ℕ, ◌++◌, List, sym, subst, codes, refl}
+use Rattle.std.specs.Fmt.{decimal}
+use Rattle.std.specs.Fmt.InlineText.{inline_text}
+use Rattle.spawnrun_lib.specs.Shown.{ArePrintable}
+use Rattle.spawnrun_lib.proofs.Printable.{passes, decimal-printable, three}
+use Rattle.spawnrun_lib.proofs.schedule.schedule_found.Goals as goal
+
+framed : (shown number : List ℕ) → ArePrintable shown → ArePrintable number
+    → ArePrintable (codes "; found \"" ++ shown ++ codes "\" at line " ++ number
+    ++ codes " (counted from 1)")
+framed shown number s n =
+    let front = codes "; found \"" ++ shown ++ codes "\" at line " in
+    three front number (codes " (counted from 1)")
+    (three (codes "; found \"") shown (codes "\" at line ") (passes (codes "; found \"") refl) s
+    (passes (codes "\" at line ") refl)) n (passes (codes " (counted from 1)") refl)
+
+pub returns-clause-printable : goal.returns-clause-printable
+returns-clause-printable c =
+    let shown = inline_text c.line_shown-shown.result in
+    let is : inline_text c.with.result ≡ codes "; found \"" ++ shown ++ codes "\" at line "
+    ++ decimal c.args.line ++ codes " (counted from 1)" = search rules in
+    subst ArePrintable (sym is)
+    (framed shown (decimal c.args.line) c.line_shown-shown.ensures.printable
+    (decimal-printable c.args.line c.ranges.line.fits))

@@ -1,0 +1,33 @@
+use Rattle.std.proofs.Common.{◌≡◌, List, ℕ, subst, sym}
+use Rattle.std.specs.Prelude.{Option, MatchOption}
+use Rattle.std.specs.Fmt.InlineText.{inline_text}
+use Rattle.std.proofs.lemmas.Bool.{iff_false}
+use Rattle.serde_json.specs.Data.{Data}
+use Rattle.serde_json.specs.View.{view}
+use Rattle.ent_script.specs.declared.ReadFault.{ReadFault}
+use Rattle.spawnrun_lib.specs.Place.{Place, IsPlaceOf, Shows, place_of}
+use Rattle.spawnrun_lib.specs.Shown.{front, plain}
+use Rattle.spawnrun_lib.proofs.Json.{json_some, json_none}
+use Rattle.spawnrun_lib.proofs.Pieces.{if_some}
+use Rattle.spawnrun_lib.proofs.script.shown.Goals as goal
+
+abbrev ShowsOf : ReadFault → List ℕ → Option Data → Type 0
+ShowsOf e shown o =
+    MatchOption o ((words : List ℕ) × (shown ≡ front (plain words)))
+    (λ d. (place : Place) × IsPlaceOf d e place × Shows place shown)
+
+pub returns-in-Ok-clause-shows : goal.returns-in-Ok-clause-shows
+returns-in-Ok-clause-shows c =
+    let ok = c.in-Ok.ensures.ok in
+    let json = json_some c.args.text.now (view c.in-Ok.script) ok.0 ok.1 in
+    if_some c.shown.result _ _
+    (λ shown h. subst (ShowsOf c.args.fault (inline_text shown)) (sym json)
+    (place_of c.part.result, c.part.ensures, h))
+    c.shown.ensures.text
+
+pub returns-in-Err-clause-shows : goal.returns-in-Err-clause-shows
+returns-in-Err-clause-shows c =
+    let none = json_none c.args.text.now
+    (c.in-Err.ensures.err (iff_false c.is_memory.ensures c.if-not-is_memory.true)) in
+    subst (ShowsOf c.args.fault (inline_text c.words_shown.result)) (sym none)
+    c.words_shown.ensures.text

@@ -1,0 +1,11 @@
+use Rattle.std.proofs.Common.{◌≡◌, take}
+use Rattle.std.specs.Fmt.InlineText.{inline_text}
+use Rattle.std.specs.List.{flat_map}
+use Rattle.spawnrun_lib.specs.Shown.{ArePrintable, byte_text, front}
+use Rattle.spawnrun_lib.proofs.shown.line_shown.Given as goal
+
+abbrev pub invariant-loop-byte : goal.invariant-loop-byte
+invariant-loop-byte l = record {
+  text : inline_text l.shown ≡ front (flat_map byte_text (take l.byte-index l.front));
+  printable : ArePrintable (inline_text l.shown);
+}

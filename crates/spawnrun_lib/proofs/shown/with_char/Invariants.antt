@@ -1,0 +1,13 @@
+use Rattle.std.proofs.Common.{◌≡◌, ◌≤◌, ◌++◌, length, take}
+use Rattle.std.specs.Fmt.InlineText.{inline_text}
+use Rattle.std.specs.List.{flat_map}
+use Rattle.spawnrun_lib.specs.Shown.{ArePrintable, unit_text, front}
+use Rattle.spawnrun_lib.proofs.shown.with_char.Given as goal
+
+abbrev pub invariant-loop-unit : goal.invariant-loop-unit
+invariant-loop-unit l = record {
+  text : inline_text l.shown
+      ≡ front (inline_text l.fn.shown ++ flat_map unit_text (take l.unit-index l.unit-items));
+  short : length (inline_text l.shown) ≤ 60;
+  printable : ArePrintable (inline_text l.shown);
+}

@@ -1,0 +1,14 @@
+use Rattle.std.proofs.Common.{◌≡◌, ◌≤◌, ◌++◌, IsUtf8, length}
+use Rattle.std.specs.Fmt.InlineText.{inline_text}
+use Rattle.std.specs.Str.Iter.{chars_rest}
+use Rattle.spawnrun_lib.specs.Shown.{ArePrintable, plain, front}
+use Rattle.spawnrun_lib.proofs.shown.with_text.Given as goal
+
+abbrev pub invariant-loop-letter : goal.invariant-loop-letter
+invariant-loop-letter l = record {
+  utf8 : IsUtf8 (chars_rest l.letter-iterator);
+  text : front (inline_text l.shown ++ plain (chars_rest l.letter-iterator))
+      ≡ front (inline_text l.fn.shown ++ plain l.fn.text);
+  short : length (inline_text l.shown) ≤ 60;
+  printable : ArePrintable (inline_text l.shown);
+}
