@@ -13,9 +13,9 @@ An edit is a file `crates/CRATE/wrong_bodies/NAME.edit`. It has pairs of lines: 
 Its line `refused by: FUNCTION: GOAL` says which function the prover refuses then, and which goal of that proof it names. A goal's name ends
 with the name of a clause, of an invariant, or of what a call requires. With a line `gate` the gate tries it.
 
-Only the function that the file names is checked. Of those that it calls the contracts count, which no edit changes: a hole stands for each
-proof of theirs that has answers. So a try takes seconds where the check of a crate takes minutes. Edits of several functions of a crate are
-tried in one check, two of one function in two. The script runs at the top of the repository, and needs `rt` on the PATH.
+Only the function that the file names is checked. Of those that it calls the contracts count, which no edit changes: their bodies are left
+out, and a hole stands for each of their proofs. So a try takes seconds where the check of a crate takes minutes. Edits of several functions
+of a crate are tried in one check, two of one function in two. The script runs at the top of the repository, and needs `rt` on the PATH.
 """
 
 import argparse
@@ -125,7 +125,7 @@ class Prover:
 
     def check(self, crate, texts, functions, kept):
         """The status and what is printed of a check of these functions with these texts in place of the crate's own."""
-        for has_holes in (True, False):
+        for alone in (empty_others, put_holes, None):
             with tempfile.TemporaryDirectory() as room:
                 room = pathlib.Path(room)
                 for part in PARTS:
@@ -133,17 +133,16 @@ class Prover:
                         shutil.copytree(f"crates/{crate}/{part}", room / part)
                 for path, text in texts.items():
                     (room / path).write_text(text)
-                if has_holes and functions:
-                    put_holes(room, crate, functions)
+                if alone and functions:
+                    alone(room, crate, functions)
                 how = {"cwd": room, "stdout": subprocess.PIPE, "stderr": subprocess.STDOUT, "errors": "replace"}
                 said = subprocess.run(self.words(crate, functions, kept), **how)
-                if not re.search(HOLE_REFUSED, said.stdout):
+                if not alone or not re.search(HOLE_REFUSED, said.stdout):
                     return 0 if lacks_only_holes(said.stdout) else said.returncode, with_functions(room, said.stdout)
-        return said.returncode, said.stdout
 
 
-# A hole that isn't the proof of its function, as of a function with a form of its own.
-HOLE_REFUSED = r"(?m)^(?:\./)?proofs/\S+/Proof\.antt:\d+:\d+: error"
+# A hole that isn't the proof of its function, as of a function with a form of its own; or a body that can't be left out.
+HOLE_REFUSED = r"(?m)^(?:\./)?proofs/\S+/Proof\.antt:\d+:\d+: error|error\[[\w-]+\]"
 
 
 def lacks_only_holes(said):
@@ -151,20 +150,93 @@ def lacks_only_holes(said):
     return re.search(r"(?m)^only=.* holes=", said) and not re.search(r"\berror\b|not proved|no proof", said)
 
 
+def is_of(name, functions):
+    return any(f"::{name}".endswith(f"::{it}") for it in functions)
+
+
+def put_hole(folder, crate, path):
+    """A hole for the proof of this function, whose answers go."""
+    for name in ("Answers.antt", "Invariants.antt"):
+        (folder / name).unlink(missing_ok=True)
+    folder.mkdir(parents=True, exist_ok=True)
+    (folder / "Proof.antt").write_text(
+        f"use Rattle.{crate}.proofs.{'.'.join(path)}.Statement.{{statement}}\n\n"
+        f"pub {path[-1]}_spec : {{M : Type 1}} → statement M\n{path[-1]}_spec = ?\n"
+    )
+
+
 def put_holes(room, crate, functions):
     """Takes the answers of all other functions away, and leaves a hole for the proof of each."""
     for answers in sorted(room.glob("proofs/**/Answers.antt")):
         path = answers.parent.relative_to(room / "proofs").parts
-        is_tried = any(f"::{'::'.join(path)}".endswith(f"::{it}") for it in functions)
-        if is_tried or path[-1].startswith("+"):
-            continue
-        answers.unlink()
-        answers.with_name("Invariants.antt").unlink(missing_ok=True)
-        name, module = path[-1], ".".join(path)
-        answers.with_name("Proof.antt").write_text(
-            f"use Rattle.{crate}.proofs.{module}.Statement.{{statement}}\n\n"
-            f"pub {name}_spec : {{M : Type 1}} → statement M\n{name}_spec = ?\n"
-        )
+        if not is_of("::".join(path), functions) and not path[-1].startswith("+"):
+            put_hole(answers.parent, crate, path)
+
+
+HEAD = re.compile(r"( *)(?:pub(?:\([a-z]+\))? )?fn (\w+)")
+
+
+def empty_others(room, crate, functions):
+    """As `put_holes`, and leaves the bodies of these functions out: a caller sees no more than their contracts. So the paths through them
+    aren't made. What the edit itself changed stays, and so do cycles, methods of traits and what returns an `impl`."""
+    put_holes(room, crate, functions)
+    sources = {it: it.read_text() for it in sorted((room / "src").rglob("*.rt"))}
+    homes = {}
+    for file, text in sources.items():
+        for name in re.findall(r"(?m)^(?:pub(?:\([a-z]+\))? )?(?:struct|enum) (\w+)", text):
+            homes.setdefault(name, []).append(module_of(file.relative_to(room / "src")))
+    for file, text in sources.items():
+        own = pathlib.Path("crates", crate, file.relative_to(room)).read_text()
+        lines, owner, at = text.splitlines(), None, 0
+        while at < len(lines):
+            begun = re.match(r"(impl|trait|pub trait|pub\(crate\) trait)\b(.*)", lines[at])
+            if begun or lines[at] == "}":
+                owner = begun and owner_of(begun[1], begun[2], homes)
+            body = body_of(lines, at)
+            if body:
+                indent, name = HEAD.match(lines[at]).groups()
+                module = module_of(file.relative_to(room / "src")) if owner is None and not indent else owner or None
+                path = None if module is None else (*filter(None, module.split("::")), name)
+                first, end = body
+                above = "\n".join(lines[max(at - 4, 0) : at])
+                is_kept = "#[cycle" in above or "-> impl" in "\n".join(lines[at:first]) or "\n".join(lines[at : end + 1]) not in own
+                if path and not is_kept and not is_of("::".join(path), functions):
+                    lines[first:end] = [f"{indent}    loop {{}}"]
+                    put_hole(room.joinpath("proofs", *path), crate, path)
+                    at = first + 1
+                    continue
+                at = end
+            at += 1
+        file.write_text("\n".join(lines) + "\n")
+
+
+def module_of(path):
+    return re.sub(r"(^|/)(lib|main|mod)$", "", str(path.with_suffix(""))).replace("/", "::")
+
+
+def owner_of(kind, head, homes):
+    """The module of the type whose own methods stand here; empty if they are those of a trait."""
+    said = re.sub(r"<[^<>]*(?:<[^<>]*>)?[^<>]*>", "", head).split("{")[0].split()
+    if kind != "impl" or "for" in said or not said or len(homes.get(said[0], [])) != 1:
+        return ""
+    return "::".join(filter(None, (homes[said[0]][0], said[0])))
+
+
+def body_of(lines, at):
+    """The lines of the body of the function that begins on this line: its first one, and that of the bracket which ends it."""
+    head = HEAD.match(lines[at])
+    if not head:
+        return None
+    indent = head[1]
+    for first in range(at, len(lines)):
+        if lines[first] == f"{indent}{{" or re.search(r"\)(?: -> [^{};]*)? \{$", lines[first]):
+            break
+        if re.search(r"[;}]$", lines[first]) and not re.search(r"^ +(requires|ensures|\(|λ|→|×)|\}$", lines[first]):
+            return None
+    else:
+        return None
+    end = next((it for it in range(first + 1, len(lines)) if lines[it] == f"{indent}}}"), None)
+    return None if end is None else (first + 1, end)
 
 
 def with_functions(room, said):
