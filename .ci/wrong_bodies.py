@@ -14,8 +14,9 @@ Its line `refused by: FUNCTION: GOAL` says which function the prover refuses the
 with the name of a clause, of an invariant, or of what a call requires. With a line `gate` the gate tries it.
 
 Only the function that the file names is checked. Of those that it calls the contracts count, which no edit changes: their bodies are left
-out, and a hole stands for each of their proofs. So a try takes seconds where the check of a crate takes minutes. Edits of several functions
-of a crate are tried in one check, two of one function in two. The script runs at the top of the repository, and needs `rt` on the PATH.
+out, and a hole stands for each of their proofs, and for the proof of each lemma. So a try takes seconds where the check of a crate takes
+minutes. Edits of several functions of a crate are tried in one check, two of one function in two. The script runs at the top of the
+repository, and needs `rt` on the PATH.
 """
 
 import argparse
@@ -137,12 +138,14 @@ class Prover:
                     alone(room, crate, functions)
                 how = {"cwd": room, "stdout": subprocess.PIPE, "stderr": subprocess.STDOUT, "errors": "replace"}
                 said = subprocess.run(self.words(crate, functions, kept), **how)
-                if not alone or not re.search(HOLE_REFUSED, said.stdout):
+                if not alone or not is_of_the_room(said.stdout, functions):
                     return 0 if lacks_only_holes(said.stdout) else said.returncode, with_functions(room, said.stdout)
 
 
-# A hole that isn't the proof of its function, as of a function with a form of its own; or a body that can't be left out.
-HOLE_REFUSED = r"(?m)^(?:\./)?proofs/\S+/Proof\.antt:\d+:\d+: error|error\[[\w-]+\]"
+def is_of_the_room(said, functions):
+    """Whether a check is refused for what was left out, and not for what it tries: a file can't be read so, or an error stands elsewhere."""
+    files = re.findall(r"(?m)^(?:\./)?(?:specs|proofs)/(\S+)\.antt:\d+:\d+: error", said)
+    return bool(re.search(r"\berror\[[\w-]+\]", said)) or not all(is_of("::".join(it.split("/")[:-1]), functions) for it in files)
 
 
 def lacks_only_holes(said):
@@ -178,8 +181,12 @@ HEAD = re.compile(r"( *)(?:pub(?:\([a-z]+\))? )?fn (\w+)")
 
 def empty_others(room, crate, functions):
     """As `put_holes`, and leaves the bodies of these functions out: a caller sees no more than their contracts. So the paths through them
-    aren't made. What the edit itself changed stays, and so do cycles, methods of traits and what returns an `impl`."""
+    aren't made. What the edit itself changed stays, and so do cycles, methods of traits and what returns an `impl`. Of a lemma too no more
+    is seen than what it says, so a hole stands for its proof."""
     put_holes(room, crate, functions)
+    for file in sorted((room / "proofs").rglob("*.antt")):
+        if file.name not in ("Answers.antt", "Invariants.antt", "Proof.antt", "Lib.antt"):
+            empty_lemmas(file)
     sources = {it: it.read_text() for it in sorted((room / "src").rglob("*.rt"))}
     homes = {}
     for file, text in sources.items():
@@ -208,6 +215,33 @@ def empty_others(room, crate, functions):
                 at = end
             at += 1
         file.write_text("\n".join(lines) + "\n")
+
+
+LEMMA = re.compile(r"( *)(?:pub )?([^\sA-Z:(){}][^\s:(){}]*) : ")
+# What a function of the proofs gives, which may be computed: no lemma.
+VALUE = re.compile(r"(?:ℕ|ℤ|[A-Z]\w*|\(?(?:List|Option|Result|Type)\b[^≡≢<≤]*)$")
+
+
+def empty_lemmas(file):
+    """Leaves a hole for each lemma of the file. What is no lemma has a word in front, or gives a value, and stays: it can be opened."""
+    lines, left, at = file.read_text().splitlines(), [], 0
+    while at < len(lines):
+        head = LEMMA.match(lines[at])
+        body = head and next((it for it in range(at + 1, len(lines)) if not lines[it].startswith(f"{head[1]}    ")), None)
+        if not body or not lines[body].startswith(f"{head[1]}{head[2]} ") or gives_value(lines[at:body]):
+            left.append(lines[at])
+            at += 1
+            continue
+        left += [*lines[at:body], f"{head[1]}{head[2]} = ?"]
+        own = tuple(f"{head[1]}{it}" for it in (f"{head[2]} ", "  ", "}", ")", "]"))
+        at = body + 1
+        while at < len(lines) and (lines[at].startswith(own) or not lines[at] and "".join(lines[at + 1 : at + 2]).startswith(own)):
+            at += 1
+    file.write_text("\n".join(left) + "\n")
+
+
+def gives_value(signature):
+    return VALUE.match(" ".join(signature).split("→")[-1].split(" : ")[-1].strip())
 
 
 def module_of(path):
