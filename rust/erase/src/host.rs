@@ -31,7 +31,11 @@ const fn import(name: &'static str, path: &'static str) -> Import {
 }
 
 const MODULES: &[Module] = &[
-    module("anyhow", "crate::host::anyhow", &["Result", "anyhow", "ensure"]),
+    module(
+        "anyhow",
+        "crate::host::anyhow",
+        &["Result", "anyhow", "ensure"],
+    ),
     module(
         "std::collections",
         "crate::host::collections",

@@ -1,4 +1,3 @@
-use ent_replay::{Cause as LineCause, ReadFault as ScheduleFault};
 use ent_script::{Cause, ReadFault, ScriptCause};
 use std::test::Fail;
 
@@ -34,17 +33,5 @@ fn a_fault_of_a_script_is_printed(rt: HostRuntime) -> Result<(), Fail> {
             "at {text}"
         );
     }
-    Ok(())
-}
-
-#[test]
-fn a_fault_of_a_schedule_is_printed(rt: HostRuntime) -> Result<(), Fail> {
-    let line = ScheduleFault::Line {
-        line: 13,
-        cause: LineCause::Number,
-    };
-    assert!(rt; format!(in rt.alloc(); "{line}")?.as_str() == "line 13 names no event");
-    let memory = ScheduleFault::Memory;
-    assert!(rt; format!(in rt.alloc(); "{memory}")?.as_str() == "out of memory");
     Ok(())
 }

@@ -5,7 +5,10 @@ use std::io;
 use std::path::Path;
 
 /// The folder that the programs of the repository's tests run in.
-const FOLDER: &str = concat!(env!("CARGO_MANIFEST_DIR"), "/../../crates/cases_and_examples/data");
+const FOLDER: &str = concat!(
+    env!("CARGO_MANIFEST_DIR"),
+    "/../../crates/cases_and_examples/data"
+);
 
 /// The text of a file.
 pub fn read_to_string(_rt: &impl Files, path: &str) -> io::Result<String> {

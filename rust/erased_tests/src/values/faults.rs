@@ -1,9 +1,10 @@
-//! How the faults of requests, queues, sync points and frames read, and what a system makes of one.
+//! How the faults of schedules, requests, queues, sync points and frames read, and what a system makes of one.
 
 use crate::kit::alloc::Global;
 use crate::kit::vec::Vec;
 use crate::proved::ent_handle::Memory;
 use crate::proved::ent_queue::QueueFault;
+use crate::proved::ent_replay::{Cause, ReadFault};
 use crate::proved::ent_runner::FrameFault;
 use crate::proved::ent_shared::Refused;
 use crate::proved::ent_world::{SyncFault, SyncReport};
@@ -11,6 +12,16 @@ use crate::proved::ent_world::{SyncFault, SyncReport};
 const SPACE: QueueFault = QueueFault::Space { wanted: 3, left: 2 };
 
 const QUOTA: QueueFault = QueueFault::Quota { left: 1 };
+
+#[test]
+fn texts_of_the_faults_of_a_schedule() {
+    let line = ReadFault::Line {
+        line: 13,
+        cause: Cause::Number,
+    };
+    assert_eq!(line.to_string(), "line 13 names no event");
+    assert_eq!(ReadFault::Memory.to_string(), "out of memory");
+}
 
 #[test]
 fn texts_of_refusals() {
