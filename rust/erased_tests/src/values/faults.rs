@@ -1,4 +1,5 @@
-//! How the faults of schedules, requests, queues, sync points and frames read, and what a system makes of one.
+//! How the faults of schedules, requests, queues, sync points and frames read, and what a system
+//! makes of one.
 
 use crate::kit::alloc::Global;
 use crate::kit::vec::Vec;
