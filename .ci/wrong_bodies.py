@@ -187,34 +187,49 @@ def empty_others(room, crate, functions):
     for file in sorted((room / "proofs").rglob("*.antt")):
         if file.name not in ("Answers.antt", "Invariants.antt", "Proof.antt", "Lib.antt"):
             empty_lemmas(file)
-    sources = {it: it.read_text() for it in sorted((room / "src").rglob("*.rt"))}
-    homes = {}
-    for file, text in sources.items():
-        for name in re.findall(r"(?m)^(?:pub(?:\([a-z]+\))? )?(?:struct|enum) (\w+)", text):
-            homes.setdefault(name, []).append(module_of(file.relative_to(room / "src")))
-    for file, text in sources.items():
+    files = sorted((room / "src").rglob("*.rt"))
+    homes = homes_in(room, files)
+    for file in files:
         own = pathlib.Path("crates", crate, file.relative_to(room)).read_text()
-        lines, owner, at = text.splitlines(), None, 0
-        while at < len(lines):
-            begun = re.match(r"(impl|trait|pub trait|pub\(crate\) trait)\b(.*)", lines[at])
-            if begun or lines[at] == "}":
-                owner = begun and owner_of(begun[1], begun[2], homes)
-            body = body_of(lines, at)
-            if body:
-                indent, name = HEAD.match(lines[at]).groups()
-                module = module_of(file.relative_to(room / "src")) if owner is None and not indent else owner or None
-                path = None if module is None else (*filter(None, module.split("::")), name)
-                first, end = body
-                above = "\n".join(lines[max(at - 4, 0) : at])
-                is_kept = "#[cycle" in above or "-> impl" in "\n".join(lines[at:first]) or "\n".join(lines[at : end + 1]) not in own
-                if path and not is_kept and not is_of("::".join(path), functions):
-                    lines[first:end] = [f"{indent}    loop {{}}"]
-                    put_hole(room.joinpath("proofs", *path), crate, path)
-                    at = first + 1
-                    continue
-                at = end
-            at += 1
-        file.write_text("\n".join(lines) + "\n")
+        for path in empty_bodies(file, module_of(file.relative_to(room / "src")), homes, own, functions):
+            put_hole(room.joinpath("proofs", *path), crate, path)
+
+
+def homes_in(room, files):
+    """The modules that have a type of each name."""
+    homes = {}
+    for file in files:
+        for name in re.findall(r"(?m)^(?:pub(?:\([a-z]+\))? )?(?:struct|enum) (\w+)", file.read_text()):
+            homes.setdefault(name, []).append(module_of(file.relative_to(room / "src")))
+    return homes
+
+
+def empty_bodies(file, module, homes, own, functions):
+    """Leaves the bodies of the other functions of a file out, and gives the paths of those functions. Without the edit its text is `own`."""
+    lines, owner, at, emptied = file.read_text().splitlines(), module, 0, []
+    while at < len(lines):
+        begun = re.match(r"(impl|trait|pub trait|pub\(crate\) trait)\b(.*)", lines[at])
+        if begun or lines[at] == "}":
+            owner = owner_of(begun[1], begun[2], homes) if begun else module
+        body = body_of(lines, at)
+        if body:
+            first, end = body
+            path = None if owner is None else (*filter(None, owner.split("::")), HEAD.match(lines[at])[2])
+            if path and not stays(lines, at, body, own) and not is_of("::".join(path), functions):
+                lines[first:end] = [f"{HEAD.match(lines[at])[1]}    loop {{}}"]
+                emptied.append(path)
+                end = first + 1
+            at = end
+        at += 1
+    file.write_text("\n".join(lines) + "\n")
+    return emptied
+
+
+def stays(lines, at, body, own):
+    """Whether the function has to keep its body: it is of a cycle, returns an `impl`, or the edit changed it."""
+    first, end = body
+    is_of_cycle = any("#[cycle" in it for it in lines[max(at - 4, 0) : at])
+    return is_of_cycle or any("-> impl" in it for it in lines[at:first]) or "\n".join(lines[at : end + 1]) not in own
 
 
 LEMMA = re.compile(r"( *)(?:pub )?([^\sA-Z:(){}][^\s:(){}]*) : ")
@@ -249,10 +264,10 @@ def module_of(path):
 
 
 def owner_of(kind, head, homes):
-    """The module of the type whose own methods stand here; empty if they are those of a trait."""
+    """The module of the type whose own methods stand here, or None if they are those of a trait."""
     said = re.sub(r"<[^<>]*(?:<[^<>]*>)?[^<>]*>", "", head).split("{")[0].split()
     if kind != "impl" or "for" in said or not said or len(homes.get(said[0], [])) != 1:
-        return ""
+        return None
     return "::".join(filter(None, (homes[said[0]][0], said[0])))
 
 

@@ -1,7 +1,7 @@
 //! Tests of the libraries: what no clause says and no case shows, as memory that is refused to what
 //! no case can make, and threads that really run side by side. What calls return if there is memory
-//! stands in `cases_and_examples`, and so does what most return if it is refused. One crate has them all, since
-//! each crate of tests takes a minute before its first function is proved.
+//! stands in `cases_and_examples`, and so does what most return if it is refused. One crate has them
+//! all, since each crate of tests takes a minute before its first function is proved.
 #![tactic(auto)]
 
 #[cfg(test)]
