@@ -13,6 +13,7 @@ mod phase;
 mod queues;
 mod sharing;
 mod storing;
+mod synced;
 mod viewing;
 mod worlding;
 mod writing;

@@ -122,9 +122,7 @@ pub fn all_counted<'a>(
 }
 
 fn one(alloc: Global, value: i64) -> Result<Bundle, Memory> {
-    let mut bundle = Bundle::new(alloc);
-    bundle.put(HP, value)?;
-    Ok(bundle)
+    Bundle::of(alloc, &[(HP, value)])
 }
 
 fn spawn(alloc: Global, commands: &mut Commands<'_>, value: i64) -> Result<(), Memory>

@@ -14,12 +14,12 @@ use std::thread::Threads;
 const NUMBERS: u32 = 40;
 
 /// How many of the systems that wait at the gate saw all others, in a frame of that many workers.
-fn saw_all<R>(rt: &R, alloc: Global, systems: &[Act], workers: usize, gate: &Rendezvous) -> u32
+fn saw_all<R>(rt: &R, alloc: Global, systems: &[Act], workers: usize, gate: Rendezvous) -> u32
 where
     R: Threads + Sync + Abort,
 {
     let mut world = World::new(alloc, Limits::default_limits());
-    let report = frame(rt, alloc, &mut world, systems, workers, gate);
+    let report = frame(rt, alloc, &mut world, systems, workers, &gate);
     assert!(rt; report.queues.len() == systems.len());
     gate.saw_all()
 }
@@ -28,9 +28,9 @@ where
 fn workers_overlap(rt: HostRuntime) {
     let alloc = rt.alloc();
     let two = [Act::Spawn(0), Act::Spawn(1)];
-    assert_eq!(rt; saw_all(&rt, alloc, &two, 2, &Rendezvous::new(2, 2)), 2);
+    assert_eq!(rt; saw_all(&rt, alloc, &two, 2, Rendezvous::new(2, 2)), 2);
     let four = [Act::Spawn(0), Act::Spawn(1), Act::Spawn(2), Act::Spawn(3)];
-    assert_eq!(rt; saw_all(&rt, alloc, &four, 4, &Rendezvous::new(4, 4)), 4);
+    assert_eq!(rt; saw_all(&rt, alloc, &four, 4, Rendezvous::new(4, 4)), 4);
 }
 
 /// While one worker is busy with the first system, the other one takes all the rest.
@@ -38,7 +38,7 @@ fn workers_overlap(rt: HostRuntime) {
 fn a_busy_worker_leaves_systems_to_others(rt: HostRuntime) {
     let alloc = rt.alloc();
     let four = [Act::Spawn(0), Act::Spawn(1), Act::Spawn(2), Act::Spawn(3)];
-    assert_eq!(rt; saw_all(&rt, alloc, &four, 2, &Rendezvous::new(4, 1)), 1);
+    assert_eq!(rt; saw_all(&rt, alloc, &four, 2, Rendezvous::new(4, 1)), 1);
 }
 
 /// The first system ends last, and its queue is the first all the same.

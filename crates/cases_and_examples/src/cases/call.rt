@@ -109,12 +109,9 @@ fn birth_of(word: &str) -> Option<Birth> {
 }
 
 fn birth_of_parts(frame: &str, system: &str, ordinal: &str) -> Option<Birth> {
-    if let (Ok(frame), Ok(system), Ok(ordinal)) = (frame.parse(), system.parse(), ordinal.parse()) {
-        return Some(Birth {
-            frame,
-            system,
-            ordinal,
-        });
-    }
-    None
+    Some(Birth {
+        frame: frame.parse().ok()?,
+        system: system.parse().ok()?,
+        ordinal: ordinal.parse().ok()?,
+    })
 }

@@ -4,7 +4,7 @@ ghost use Rattle.ent_queue.specs.Commands.{IsReady, Extends};
 use crate::cases::call::{Call, component};
 use crate::cases::phase::issue;
 use crate::cases::writing::Out;
-use ent_handle::{ComponentId, Memory};
+use ent_handle::{ComponentId, Handle, Memory};
 use ent_queue::{Bundle, Commands};
 use ent_runner::System;
 use ent_world::View;
@@ -78,8 +78,21 @@ fn copy(
 {
     for handle in view.with(from)? {
         if let Some(value) = view.get(handle, from) {
-            commands.insert(handle, &Bundle::of(alloc, &[(to, value)])?)?;
+            insert(alloc, commands, handle, (to, value))?;
         }
     }
     Ok(())
+}
+
+fn insert(
+    alloc: Global,
+    commands: &mut Commands<'_>,
+    handle: Handle,
+    item: (ComponentId, i64),
+) -> Result<(), Memory>
+    requires { IsReady commands.old }
+    ensures { Extends commands.old commands.new }
+{
+    let bundle = Bundle::of(alloc, &[item])?;
+    commands.insert(handle, &bundle)
 }

@@ -96,10 +96,7 @@ fn answer(
     ensures { IsOf shared.now reserver.new }
 {
     match call.name {
-        "begin" => match queues.push(Commands::new(alloc, shared, reserver).finish()) {
-            Ok(()) => out.word("done"),
-            Err(_) => out.word("out of memory"),
-        },
+        "begin" => begin(alloc, shared, reserver, queues, out),
         "left" => out.show(&reserver.left()),
         "reserve" => out.given(shared.reserve(reserver)),
         "reserve_many" => match shared.reserve_many(reserver, call.number()) {
@@ -107,15 +104,47 @@ fn answer(
             Err(why) => out.show(&why),
         },
         _ if system < queues.len() => {
-            let queue = queues.remove(system);
-            let mut commands = Commands::resume(alloc, shared, reserver, queue);
-            issue(alloc, &mut commands, call, out);
-            if queues.insert(system, commands.finish()).is_err() {
+            let queue = go_on(alloc, shared, reserver, queues.remove(system), call, out);
+            if queues.insert(system, queue).is_err() {
                 out.word(" and the queue is lost");
             }
         }
         _ => out.word("no queue"),
     }
+}
+
+/// One more queue, in which nothing is issued yet.
+fn begin(
+    alloc: Global,
+    shared: &Shared,
+    reserver: &mut Reserver,
+    queues: &mut Vec<CommandQueue>,
+    out: &mut Out,
+)
+    requires { IsOf shared.now reserver.old }
+    ensures { IsOf shared.now reserver.new }
+{
+    match queues.push(Commands::new(alloc, shared, reserver).finish()) {
+        Ok(()) => out.word("done"),
+        Err(_) => out.word("out of memory"),
+    }
+}
+
+/// Goes on with this queue, and issues a call into it.
+fn go_on(
+    alloc: Global,
+    shared: &Shared,
+    reserver: &mut Reserver,
+    queue: CommandQueue,
+    call: &Call<'_>,
+    out: &mut Out,
+) -> CommandQueue
+    requires { IsOf shared.now reserver.old }
+    ensures { IsOf shared.now reserver.new }
+{
+    let mut commands = Commands::resume(alloc, shared, reserver, queue);
+    issue(alloc, &mut commands, call, out);
+    commands.finish()
 }
 
 /// Issues a call of `Commands`.

@@ -5,13 +5,14 @@ use crate::cases::case::Layer;
 use crate::cases::frames::Listed;
 use crate::cases::phase::Phase;
 use crate::cases::queues::{stops_at, write_queue};
+use crate::cases::synced::Synced;
 use crate::cases::viewing::{look, view};
 use crate::cases::writing::Out;
 use ent_alloc::Limits;
-use ent_handle::{Handle, Memory};
+use ent_handle::Memory;
 use ent_queue::{Bundle, CommandQueue};
 use ent_runner::{FrameFault, FrameReport, NoGate, run_frame};
-use ent_world::{Fault, SyncFault, SyncReport, World};
+use ent_world::{SyncFault, SyncReport, World};
 use std::alloc::Global;
 use std::thread::Threads;
 
@@ -28,14 +29,8 @@ pub struct Worlding {
     queues: Vec<CommandQueue>,
     /// The systems of the next frame.
     systems: Vec<Listed>,
-    /// Who was born at the last sync point.
-    born: Vec<Handle>,
-    /// The faults of the last sync point.
-    faults: Vec<Fault>,
-    /// Where that sync point stopped: a system, a command and how many handles of it are done.
-    stop: Option<(usize, usize, usize)>,
-    /// A line has told that place.
-    is_told: bool,
+    /// How the last sync point went.
+    synced: Synced,
     /// The last frame that might be lost was.
     is_lost: bool,
     alloc: Global,
@@ -48,10 +43,7 @@ impl Worlding {
             phase: None,
             queues: Vec::new(alloc),
             systems: Vec::new(alloc),
-            born: Vec::new(alloc),
-            faults: Vec::new(alloc),
-            stop: None,
-            is_told: false,
+            synced: Synced::new(alloc),
             is_lost: false,
             alloc,
         }
@@ -151,13 +143,13 @@ impl Worlding {
             return "too many queues";
         }
         let applied = world.apply(&self.queues);
-        self.keep(applied)
+        self.synced.keep(applied)
     }
 
     /// Goes on with the queues at that handle of that command of that system.
     fn apply_from(&mut self, [system, command, done]: [u32; 3]) -> &'static str {
         match self.applied_from(system as usize, command as usize, done as usize) {
-            Some(applied) => self.keep(applied),
+            Some(applied) => self.synced.keep(applied),
             None => "no such command",
         }
     }
@@ -178,13 +170,6 @@ impl Worlding {
         Some(world.apply_from(&self.queues, system, command, done))
     }
 
-    /// Whether the sync point stopped there.
-    fn is_at(&mut self, [system, command, done]: [u32; 3]) -> bool {
-        let is_here = self.stop == Some((system as usize, command as usize, done as usize));
-        self.is_told = self.is_told || is_here;
-        is_here
-    }
-
     /// Whether there is a world in which so many live.
     fn lives(&self, count: usize) -> bool {
         match &self.world {
@@ -195,28 +180,16 @@ impl Worlding {
 
     /// Goes on where the sync point stopped, if it did. A line has told that place before.
     fn go_on(&mut self) -> &'static str {
-        let Some((system, command, done)) = self.stop else {
+        let Some((system, command, done)) = self.synced.stop else {
             return "done";
         };
-        if !self.is_told {
+        if !self.synced.is_told {
             return "it stopped at no place that is told";
         }
         match self.applied_from(system, command, done) {
-            Some(Ok(rest)) => self.keep_rest(&rest),
+            Some(Ok(rest)) => self.synced.keep_rest(&rest),
             Some(Err(_)) => "out of memory",
             None => "no such command",
-        }
-    }
-
-    /// Nobody more is born, and there may be more faults.
-    fn keep_rest(&mut self, rest: &SyncReport) -> &'static str {
-        self.stop = None;
-        if !rest.born.is_empty() {
-            return "more are born";
-        }
-        match self.faults.extend_from_slice(&rest.faults) {
-            Ok(()) => "done",
-            Err(_) => "out of memory",
         }
     }
 
@@ -231,10 +204,10 @@ impl Worlding {
     /// A call that is no system's and that leaves the phase.
     fn tell(&mut self, call: &Call<'_>, out: &mut Out) {
         match call.name {
-            "born" => out.handles(&self.born),
-            "born_len" => out.show(&self.born.len()),
+            "born" => out.handles(&self.synced.report.born),
+            "born_len" => out.show(&self.synced.report.born.len()),
             "queues_len" => out.show(&self.queues.len()),
-            "faults" => out.faults(&self.faults),
+            "faults" => out.faults(&self.synced.report.faults),
             "bundle" => write_put(self.alloc, call, out),
             "bundle_of" => write_list(self.alloc, call, out),
             "queue" | "queue_len" | "bytes" => match self.queues.get(call.number() as usize) {
@@ -289,7 +262,7 @@ impl Worlding {
         match run_frame(rt, self.alloc, world, &self.systems, workers, &NoGate) {
             Ok(FrameReport { queues, sync }) => {
                 self.queues = queues;
-                self.keep(Ok(sync))
+                self.synced.keep(Ok(sync))
             }
             Err(FrameFault::Memory) => "out of memory",
             Err(FrameFault::Lost) => LOST,
@@ -297,38 +270,10 @@ impl Worlding {
                 self.queues = queues;
                 match fault {
                     SyncFault::FlushMemory => self.apply(),
-                    stopped => self.keep(Err(stopped)),
+                    stopped => self.synced.keep(Err(stopped)),
                 }
             }
         }
-    }
-
-    /// Keeps the report, also that of a sync point which stopped at a command.
-    fn keep(&mut self, applied: Result<SyncReport, SyncFault>) -> &'static str {
-        self.stop = None;
-        self.is_told = false;
-        match applied {
-            Ok(report) => self.keep_report(report),
-            Err(
-                SyncFault::Memory {
-                    system,
-                    command,
-                    done,
-                    so_far,
-                },
-            ) => {
-                self.stop = Some((system, command, done));
-                self.keep_report(so_far)
-            }
-            Err(SyncFault::FlushMemory) => "out of memory",
-        }
-    }
-
-    fn keep_report(&mut self, report: SyncReport) -> &'static str {
-        let SyncReport { born, faults } = report;
-        self.born = born;
-        self.faults = faults;
-        "done"
     }
 }
 
@@ -339,7 +284,7 @@ impl Layer for Worlding {
 
     fn holds(&mut self, when: &Call<'_>) -> bool {
         match when.name {
-            "at" => self.is_at(when.numbers),
+            "at" => self.synced.is_at(when.numbers),
             "lost" => self.is_lost,
             "lost_of" => self.is_lost && self.lives(when.number() as usize),
             _ => !self.is_lost,

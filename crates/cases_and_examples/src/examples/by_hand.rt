@@ -1,5 +1,5 @@
 //! A phase without a runner: one queue, filled on this thread, and the sync point that applies it.
-ghost use Rattle.std.specs.Prelude.{◌≡◌, IfOk, OnOk};
+ghost use Rattle.std.specs.Prelude.{◌≡◌, All, IfOk, OnOk, length};
 ghost use Rattle.ent_shared.specs.Phase.{IsOf};
 
 use crate::examples::meadow::AGE;
@@ -15,10 +15,7 @@ pub fn plant_by_hand(alloc: Global, world: World) -> Result<World>
     ensures flushed { IfOk result (λ world. world.allocator.asked ≡ 0) }
 {
     match world.open(1) {
-        Ok((opened, mut reservers)) => match reservers.pop() {
-            Some(reserver) => phase(alloc, opened, reserver),
-            None => Err(anyhow!("no reserver")),
-        },
+        Ok((opened, reservers)) => phase(alloc, opened, reservers),
         Err((_, memory)) => Err(memory.into()),
     }
 }
@@ -37,16 +34,23 @@ fn issue(alloc: Global, shared: &Shared, reserver: &mut Reserver) -> Result<Comm
     Ok(commands.finish())
 }
 
-/// The commands, and the sync point.
-fn phase(alloc: Global, opened: OpenWorld, mut reserver: Reserver) -> Result<World>
-    requires alone { opened.shared.count ≡ 1 }
-    requires own { IsOf opened.shared reserver }
+/// The phase: the commands, and then the sync point.
+fn phase(alloc: Global, opened: OpenWorld, mut reservers: Vec<Reserver>) -> Result<World>
+    requires all { length reservers.items ≡ opened.shared.count }
+    requires own { All (IsOf opened.shared) reservers.items }
     ensures flushed { IfOk result (λ world. world.allocator.asked ≡ 0) }
 {
-    let queue = issue(alloc, opened.shared(), &mut reserver)?;
+    let Some(reserver) = reservers.get_mut(0) else {
+        return Err(anyhow!("no reserver"));
+    };
+    let queue = issue(alloc, opened.shared(), reserver)?;
+    sync(opened.close(reservers), queue)
+}
 
-    // First what was reserved comes to life, then the commands take effect.
-    let mut world = opened.close(Vec::from_array(alloc, [reserver])?);
+/// First what was reserved comes to life, then the commands take effect.
+fn sync(mut world: World, queue: CommandQueue) -> Result<World>
+    ensures flushed { IfOk result (λ world. world.allocator.asked ≡ 0) }
+{
     let report = world.apply(&[queue])?;
     if !report.faults.is_empty() {
         return Err(anyhow!("a command had no effect"));

@@ -107,7 +107,5 @@ impl System for Aim {
 
 /// A bundle of one component.
 fn one(alloc: Global, id: ComponentId, value: i64) -> Result<Bundle, Memory> {
-    let mut bundle = Bundle::new(alloc);
-    bundle.put(id, value)?;
-    Ok(bundle)
+    Bundle::of(alloc, &[(id, value)])
 }
