@@ -15,8 +15,8 @@ use Rattle.clap.specs.Simple.{new_shape, entered, filled, help_rule, label_of, n
 use Rattle.clap.specs.Walk.{finished, walk, answers_to, nothing_held, stop_after}
 use Rattle.clap.specs.Faults.{check_fault, entered_fault, level_fault}
 use Rattle.clap.proofs.ValueTestLemmas.{accepts-Accepts}
-use Rattle.ent_script_run.specs.declared.Show.{Show}
-use Rattle.ent_script_run.specs.declared.Show.TheVariants.{Births, Handles}
+use Rattle.spawnrun_lib.specs.declared.show.Show.{Show}
+use Rattle.spawnrun_lib.specs.declared.show.Show.TheVariants.{Births, Handles}
 use Rattle.std.specs.Borrow.{Bor}
 use Rattle.std.specs.Str.{bytes_eq}
 use Rattle.std.proofs.lemmas.Slice.Eq.{bytes_eq-Decides}

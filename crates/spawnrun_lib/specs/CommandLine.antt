@@ -14,8 +14,8 @@ use Rattle.clap.specs.declared.error.Error.{Error}
 use Rattle.clap.specs.declared.error.kind.ErrorKind.{ErrorKind}
 use Rattle.clap.specs.declared.error.kind.ErrorKind.TheVariants.{OutOfMemory}
 use Rattle.ent_alloc.specs.Limits.{AreLimits}
-use Rattle.ent_script_run.specs.declared.Show.{Show}
-use Rattle.ent_script_run.specs.declared.Show.TheVariants.{Births, Handles}
+use Rattle.spawnrun_lib.specs.declared.show.Show.{Show}
+use Rattle.spawnrun_lib.specs.declared.show.Show.TheVariants.{Births, Handles}
 use Rattle.spawnrun_lib.specs.declared.task.LineFault.{LineFault}
 use Rattle.spawnrun_lib.specs.declared.task.LineFault.TheVariants.{Line, Memory}
 use Rattle.spawnrun_lib.specs.declared.task.Task.{Task}

@@ -1,3 +1,15 @@
+pub mod Issuing
+pub mod Rolls
+pub mod Parts
+pub mod IssuedAlone
+pub mod FrameAlone
+pub mod FrameText
+pub mod WorldText
+pub mod Report
+pub mod Given
+pub mod Course
+pub mod ScriptAlone
+pub mod SameReport
 pub mod Wants
 pub mod Shown
 pub mod Place

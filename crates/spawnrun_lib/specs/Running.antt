@@ -4,13 +4,13 @@ use Rattle.ent_script.specs.Reading.{script_of_text}
 use Rattle.ent_script.specs.Refusal.{refusal_line}
 use Rattle.ent_script.specs.Script.{Script}
 use Rattle.ent_script.specs.declared.ReadFault.{ReadFault}
-use Rattle.ent_script_run.specs.declared.Show.{Show}
-use Rattle.ent_script_run.specs.declared.Show.TheVariants.{Births}
+use Rattle.spawnrun_lib.specs.declared.show.Show.{Show}
+use Rattle.spawnrun_lib.specs.declared.show.Show.TheVariants.{Births}
 use Rattle.ent_alloc.specs.History.{AreGivenOnce}
-use Rattle.ent_script_run.specs.Given.{handles_in_run}
-use Rattle.ent_script_run.specs.Report.{Execution, IsReport, IsReportOf}
-use Rattle.ent_script_run.specs.SameReport.{IsWithoutHandles, HasEnoughSlots, TellsNoRefusal}
-use Rattle.ent_script_run.specs.ScriptAlone.{text_alone}
+use Rattle.spawnrun_lib.specs.Given.{handles_in_run}
+use Rattle.spawnrun_lib.specs.Report.{Execution, IsReport, IsReportOf}
+use Rattle.spawnrun_lib.specs.SameReport.{IsWithoutHandles, HasEnoughSlots, TellsNoRefusal}
+use Rattle.spawnrun_lib.specs.ScriptAlone.{text_alone}
 use Rattle.spawnrun_lib.specs.Found.{TellsOfScript}
 use Rattle.spawnrun_lib.specs.Shown.{ArePrintable}
 use Rattle.spawnrun_lib.specs.Wants.{script_wants}

@@ -12,12 +12,12 @@ ghost use Rattle.spawnrun_lib.specs.Status.{exit_number, said, words_status};
 ghost use Rattle.spawnrun_lib.specs.Program.{AsksTo, Fails, Gives};
 ghost use Rattle.spawnrun_lib.specs.Work.{HasAdvised, HasDone, HasRefused, input_limit};
 
+use crate::progress::Progress;
 use crate::replaying::replay;
 use crate::running::run;
 use crate::status::Status;
 use crate::task::{LineFault, Task, command_line};
 use devices::{Sink, Source};
-use ent_script_run::Progress;
 use std::alloc::{AllocError, Global};
 use std::convert::AsStr;
 use std::io;

@@ -1,12 +1,27 @@
-//! How far a run is, told on a terminal.
+//! How far a run is, and who tells it on a terminal.
 ghost use Rattle.std.specs.Prelude.{◌≡◌, ◌+◌, ◌⊎◌, true, false, None, OnErr, OnOk};
 ghost use Rattle.std.specs.Io.KnownBytes.{Appends};
 ghost use Rattle.spawnrun_lib.specs.Progress.{done_text, empty_text};
 
 use devices::{Failed, Sink};
-use ent_script_run::Progress;
 use itoa::Buffer;
 use std::time::{Clock, Duration, Instant};
+
+/// Is told how far a run is.
+pub trait Progress {
+    /// So many of all are done, and the next one begins.
+    fn tell(&mut self, done: usize, of: usize);
+
+    /// The run is over, or was given up.
+    fn end(&mut self);
+}
+
+/// Doesn't want to know.
+impl Progress for () {
+    fn tell(&mut self, _done: usize, _of: usize) {}
+
+    fn end(&mut self) {}
+}
 
 // How often it is told, in seconds.
 const STEP: u64 = 1;

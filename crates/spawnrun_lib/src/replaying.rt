@@ -5,6 +5,7 @@ ghost use Rattle.devices.specs.Device.{OneFails, Takes, TakesAtMost};
 ghost use Rattle.spawnrun_lib.specs.Replay.{Replays, SpellsNone, outcome_lines, refused_line};
 ghost use Rattle.spawnrun_lib.specs.Work.{HasAdvised, HasDone, HasRefused, input_limit};
 
+use crate::progress::Progress;
 use crate::schedule::schedule_found;
 use crate::status::Status;
 use crate::wants::line_wants;
@@ -15,7 +16,6 @@ use ent_handle::Memory;
 use ent_replay::{
     Cause, Event, Machine, Outcome, ReadFault, ReplayFault, read_schedule, write_outcome,
 };
-use ent_script_run::Progress;
 use std::alloc::Global;
 
 // After how many events it is told how far a run is.

@@ -7,14 +7,16 @@ ghost use Rattle.spawnrun_lib.specs.CommandLine.{AreWorkers};
 ghost use Rattle.spawnrun_lib.specs.Running.{MeansNone, Runs};
 ghost use Rattle.spawnrun_lib.specs.Work.{HasAdvised, HasDone, HasRefused, input_limit};
 
+use crate::progress::Progress;
 use crate::script::script_found;
+use crate::script_run::run_script;
+use crate::show::Show;
 use crate::status::Status;
 use crate::wants::script_wants;
 use crate::work::{Product, Refusal, Work, do_work};
 use devices::{Sink, Source};
 use ent_handle::Memory;
 use ent_script::{ReadFault, read_script, write_refusal};
-use ent_script_run::{Progress, Show, run_script};
 use std::alloc::Global;
 use std::thread::Threads;
 

@@ -9,10 +9,10 @@ ghost use Rattle.spawnrun_lib.specs.CommandLine.{given, name_option, option_numb
 ghost use Rattle.spawnrun_lib.specs.CommandLine.{program, program_of, replay_command, run_command};
 ghost use Rattle.spawnrun_lib.specs.CommandLine.{show_text, top_command};
 
+use crate::show::Show;
 use clap::error::ErrorKind;
 use clap::{Arg, ArgMatches, Command};
 use ent_alloc::Limits;
-use ent_script_run::Show;
 use std::alloc::{AllocError, Global};
 use std::convert::AsStr;
 

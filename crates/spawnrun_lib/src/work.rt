@@ -10,11 +10,11 @@ ghost use Rattle.spawnrun_lib.specs.Work.{size_line};
 use crate::found::Found;
 use crate::input::{INPUT_LIMIT, InputFault, read_all};
 use crate::output::{refuse, write};
+use crate::progress::Progress;
 use crate::status::Status;
 use crate::wants::size_wants;
 use devices::{Sink, Source};
 use ent_handle::Memory;
-use ent_script_run::Progress;
 use std::alloc::Global;
 
 /// What is made of an input.

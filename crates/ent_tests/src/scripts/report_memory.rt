@@ -3,8 +3,8 @@
 use ent_alloc::Limits;
 use ent_handle::{Birth, ComponentId, Handle, Memory};
 use ent_queue::Bundle;
-use ent_script_run::{Show, write_frame, write_world};
 use ent_world::{Fault, FaultKind, SyncReport, World};
+use spawnrun_lib::{Show, write_frame, write_world};
 use std::alloc::Global;
 
 // The greatest number of a frame, a handle whose numbers are long, and a credit that is used up.

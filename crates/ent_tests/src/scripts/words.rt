@@ -1,6 +1,5 @@
 use ent_alloc::Limits;
-use ent_script_run::Show;
-use spawnrun_lib::{Task, command_line};
+use spawnrun_lib::{Show, Task, command_line};
 use std::test::Fail;
 
 const REPLAYS: &[(&[&str], u32, u32)] = &[

@@ -1,9 +1,0 @@
-use Rattle.std.proofs.Common.{rules}
-use Rattle.ent_script_run.proofs.Targeted.{stopped_in}
-use Rattle.ent_script_run.proofs.script_system.issue.Goals as goal
-
-pub returns-in-Insert-clause-stopped : goal.returns-in-Insert-clause-stopped
-returns-in-Insert-clause-stopped c = search (rules, stopped_in)
-
-pub returns-in-Remove-clause-stopped : goal.returns-in-Remove-clause-stopped
-returns-in-Remove-clause-stopped c = search (rules, stopped_in)

@@ -1,0 +1,182 @@
+-- A script that requests no more handles in all than it has slots is never refused a request. Each
+-- frame begins with at least as many handles to give as are still requested: a call takes what it
+-- requests, and a sync point takes nothing away.
+use Rattle.spawnrun_lib.proofs.OneCourse.{below_each}
+use Rattle.std.proofs.Common.{rules, ◌≡◌, refl, subst, arith, ℕ, ◌+◌, ◌-◌, ◌≤◌, le-leb, List, []}
+use Rattle.std.proofs.Common.{◌∷◌, length, length-drop, Some, Result}
+use Rattle.std.specs.Prelude.{◌==◌, slice_get, IsOk}
+use Rattle.std.specs.List.{All, sum_by, flat_map, range_with_len}
+use Rattle.std.proofs.lemmas.List.{length-append}
+use Rattle.std.proofs.lemmas.List.Elements.{All-nil, All-cons, All-head, All-map, All-filter}
+use Rattle.std.proofs.lemmas.List.Sorted.{All-permutation}
+use Rattle.std.proofs.lemmas.List.Sums.{sum_by-cons}
+use Rattle.std.proofs.lemmas.Option.{get_or_from_slice_get, slice_get_within}
+use Rattle.ent_handle.specs.Handle.{Handle}
+use Rattle.ent_alloc.specs.declared.space.Space.{Space}
+use Rattle.ent_alloc.specs.Limits.{AreLimits, credit}
+use Rattle.ent_alloc.specs.Sequential.{Allocator, after_take, reply_to}
+use Rattle.ent_alloc.specs.History.{Call, IsLegal, after_history}
+use Rattle.ent_alloc.proofs.FreshHandles.{length-fresh}
+use Rattle.ent_alloc.proofs.ListLaws.{All-left, All-right}
+use Rattle.ent_alloc.proofs.Taken.{after_take-served}
+use Rattle.ent_shared.specs.declared.refused.Refused.TheVariants as refusal
+use Rattle.ent_queue.specs.Command.{Command, Refused}
+use Rattle.ent_queue.specs.Reserving.{stands_for, cost, FitsCredit, FitCredit}
+use Rattle.ent_world.specs.Effects.{applied}
+use Rattle.ent_world.specs.Sync.{sync, after_births}
+use Rattle.ent_world.specs.World.{World, first_world}
+use Rattle.ent_world.proofs.Kept.{after_queues-keeps}
+use Rattle.ent_runner.specs.Frame.{IsFrame, queue_at, commands_of, reserved_by, view_of}
+use Rattle.ent_runner.proofs.Lists.{all_from_each, all_flat, flat_all}
+use Rattle.ent_script.specs.Script.{Script}
+use Rattle.ent_script.specs.declared.operation.Operation.{Operation}
+use Rattle.spawnrun_lib.specs.IssuedAlone.{IsGranted, AreGranted}
+use Rattle.spawnrun_lib.specs.Issuing.{MayIssue}
+use Rattle.spawnrun_lib.specs.Report.{Execution, AreExecutions, synced}
+use Rattle.spawnrun_lib.specs.SameReport.{requested_by_operation, HasEnoughSlots}
+use Rattle.spawnrun_lib.proofs.NoRefusal.{WereGranted}
+use Rattle.spawnrun_lib.proofs.Requested.{requested, requested_in, wanted_by, wanted_in}
+use Rattle.spawnrun_lib.proofs.Requested.{cost-wanted, queues-wanted, worker-wanted}
+use Rattle.spawnrun_lib.proofs.Requested.{history-wanted}
+
+-- ---- a history of calls that request no more than is left
+
+abbrev IsServed : Call → Type 0
+IsServed call = IsOk call.reply
+
+-- each is served, and the rest is left
+all_served : (s : Allocator) (history : List Call) → IsLegal s history
+    → requested_in history ≤ length s.pool → All IsServed history
+    × (length (after_history s history).pool + requested_in history ≡ length s.pool)
+all_served s [] legal enough = (All-nil IsServed, omega arith)
+all_served s (call ∷ calls) legal enough =
+    let n : ℕ = call.requested in
+    let sums = sum_by-cons requested call calls in
+    let within : n ≤ length s.pool = omega arith in
+    let served : IsOk (reply_to s n) = rw (le-leb _ _ within) refl in
+    let fewer : length (after_take s n).pool ≡ length s.pool - n = rw
+    (after_take-served s n within) (length-drop n s.pool) in
+    search (rules, All-cons, served, all_served (after_take s n) calls legal.2 (omega arith))
+
+-- ---- the commands of a worker
+
+abbrev Request : Type 0
+Request = ℕ × Result (List Handle) Space
+
+abbrev IsReplied : Request → Type 0
+IsReplied request = IsOk request.1
+
+-- it fits the credit that is left, and the allocator has served it
+command-granted : (left : ℕ) (c : Command) → FitsCredit left c → wanted_by c ≤ left
+    → All IsReplied (stands_for c) → IsGranted c
+command-granted left (Refused wanted (refusal.Space same rest)) fits within replied =
+    search (rules, All-head)
+command-granted left (Refused wanted (refusal.Quota rest)) fits within replied = search rules
+command-granted left _ fits within replied = tt
+
+commands-granted : (left : ℕ) (commands : List Command) → FitCredit left commands
+    → wanted_in commands ≤ left → All IsReplied (flat_map stands_for commands)
+    → All IsGranted commands
+commands-granted left [] fit within replied = All-nil IsGranted
+commands-granted left (c ∷ cs) fit within replied =
+    let sums = sum_by-cons wanted_by c cs in
+    let most = cost-wanted c in
+    let rest = commands-granted (left - cost c) cs fit.1 (omega arith) in
+    search (rules, All-cons, command-granted left c fit.0 (omega arith), All-left, All-right, rest)
+
+-- ---- what a sync point leaves
+
+-- there are at least that many handles to give
+abbrev HasLeft : ℕ → World → Type 0
+HasLeft n w = n ≤ length w.allocator.pool
+
+sync-left : (n : ℕ) (queues : List (List Command)) (w : World) → HasLeft n w
+    → HasLeft n (sync queues w).world
+sync-left n queues w left =
+    let both = length-append w.allocator.aside w.allocator.pool in
+    after_queues-keeps (HasLeft n) (search rules) 0 queues (applied (after_births queues w) [])
+    (omega arith)
+
+-- ---- a frame
+
+abbrev requested_by_systems : List (List Operation) → ℕ
+requested_by_systems systems = sum_by (sum_by requested_by_operation) systems
+
+module _ (systems : List (List Operation)) (workers : ℕ) (w : World)
+    (queues : List (List Command)) (history : List Call)
+    (frame : IsFrame MayIssue systems workers w queues history)
+    (enough : requested_by_systems systems ≤ length w.allocator.pool)
+    (small : requested_by_systems systems ≤ credit) where
+  wanted : sum_by wanted_in queues ≡ requested_by_systems systems
+  wanted = queues-wanted (view_of w) systems queues frame.count frame.each_system
+
+  served : All IsServed history
+      × (length (after_history w.allocator history).pool + requested_in history
+      ≡ length w.allocator.pool)
+  served =
+      let all = history-wanted MayIssue systems workers w queues history frame in
+      search (rules, wanted, all_served)
+
+  abbrev IsGrantedAt : ℕ → Type 0
+  IsGrantedAt n = All IsGranted (queue_at queues n)
+
+  worker-granted : (worker : ℕ) (mine : List ℕ) → slice_get frame.ran worker ≡ Some mine
+      → All IsGrantedAt mine
+  worker-granted worker mine at =
+      let work = frame.work worker mine at in
+      let most = worker-wanted MayIssue systems workers w queues history frame worker mine at in
+      let same = wanted in
+      flat_all IsGranted (queue_at queues) mine
+      (commands-granted credit (commands_of queues mine) work.within (omega arith)
+      (rw (← work.calls) (All-map IsReplied (λ (call : Call). (call.requested, call.reply)) _
+      (All-filter (λ (call : Call). call.caller == worker) IsServed history served.0))))
+
+  frame-granted : AreGranted queues
+  frame-granted =
+      let ran : List ℕ = flat_map (λ mine. mine) frame.ran in
+      let all = All-permutation IsGrantedAt ran (range_with_len 0 (length systems)) frame.once
+      (all_flat IsGrantedAt (λ mine. mine) frame.ran
+      (all_from_each (λ mine. All IsGrantedAt mine) frame.ran worker-granted)) in
+      all_from_each (All IsGranted) queues (λ k q at.
+      let within = slice_get_within queues k q at in
+      let count = frame.count in
+      subst (All IsGranted) (get_or_from_slice_get queues k q [] at)
+      (below_each IsGrantedAt (length systems) all k (omega arith)))
+
+  -- what its systems have not requested is left for the frames after it
+  frame-left : (n : ℕ) → requested_by_systems systems + n ≤ length w.allocator.pool
+      → HasLeft n (sync queues (reserved_by history w)).world
+  frame-left n more =
+      let all = history-wanted MayIssue systems workers w queues history frame in
+      let same = wanted in
+      let left = served.1 in
+      sync-left n queues (reserved_by history w) (omega arith)
+
+-- ---- all frames
+
+more_granted : (workers : ℕ) (w : World) (frames : List (List (List Operation)))
+    (executions : List Execution) → AreExecutions workers w frames executions
+    → sum_by requested_by_systems frames ≤ length w.allocator.pool
+    → sum_by requested_by_systems frames ≤ credit → All WereGranted executions
+more_granted workers w [] [] went enough small = All-nil WereGranted
+more_granted workers w [] (e ∷ executions) went enough small = absurd went
+more_granted workers w (systems ∷ frames) [] went enough small = absurd went
+more_granted workers w (systems ∷ frames) (e ∷ executions) went enough small =
+    let sums = sum_by-cons requested_by_systems systems frames in
+    let here : requested_by_systems systems ≤ length w.allocator.pool = omega arith in
+    let fits : requested_by_systems systems ≤ credit = omega arith in
+    let left = frame-left systems workers w e.queues e.history went.0 here fits
+    (sum_by requested_by_systems frames) (omega arith) in
+    search (rules, All-cons, frame-granted systems workers w e.queues e.history went.0 here fits, more_granted workers (synced w e).world frames executions went.1 left (omega arith))
+
+-- In the first world each slot has a handle to give, and a worker's credit is more than all slots.
+pub granted_if_enough : (script : Script) (workers : ℕ) (executions : List Execution)
+    → AreLimits script.limits
+    → AreExecutions workers (first_world script.limits) script.frames executions
+    → HasEnoughSlots script → All (λ e. AreGranted e.queues) executions
+unfolding credit
+granted_if_enough script workers executions limits went enough =
+    let all = length-fresh 0 script.limits.slots in
+    let few = limits.slots in
+    more_granted workers (first_world script.limits) script.frames executions went (omega arith)
+    (omega arith)

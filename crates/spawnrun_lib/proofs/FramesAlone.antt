@@ -1,0 +1,206 @@
+-- A frame of scripted systems does to births alone what it does to the world, on every number of
+-- workers, if no request was refused and the systems name no handles.
+use Rattle.ent_world.proofs.Named.{entity_there}
+use Rattle.std.proofs.Common.{rules, ◌≡◌, refl, sym, ap, ◌∙◌, subst, ℕ, suc, ◌+◌, ◌^◌, ◌<◌, ◌≤◌}
+use Rattle.std.proofs.Common.{List, [], ◌∷◌, map, length, All, slice_get, flat_map, Some, is_some}
+use Rattle.std.proofs.Common.{option_map, unwrap_or, arith}
+use Rattle.std.specs.FinMap as finite
+use Rattle.std.specs.FinMap.{find}
+use Rattle.std.proofs.Math.Nat.{min-eq_left}
+use Rattle.std.proofs.lemmas.List.{length-append, length-map}
+use Rattle.std.proofs.lemmas.List.Elements.{All-nil, All-cons, All-head, All-tail, All-weaker}
+use Rattle.std.proofs.lemmas.List.Elements.{All-contains_itself}
+use Rattle.std.proofs.lemmas.List.Sorted.{IsPermutation-sym, IsPermutation-trans}
+use Rattle.std.proofs.lemmas.List.Sorted.{length_permutation}
+use Rattle.std.proofs.lemmas.Option.{none-some}
+use Rattle.ent_handle.specs.declared.birth.Birth.{Birth}
+use Rattle.ent_handle.specs.declared.component.ComponentId.{ComponentId}
+use Rattle.ent_handle.specs.Component.{component_cmp}
+use Rattle.ent_handle.specs.Handle.{Handle}
+use Rattle.ent_alloc.specs.Sequential.{born}
+use Rattle.ent_alloc.specs.History.{Call, after_history}
+use Rattle.ent_alloc.proofs.Histories.{given_in-taken}
+use Rattle.ent_storage.specs.BirthOrder.{ListsWith}
+use Rattle.ent_storage.specs.EntityMap.{Entity, EntityMap, birth_of}
+use Rattle.ent_queue.specs.Command.{Command}
+use Rattle.ent_world.specs.BirthsAlone.{BirthMap}
+use Rattle.ent_world.specs.Effects.{applied}
+use Rattle.ent_world.specs.Named.{AreNamed, AreNames, AreNamedBy, AreBelow, AreListed, IsThere}
+use Rattle.ent_world.specs.Sync.{sync, after_births, handles_listed}
+use Rattle.ent_world.specs.World.{World, IsWorld}
+use Rattle.ent_world.proofs.GivenOnce.{IsFlushed, flushed-kept}
+use Rattle.ent_world.proofs.Kept.{after_queues-keeps}
+use Rattle.ent_world.proofs.NamedFrames.{frame-named, queues_births, sync-below}
+use Rattle.ent_world.proofs.NamedLists.{listed-named}
+use Rattle.ent_world.proofs.Worlds.{after_births-world, after_history-world}
+use Rattle.ent_runner.specs.Frame.{IsFrame, queue_at, reserved_by, view_of}
+use Rattle.ent_runner.proofs.ListedBirths.{listed-few, listed-enters, listed-new, unlisted-stays}
+use Rattle.ent_runner.proofs.ListedOnce.{Lists, listed-IsPermutation, listed-born}
+use Rattle.ent_runner.proofs.Lists.{map_map_is}
+use Rattle.ent_script.specs.declared.operation.Operation.{Operation}
+use Rattle.ent_script.specs.declared.target.Target.TheVariants as target
+use Rattle.spawnrun_lib.specs.Issuing.{IsOfBirth, MayIssue}
+use Rattle.spawnrun_lib.specs.IssuedAlone.{births_meant, queues_alone, NamesNoHandle, IsGranted}
+use Rattle.spawnrun_lib.specs.IssuedAlone.{AreGranted}
+use Rattle.spawnrun_lib.specs.FrameAlone.{IsFrameAlone, queues_by_births}
+use Rattle.spawnrun_lib.proofs.QueuesAlone.{AreInOrder, queue-alone}
+
+-- no queue lists more handles than all queues together
+each_few : (most : ℕ) (queues : List (List Command))
+    → length (flat_map handles_listed queues) ≤ most
+    → All (λ queue. length (handles_listed queue) ≤ most) queues
+each_few most [] few = All-nil (λ queue. length (handles_listed queue) ≤ most)
+each_few most (q ∷ queues) few =
+    let both = length-append (handles_listed q) (flat_map handles_listed queues) in
+    search (rules, each_few most queues (omega arith))
+
+-- an entity that has a birth is there
+entity_at : (m : EntityMap) (h : Handle) (birth : Birth) → birth_of m h ≡ Some birth
+    → (e : Entity) × (finite.get m h ≡ Some e) × (e.birth ≡ birth)
+entity_at m h birth is = let e = entity_there m h (search rules) in (e.0, e.1, cc)
+
+module _ (systems : List (List Operation)) (workers : ℕ) (w : World)
+    (queues : List (List Command)) (history : List Call) (view : BirthMap)
+    (frame : IsFrame MayIssue systems workers w queues history) (is_world : IsWorld w)
+    (flushed : w.allocator.asked ≡ 0) (named : AreNamed w.entities view)
+    (below : AreBelow w.phase w.entities) (early : w.phase + 1 < 2 ^ 64)
+    (free : All NamesNoHandle systems) (granted : AreGranted queues) where
+  abbrev reserved : World
+  reserved = reserved_by history w
+
+  abbrev all_born : EntityMap
+  all_born = (after_births queues reserved).entities
+
+  is_reserved : IsWorld reserved
+  is_reserved = after_history-world history w is_world
+
+  -- the name of a handle is its birth, if it is there after the births
+  name : Handle → Birth
+  name h = unwrap_or (birth_of all_born h) (record { frame = 0; system = 0; ordinal = 0 })
+
+  names : AreNames name all_born
+  unfolding name
+  names h e is = ap (λ o. unwrap_or (option_map (λ e. e.birth) o)
+      (record { frame = 0; system = 0; ordinal = 0 })) is
+
+  -- who was there has not changed
+  stays : (h : Handle) (e : Entity) → finite.get w.entities h ≡ Some e
+      → finite.get all_born h ≡ Some e
+  stays h e is =
+      unlisted-stays MayIssue systems workers w queues history frame is_world.sound flushed h
+      (λ listed. none-some e (sym (listed-new MayIssue systems workers w queues history frame
+      is_world.sound flushed is_world.living listed.0 listed.1 h listed.3) ∙ is))
+      ∙ is
+
+  old_names : AreNames name w.entities
+  old_names h e is = names h e (stays h e is)
+
+  old_there : (h : Handle) → IsThere w.entities h → IsThere all_born h
+  old_there h there = let e = entity_there w.entities h there in ap is_some (stays h e.0 e.1)
+
+  -- a handle that a queue lists is there, with the birth of its position
+  placed : (system k : ℕ) (h : Handle) → Lists queues system k h → IsThere all_born h
+      × (name h ≡ record { frame = w.phase; system = system; ordinal = k })
+  placed system k h at =
+      let there = listed-enters MayIssue systems workers w queues history frame is_world.sound
+      flushed system k h at in
+      (ap is_some there, names h _ there)
+
+  in_order : (system k : ℕ) (hs : List Handle) → ((j : ℕ) (h : Handle) → slice_get hs j ≡ Some h
+      → IsThere all_born h
+      × (name h ≡ record { frame = w.phase; system = system; ordinal = k + j }))
+      → AreInOrder name all_born w.phase system k hs
+  in_order system k [] at = tt
+  in_order system k (h ∷ hs) at =
+      let same : k + 0 ≡ k = omega arith in
+      let first = rw same at (at 0 h refl) in
+      (first.0, first.1, in_order system (k + 1) hs (λ j g is. subst (λ n. IsThere all_born g × (name g ≡ record { frame = w.phase; system = system; ordinal = n })) (omega arith) (at (suc j) g is)))
+
+  -- the entities of an `each`, in the order of births
+  each_named : (id : ComponentId) (hs : List Handle) → ListsWith id w.entities hs
+      → All (IsThere all_born) hs × (births_meant view (λ n. []) (target.Each id) ≡ map name hs)
+  each_named id hs lists = (
+    search (rules, All-weaker, old_there, All-contains_itself, lists.holds),
+    ap (map (λ entity. entity.0)) (sym (listed-named name w.entities view named old_names
+        (λ e. finite.contains_key e.components id)
+        (λ items. is_some (find component_cmp id items))
+        (λ e. ap is_some (finite.get-entries e.components id)) hs lists))
+        ∙ map_map_is (λ entity. entity.0) _ hs,
+  )
+
+  -- the entity of a birth
+  birth_named : (birth : Birth) (hs : List Handle) → IsOfBirth (view_of w) birth hs
+      → All (IsThere all_born) hs × (births_meant view (λ n. []) (target.Birth birth) ≡ map name hs)
+  birth_named birth [] none = (All-nil (IsThere all_born), search (rules, named.only birth))
+  birth_named birth (h ∷ []) (own, least) =
+      let e = entity_at w.entities h birth own in
+      let same : name h ≡ birth = old_names h e.0 e.1 ∙ e.2 in
+      let there = rw e.2 at (named.there h e.0 e.1) in
+      (search (rules, All-cons, old_there, All-nil), rw (there, same) refl)
+  birth_named birth (h ∷ k ∷ hs) none = absurd none
+
+  -- each system's queue, from a system on
+  all_named : (system : ℕ) (qs : List (List Command)) (ss : List (List Operation))
+      → length qs ≡ length ss → All NamesNoHandle ss → All (All IsGranted) qs
+      → ((n : ℕ) (ops : List Operation) → slice_get ss n ≡ Some ops
+      → MayIssue ops (view_of w) (queue_at qs n))
+      → ((n k : ℕ) (h : Handle) → Lists qs n k h → IsThere all_born h
+      × (name h ≡ record { frame = w.phase; system = system + n; ordinal = k }))
+      → AreNamedBy name all_born qs (queues_alone w.phase system view ss)
+  all_named system [] [] same free granted may at = tt
+  all_named system [] (ops ∷ ss) same free granted may at = absurd (omega arith)
+  all_named system (q ∷ qs) [] same free granted may at = absurd (omega arith)
+  all_named system (q ∷ qs) (ops ∷ ss) same free granted may at =
+      let here : system + 0 ≡ system = omega arith in (
+        queue-alone name all_born w.phase system (view_of w) view each_named birth_named ops q
+            (in_order system 0 (handles_listed q) (λ j h is.
+            let own : j ≡ 0 + j = omega arith in rw here at (rw own at (at 0 j h is))))
+            (All-head (All IsGranted) q qs granted) (All-head NamesNoHandle ops ss free)
+            (may 0 ops refl),
+        all_named (system + 1) qs ss (omega arith) (All-tail NamesNoHandle ops ss free)
+            (All-tail (All IsGranted) q qs granted) (λ n. may (suc n))
+            (λ n k h is.
+            let next : system + suc n ≡ (system + 1) + n = omega arith in
+            rw next at (at (suc n) k h is)),
+      )
+
+  are_named : AreNamedBy name all_born queues (queues_by_births w view systems)
+  are_named = all_named 0 queues systems frame.count free granted frame.each_system
+      (λ n k h is. let same : 0 + n ≡ n = omega arith in rw same (placed n k h is))
+
+  -- the queues list just what is reserved, each handle once
+  are_listed : AreListed queues reserved.allocator
+  are_listed =
+      let few = listed-few MayIssue systems workers w queues history frame is_world.sound flushed in
+      record {
+        listed = IsPermutation-sym _ _
+            (search (rules, IsPermutation-trans, listed-IsPermutation, given_in-taken));
+        ordinals = each_few (2 ^ 32) queues (omega arith);
+      }
+
+  -- ---- the world after it
+
+  synced : IsFlushed (sync queues reserved).world
+  synced =
+      let born_world = after_births-world queues reserved is_reserved in
+      search (rules, after_queues-keeps, IsFlushed, flushed-kept)
+
+  next_number : (sync queues reserved).world.phase ≡ w.phase + 1
+  next_number = after_queues-keeps (λ w'. w'.phase ≡ w.phase + 1) (search rules) 0
+      queues (applied (after_births queues reserved) []) (min-eq_left (omega arith))
+
+  pub frame-alone : IsFrameAlone w queues history systems view
+  frame-alone = record {
+    name = name;
+    after = frame-named queues reserved view is_reserved named below are_listed name names
+        (queues_by_births w view systems) are_named;
+    born_are = length_permutation (flat_map handles_listed queues)
+        (born (after_history w.allocator history))
+        (listed-born MayIssue systems workers w queues history frame is_world.sound flushed)
+        ∙ sym (length-map (flat_map handles_listed queues) name)
+        ∙ ap length (sym (search (rules, queues_births, name, are_named)));
+    world = record { sound = synced.sound; living = synced.living };
+    flushed = synced.asked;
+    phase = next_number;
+    below = rw next_number (sync-below queues reserved below);
+  }

@@ -1,0 +1,83 @@
+-- A run whose first frames are done goes on by one frame, and ends in a report.
+use Rattle.std.proofs.Common.{rules, ◌≡◌, refl, ℕ, ◌+◌, ◌<◌, List, [], ◌∷◌, ◌++◌, length, get_or}
+use Rattle.std.proofs.Common.{take, arith, append_assoc, append-nil}
+use Rattle.std.proofs.lemmas.List.{length-take-le, take_more}
+use Rattle.ent_handle.specs.Handle.{Handle}
+use Rattle.ent_queue.specs.Command.{Command}
+use Rattle.ent_world.specs.World.{World}
+use Rattle.ent_world.specs.declared.fault.Fault.{Fault}
+use Rattle.ent_runner.specs.Frame.{IsFrame, Ends}
+use Rattle.ent_script.specs.declared.operation.Operation.{Operation}
+use Rattle.spawnrun_lib.specs.Issuing.{MayIssue}
+use Rattle.spawnrun_lib.specs.declared.show.Show.{Show}
+use Rattle.spawnrun_lib.specs.FrameText.{frame_text}
+use Rattle.spawnrun_lib.specs.Report.{Execution, AreExecutions, synced, born_in, last_world}
+use Rattle.spawnrun_lib.specs.Report.{frames_text}
+use Rattle.spawnrun_lib.specs.Course.{HaveGone}
+
+-- ---- one frame more
+
+went_on : (workers : ℕ) (w : World) (frames : List (List (List Operation)))
+    (executions : List Execution)
+    (systems : List (List Operation)) (e : Execution) → AreExecutions workers w frames executions
+    → IsFrame MayIssue systems workers (last_world w executions) e.queues e.history
+    → AreExecutions workers w (frames ++ systems ∷ []) (executions ++ e ∷ [])
+went_on workers w [] [] systems e went frame = (frame, tt)
+went_on workers w [] (x ∷ executions) systems e went frame = absurd went
+went_on workers w (s ∷ frames) [] systems e went frame = absurd went
+went_on workers w (s ∷ frames) (x ∷ executions) systems e went frame =
+    (went.0, went_on workers (synced w x).world frames executions systems e went.1 frame)
+
+world_on : (w : World) (executions : List Execution) (e : Execution)
+    → last_world w (executions ++ e ∷ []) ≡ (synced (last_world w executions) e).world
+world_on w [] e = refl
+world_on w (x ∷ executions) e = world_on (synced w x).world executions e
+
+text_on : (workers : ℕ) (show : Show) (number : ℕ) (w : World)
+    (frames : List (List (List Operation)))
+    (executions : List Execution) (e : Execution) → AreExecutions workers w frames executions
+    → frames_text show number w (executions ++ e ∷ []) ≡ frames_text show number w executions
+    ++ frame_text show (number + length frames) (born_in (last_world w executions) e)
+    (synced (last_world w executions) e).faults
+text_on workers show number w [] [] e went = search (rules, append-nil)
+text_on workers show number w [] (x ∷ executions) e went = absurd went
+text_on workers show number w (s ∷ frames) [] e went = absurd went
+text_on workers show number w (s ∷ frames) (x ∷ executions) e went = search (
+  rules,
+  append_assoc,
+  text_on workers show (number + 1) (synced w x).world frames executions e went.1,
+)
+
+module _ (workers : ℕ) (show : Show) (first now after : World)
+    (frames : List (List (List Operation)))
+    (systems : List (List Operation)) (text : List ℕ) (queues : List (List Command))
+    (births : List Handle) (faults : List Fault) where
+  pub has_gone_on : HaveGone frames workers show first now text
+      → Ends MayIssue systems workers now queues after births faults
+      → HaveGone (frames ++ systems ∷ []) workers show first after (text
+      ++ frame_text show (length frames) births faults)
+  has_gone_on run ends =
+      let e : Execution = record { queues = queues; history = ends.history } in
+      let frame = rw run.world_is at ends.frame in
+      let zero : 0 + length frames ≡ length frames = omega arith in
+      let on = rw zero at (text_on workers show 0 first frames run.executions e run.went) in
+      record {
+        executions = run.executions ++ e ∷ [];
+        went = went_on workers first frames run.executions systems e run.went frame;
+        world_is = rw (world_on, ← run.world_is) ends.world;
+        text_is = rw (on, run.text_is, ends.born_are, ends.faults_are, run.world_is);
+      }
+
+-- the same by the number of a frame in the list
+pub has_run : (workers : ℕ) (show : Show) (first now after : World)
+    (frames : List (List (List Operation))) (i : ℕ)
+    (systems : List (List Operation)) (text : List ℕ) (queues : List (List Command))
+    (births : List Handle) (faults : List Fault)
+    → i < length frames → systems ≡ get_or frames i systems → HaveGone (take i frames) workers show
+    first now text → Ends MayIssue systems workers now queues after births faults
+    → HaveGone (take (i + 1) frames) workers show first after (text
+    ++ frame_text show i births faults)
+has_run workers show first now after frames i systems text queues births faults within is run ends =
+    let more : take (i + 1) frames ≡ take i frames ++ systems ∷ [] = search (rules, take_more) in
+    rw (length-take-le i frames (omega (arith, within)), ← more) at (has_gone_on workers show first
+    now after (take i frames) systems text queues births faults run ends)

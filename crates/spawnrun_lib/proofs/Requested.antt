@@ -1,0 +1,199 @@
+-- What the calls of a frame request is no more than what the operations of its systems request. So
+-- it counts neither the workers nor the order of the calls.
+use Rattle.std.proofs.lemmas.List.Sums.{sum_by-cons, sum_by-append, sum_by-le-sum_by}
+use Rattle.std.proofs.lemmas.Option.{get_or_from_slice_get}
+use Rattle.std.proofs.Common.{rules, ◌≡◌, ℕ, zero, suc, ◌+◌, ◌<◌, ◌≤◌, List, [], ◌∷◌, length, map}
+use Rattle.std.proofs.Common.{refl, sym, ap, arith, Some, Bool, true, false, cond, inl, inr, eq-eqb}
+use Rattle.std.proofs.Common.{Result}
+use Rattle.std.proofs.lemmas.Grind.{common_steps}
+use Rattle.std.specs.Prelude.{◌==◌, filter, slice_get}
+use Rattle.std.specs.List.{All, sum_by, flat_map, range_with_len}
+use Rattle.std.proofs.lemmas.Bool.{cases_eq}
+use Rattle.std.proofs.lemmas.List.Elements.{All-head, All-tail}
+use Rattle.std.proofs.lemmas.List.Sorted.{sum_by-IsPermutation}
+use Rattle.ent_handle.specs.Handle.{Handle}
+use Rattle.ent_alloc.specs.declared.space.Space.{Space}
+use Rattle.ent_alloc.specs.History.{Call}
+use Rattle.ent_queue.specs.Command.{Command, Refused}
+use Rattle.ent_queue.specs.Reserving.{stands_for, cost}
+use Rattle.ent_world.specs.OpenWorld.{View}
+use Rattle.ent_world.specs.World.{World}
+use Rattle.ent_runner.specs.Frame.{IsFrame, queue_at, commands_of}
+use Rattle.ent_runner.proofs.Lists.{sum_map}
+use Rattle.ent_script.specs.declared.operation.Operation.{Operation}
+use Rattle.ent_script.specs.declared.operation.Operation.TheVariants as operation
+use Rattle.spawnrun_lib.specs.Issuing.{Bindings, names_after, Issues, IssuesAll, MayIssue}
+use Rattle.spawnrun_lib.specs.SameReport.{requested_by_operation}
+
+-- ---- sums
+
+sum_flat : {X Y : Type 0} (g : Y → ℕ) (f : X → List Y) (xs : List X)
+    → sum_by g (flat_map f xs) ≡ sum_by (λ x. sum_by g (f x)) xs
+sum_flat g f [] = refl
+sum_flat g f (x ∷ xs) = grind (arith, common_steps, sum_flat g f xs)
+
+sum_of_two : {X : Type 0} (f g : X → ℕ) (xs : List X)
+    → sum_by (λ x. f x + g x) xs ≡ sum_by f xs + sum_by g xs
+sum_of_two f g [] = omega arith
+sum_of_two f g (x ∷ xs) = grind (arith, common_steps, sum_of_two f g xs)
+
+-- one element adds no more than all together
+one_of_sum : {X : Type 0} (f : X → ℕ) (xs : List X) (k : ℕ) (x : X) → slice_get xs k ≡ Some x
+    → f x ≤ sum_by f xs
+one_of_sum f [] k x at = absurd (cc)
+one_of_sum f (y ∷ xs) zero x at = grind (arith, common_steps)
+one_of_sum f (y ∷ xs) (suc k) x at = grind (arith, common_steps, one_of_sum f xs k x)
+
+-- the elements of a list by their numbers
+sum_by_number : {X : Type 0} (f : ℕ → ℕ) (g : X → ℕ) (a : ℕ) (xs : List X)
+    → ((k : ℕ) (x : X) → slice_get xs k ≡ Some x → f (a + k) ≤ g x)
+    → sum_by f (range_with_len a (length xs)) ≤ sum_by g xs
+sum_by_number f g a [] each = omega arith
+sum_by_number f g a (x ∷ xs) each =
+    let here = each 0 x refl in
+    let rest = sum_by_number f g (a + 1) xs (λ k y at. grind (arith, each (suc k) y at)) in
+    grind (arith, common_steps)
+
+-- ---- the calls of a history, caller by caller
+
+abbrev pub requested : Call → ℕ
+requested call = call.requested
+
+-- how much was requested in all
+abbrev pub requested_in : List Call → ℕ
+requested_in history = sum_by requested history
+
+-- by one caller
+abbrev requested_of : List Call → ℕ → ℕ
+requested_of history caller = requested_in (filter (λ (call : Call). call.caller == caller) history)
+
+-- who has made a call is one of the callers
+one_caller : (c n a many : ℕ) → a ≤ c → c < a + many
+    → n ≤ sum_by (λ k. cond (c == k) n 0) (range_with_len a many)
+one_caller c n a zero from below = absurd (omega arith)
+one_caller c n a (suc many) from below =
+    let sums = sum_by-cons (λ k. cond (c == k) n 0) a (range_with_len (a + 1) many) in
+    elim (cases_eq c a) [
+      | inl e ↦ search (rules, eq-eqb)
+      | inr ne ↦
+          let rest = one_caller c n (a + 1) many (omega arith) (omega arith) in
+          omega arith
+    ]
+
+by_callers : (callers : ℕ) (history : List Call)
+    → All (λ (call : Call). call.caller < callers) history
+    → requested_in history ≤ sum_by (requested_of history) (range_with_len 0 callers)
+by_callers callers [] all = omega arith
+by_callers callers (call ∷ history) all =
+    let numbers : List ℕ = range_with_len 0 callers in
+    let own : ℕ → ℕ = λ k. cond (call.caller == k) call.requested 0 in
+    let less = All-head (λ (call : Call). call.caller < callers) call history all in
+    let rest = by_callers callers history
+    (All-tail (λ (call : Call). call.caller < callers) call history all) in
+    let here = one_caller call.caller call.requested 0 callers (omega arith) (omega arith) in
+    let both = sum_of_two own (requested_of history) numbers in
+    let whole : sum_by (λ k. own k + requested_of history k) numbers
+    ≡ sum_by (requested_of (call ∷ history)) numbers =
+    λ i. sum_by (λ k. by_test (call.caller == k)
+    (filter (λ (c : Call). c.caller == k) history) i) numbers in
+    let sums = sum_by-cons requested call history in
+    omega arith
+  where
+    by_test : (b : Bool) (others : List Call)
+        → cond b call.requested 0 + requested_in others
+        ≡ requested_in (cond b (call ∷ others) others)
+    by_test true others = sym (sum_by-cons requested call others)
+    by_test false others = omega arith
+
+-- ---- the commands of a queue
+
+-- for how many handles a command stands, given or refused
+abbrev pub wanted_by : Command → ℕ
+wanted_by (Refused wanted why) = wanted
+wanted_by c = cost c
+
+abbrev pub wanted_in : List Command → ℕ
+wanted_in queue = sum_by wanted_by queue
+
+-- What it has cost is no more: a refusal for want of credit has cost nothing.
+pub cost-wanted : (c : Command) → cost c ≤ wanted_by c
+cost-wanted it = search rules
+
+-- ---- what operations want
+
+none_wanted : (command : Handle → Command) → ((h : Handle) → wanted_by (command h) ≡ 0)
+    → (hs : List Handle) → wanted_in (map command hs) ≡ 0
+none_wanted command none [] = refl
+none_wanted command none (h ∷ hs) = search (rules, sum_by-cons, none_wanted command none hs)
+
+operation-wanted : (view : View) (names : Bindings) (op : Operation) (issued : List Command)
+    → Issues view names op issued → wanted_in issued ≡ requested_by_operation op
+operation-wanted view names it issued is = search (rules, none_wanted)
+
+operations-wanted : (view : View) (names : Bindings) (ops : List Operation) (queue : List Command)
+    → IssuesAll view names ops queue → wanted_in queue ≡ sum_by requested_by_operation ops
+operations-wanted view names [] queue is = ap wanted_in is
+operations-wanted view names (op ∷ ops) queue (first, rest, is, may, others) =
+    let whole = ap wanted_in is in
+    let both = sum_by-append wanted_by first rest in
+    let here = operation-wanted view names op first may in
+    search (rules, sum_by-cons, operations-wanted view (names_after names op first) ops rest others)
+
+-- The queues of the systems want what their operations request.
+pub queues-wanted : (view : View) (systems : List (List Operation)) (queues : List (List Command))
+    → length queues ≡ length systems
+    → ((n : ℕ) (ops : List Operation) → slice_get systems n ≡ Some ops
+    → MayIssue ops view (queue_at queues n))
+    → sum_by wanted_in queues ≡ sum_by (sum_by requested_by_operation) systems
+queues-wanted view [] [] same may = refl
+queues-wanted view [] (q ∷ queues) same may = absurd (omega arith)
+queues-wanted view (ops ∷ systems) [] same may = absurd (omega arith)
+queues-wanted view (ops ∷ systems) (q ∷ queues) same may =
+    let here = operations-wanted view (λ n. []) ops q (may 0 ops refl) in
+    let rest = queues-wanted view systems queues (omega arith) (λ n. may (suc n)) in
+    search (rules, sum_by-cons)
+
+-- ---- a frame
+
+module _ {S : Type 0} (may : S → View → List Command → Type 0) (systems : List S) (workers : ℕ)
+    (before : World) (queues : List (List Command)) (history : List Call)
+    (frame : IsFrame may systems workers before queues history) where
+  abbrev wanted_at : ℕ → ℕ
+  wanted_at n = wanted_in (queue_at queues n)
+
+  of_systems : (mine : List ℕ) → wanted_in (commands_of queues mine) ≡ sum_by wanted_at mine
+  of_systems mine = sum_flat wanted_by (queue_at queues) mine
+
+  -- the systems of all workers are those of all queues
+  of_workers : sum_by (sum_by wanted_at) frame.ran ≤ sum_by wanted_in queues
+  of_workers =
+      let flat = sum_flat wanted_at (λ mine. mine) frame.ran in
+      let moved = sum_by-IsPermutation wanted_at _ _ frame.once in
+      let by_queue = sum_by_number wanted_at wanted_in 0 queues (λ k q at.
+      let same : 0 + k ≡ k = omega arith in
+      let wants = ap wanted_in (get_or_from_slice_get queues k q [] at) in rw same (omega arith)) in
+      let count = ap (λ n. sum_by wanted_at (range_with_len 0 n)) frame.count in
+      omega arith
+
+  -- The queues that a worker has filled want no more than all queues.
+  pub worker-wanted : (worker : ℕ) (mine : List ℕ) → slice_get frame.ran worker ≡ Some mine
+      → wanted_in (commands_of queues mine) ≤ sum_by wanted_in queues
+  worker-wanted worker mine at = search (rules, of_systems, one_of_sum, of_workers)
+
+  worker-requested : (worker : ℕ) (mine : List ℕ) → slice_get frame.ran worker ≡ Some mine
+      → requested_of history worker ≤ sum_by wanted_at mine
+  worker-requested worker mine at =
+      let first : ℕ × Result (List Handle) Space → ℕ = λ request. request.0 in
+      let pairs = sum_map first (λ (call : Call). (call.requested, call.reply))
+      (filter (λ (call : Call). call.caller == worker) history) in
+      let same = ap (sum_by first) (frame.work worker mine at).calls in
+      let costs = sum_flat first stands_for (commands_of queues mine) in
+      let most = sum_by-le-sum_by cost wanted_by (commands_of queues mine) cost-wanted in
+      let own = of_systems mine in
+      omega arith
+
+  -- All calls together request no more than all queues want.
+  pub history-wanted : requested_in history ≤ sum_by wanted_in queues
+  history-wanted =
+      let callers = by_callers workers history frame.callers in
+      search (rules, sum_by_number, worker-requested, of_workers)

@@ -1,0 +1,121 @@
+-- A birth that is looked up in the list of all entities.
+use Rattle.std.proofs.Common.{rules, ◌≡◌, ◌≢◌, ◌⊎◌, inl, inr, ℕ, ◌<◌, ◌≤◌, true, false, List}
+use Rattle.std.proofs.Common.{length, get_or, Option, Some, sym, ap, ◌∙◌, arith, Contains}
+use Rattle.std.specs.declared.cmp.Ordering.{Ordering}
+use Rattle.std.specs.declared.cmp.Ordering.TheVariants.{Less, Equal, Greater}
+use Rattle.std.specs.Ordering.{eq_by_cmp, is_lt, ordering_then}
+use Rattle.std.specs.Option.{option_cmp, option_eq}
+use Rattle.std.specs.Cmp.{IsTotalOrder, tied_itself}
+use Rattle.std.specs.Cmp.Lexicographic.{options_total}
+use Rattle.std.specs.List.Sorted.{IsPartitionedBy}
+use Rattle.std.proofs.lemmas.Bool.{cases_lt, false≢true}
+use Rattle.std.proofs.lemmas.List.{get_or_default}
+use Rattle.ent_handle.specs.declared.birth.Birth.{Birth}
+use Rattle.ent_handle.specs.Birth.{birth_cmp, birth_cmp_total, birth_cmp-IsAntisymmetric}
+use Rattle.ent_handle.specs.Handle.{Handle, handle_cmp, handle_cmp_total}
+use Rattle.ent_storage.specs.BirthOrder.{birth_order, ListsAll}
+use Rattle.ent_storage.specs.EntityMap.{EntityMap, birth_of}
+use Rattle.ent_storage.proofs.OfBirth.{same_birth}
+use Rattle.ent_world.specs.OpenWorld.{View}
+use Rattle.spawnrun_lib.specs.Rolls.{is_before, IsFirstFrom}
+
+abbrev key_cmp : Option Birth → Option Birth → Ordering
+key_cmp = option_cmp birth_cmp
+
+key_total : IsTotalOrder key_cmp
+key_total = options_total birth_cmp_total
+
+same_key : (o : Option Birth) (birth : Birth) → key_cmp o (Some birth) ≡ Equal → o ≡ Some birth
+same_key it birth e = search (rules, birth_cmp-IsAntisymmetric)
+
+-- two births that are tested
+pub same_if_equal : (o : Option Birth) (birth : Birth)
+    → option_eq (eq_by_cmp birth_cmp) o (Some birth) ≡ true → o ≡ Some birth
+same_if_equal it birth e = search (rules, false≢true, same_birth)
+
+pub other_if_not : (o : Option Birth) (birth : Birth)
+    → option_eq (eq_by_cmp birth_cmp) o (Some birth) ≡ false → o ≢ Some birth
+other_if_not it birth e is = search rules
+
+-- ---- what tests tell
+
+less_if : (r : Ordering) → is_lt r ≡ true → r ≡ Less
+less_if it e = search (rules, false≢true)
+
+-- of two comparisons, the first tells, or they tie and the second tells
+either_less : (r s : Ordering) → ordering_then r s ≡ Less → (r ≡ Less) ⊎ ((r ≡ Equal) × (s ≡ Less))
+either_less it s e = search rules
+
+module _ (view : View) (birth : Birth) where
+  abbrev m : EntityMap
+  m = view.entities
+
+  in_order : (a b : Handle) → birth_order m a b ≡ Less
+      → (key_cmp (birth_of m a) (birth_of m b) ≡ Less)
+      ⊎ ((key_cmp (birth_of m a) (birth_of m b) ≡ Equal) × (handle_cmp a b ≡ Less))
+  in_order a b e = either_less _ _ e
+
+  -- who stands before an earlier birth has an earlier birth
+  before_too : (a b : Handle) → birth_order m a b ≡ Less → is_before view birth b ≡ true
+      → is_before view birth a ≡ true
+  before_too a b e is = elim (in_order a b e) [
+    | inl first ↦ ap is_lt (key_total.trans (birth_of m a) _ (Some birth) first (less_if _ is))
+    | inr tie ↦ ap is_lt (key_total.congr (birth_of m a) _ (Some birth) tie.0 ∙ less_if _ is)
+  ]
+
+  pub parted : (handles : List Handle) → ListsAll m handles
+      → IsPartitionedBy (is_before view birth) handles
+  parted handles lists i j d le lt is = elim (cases_lt i j) [
+    | inl less ↦ before_too _ _ (lists.rising i j d less lt) is
+    | inr not ↦ search rules
+  ]
+
+  -- who has a birth is listed
+  listed : (handles : List Handle) → ListsAll m handles → (h : Handle)
+      → birth_of m h ≡ Some birth → Contains handles h
+  listed handles lists h is = (lists.holds h).1 (search rules)
+
+  module _ (handles : List Handle) (lists : ListsAll m handles) (index : ℕ)
+      (first : IsFirstFrom view birth handles index) where
+    -- who has the birth stands at the index or after it
+    at_or_after : (h : Handle) (k : ℕ) → k < length handles → get_or handles k h ≡ h
+        → birth_of m h ≡ Some birth → index ≤ k
+    at_or_after h k lt here is = search (rules, cases_lt, false≢true, birth_cmp_total)
+
+    module _ (h : Handle) (within : index < length handles) (here : get_or handles index h ≡ h)
+      where
+        -- another one with the birth is the same, or stands after it
+        after : (g : Handle) → birth_of m g ≡ Some birth → (g ≡ h) ⊎ (birth_order m h g ≡ Less)
+        after g is =
+            let at = listed handles lists g is in
+            let le : index ≤ at.0 = at_or_after g at.0 at.1 at.2 is in
+            let same = get_or_default handles index g h within in
+            elim (cases_lt index at.0) [
+              | inl less ↦ inr (search (rules, lists.rising index at.0 g less at.1))
+              | inr not ↦ let k : at.0 ≡ index = omega (arith, le, not) in inl (cc at.2)
+            ]
+
+        pub least_here : birth_of m h ≡ Some birth → (g : Handle) → birth_of m g ≡ Some birth
+            → handle_cmp h g ≢ Greater
+        least_here own g is greater =
+            let itself = tied_itself handle_cmp_total h in
+            let key : key_cmp (Some birth) (Some birth) ≡ Equal = tied_itself birth_cmp_total birth
+            in
+            elim (after g is) [
+              | inl same ↦ absurd cc
+              | inr less ↦ elim (in_order h g less) [
+                | inl first ↦ absurd cc
+                | inr tie ↦ absurd (cc tie.1)
+              ]
+            ]
+
+        pub none_here : birth_of m h ≢ Some birth → (g : Handle) → birth_of m g ≢ Some birth
+        none_here other g is =
+            let not = rw here at (first.1 index h (omega arith) within) in
+            elim (after g is) [
+              | inl same ↦ other cc
+              | inr less ↦ elim (rw is at (in_order h g less)) [
+                | inl earlier ↦ absurd (false≢true (sym not ∙ ap is_lt earlier))
+                | inr tie ↦ other (same_key (birth_of m h) birth tie.0)
+              ]
+            ]

@@ -1,0 +1,39 @@
+-- Commands for the handles of a target.
+use Rattle.std.proofs.Common.{rules, ◌≡◌, List, ◌++◌, map, Result, OnOk}
+use Rattle.std.specs.Prelude.{OnErr}
+use Rattle.ent_handle.specs.Handle.{Handle}
+use Rattle.ent_handle.specs.declared.memory.Memory.{Memory}
+use Rattle.ent_queue.specs.Command.{Command}
+use Rattle.ent_queue.specs.Commands.{Issued, queue_of}
+use Rattle.ent_world.specs.OpenWorld.{View}
+use Rattle.ent_script.specs.declared.operation.Operation.{Operation}
+use Rattle.ent_script.specs.declared.target.Target.{Target}
+use Rattle.ent_script.specs.declared.target.Target.TheVariants as target
+use Rattle.spawnrun_lib.specs.Issuing.{Bindings, IsTargeted, StopsOnEach, Stops}
+use Rattle.spawnrun_lib.specs.Parts.{names_of, HasIssuedOn, HasStoppedAmong, HasStoppedOn}
+use Rattle.spawnrun_lib.specs.Parts.{HasStopped}
+
+pub issued_on : (view : View) (names : Bindings) (on : Target) (command : Handle → Command)
+    (before after : Issued) (hs : List Handle) (result : Result (Unit {0}) Memory)
+    → IsTargeted view names on hs → OnOk result (queue_of after ≡ queue_of before ++ map command hs)
+    → OnOk result (HasIssuedOn view names on command before after)
+issued_on view names on command before after hs it targeted queue = search rules
+
+pub stopped_on : (view : View) (names : Bindings) (on : Target) (command : Handle → Command)
+    (before after : Issued) (hs : List Handle) (result : Result (Unit {0}) Memory)
+    → IsTargeted view names on hs → OnErr result (HasStoppedAmong hs command before after)
+    → OnErr result (HasStoppedOn view names on command before after)
+stopped_on view names on command before after hs it targeted stopped = search rules
+
+-- what holds anyway holds of an error
+pub on_error : (result : Result (Unit {0}) Memory) (P : Type 0) → P → OnErr result P
+on_error it P holds = search rules
+
+-- the operation is a change of its target
+pub stopped_in : (view : View) (lists : List (List Handle)) (op : Operation) (on : Target)
+    (command : Handle → Command) (before after : Issued) (result : Result (Unit {0}) Memory)
+    → ((issued : List Command) → StopsOnEach view (names_of lists) on command issued
+    → Stops view (names_of lists) op issued)
+    → OnErr result (HasStoppedOn view (names_of lists) on command before after)
+    → OnErr result (HasStopped view op before after lists)
+stopped_in view lists op on command before after it is stopped = search rules

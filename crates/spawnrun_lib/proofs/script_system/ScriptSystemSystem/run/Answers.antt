@@ -1,0 +1,21 @@
+use Rattle.std.proofs.Common.{arith, rules}
+use Rattle.std.proofs.lemmas.Grind.{common_steps}
+use Rattle.std.proofs.lemmas.List.{drop_all}
+use Rattle.ent_queue.proofs.Extending.{extends_then}
+use Rattle.spawnrun_lib.proofs.SystemRunning.{has_begun, has_gone_on, has_ended}
+use Rattle.spawnrun_lib.proofs.script_system.ScriptSystemSystem.run.Goals as goal
+
+pub loop-operation-init : goal.loop-operation-init
+loop-operation-init c = search (rules, has_begun)
+
+pub loop-operation-preserved : goal.loop-operation-preserved
+loop-operation-preserved c = search (rules, extends_then, has_gone_on)
+
+pub returns-in_err-issue-clause-leaves : goal.returns-in_err-issue-clause-leaves
+returns-in_err-issue-clause-leaves c empty = grind (arith, common_steps)
+
+pub returns-clause-may : goal.returns-clause-may
+returns-clause-may c empty =
+    let none = drop_all _ c.operations-operation-items.result.now c.loop-operation-test.false in
+    rw (← c.self.view_is, ← c.operations-operation-items.ensures)
+    (has_ended _ _ _ _ _ _ none c.loop-operation.invariant.run empty)

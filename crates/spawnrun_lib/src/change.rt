@@ -1,0 +1,87 @@
+ghost use Rattle.std.specs.Prelude.{◌≡◌, ◌++◌, ◌∷◌, [], map, OnOk, OnErr};
+ghost use Rattle.ent_queue.specs.Commands.{IsReady, Extends, queue_of};
+ghost use Rattle.spawnrun_lib.specs.Issuing.{OnEach};
+ghost use Rattle.spawnrun_lib.specs.Parts.{names_of, command_on, HasIssuedOn};
+ghost use Rattle.spawnrun_lib.specs.Parts.{HasStoppedAmong, HasStoppedOn};
+ghost use Rattle.spawnrun_lib.specs.Rolls.{IsRollOf};
+
+use crate::bindings::Bindings;
+use crate::roll::Roll;
+use ent_handle::{ComponentId, Handle, Memory};
+use ent_queue::Commands;
+use ent_script::{Bundle, Target};
+use ent_world::View;
+
+/// What an operation does to each entity of its target.
+#[derive(Clone, Copy)]
+pub(crate) enum Change<'a> {
+    /// Sets these components.
+    Insert(&'a Bundle),
+    /// Takes this component away.
+    Remove(ComponentId),
+    /// Takes the entity out.
+    Despawn,
+}
+
+impl Change<'_> {
+    /// Issues the change for each handle of the target, in order.
+    #[tactic(auto, using(ent_queue::proofs::Extending::extends_then))]
+    pub(crate) fn on_target(
+        self,
+        view: &View<'_>,
+        target: Target,
+        names: &Bindings,
+        roll: &mut Roll,
+        commands: &mut Commands<'_>,
+    ) -> Result<(), Memory>
+        requires ready { IsReady commands.old }
+        requires roll { IsRollOf view.now roll.old }
+        ensures roll { IsRollOf view.now roll.new }
+        ensures extends { Extends commands.old commands.new }
+        ensures issued { OnOk result (HasIssuedOn view.now (names_of names.now) target
+            (command_on self.entry) commands.old commands.new) }
+        ensures stopped { OnErr result (HasStoppedOn view.now (names_of names.now) target
+            (command_on self.entry) commands.old commands.new) }
+    {
+        match target {
+            Target::Name(name) => self.on_each(names.get(name), commands),
+            Target::Handle(handle) => self.on_each(&[handle], commands),
+            Target::Each(id) => self.on_each(&view.with(id)?, commands),
+            Target::Birth(birth) => match roll.find(view, birth)? {
+                Some(handle) => self.on_each(&[handle], commands),
+                None => Ok(()),
+            },
+        }
+    }
+
+    /// Issues the change for each of the handles, in order.
+    #[tactic(auto, using(ent_queue::proofs::Extending::extends_then))]
+    fn on_each(self, handles: &[Handle], commands: &mut Commands<'_>) -> Result<(), Memory>
+        requires { IsReady commands.old }
+        ensures extends { Extends commands.old commands.new }
+        ensures ok { OnOk result (queue_of commands.new
+            ≡ queue_of commands.old ++ map (command_on self.entry) handles.now) }
+        ensures stopped { OnErr result (HasStoppedAmong handles.now (command_on self.entry)
+            commands.old commands.new) }
+    {
+        for handle in handles {
+            self.on_one(*handle, commands)?;
+        }
+        Ok(())
+    }
+
+    /// Issues the change for one handle.
+    fn on_one(self, handle: Handle, commands: &mut Commands<'_>) -> Result<(), Memory>
+        requires { IsReady commands.old }
+        ensures extends { Extends commands.old commands.new }
+        ensures ok { OnOk result (queue_of commands.new
+            ≡ queue_of commands.old ++ command_on self.entry handle ∷ []) }
+        ensures err { OnErr result (queue_of commands.new ≡ queue_of commands.old) }
+    {
+        match self {
+            Change::Insert(bundle) => commands.insert(handle, bundle),
+            Change::Remove(id) => commands.remove(handle, id),
+            Change::Despawn => commands.despawn(handle),
+        }
+    }
+}

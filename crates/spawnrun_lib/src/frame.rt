@@ -1,0 +1,50 @@
+//! One frame of a script.
+ghost use Rattle.std.specs.Prelude.{◌≡◌, ◌<◌, ◌≤◌, length, List, IfOk, OnOk};
+ghost use Rattle.ent_queue.specs.Command.{Command};
+ghost use Rattle.ent_runner.specs.Frame.{Ends};
+ghost use Rattle.spawnrun_lib.specs.Issuing.{MayIssue};
+
+use crate::script_system::ScriptSystem;
+use ent_handle::Memory;
+use ent_runner::{NoGate, run_frame};
+use ent_script::System;
+use ent_world::{SyncReport, World};
+use std::alloc::Global;
+use std::thread::Threads;
+
+/// The systems of a script, as a frame runs them.
+fn runnable<'a>(alloc: Global, systems: &'a [System]) -> Result<Vec<ScriptSystem<'a>>, Memory>
+    ensures { IfOk result (λ runnable. runnable.items ≡ systems.now) }
+{
+    let mut runnable = Vec::with_capacity(alloc, systems.len())?;
+    for system in systems {
+        runnable.push_reserved(ScriptSystem::new(system));
+    }
+    Ok(runnable)
+}
+
+/// Runs a frame of these systems on that many workers, with its sync point.
+pub(crate) fn run<R>(
+    rt: &R,
+    alloc: Global,
+    world: &mut World,
+    systems: &[System],
+    workers: usize,
+) -> Result<SyncReport, Memory>
+where
+    R: Threads + Sync,
+    requires flushed { world.old.allocator.asked ≡ 0 }
+    requires systems { length systems.now ≤ 256 }
+    requires some { 0 < workers }
+    requires few { workers ≤ 64 }
+    ensures flushed { OnOk result (world.new.allocator.asked ≡ 0) }
+    ensures went { IfOk result (λ report. (queues : List (List Command))
+        × Ends MayIssue systems.now workers world.old queues world.new
+        report.born.items report.faults.items) }
+{
+    let runnable = runnable(alloc, systems)?;
+    match run_frame(rt, alloc, world, &runnable, workers, &NoGate) {
+        Ok(report) => Ok(report.sync),
+        Err(_) => Err(Memory),
+    }
+}

@@ -1,0 +1,126 @@
+//! The run of a whole script.
+ghost use Rattle.std.specs.Prelude.{◌≡◌, ◌<◌, ◌≤◌, ℕ, List, IfOk};
+ghost use Rattle.ent_script.specs.Ranges.{IsScript};
+ghost use Rattle.spawnrun_lib.specs.Course.{AreFew, HaveGone};
+ghost use Rattle.spawnrun_lib.specs.Given.{handles_in_run};
+ghost use Rattle.ent_alloc.specs.History.{AreGivenOnce};
+ghost use Rattle.spawnrun_lib.specs.Report.{Execution, IsReport, IsReportOf};
+ghost use Rattle.spawnrun_lib.specs.SameReport.{HasEnoughSlots, IsWithoutHandles, TellsNoRefusal};
+ghost use Rattle.spawnrun_lib.specs.ScriptAlone.{text_alone};
+
+use crate::frame;
+use crate::frame_text::write_frame;
+use crate::progress::Progress;
+use crate::show::Show;
+use crate::world_text::write_world;
+use ent_handle::Memory;
+use ent_script::{Frame, Script};
+use ent_world::World;
+use std::alloc::Global;
+use std::thread::Threads;
+
+/// Runs the frames one after the other, and appends the text of each.
+fn run_frames<R, P: Progress>(
+    rt: &R,
+    alloc: Global,
+    world: &mut World,
+    frames: &[Frame],
+    workers: usize,
+    show: Show,
+    progress: &mut P,
+) -> Result<Vec<u8>, Memory>
+where
+    R: Threads + Sync,
+    requires flushed { world.old.allocator.asked ≡ 0 }
+    requires systems { AreFew frames.now }
+    requires some { 0 < workers }
+    requires few { workers ≤ 64 }
+    ensures went { IfOk result (λ text. HaveGone frames.now workers show world.old world.new
+        text.items) }
+{
+    let mut text = Vec::new(alloc);
+    for (number, systems) in frames.iter().enumerate() {
+        progress.tell(number, frames.len());
+        let report = frame::run(rt, alloc, world, systems.systems(), workers)?;
+        write_frame(number as u64, &report, show, &mut text)?;
+    }
+    Ok(text)
+}
+
+/// Runs the frames over a world that begins empty, and appends the text of the world that they
+/// leave.
+fn report<R, P: Progress>(
+    rt: &R,
+    alloc: Global,
+    script: &Script,
+    workers: usize,
+    show: Show,
+    progress: &mut P,
+) -> Result<Vec<u8>, Memory>
+where
+    R: Threads + Sync,
+    requires ranges { IsScript script.now }
+    requires some { 0 < workers }
+    requires few { workers ≤ 64 }
+    ensures { IfOk result (λ text. IsReport script.now workers show text.items) }
+{
+    let mut world = World::new(alloc, script.limits());
+    let frames = script.frames();
+    let mut text = run_frames(rt, alloc, &mut world, frames, workers, show, progress)?;
+    write_world(&world, script.components(), show, &mut text)?;
+    Ok(text)
+}
+
+/// Runs a script over a world that begins empty, on 1 to 64 workers, and returns the report: the
+/// text of each frame and of the world that the last one leaves. The script is one that
+/// `ent_script` has read.
+///
+/// With several workers, which entity gets which handle may differ from run to run. If the script
+/// names no handle and no request is refused, the text by births is the same in each run. No
+/// request is refused if the script spawns no more entities in all than it has slots. What a frame
+/// has done is kept as text alone, so memory grows with the world, the text and the longest frame.
+///
+/// Before each frame `progress` is told how many are done. `()` is for who doesn't want to know.
+///
+/// # Errors
+///
+/// `Memory` if memory was refused at any point of the run.
+pub fn run_script<R, P: Progress>(
+    rt: &R,
+    alloc: Global,
+    script: &Script,
+    workers: usize,
+    show: Show,
+    progress: &mut P,
+) -> Result<Vec<u8>, Memory>
+where
+    R: Threads + Sync,
+    requires ranges { IsScript script.now }
+    requires some { 0 < workers }
+    requires few { workers ≤ 64 }
+    ensures report { IfOk result (λ text. IsReport script.now workers show text.items) }
+
+    // The others are laws of the definitions: they follow from `report` and `ranges`, so a body
+    // that meets `report` meets them. One worker has no other report.
+    ensures only { workers ≡ 1 → IfOk result (λ text. (other : List ℕ)
+        → IsReport script.now workers show other → text.items ≡ other) }
+
+    // However the frames went, and whatever the limits are.
+    ensures given_once { IfOk result (λ text. (executions : List Execution)
+        → IsReportOf script.now workers show executions text.items
+        → AreGivenOnce (handles_in_run executions)) }
+
+    // A script that names no handle has one text by births, however many workers run it, if no line
+    // of the text tells of a refused request.
+    ensures same { show ≡ Show.Births → IsWithoutHandles script.now → IfOk result (λ text.
+        TellsNoRefusal text.items → text.items ≡ text_alone script.now) }
+
+    // And in any case, if all its operations request no more handles than it has slots: then no
+    // request is refused.
+    ensures enough { show ≡ Show.Births → IsWithoutHandles script.now → HasEnoughSlots script.now
+        → IfOk result (λ text. text.items ≡ text_alone script.now) }
+{
+    let report = report(rt, alloc, script, workers, show, progress);
+    progress.end();
+    report
+}
