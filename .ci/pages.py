@@ -5,8 +5,7 @@ Above each fenced block stands a line that says what the block is:
 
     <!-- from FILE -->       it stands in that file: each run of its lines between lines `..`, whatever their indentation
     <!-- prints COMMAND -->  that shell command prints the block; with lines `..`, each run of its lines
-    <!-- run -->             commands to run, which must end with status 0
-    <!-- ran by the gate --> commands that `.ci/run` runs in another way
+    <!-- ran by the gate --> commands, which `.ci/run` runs
     <!-- picture -->         a drawing
 
 A block without such a line is refused, so nothing that a page quotes goes uncompared. Two tables are compared too: the steps of
@@ -19,7 +18,7 @@ import subprocess
 import sys
 
 PROGRAM = "crates/spawnrun/out/spawnrun"
-MARK = re.compile(r"<!-- (from|prints|run|ran by the gate|picture)(?: (.*))? -->$")
+MARK = re.compile(r"<!-- (from|prints|ran by the gate|picture)(?: (.*))? -->$")
 
 
 def runs_of(lines):
@@ -80,9 +79,6 @@ def fault_of(mark, block):
         lines = printed(object) or printed(f"{object} 2>&1")
         same = all(has_run(lines, it) for it in runs_of(block)) if ".." in block else lines == block
         return None if same else f"isn't what this prints: {object}"
-    if kind == "run":
-        ended = subprocess.run("\n".join(["set -e", *block]), shell=True, capture_output=True, text=True)
-        return f"ends with status {ended.returncode}: {ended.stderr[-300:]}" if ended.returncode else None
     return None
 
 
