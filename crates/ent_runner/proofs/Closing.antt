@@ -10,7 +10,7 @@ use Rattle.std.proofs.lemmas.List.Elements.{All-head}
 use Rattle.std.proofs.lemmas.List.{length-map}
 use Rattle.std.proofs.lemmas.List.Folds.{fold-map}
 use Rattle.std.proofs.lemmas.List.Sums.{sum_by-cons}
-use Rattle.ent_seats.proofs.Weighing.{sum_by-flat_map}
+use Rattle.ent_shared.proofs.Weighing.{sum_by-flat_map}
 use Rattle.ent_runner.specs.declared.record.ClaimRecord.{ClaimRecord}
 use Rattle.ent_runner.specs.Rule.{weigh_claims, IsClaimKept, AreClaimsClosed}
 use Rattle.ent_runner.specs.Claims.{Claimer, IsClaimedBy, HaveEnded, AreFirst}

@@ -14,9 +14,9 @@ use Rattle.std.proofs.lemmas.List.Sums.{sum_by-cons, sum_by_push, sum_by-le-sum_
 use mathlib.Core.Option.{some}
 use lib.ListN.{get_elem?}
 use Rattle.atomic_table.specs.Table.{State, Me, keeps, Allows, opening}
-use Rattle.ent_seats.specs.Seats.{GoesByRecords}
-use Rattle.ent_seats.proofs.Weighing.{all_one, sum_at, all_at, whole_weighs}
-use Rattle.ent_seats.proofs.Regrouping.{sum_regrouped, length-regrouped, all_regrouped}
+use Rattle.ent_shared.specs.Seats.{GoesByRecords}
+use Rattle.ent_shared.proofs.Weighing.{all_one, sum_at, all_at, whole_weighs}
+use Rattle.ent_shared.proofs.Regrouping.{sum_regrouped, length-regrouped, all_regrouped}
 use Rattle.ent_runner.specs.declared.record.ClaimRecord.{ClaimRecord}
 use Rattle.ent_runner.specs.Record.{nothing_claimed, after_claim}
 use Rattle.ent_runner.specs.Rule.{weigh_claims, ended_in, IsClaimKept, AreClaimsRuled, AfterClaim}

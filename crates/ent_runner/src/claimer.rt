@@ -1,7 +1,7 @@
 ghost use Rattle.std.specs.Prelude.{◌≡◌, false};
 
 use crate::record::ClaimRecord;
-use ent_seats::RecordsBadge;
+use ent_shared::seats::RecordsBadge;
 use std::marker::Model;
 
 /// The right of one worker to claim numbers.

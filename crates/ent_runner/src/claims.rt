@@ -8,7 +8,7 @@ use crate::rule::Opening;
 use crate::word;
 use crate::word::Word;
 use ent_handle::Memory;
-use ent_seats::{merge, new_seat, split_first};
+use ent_shared::seats::{merge, new_seat, split_first};
 use std::alloc::Global;
 use std::marker::Model;
 

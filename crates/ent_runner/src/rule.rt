@@ -5,7 +5,7 @@ ghost use Rattle.std.specs.Prelude.{replicate};
 
 use crate::record::ClaimRecord;
 use atomic_table::{Play, TableRule};
-use ent_seats::SeatRecords;
+use ent_shared::seats::SeatRecords;
 
 /// How many numbers there are to claim, and how many claimers.
 #[derive(Drop)]

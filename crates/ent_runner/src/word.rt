@@ -7,7 +7,7 @@ ghost use Rattle.ent_runner.specs.Claims.{IsOpen};
 use crate::record::ClaimRecord;
 use crate::rule::{Claim, Numbers, Opening};
 use atomic_table::{Badge, Table};
-use ent_seats::{RecordsBadge, RecordsSeat, RecordsWord};
+use ent_shared::seats::{RecordsBadge, RecordsSeat, RecordsWord};
 use std::alloc::{AllocError, Global};
 use std::mem;
 

@@ -10,7 +10,7 @@ use Rattle.std.proofs.lemmas.List.Sums.{sum_by-cons}
 use mathlib.Core.Option.{some}
 use lib.ListN.{get_elem?}
 use Rattle.atomic_table.specs.Table.{State, opening}
-use Rattle.ent_seats.proofs.Weighing.{all_one, sum_at, all_at, whole_weighs}
+use Rattle.ent_shared.proofs.Weighing.{all_one, sum_at, all_at, whole_weighs}
 use Rattle.ent_alloc.specs.Limits.{credit}
 use Rattle.ent_alloc.specs.Sequential.{Allocator, cursor}
 use Rattle.ent_shared.specs.declared.record.Reservation.{Reservation}

@@ -21,7 +21,7 @@ use Rattle.ent_shared.specs.Rule.{InOrder, IsKept, IsClosed}
 use Rattle.ent_shared.specs.Order.{own_of_all, reservations_of, reservations_by, StandsBefore}
 use Rattle.ent_shared.specs.Order.{FollowsEntries, Respects}
 use Rattle.ent_alloc.proofs.ListLaws.{All-left, All-right}
-use Rattle.ent_seats.proofs.Weighing.{sum_by-flat_map, All-flat_map}
+use Rattle.ent_shared.proofs.Weighing.{sum_by-flat_map, All-flat_map}
 use Rattle.ent_shared.proofs.Records.{all_own}
 use Rattle.ent_shared.proofs.Callers.{only, sum_by_caller, own_by_caller, of_number, one_of_number}
 use Rattle.ent_shared.proofs.Sorting.{contains_cases, Falls, FallsStrictly, WeighSame, all_sorted}

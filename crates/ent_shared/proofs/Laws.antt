@@ -5,7 +5,7 @@ use Rattle.std.proofs.lemmas.Grind.{common_steps}
 use Rattle.std.specs.List.{flat_map}
 use Rattle.std.proofs.lemmas.List.Sorted.{IsPermutation-refl, IsPermutation-sym}
 use Rattle.std.proofs.lemmas.List.Sorted.{IsPermutation-trans, IsPermutation-append_right}
-use Rattle.ent_seats.proofs.Regrouping.{turned}
+use Rattle.ent_shared.proofs.Regrouping.{turned}
 use Rattle.ent_handle.specs.Handle.{Handle}
 use Rattle.ent_alloc.specs.History as history
 use Rattle.ent_alloc.proofs.ListLaws.{AllPairs-IsPermutation}

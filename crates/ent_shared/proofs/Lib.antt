@@ -1,3 +1,7 @@
+pub mod Weighing
+pub mod Regrouping
+pub mod Moving
+pub mod HandedIn
 pub mod Records
 pub mod Words
 pub mod Steps

@@ -9,7 +9,7 @@ use Rattle.std.proofs.lemmas.List.Elements.{All-head, All-tail, All-nil, All-con
 use Rattle.std.proofs.lemmas.List.Elements.{All-weaker, Contains-append_left, Contains-push}
 use Rattle.std.proofs.lemmas.List.Sums.{sum_by-cons, sum_by-append}
 use Rattle.std.proofs.lemmas.Int.{ints, int_min_is}
-use Rattle.ent_seats.proofs.Weighing.{all_one}
+use Rattle.ent_shared.proofs.Weighing.{all_one}
 use Rattle.ent_alloc.specs.Sequential.{Allocator, cursor, pool_at}
 use Rattle.ent_alloc.proofs.ListLaws.{All-left, All-right}
 use Rattle.ent_shared.specs.declared.record.Reservation.{Reservation}

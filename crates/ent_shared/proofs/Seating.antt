@@ -5,7 +5,7 @@ use Rattle.std.proofs.Common.{arith, append-nil, rules, ◌≡◌, ℕ, ◌-◌,
 use Rattle.std.proofs.Common.{[], ◌∷◌, ◌++◌}
 use Rattle.ent_shared.proofs.Laws.{handles_of-append}
 use Rattle.ent_shared.proofs.Records.{own-made, known-more, credit-reserved, credit-met}
-use Rattle.ent_seats.proofs.Weighing.{all_one}
+use Rattle.ent_shared.proofs.Weighing.{all_one}
 use Rattle.std.proofs.lemmas.List.Elements.{All-append, All-weaker}
 use Rattle.std.proofs.lemmas.Int.{ints}
 use Rattle.std.specs.Prelude.{Result}

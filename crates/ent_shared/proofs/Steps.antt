@@ -14,10 +14,10 @@ use mathlib.Core.Option.{some}
 use lib.ListN.{get_elem?}
 use Rattle.atomic_table.specs.Table.{State, Me, keeps, Allows, Splits, Joins}
 use Rattle.atomic_table.proofs.Lists.{set_else}
-use Rattle.ent_seats.specs.Seats.{GoesByRecords}
-use Rattle.ent_seats.proofs.Weighing.{all_one, sum_at, all_at}
-use Rattle.ent_seats.proofs.Regrouping.{sum_regrouped, length-regrouped, all_regrouped}
-use Rattle.ent_seats.proofs.Moving.{splits}
+use Rattle.ent_shared.specs.Seats.{GoesByRecords}
+use Rattle.ent_shared.proofs.Weighing.{all_one, sum_at, all_at}
+use Rattle.ent_shared.proofs.Regrouping.{sum_regrouped, length-regrouped, all_regrouped}
+use Rattle.ent_shared.proofs.Moving.{splits}
 use Rattle.ent_alloc.specs.Limits.{credit}
 use Rattle.ent_alloc.specs.Sequential.{Allocator, cursor}
 use Rattle.ent_shared.specs.declared.record.Reservation.{Reservation}

@@ -1,3 +1,4 @@
+pub mod Seats
 pub mod Record
 pub mod Moves
 pub mod Rule

@@ -3,10 +3,12 @@
 #![tactic(auto)]
 
 mod phase;
+mod plays;
 mod record;
 mod refused;
 mod reserver;
 mod rule;
+pub mod seats;
 mod shared;
 mod word;
 

@@ -5,11 +5,11 @@ ghost use Rattle.ent_shared.specs.Phase.{IsOf, records_of};
 
 use crate::reserver::Reserver;
 use crate::rule::Opening;
+use crate::seats::split_first;
 use crate::shared::Shared;
 use crate::word;
 use ent_alloc::Entities;
 use ent_handle::Memory;
-use ent_seats::split_first;
 use std::alloc::Global;
 
 /// Shares a flushed allocator among `n` reservers, 1 to 1,024, each of which may request

@@ -1,8 +1,8 @@
 ghost use Rattle.std.specs.Prelude.{◌≡◌};
 
 use crate::record::Record;
+use crate::seats::RecordsBadge;
 use ent_alloc::CREDIT;
-use ent_seats::RecordsBadge;
 use std::marker::Model;
 
 /// The right of one caller to reserve from a shared allocator, and what is left of its credit.

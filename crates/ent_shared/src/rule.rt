@@ -5,9 +5,9 @@ ghost use Rattle.std.specs.Prelude.{[], take, drop};
 ghost use Rattle.ent_shared.specs.Moves.{met_in};
 
 use crate::record::Record;
+use crate::seats::SeatRecords;
 use atomic_table::{Join, Play, Split, TableRule};
 use ent_alloc::Entities;
-use ent_seats::SeatRecords;
 
 /// What a phase begins with.
 #[derive(Drop)]

@@ -18,11 +18,11 @@ ghost use Rattle.ent_shared.specs.declared.refused.Refused.TheVariants.{Quota};
 
 use crate::refused::Refused;
 use crate::reserver::Reserver;
+use crate::seats::{merge, new_seat};
 use crate::word;
 use crate::word::Word;
 use ent_alloc::{Entities, Reserved, Span};
 use ent_handle::Handle;
-use ent_seats::{merge, new_seat};
 use std::marker::Model;
 
 /// An allocator that many callers reserve from at once, each with a [`Reserver`] of its own.

@@ -8,8 +8,8 @@ ghost use Rattle.ent_shared.specs.Phase.{own_of, IsPhase};
 
 use crate::record::Record;
 use crate::rule::{Cursor, Meet, Opening, Reserve, SplitSecond};
+use crate::seats::{RecordsBadge, RecordsSeat, RecordsWord};
 use atomic_table::{Badge, Table};
-use ent_seats::{RecordsBadge, RecordsSeat, RecordsWord};
 use std::alloc::{AllocError, Global};
 use std::mem;
 

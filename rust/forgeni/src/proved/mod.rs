@@ -17,7 +17,6 @@ pub mod ent_map;
 pub mod ent_queue;
 pub mod ent_replay;
 pub mod ent_runner;
-pub mod ent_seats;
 pub mod ent_shared;
 pub mod ent_storage;
 pub mod ent_total;

@@ -1,7 +1,7 @@
 // Made of crates/ent_runner/src/claimer.rt by rust/erase. It isn't edited by hand.
 
 use crate::proved::ent_runner::record::ClaimRecord;
-use crate::proved::ent_seats::RecordsBadge;
+use crate::proved::ent_shared::seats::RecordsBadge;
 
 /// The right of one worker to claim numbers.
 ///

@@ -6,7 +6,7 @@ use crate::proved::ent_runner::rule::Opening;
 use crate::proved::ent_runner::word;
 use crate::proved::ent_runner::word::Word;
 use crate::proved::ent_handle::Memory;
-use crate::proved::ent_seats::{merge, new_seat, split_first};
+use crate::proved::ent_shared::seats::{merge, new_seat, split_first};
 use crate::kit::alloc::Global;
 
 /// The numbers below a count, which workers claim side by side, each with a [`Claimer`] of its own.

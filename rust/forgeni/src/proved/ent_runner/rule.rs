@@ -4,7 +4,7 @@
 
 use crate::proved::ent_runner::record::ClaimRecord;
 use crate::kit::atomic_table::{Play, TableRule};
-use crate::proved::ent_seats::SeatRecords;
+use crate::proved::ent_shared::seats::SeatRecords;
 
 /// How many numbers there are to claim, and how many claimers.
 pub(super) struct Opening {

@@ -5,7 +5,7 @@
 use crate::proved::ent_runner::record::ClaimRecord;
 use crate::proved::ent_runner::rule::{Claim, Numbers, Opening};
 use crate::kit::atomic_table::{Badge, Table};
-use crate::proved::ent_seats::{RecordsBadge, RecordsSeat, RecordsWord};
+use crate::proved::ent_shared::seats::{RecordsBadge, RecordsSeat, RecordsWord};
 use crate::kit::alloc::{AllocError, Global};
 use core::mem;
 

@@ -4,10 +4,12 @@
 //! it through a shared reference.
 
 mod phase;
+mod plays;
 mod record;
 mod refused;
 mod reserver;
 mod rule;
+pub mod seats;
 mod shared;
 mod word;
 

@@ -3,11 +3,11 @@
 use crate::kit::vec::Vec;
 use crate::proved::ent_shared::reserver::Reserver;
 use crate::proved::ent_shared::rule::Opening;
+use crate::proved::ent_shared::seats::split_first;
 use crate::proved::ent_shared::shared::Shared;
 use crate::proved::ent_shared::word;
 use crate::proved::ent_alloc::Entities;
 use crate::proved::ent_handle::Memory;
-use crate::proved::ent_seats::split_first;
 use crate::kit::alloc::Global;
 
 /// Shares a flushed allocator among `n` reservers, 1 to 1,024, each of which may request

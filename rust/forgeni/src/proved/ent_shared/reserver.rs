@@ -1,8 +1,8 @@
 // Made of crates/ent_shared/src/reserver.rt by rust/erase. It isn't edited by hand.
 
 use crate::proved::ent_shared::record::Record;
+use crate::proved::ent_shared::seats::RecordsBadge;
 use crate::proved::ent_alloc::CREDIT;
-use crate::proved::ent_seats::RecordsBadge;
 
 /// The right of one caller to reserve from a shared allocator, and what is left of its credit.
 ///

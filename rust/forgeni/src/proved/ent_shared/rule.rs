@@ -3,9 +3,9 @@
 //! The rule over the cursor word and the records of all reservers, and what its steps tell.
 
 use crate::proved::ent_shared::record::Record;
+use crate::proved::ent_shared::seats::SeatRecords;
 use crate::kit::atomic_table::{Join, Play, Split, TableRule};
 use crate::proved::ent_alloc::Entities;
-use crate::proved::ent_seats::SeatRecords;
 
 /// What a phase begins with.
 pub(super) struct Opening {

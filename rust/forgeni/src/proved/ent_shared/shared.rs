@@ -3,11 +3,11 @@
 use crate::kit::vec::Vec;
 use crate::proved::ent_shared::refused::Refused;
 use crate::proved::ent_shared::reserver::Reserver;
+use crate::proved::ent_shared::seats::{merge, new_seat};
 use crate::proved::ent_shared::word;
 use crate::proved::ent_shared::word::Word;
 use crate::proved::ent_alloc::{Entities, Reserved, Span};
 use crate::proved::ent_handle::Handle;
-use crate::proved::ent_seats::{merge, new_seat};
 
 /// An allocator that many callers reserve from at once, each with a [`Reserver`] of its own.
 pub struct Shared {

@@ -4,8 +4,8 @@
 
 use crate::proved::ent_shared::record::Record;
 use crate::proved::ent_shared::rule::{Cursor, Meet, Opening, Reserve, SplitSecond};
+use crate::proved::ent_shared::seats::{RecordsBadge, RecordsSeat, RecordsWord};
 use crate::kit::atomic_table::{Badge, Table};
-use crate::proved::ent_seats::{RecordsBadge, RecordsSeat, RecordsWord};
 use crate::kit::alloc::{AllocError, Global};
 use core::mem;
 

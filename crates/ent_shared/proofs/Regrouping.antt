@@ -16,8 +16,8 @@ use Rattle.std.proofs.lemmas.List.Sorted.{All-permutation, length_permutation}
 use mathlib.Core.Option.{some, some-ne-none}
 use lib.ListN.{get_elem?}
 use Rattle.atomic_table.proofs.Lists.{set_else, set_again}
-use Rattle.ent_seats.specs.Seats.{records_in}
-use Rattle.ent_seats.proofs.Weighing.{sum_by-flat_map, All-flat_map}
+use Rattle.ent_shared.specs.Seats.{records_in}
+use Rattle.ent_shared.proofs.Weighing.{sum_by-flat_map, All-flat_map}
 
 module _ {R : Type 0} where
   -- what the records weigh, seat by seat

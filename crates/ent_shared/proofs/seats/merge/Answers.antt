@@ -1,6 +1,6 @@
 use Rattle.std.proofs.Common.{rules}
-use Rattle.ent_seats.proofs.Moving.{merges}
-use Rattle.ent_seats.proofs.seats.merge.Goals as goal
+use Rattle.ent_shared.proofs.Moving.{merges}
+use Rattle.ent_shared.proofs.seats.merge.Goals as goal
 
 pub join_seat-requires : goal.join_seat-requires
 join_seat-requires g c = search (rules, merges, c.requires.rule)

@@ -1,8 +1,9 @@
-// Made of crates/ent_seats/src/seats.rt by rust/erase. It isn't edited by hand.
+// Made of crates/ent_shared/src/seats.rt by rust/erase. It isn't edited by hand.
 
-//! How records move from seat to seat. No step here changes the word.
+//! How records move from seat to seat of one atomic word. No step here changes the word.
 
-use crate::proved::ent_seats::plays::{Merge, NewSeat, SeatRecords, SplitFirst};
+pub use crate::proved::ent_shared::plays::SeatRecords;
+use crate::proved::ent_shared::plays::{Merge, NewSeat, SplitFirst};
 use crate::kit::atomic_table::{Badge, Seat, Table, TableRule};
 use crate::kit::alloc::Global;
 

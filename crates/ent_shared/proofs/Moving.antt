@@ -3,8 +3,8 @@ use Rattle.std.proofs.Common.{◌≡◌, ℕ, List, [], ◌∷◌, ◌++◌, tak
 use Rattle.std.specs.Prelude.{IsPermutation}
 use Rattle.std.proofs.lemmas.List.Sorted.{IsPermutation-refl, IsPermutation-append_comm}
 use Rattle.atomic_table.specs.Table.{State, Splits, Joins, Enters}
-use Rattle.ent_seats.specs.Seats.{records_in, GoesByRecords}
-use Rattle.ent_seats.proofs.Regrouping.{same_split, same_join, same_entered}
+use Rattle.ent_shared.specs.Seats.{records_in, GoesByRecords}
+use Rattle.ent_shared.proofs.Regrouping.{same_split, same_join, same_entered}
 
 module _ {R : Type 0} (holds : State (Unit {0}) (List R) → Type 0) (rule : GoesByRecords holds)
   where

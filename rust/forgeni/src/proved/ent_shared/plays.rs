@@ -1,4 +1,4 @@
-// Made of crates/ent_seats/src/plays.rt by rust/erase. It isn't edited by hand.
+// Made of crates/ent_shared/src/plays.rt by rust/erase. It isn't edited by hand.
 
 //! What a seat knows, and what a step makes of it.
 

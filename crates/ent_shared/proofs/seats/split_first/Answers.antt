@@ -1,6 +1,6 @@
 use Rattle.std.proofs.Common.{rules}
-use Rattle.ent_seats.proofs.Moving.{splits_first}
-use Rattle.ent_seats.proofs.seats.split_first.Goals as goal
+use Rattle.ent_shared.proofs.Moving.{splits_first}
+use Rattle.ent_shared.proofs.seats.split_first.Goals as goal
 
 pub split_seat-requires : goal.split_seat-requires
 split_seat-requires g c = (search rules, search rules, splits_first _ c.requires.rule _ _)

@@ -1,8 +1,9 @@
-//! How records move from seat to seat. No step here changes the word.
+//! How records move from seat to seat of one atomic word. No step here changes the word.
 ghost use Rattle.std.specs.Prelude.{◌≡◌, List, [], ◌∷◌, ◌++◌, take, drop};
-ghost use Rattle.ent_seats.specs.Seats.{GoesByRecords};
+ghost use Rattle.ent_shared.specs.Seats.{GoesByRecords};
 
-use crate::plays::{Merge, NewSeat, SeatRecords, SplitFirst};
+pub use crate::plays::SeatRecords;
+use crate::plays::{Merge, NewSeat, SplitFirst};
 use atomic_table::{Badge, Seat, Table, TableRule};
 use std::alloc::Global;
 

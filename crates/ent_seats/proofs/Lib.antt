@@ -1,4 +1,0 @@
-pub mod Weighing
-pub mod Regrouping
-pub mod Moving
-pub mod HandedIn
