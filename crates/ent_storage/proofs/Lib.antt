@@ -19,3 +19,6 @@ pub mod SamePlaces
 pub mod Rising
 pub mod TakenOut
 pub mod WithComponent
+pub mod Entries
+pub mod Found
+pub mod Kept

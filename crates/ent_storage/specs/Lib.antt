@@ -6,3 +6,7 @@ pub mod Indexed
 pub mod SparseSet
 pub mod Living
 pub mod Fault
+pub mod HandleMap
+pub mod Slots
+pub mod Lends
+pub mod Retained

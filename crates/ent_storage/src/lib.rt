@@ -3,10 +3,13 @@
 //! `Storage` keeps the entities in one vector. An entity's *place* is where it stands there. Beside
 //! the vector an index has the place of each handle, and for each component number a sparse set has
 //! the values, by places.
+//!
+//! `handle_map` has a map from handles to values of any type, at most one for each slot.
 #![tactic(auto)]
 
 mod columns;
 mod fault;
+pub mod handle_map;
 mod index;
 mod items;
 mod key;

@@ -1,7 +1,7 @@
 //! Memory that is refused to maps by handle.
 
 use ent_handle::Handle;
-use ent_map::{HandleMap, InsertFault, Uninserted};
+use ent_storage::handle_map::{HandleMap, InsertFault, Uninserted};
 use std::alloc::Global;
 use std::process::Abort;
 

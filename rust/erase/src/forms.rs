@@ -155,7 +155,7 @@ pub const CONSTANTS: &[(&str, &str, &str)] = &[
     ("ent_alloc", "limits.rt", "new"),
     ("ent_alloc", "requests.rt", "none"),
     ("ent_alloc", "slots.rt", "new"),
-    ("ent_map", "handle_map.rt", "new"),
+    ("ent_storage", "handle_map.rt", "new"),
 ];
 
 /// Whether this function of a file of this crate is one of them.

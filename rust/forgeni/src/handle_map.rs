@@ -3,7 +3,7 @@
 use crate::errors::OutOfMemory;
 use crate::handle::Handle;
 use crate::kit::alloc::Global;
-use crate::proved::ent_map::{self, InsertFault};
+use crate::proved::ent_storage::handle_map::{self, InsertFault};
 use alloc::alloc::handle_alloc_error;
 use alloc::vec::{self, Vec};
 use core::alloc::Layout;
@@ -53,16 +53,16 @@ use core::ops::{Index, IndexMut};
 /// What a value takes is 4 bytes for its generation beside it, with what alignment adds. Of a type
 /// that is no greater than 4 bytes it is 8 bytes a slot, and of one with 8 bytes it is 16.
 pub struct HandleMap<T> {
-    proved: ent_map::HandleMap<T>,
+    proved: handle_map::HandleMap<T>,
 }
 
 impl<T> HandleMap<T> {
     /// A map without values. It takes no memory.
-    #[doc = include_str!("proved/ent_map/handle_map.new.md")]
+    #[doc = include_str!("proved/ent_storage/handle_map.new.md")]
     #[must_use]
     pub const fn new() -> Self {
         Self {
-            proved: ent_map::HandleMap::new(Global),
+            proved: handle_map::HandleMap::new(Global),
         }
     }
 
@@ -71,14 +71,14 @@ impl<T> HandleMap<T> {
     /// # Errors
     ///
     /// `OutOfMemory` if there is not that much.
-    #[doc = include_str!("proved/ent_map/handle_map.with_capacity.md")]
+    #[doc = include_str!("proved/ent_storage/handle_map.with_capacity.md")]
     pub fn with_capacity(slots: usize) -> Result<Self, OutOfMemory> {
-        let proved = ent_map::HandleMap::with_capacity(Global, slots)?;
+        let proved = handle_map::HandleMap::with_capacity(Global, slots)?;
         Ok(Self { proved })
     }
 
     /// How many values there are. It takes constant time.
-    #[doc = include_str!("proved/ent_map/handle_map.len.md")]
+    #[doc = include_str!("proved/ent_storage/handle_map.len.md")]
     #[inline]
     #[must_use]
     pub fn len(&self) -> usize {
@@ -86,7 +86,7 @@ impl<T> HandleMap<T> {
     }
 
     /// Whether there is no value.
-    #[doc = include_str!("proved/ent_map/handle_map.is_empty.md")]
+    #[doc = include_str!("proved/ent_storage/handle_map.is_empty.md")]
     #[inline]
     #[must_use]
     pub fn is_empty(&self) -> bool {
@@ -95,7 +95,7 @@ impl<T> HandleMap<T> {
 
     /// How many slots there is room for. A handle whose index is below it is inserted without
     /// memory.
-    #[doc = include_str!("proved/ent_map/handle_map.capacity.md")]
+    #[doc = include_str!("proved/ent_storage/handle_map.capacity.md")]
     #[inline]
     #[must_use]
     pub fn capacity(&self) -> usize {
@@ -107,13 +107,13 @@ impl<T> HandleMap<T> {
     /// # Errors
     ///
     /// `OutOfMemory`, and then nothing has changed.
-    #[doc = include_str!("proved/ent_map/handle_map.reserve.md")]
+    #[doc = include_str!("proved/ent_storage/handle_map.reserve.md")]
     pub fn reserve(&mut self, slots: usize) -> Result<(), OutOfMemory> {
         Ok(self.proved.reserve(slots)?)
     }
 
     /// Whether the handle has a value. It takes constant time.
-    #[doc = include_str!("proved/ent_map/handle_map.contains.md")]
+    #[doc = include_str!("proved/ent_storage/handle_map.contains.md")]
     #[inline]
     #[must_use]
     pub fn contains(&self, handle: Handle) -> bool {
@@ -121,7 +121,7 @@ impl<T> HandleMap<T> {
     }
 
     /// The value of the handle, if it has one. It takes constant time.
-    #[doc = include_str!("proved/ent_map/handle_map.get.md")]
+    #[doc = include_str!("proved/ent_storage/handle_map.get.md")]
     #[inline]
     #[must_use]
     pub fn get(&self, handle: Handle) -> Option<&T> {
@@ -129,7 +129,7 @@ impl<T> HandleMap<T> {
     }
 
     /// The value of the handle, if it has one, to be changed. It takes constant time.
-    #[doc = include_str!("proved/ent_map/handle_map.get_mut.md")]
+    #[doc = include_str!("proved/ent_storage/handle_map.get_mut.md")]
     #[inline]
     #[must_use]
     pub fn get_mut(&mut self, handle: Handle) -> Option<&mut T> {
@@ -161,21 +161,21 @@ impl<T> HandleMap<T> {
     ///
     /// [`Uninserted`] has the value, and nothing has changed: `Later` if a later occupant of the slot
     /// has a value, or `Memory`.
-    #[doc = include_str!("proved/ent_map/handle_map.insert.md")]
+    #[doc = include_str!("proved/ent_storage/handle_map.insert.md")]
     #[inline]
     pub fn insert(&mut self, handle: Handle, value: T) -> Result<Option<T>, Uninserted<T>> {
         Ok(self.proved.insert(handle.proved(), value)?)
     }
 
     /// Takes the value of the handle out, if it has one. It takes constant time and no memory.
-    #[doc = include_str!("proved/ent_map/handle_map.remove.md")]
+    #[doc = include_str!("proved/ent_storage/handle_map.remove.md")]
     #[inline]
     pub fn remove(&mut self, handle: Handle) -> Option<T> {
         self.proved.remove(handle.proved())
     }
 
     /// Drops all values. The room stays.
-    #[doc = include_str!("proved/ent_map/handle_map.clear.md")]
+    #[doc = include_str!("proved/ent_storage/handle_map.clear.md")]
     pub fn clear(&mut self) {
         self.proved.clear();
     }
@@ -204,7 +204,7 @@ impl<T> HandleMap<T> {
     ///
     /// A panic of `keep` is handed on. The map has then what was kept, and all that it wasn't called
     /// at.
-    #[doc = include_str!("proved/ent_map/handle_map.retain.md")]
+    #[doc = include_str!("proved/ent_storage/handle_map.retain.md")]
     #[inline]
     pub fn retain(&mut self, mut keep: impl FnMut(Handle, &mut T) -> bool) {
         self.proved
@@ -234,7 +234,7 @@ impl<T> HandleMap<T> {
     }
 
     /// The handles and their values, by rising slot. The time is that of a look at each slot.
-    #[doc = include_str!("proved/ent_map/handle_map.iter.md")]
+    #[doc = include_str!("proved/ent_storage/handle_map.iter.md")]
     #[inline]
     pub fn iter(&self) -> Iter<'_, T> {
         Iter {
@@ -356,7 +356,7 @@ impl<T> FromIterator<(Handle, T)> for HandleMap<T> {
 
 /// The handles and values of a map, by rising slot: [`HandleMap::iter`] makes it.
 pub struct Iter<'a, T> {
-    proved: ent_map::Iter<'a, T>,
+    proved: handle_map::Iter<'a, T>,
 }
 
 impl<'a, T> Iterator for Iter<'a, T> {
@@ -489,9 +489,9 @@ impl<T> From<Uninserted<T>> for InsertionError {
     }
 }
 
-impl<T> From<ent_map::Uninserted<T>> for Uninserted<T> {
+impl<T> From<handle_map::Uninserted<T>> for Uninserted<T> {
     #[inline]
-    fn from(refused: ent_map::Uninserted<T>) -> Self {
+    fn from(refused: handle_map::Uninserted<T>) -> Self {
         Self {
             value: refused.value,
             error: match refused.why {

@@ -3,7 +3,7 @@
 
 use crate::kit::alloc::Global;
 use crate::proved::ent_handle::Handle;
-use crate::proved::ent_map::{HandleMap, InsertFault, Uninserted};
+use crate::proved::ent_storage::handle_map::{HandleMap, InsertFault, Uninserted};
 
 // Slot 2 has an early and a late occupant.
 fn early() -> Handle {

@@ -13,7 +13,6 @@
 pub mod ent_alloc;
 pub mod ent_bundle;
 pub mod ent_handle;
-pub mod ent_map;
 pub mod ent_queue;
 pub mod ent_replay;
 pub mod ent_runner;

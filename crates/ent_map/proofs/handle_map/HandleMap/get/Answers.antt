@@ -1,7 +1,0 @@
-use Rattle.std.proofs.Common.{rules}
-use Rattle.std.specs.FinMap as map
-use Rattle.ent_map.proofs.Entries.{get_map}
-use Rattle.ent_map.proofs.handle_map.HandleMap.get.Goals as goal
-
-pub returns : goal.returns
-returns g c = search (rules, get_map)

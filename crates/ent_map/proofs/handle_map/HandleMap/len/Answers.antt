@@ -1,7 +1,0 @@
-use Rattle.std.proofs.Common.{rules}
-use Rattle.std.specs.FinMap as map
-use Rattle.ent_map.proofs.Entries.{len_map}
-use Rattle.ent_map.proofs.handle_map.HandleMap.len.Goals as goal
-
-pub returns : goal.returns
-returns g c = search (rules, len_map)

@@ -1,4 +1,0 @@
-pub mod HandleMap
-pub mod Slots
-pub mod Lends
-pub mod Retained

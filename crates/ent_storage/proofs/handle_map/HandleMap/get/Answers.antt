@@ -1,0 +1,7 @@
+use Rattle.std.proofs.Common.{rules}
+use Rattle.std.specs.FinMap as map
+use Rattle.ent_storage.proofs.Entries.{get_map}
+use Rattle.ent_storage.proofs.handle_map.HandleMap.get.Goals as goal
+
+pub returns : goal.returns
+returns g c = search (rules, get_map)

@@ -1,0 +1,76 @@
+use Rattle.std.proofs.Common.{rules, ◌≡◌, get_or, refl, sym, ap, ◌∙◌, arith}
+use Rattle.std.proofs.lemmas.Grind.{common_steps}
+use Rattle.ent_storage.specs.HandleMap.{HandleMap}
+use Rattle.ent_storage.specs.Slots.{value_under, generation_of, slot_at}
+use Rattle.ent_storage.proofs.Found.{later, no_later, few_values, put-map, put-before, put-counted}
+use Rattle.ent_storage.proofs.handle_map.HandleMap.insert.Goals as goal
+
+pub returns-then-generation-standing-clause-later :
+    goal.returns-then-generation-standing-clause-later
+returns-then-generation-standing-clause-later g c =
+    let h = c.args.handle in
+    let slots = c.self.inside.slots.items in
+    let values = ap (λ (m : HandleMap g.row.T.Denot). m.values) c.self.view_is in
+    let stands : c.generation_in-standing.result ≡ generation_of (slot_at slots h.index) =
+    c.generation_in-standing.ensures
+    ∙ (λ i. generation_of (slot_at (c.deref.ensures.value i) (c.index_of-index.ensures.value i)))
+    in (
+      λ _. later slots _ h values (omega (
+        arith,
+        stands,
+        c.generation.ensures,
+        c.if-generation-standing.true,
+      )),
+      λ _. refl,
+    )
+
+pub returns-in_default-clause-later : goal.returns-in_default-clause-later
+returns-in_default-clause-later g c = grind (arith, common_steps, no_later)
+
+pub overflow_add-self : goal.overflow_add-self
+overflow_add-self g c = search (rules, few_values)
+
+pub invariant_of-self-2 : goal.invariant_of-self-2
+invariant_of-self-2 g c =
+    let all = c.make_slot.new.slots.items in
+    let at = c.index_of-index.result in
+    let was = c.replace-before.ensures.value ∙ c.index_mut.ensures.value
+    ∙ ap (get_or all at) (sym c.replace-before.ensures.value) in
+    put-counted c.self.inside.slots.items all c.args.handle at c.replace-before.result
+    c.replace-before.new.dest c.args.value c.index_of-index.ensures.value c.in-Ok.ensures.ok was
+    (c.replace-before.ensures.after ∙ c.of.ensures) c.self.inside.len c.lacking.result
+    c.self.invariant c.index_of-index.ensures.in_range c.lacking.ensures
+
+pub returns-clause-ok : goal.returns-clause-ok
+returns-clause-ok g c = search (rules, put-map)
+
+pub returns-clause-before : goal.returns-clause-before
+returns-clause-before g c =
+    let all = c.make_slot.new.slots.items in
+    let at = c.index_of-index.result in
+    let was = c.replace-before.ensures.value ∙ c.index_mut.ensures.value
+    ∙ ap (get_or all at) (sym c.replace-before.ensures.value) in
+    c.into_value.ensures
+    ∙ ap (value_under c.replace-before.result) c.generation-2.ensures
+    ∙ put-before c.self.inside.slots.items all c.args.handle at c.replace-before.result
+    c.replace-before.new.dest c.args.value c.index_of-index.ensures.value c.in-Ok.ensures.ok was
+    (c.replace-before.ensures.after ∙ c.of.ensures) _
+    (ap (λ (m : HandleMap g.row.T.Denot). m.values) c.self.view_is)
+
+pub returns-clause-later : goal.returns-clause-later
+returns-clause-later g c =
+    let h = c.args.handle in
+    let slots = c.self.inside.slots.items in
+    let values = ap (λ (m : HandleMap g.row.T.Denot). m.values) c.self.view_is in
+    let stands : c.generation_in-standing.result ≡ generation_of (slot_at slots h.index) =
+    c.generation_in-standing.ensures
+    ∙ (λ i. generation_of (slot_at (c.deref.ensures.value i) (c.index_of-index.ensures.value i)))
+    in (
+      λ e. absurd (cc),
+      λ is. absurd (no_later slots _ h values (omega (
+        arith,
+        stands,
+        c.generation.ensures,
+        c.if-generation-standing.false,
+      )) is),
+    )

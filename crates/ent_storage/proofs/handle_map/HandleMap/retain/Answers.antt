@@ -1,0 +1,7 @@
+use Rattle.std.proofs.Common.{rules}
+use Rattle.std.specs.FinMap as map
+use Rattle.ent_storage.proofs.Entries.{entries_map}
+use Rattle.ent_storage.proofs.handle_map.HandleMap.retain.Goals as goal
+
+pub returns-clause-retained : goal.returns-clause-retained
+returns-clause-retained g c = search (rules, entries_map)

@@ -1,0 +1,26 @@
+use Rattle.std.proofs.Common.{rules, ap, arith}
+use Rattle.std.proofs.lemmas.Grind.{common_steps}
+use Rattle.std.specs.FinMap as map
+use Rattle.ent_storage.specs.HandleMap.{HandleMap}
+use Rattle.ent_storage.proofs.Entries.{map-write}
+use Rattle.ent_storage.proofs.Found.{found, made, got, counted-write, read_of}
+use Rattle.ent_storage.proofs.handle_map.HandleMap.value_mut.Goals as goal
+
+pub index_mut-requires : goal.index_mut-requires
+index_mut-requires g c = grind (arith, common_steps, found, made)
+
+pub value_mut-requires : goal.value_mut-requires
+value_mut-requires g c = search (rules, found, read_of)
+
+pub invariant_of-self-lent : goal.invariant_of-self-lent
+invariant_of-self-lent g c w =
+    let h = c.args.handle in
+    let slots = c.self.inside.slots.items in
+    let values = ap (λ (m : HandleMap g.row.T.Denot). m.values) c.self.view_is in
+    let f = found slots _ h values c.requires in
+    let is = read_of slots h f.0 c.index.result c.index_mut.result.now f.1 c.index.ensures
+    c.index_mut.ensures.value in
+    rw (c.index.ensures, is) (counted-write slots h f.0 w c.self.inside.len f.1 c.self.invariant)
+
+pub returns : goal.returns
+returns g c = grind (arith, common_steps, found, read_of, map-write, made, got)

@@ -1,0 +1,84 @@
+ghost use Rattle.std.specs.Prelude.{◌≡◌, Some, length, IfSome};
+ghost use Rattle.std.specs.Iterator.{YieldsFirstBy, UpTo, item_count};
+ghost use Rattle.std.specs.Iterator.SizeHint.{IsWithinCount};
+
+use crate::handle_map::slot::Slot;
+use ent_handle::Handle;
+use std::marker::Model;
+
+/// The handles and values of a map, by rising slot.
+///
+/// `HandleMap::iter` makes it. It borrows the map and copies nothing.
+#[derive(Drop)]
+pub struct Iter<'a, T> {
+    slots: &'a [Slot<T>],
+    index: usize,
+    left: usize,
+}
+
+impl<'a, T> Model for Iter<'a, T> {
+    ghost use Rattle.std.specs.Prelude.{List};
+    ghost use Rattle.std.specs.Coded.{coded×, coded_list};
+    ghost use Rattle.ent_handle.specs.Handle.{Handle, handle_code};
+
+    ghost Value = { List (Handle × T) };
+
+    ghost coded = { coded_list (coded× handle_code T.code) };
+
+    ghost use Rattle.ent_storage.specs.Slots.{entries_from, AreCounted};
+
+    ghost view = { λ it. entries_from it.index it.slots.now };
+
+    ghost invariant = { λ it. AreCounted it.index it.slots.now it.left };
+}
+
+impl<'a, T> Iter<'a, T> {
+    ghost use Rattle.ent_storage.specs.Slots.{entries_from, AreCounted};
+
+    /// All that the slots have. So many of them have a value.
+    pub(super) fn new(slots: &'a [Slot<T>], left: usize) -> Self
+        requires { AreCounted 0 slots.now left }
+        ensures { result ≡ entries_from 0 slots.now }
+    {
+        Iter {
+            slots,
+            index: 0,
+            left,
+        }
+    }
+}
+
+impl<'a, T> Iterator for Iter<'a, T> {
+    type Item = (Handle, &'a T);
+
+    ghost next_gives = { YieldsFirstBy (λ item. (item.0, item.1.now)) (λ rest. rest) };
+
+    ghost remaining = { item_count (λ rest. rest) };
+
+    fn next(&mut self) -> Option<(Handle, &'a T)> {
+        while let Some((slot, rest)) = self.slots.split_first() {
+            let index = self.index as u32;
+            self.slots = rest;
+            self.index += 1;
+            if let Slot::Occupied { generation, value } = slot {
+                self.left -= 1;
+                return Some((generation.handle(index), value));
+            }
+        }
+        None
+    }
+
+    fn size_hint(&self) -> (usize, Option<usize>)
+        ensures lower { IsWithinCount result.0 (item_count (λ rest. rest) self.now) }
+        ensures upper { IfSome result.1 (UpTo (item_count (λ rest. rest) self.now)) }
+        ensures exact { result ≡ (length self.now, Some (length self.now)) }
+    {
+        (self.left, Some(self.left))
+    }
+}
+
+impl<'a, T> ExactSizeIterator for Iter<'a, T> {
+    fn len(&self) -> usize {
+        self.left
+    }
+}

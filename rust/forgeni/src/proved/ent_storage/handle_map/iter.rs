@@ -1,0 +1,62 @@
+// Made of crates/ent_storage/src/handle_map/iter.rt by rust/erase. It isn't edited by hand.
+
+use crate::proved::ent_storage::handle_map::slot::Slot;
+use crate::proved::ent_handle::Handle;
+
+/// The handles and values of a map, by rising slot.
+///
+/// `HandleMap::iter` makes it. It borrows the map and copies nothing.
+pub struct Iter<'a, T> {
+    slots: &'a [Slot<T>],
+    index: usize,
+    left: usize,
+}
+
+impl<'a, T> Iter<'a, T> {
+    /// All that the slots have. So many of them have a value.
+    #[inline]
+    pub(super) fn new(slots: &'a [Slot<T>], left: usize) -> Self
+        // requires { AreCounted 0 slots.now left }
+        // ensures { result ≡ entries_from 0 slots.now }
+    {
+        Iter {
+            slots,
+            index: 0,
+            left,
+        }
+    }
+}
+
+impl<'a, T> Iterator for Iter<'a, T> {
+    type Item = (Handle, &'a T);
+
+    #[inline]
+    fn next(&mut self) -> Option<(Handle, &'a T)> {
+        while let Some((slot, rest)) = self.slots.split_first() {
+            let index = self.index as u32;
+            self.slots = rest;
+            self.index += 1;
+            if let Slot::Occupied { generation, value } = slot {
+                self.left -= 1;
+                return Some((generation.handle(index), value));
+            }
+        }
+        None
+    }
+
+    #[inline]
+    fn size_hint(&self) -> (usize, Option<usize>)
+        // ensures lower { IsWithinCount result.0 (item_count (λ rest. rest) self.now) }
+        // ensures upper { IfSome result.1 (UpTo (item_count (λ rest. rest) self.now)) }
+        // ensures exact { result ≡ (length self.now, Some (length self.now)) }
+    {
+        (self.left, Some(self.left))
+    }
+}
+
+impl<'a, T> ExactSizeIterator for Iter<'a, T> {
+    #[inline]
+    fn len(&self) -> usize {
+        self.left
+    }
+}

@@ -1,0 +1,148 @@
+// Made of crates/ent_storage/src/handle_map/slot.rt by rust/erase. It isn't edited by hand.
+
+use crate::kit::vec::Vec;
+use crate::proved::ent_storage::handle_map::generation::Generation;
+use crate::proved::ent_handle::Handle;
+use crate::kit::alloc::AllocError;
+
+/// What stands in a slot.
+pub(super) enum Slot<T> {
+    /// No value.
+    Vacant,
+    /// The value of the occupant of that generation.
+    Occupied { generation: Generation, value: T },
+}
+
+impl<T> Slot<T> {
+    /// The slot with the value of a handle.
+    #[inline]
+    pub(super) fn of(handle: Handle, value: T) -> Self
+        // ensures { result ≡ Slot.Occupied handle.generation value }
+    {
+        Slot::Occupied {
+            generation: Generation::of(handle),
+            value,
+        }
+    }
+
+    /// The generation of the occupant that has the value. It is 0 if there is no value.
+    #[inline]
+    pub(super) fn generation(&self) -> u32
+        // ensures { result ≡ generation_of self.now }
+    {
+        match self {
+            Slot::Vacant => 0,
+            Slot::Occupied { generation, .. } => generation.number(),
+        }
+    }
+
+    /// The handle of the occupant that has the value, if the slot is that of the index.
+    #[inline]
+    pub(super) fn handle(&self, index: u32) -> Option<Handle>
+        // requires { index < 2 ^ 32 - 1 }
+        // ensures { result ≡ handle_in self.now index }
+    {
+        match self {
+            Slot::Vacant => None,
+            Slot::Occupied { generation, .. } => Some(generation.handle(index)),
+        }
+    }
+
+    /// How many values it lacks: 1 if there is none.
+    #[inline]
+    pub(super) fn lacking(&self) -> usize
+        // ensures { result + count_at self.now ≡ 1 }
+    {
+        match self {
+            Slot::Vacant => 1,
+            Slot::Occupied { .. } => 0,
+        }
+    }
+
+    /// The value, if it is that of the generation.
+    #[inline]
+    pub(super) fn value(&self, wanted: u32) -> Option<&T>
+        // ensures { option_copied result ≡ value_under self.now wanted }
+    {
+        match self {
+            Slot::Vacant => None,
+            Slot::Occupied { generation, value } => {
+                if generation.number() == wanted {
+                    Some(value)
+                } else {
+                    None
+                }
+            }
+        }
+    }
+}
+
+impl<T> Slot<T> {
+    /// The value, if it is that of the generation. Any other one is dropped.
+    #[inline]
+    pub(super) fn into_value(self, wanted: u32) -> Option<T>
+        // ensures { result ≡ value_under self wanted }
+    {
+        match self {
+            Slot::Vacant => None,
+            Slot::Occupied { generation, value } => {
+                if generation.number() == wanted {
+                    Some(value)
+                } else {
+                    None
+                }
+            }
+        }
+    }
+}
+
+impl<T> Slot<T> {
+    /// The value for writing. There has to be one.
+    #[inline]
+    pub(super) fn value_mut(&mut self) -> &mut T
+        // requires { IsSome (any_value self.old) }
+        // ensures* lends { sem 𝓛 (Lends (the_row T.row) T.row self.entry result
+        //     (λ w. Slot.Occupied (generation_of self.old) w)) }
+        // ensures value { any_value self.old ≡ Some result.now }
+    {
+        match self {
+            Slot::Occupied { value, .. } => value,
+            Slot::Vacant => unreachable!(),
+        }
+    }
+}
+
+/// Makes the slot of an index, and all before it. Those that are new are vacant.
+#[inline]
+pub(super) fn make_slot<T>(slots: &mut Vec<Slot<T>>, index: usize) -> Result<(), AllocError>
+    // requires { index < 2 ^ 32 }
+    // ensures ok { OnOk result (slots.new.items ≡ padded slots.old.items (index + 1)) }
+    // ensures err { OnErr result (slots.new.items ≡ slots.old.items) }
+    // ensures capacity { vec_capacity slots.old ≤ vec_capacity slots.new }
+    // ensures kept { OnErr result (vec_capacity slots.new ≡ vec_capacity slots.old) }
+    // ensures memory { OnErr result (vec_capacity slots.old ≤ index) }
+{
+    if index < slots.len() {
+        return Ok(());
+    }
+    add_slots(slots, index)
+}
+
+/// Makes the slot of an index that lies after all slots, and all before it.
+#[inline(never)]
+fn add_slots<T>(slots: &mut Vec<Slot<T>>, index: usize) -> Result<(), AllocError>
+    // requires beyond { length slots.old.items ≤ index }
+    // requires few { index < 2 ^ 32 }
+    // ensures ok { OnOk result (slots.new.items ≡ padded slots.old.items (index + 1)) }
+    // ensures err { OnErr result (slots.new.items ≡ slots.old.items) }
+    // ensures capacity { vec_capacity slots.old ≤ vec_capacity slots.new }
+    // ensures kept { OnErr result (vec_capacity slots.new ≡ vec_capacity slots.old) }
+    // ensures memory { OnErr result (vec_capacity slots.old ≤ index) }
+{
+    let made = slots.len();
+    slots.reserve(index + 1 - made)?;
+    for _ in made..index + 1 {
+        slots.push_reserved(Slot::Vacant);
+    }
+    Ok(())
+}
