@@ -119,7 +119,7 @@ def scope_of(file):
     for module, names in re.findall(r"use (Rattle[\w.]+)\.\{([^}]*)\}", text):
         for there, here in as_pairs(names):
             scope[here].add(definition(module, there))
-    for path, names in re.findall(r"^use ((?:\w+::)+)(\{[^}]*\}|\w+);", text, re.M):
+    for path, names in re.findall(r"^(?:pub )?use ((?:\w+::)+)(\{[^}]*\}|\w+);", text, re.M):
         crate, *inner = path.split("::")[:-1]
         crate = file.parts[1] if crate == "crate" else crate
         for there, here in as_pairs(names):
