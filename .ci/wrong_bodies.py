@@ -397,7 +397,7 @@ def rounds_of(edits):
         functions = set(edit.functions())
         for group, taken, texts in rounds:
             made = edit.over(texts)
-            if functions and not functions & taken and len(group) < 8 and isinstance(made, dict):
+            if functions and not functions & taken and len(group) < 16 and isinstance(made, dict):
                 group.append(edit)
                 taken.update(functions)
                 texts.update(made)

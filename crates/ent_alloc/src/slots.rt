@@ -157,6 +157,13 @@ impl Slots {
         handle.generation() == 1 && handle.index() - self.made() < count
     }
 
+    /// Whether this occupant is of the last generation, so that nobody comes after it.
+    pub(crate) fn is_last(&self, handle: Handle) -> bool
+        ensures { IsTrue result ↔ (handle.generation ≡ self.now.limits.generations) }
+    {
+        handle.generation() == self.limits.generations()
+    }
+
     /// Keeps a row with an occupant.
     pub(crate) fn set_row(&mut self, handle: Handle, row: u32)
         requires { set.contains self.old.live handle ≡ true }

@@ -196,7 +196,7 @@ impl Entities {
         if !self.slots.is_alive(handle) {
             return Err(FreeFault::NotAlive);
         }
-        if handle.generation() == self.slots.limits().generations() {
+        if self.slots.is_last(handle) {
             self.slots.retire(handle);
             return Ok(Freed { next: None });
         }

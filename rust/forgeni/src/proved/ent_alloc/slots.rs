@@ -144,6 +144,14 @@ impl Slots {
         handle.generation() == 1 && handle.index() - self.made() < count
     }
 
+    /// Whether this occupant is of the last generation, so that nobody comes after it.
+    #[inline]
+    pub(super) fn is_last(&self, handle: Handle) -> bool
+        // ensures { IsTrue result ↔ (handle.generation ≡ self.now.limits.generations) }
+    {
+        handle.generation() == self.limits.generations()
+    }
+
     /// Keeps a row with an occupant.
     #[inline]
     pub(super) fn set_row(&mut self, handle: Handle, row: u32)
