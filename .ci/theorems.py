@@ -87,9 +87,15 @@ def types_of(file):
 
 
 def type_in(crate, path, name):
-    """A type of a crate, in the file that the path names if several have one of that name."""
-    files = sorted((CRATES / crate / "src").rglob("*.rt"), key=lambda it: (it.stem not in path, str(it)))
-    return next((types_of(it)[name] for it in files if name in types_of(it)), None)
+    """A type of a crate, in the file whose modules the path names if several have one of that name."""
+    source = CRATES / crate / "src"
+
+    def rank(file):
+        modules = file.relative_to(source).with_suffix("").parts
+        named = sum(it in path for it in modules)
+        return len(modules) - named, -named, str(file)
+
+    return next((types_of(it)[name] for it in sorted(source.rglob("*.rt"), key=rank) if name in types_of(it)), None)
 
 
 def definition(module, name):

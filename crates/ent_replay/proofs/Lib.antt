@@ -14,3 +14,17 @@ pub mod CallEvents
 pub mod MachineStart
 pub mod Schedules
 pub mod Linear
+pub mod Lists
+pub mod Stops
+pub mod Parting
+pub mod Fronts
+pub mod Orders
+pub mod Sorted
+pub mod Legal
+pub mod KeysOf
+pub mod Complete
+pub mod Lifted
+pub mod Runs
+pub mod Keys
+pub mod WordParts
+pub mod InBrackets

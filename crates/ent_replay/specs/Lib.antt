@@ -5,3 +5,7 @@ pub mod Totals
 pub mod Held
 pub mod Machine
 pub mod Histories
+pub mod Trace
+pub mod Checker
+pub mod Text
+pub mod Words

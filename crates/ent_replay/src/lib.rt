@@ -1,5 +1,5 @@
 //! Schedules of allocator events: their text, the machine that applies them, and the lines that
-//! report their outcomes.
+//! report their outcomes. And recorded traces of an allocator, checked against the proved one.
 #![tactic(auto)]
 
 mod by_caller;
@@ -11,6 +11,7 @@ mod outcome;
 mod read_fault;
 mod reading;
 mod stored_call;
+pub mod trace;
 mod writing;
 
 pub use by_caller::ByCaller;

@@ -4,7 +4,7 @@ use Rattle.std.proofs.lemmas.List.{append-nil}
 use Rattle.std.specs.Io.KnownBytes.{Consumes, IsAtEnd}
 use Rattle.devices.proofs.TakenInSteps.{Consumes-append}
 use Rattle.ent_alloc.specs.Limits.{Limits}
-use Rattle.ent_trace.specs.Text.{lines_of}
+use Rattle.ent_replay.specs.Text.{lines_of}
 use Rattle.tracecheck.specs.Checking.{HasRead}
 use Rattle.tracecheck.specs.Verdict.{MayEnd}
 use Rattle.tracecheck.specs.declared.checking.Checking.{Checking}

@@ -2,10 +2,10 @@
 use Rattle.std.proofs.Common.{rules, ◌≡◌, ℕ, ◌+◌, List, [], ◌∷◌, ◌++◌, length, Option, Some, None}
 use Rattle.std.proofs.Common.{Result, Ok, Err, sym, ap, ◌∙◌, arith}
 use Rattle.std.proofs.lemmas.Grind.{common_steps}
-use Rattle.ent_trace.specs.Checker.{Checked, Follows}
-use Rattle.ent_trace.specs.Text.{line_of, words_of}
-use Rattle.ent_trace.specs.declared.line.Line.{Line}
-use Rattle.ent_trace.specs.declared.read_fault.Cause.{Cause}
+use Rattle.ent_replay.specs.Checker.{Checked, Follows}
+use Rattle.ent_replay.specs.Text.{line_of, words_of}
+use Rattle.ent_replay.specs.declared.trace.line.Line.{Line}
+use Rattle.ent_replay.specs.declared.trace.read_fault.Cause.{Cause}
 use Rattle.tracecheck.specs.Calls.{Refused, calls_from, goes_on}
 use Rattle.tracecheck.specs.Checking.{AllFollow}
 

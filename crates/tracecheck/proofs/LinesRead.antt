@@ -7,7 +7,7 @@ use Rattle.std.proofs.lemmas.List.{append-nil, nil_from_length}
 use Rattle.std.proofs.lemmas.List.Elements.{All-append}
 use Rattle.ent_replay.proofs.ScheduleWords.{parts_whole, parts_first, parts_nonempty}
 use Rattle.ent_alloc.specs.Limits.{Limits}
-use Rattle.ent_trace.specs.Text.{ended, lines_of, without_return}
+use Rattle.ent_replay.specs.Text.{ended, lines_of, without_return}
 use Rattle.tracecheck.specs.Checking.{HasRead, HasTaken}
 use Rattle.tracecheck.specs.declared.checking.Checking.{Checking}
 

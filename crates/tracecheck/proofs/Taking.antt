@@ -5,14 +5,14 @@ use Rattle.std.proofs.lemmas.Grind.{common_steps}
 use Rattle.std.proofs.lemmas.List.{append-nil}
 use Rattle.std.proofs.lemmas.List.Sums.{sum_by_push}
 use Rattle.ent_alloc.specs.Limits.{Limits}
-use Rattle.ent_trace.specs.Checker.{AgreesWith, Follows, IsTooMany, NoneFollows, Shows}
+use Rattle.ent_replay.specs.Checker.{AgreesWith, Follows, IsTooMany, NoneFollows, Shows}
 use Rattle.tracecheck.specs.Verdict.{IsVerdict, StandsAt, agrees, asks_too_many, differs}
 use Rattle.tracecheck.specs.Verdict.{differs_in_all, is_none}
-use Rattle.ent_trace.specs.Trace.{Agrees}
-use Rattle.ent_trace.specs.Text.{line_of, words_of}
-use Rattle.ent_trace.specs.declared.difference.Difference.{Difference}
-use Rattle.ent_trace.specs.declared.line.Line.{Line}
-use Rattle.ent_trace.specs.declared.read_fault.Cause.{Cause}
+use Rattle.ent_replay.specs.Trace.{Agrees}
+use Rattle.ent_replay.specs.Text.{line_of, words_of}
+use Rattle.ent_replay.specs.declared.trace.difference.Difference.{Difference}
+use Rattle.ent_replay.specs.declared.trace.line.Line.{Line}
+use Rattle.ent_replay.specs.declared.trace.read_fault.Cause.{Cause}
 use Rattle.tracecheck.specs.Calls.{Refused, calls_from, goes_on, given_in}
 use Rattle.tracecheck.specs.Checking.{AllFollow, HasTaken, opened}
 use Rattle.tracecheck.specs.declared.checking.Checking.{Checking}

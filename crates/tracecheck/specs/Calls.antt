@@ -1,12 +1,12 @@
 -- The calls of a text, line by line, and how many handles they say were given out.
 use Rattle.std.specs.Prelude.{ℕ, ◌+◌, List, [], ◌∷◌, length, Option, Some, None, Result, Ok, Err}
-use Rattle.ent_trace.specs.Text.{line_of, lines_of, words_of}
-use Rattle.ent_trace.specs.declared.read_fault.Cause.{Cause}
-use Rattle.ent_trace.specs.declared.line.Line.{Line}
-use Rattle.ent_trace.specs.declared.line.Line.TheVariants as line
-use Rattle.ent_trace.specs.declared.reply.AllocReply.TheVariants as alloc
-use Rattle.ent_trace.specs.declared.reply.ReserveReply.{ReserveReply}
-use Rattle.ent_trace.specs.declared.reply.ReserveReply.TheVariants as reserve
+use Rattle.ent_replay.specs.Text.{line_of, lines_of, words_of}
+use Rattle.ent_replay.specs.declared.trace.read_fault.Cause.{Cause}
+use Rattle.ent_replay.specs.declared.trace.line.Line.{Line}
+use Rattle.ent_replay.specs.declared.trace.line.Line.TheVariants as line
+use Rattle.ent_replay.specs.declared.trace.reply.AllocReply.TheVariants as alloc
+use Rattle.ent_replay.specs.declared.trace.reply.ReserveReply.{ReserveReply}
+use Rattle.ent_replay.specs.declared.trace.reply.ReserveReply.TheVariants as reserve
 
 -- the number of a line that is none, and why
 abbrev pub Refused : Type 0

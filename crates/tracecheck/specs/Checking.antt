@@ -3,9 +3,9 @@ use Rattle.std.specs.Prelude.{◌≡◌, ◌≢◌, ℕ, List, [], ◌++◌, len
 use Rattle.std.specs.List.{sum_by}
 use Rattle.ent_alloc.specs.Limits.{Limits}
 use Rattle.ent_alloc.specs.Sequential.{opening}
-use Rattle.ent_trace.specs.Checker.{Checked, AgreesWith}
-use Rattle.ent_trace.specs.Text.{lines_of}
-use Rattle.ent_trace.specs.declared.line.Line.{Line}
+use Rattle.ent_replay.specs.Checker.{Checked, AgreesWith}
+use Rattle.ent_replay.specs.Text.{lines_of}
+use Rattle.ent_replay.specs.declared.trace.line.Line.{Line}
 use Rattle.tracecheck.specs.Calls.{calls_from, given_in}
 use Rattle.tracecheck.specs.declared.checking.Checking.{Checking}
 

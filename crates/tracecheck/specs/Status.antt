@@ -5,7 +5,7 @@ use Rattle.std.specs.declared.io.ErrorKind.TheVariants.{InvalidData, OutOfMemory
 use Rattle.clap.specs.Words.{Text}
 use Rattle.devices.specs.Device.{Writes}
 use Rattle.ent_alloc.specs.Limits.{Limits}
-use Rattle.ent_trace.specs.Text.{lines_of}
+use Rattle.ent_replay.specs.Text.{lines_of}
 use Rattle.tracecheck.specs.CommandLine.{AsksFor}
 use Rattle.tracecheck.specs.Verdict.{IsVerdict, verdict_text}
 use Rattle.tracecheck.specs.declared.status.Status.{Status}

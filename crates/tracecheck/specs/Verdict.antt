@@ -7,15 +7,15 @@ use Rattle.ent_handle.specs.Handle.{Handle}
 use Rattle.ent_handle.specs.Text.{handle_text}
 use Rattle.ent_alloc.specs.Limits.{Limits}
 use Rattle.ent_alloc.specs.Sequential.{opening}
-use Rattle.ent_trace.specs.Checker.{Checked, IsTooMany, Shows}
-use Rattle.ent_trace.specs.Trace.{Agrees}
-use Rattle.ent_trace.specs.Text.{Word, answer_words, cause_text, line_of, line_text, spaced}
-use Rattle.ent_trace.specs.Text.{words_of}
-use Rattle.ent_trace.specs.declared.difference.Difference.{Difference}
-use Rattle.ent_trace.specs.declared.difference.Stop.{Stop}
-use Rattle.ent_trace.specs.declared.difference.Stop.TheVariants as stop
-use Rattle.ent_trace.specs.declared.line.Line.{Line}
-use Rattle.ent_trace.specs.declared.read_fault.Cause.{Cause}
+use Rattle.ent_replay.specs.Checker.{Checked, IsTooMany, Shows}
+use Rattle.ent_replay.specs.Trace.{Agrees}
+use Rattle.ent_replay.specs.Text.{Word, answer_words, cause_text, line_of, line_text, spaced}
+use Rattle.ent_replay.specs.Text.{words_of}
+use Rattle.ent_replay.specs.declared.trace.difference.Difference.{Difference}
+use Rattle.ent_replay.specs.declared.trace.difference.Stop.{Stop}
+use Rattle.ent_replay.specs.declared.trace.difference.Stop.TheVariants as stop
+use Rattle.ent_replay.specs.declared.trace.line.Line.{Line}
+use Rattle.ent_replay.specs.declared.trace.read_fault.Cause.{Cause}
 use Rattle.tracecheck.specs.Calls.{calls_from, given_in}
 use Rattle.tracecheck.specs.Checking.{AllFollow, opened}
 use Rattle.tracecheck.specs.declared.checking.End.{End}

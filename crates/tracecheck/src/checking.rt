@@ -2,8 +2,8 @@
 ghost use Rattle.std.specs.Prelude.{◌≡◌, ◌∷◌, ◌++◌, ◌+◌, [], length, List, ℕ, IfOk, IfErr};
 ghost use Rattle.std.specs.Prelude.{Some, Ok};
 ghost use Rattle.ent_alloc.specs.Limits.{Limits as LimitsValue};
-ghost use Rattle.ent_trace.specs.Text.{line_of, words_of};
-ghost use Rattle.ent_trace.specs.declared.line.Line.{Line as LineValue};
+ghost use Rattle.ent_replay.specs.Text.{line_of, words_of};
+ghost use Rattle.ent_replay.specs.declared.trace.line.Line.{Line as LineValue};
 ghost use Rattle.tracecheck.specs.Calls.{given_in, listed_in};
 ghost use Rattle.tracecheck.specs.Checking.{HasTaken};
 ghost use Rattle.tracecheck.specs.Verdict.{MayEnd, end_of};
@@ -11,7 +11,7 @@ ghost use Rattle.tracecheck.specs.declared.checking.End.TheVariants.{Memory as E
 
 use crate::verdict::{Refusal, Verdict};
 use ent_alloc::Limits;
-use ent_trace::{AllocReply, Checker, Line, ReadFault, ReserveReply, Stop, read_line};
+use ent_replay::trace::{AllocReply, Checker, Line, ReadFault, ReserveReply, Stop, read_line};
 use std::alloc::{AllocError, Global};
 
 /// Why the lines of a trace are not taken any further.

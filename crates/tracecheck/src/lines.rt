@@ -1,7 +1,7 @@
 //! Pieces of a text, cut into lines.
 ghost use Rattle.std.specs.Prelude.{◌≡◌, ◌≢◌, ◌∷◌, ◌++◌, [], List, ℕ, All, IfOk, IfErr};
 ghost use Rattle.ent_alloc.specs.Limits.{Limits as LimitsValue};
-ghost use Rattle.ent_trace.specs.Text.{lines_of, without_return};
+ghost use Rattle.ent_replay.specs.Text.{lines_of, without_return};
 ghost use Rattle.tracecheck.specs.Checking.{HasRead};
 ghost use Rattle.tracecheck.specs.Verdict.{MayEnd};
 

@@ -2,7 +2,7 @@
 ghost use Rattle.std.specs.Prelude.{◌≡◌, ◌≢◌, ◌+◌, ◌⊎◌, false, IfOk, IfSome, OnOk, OnErr};
 ghost use Rattle.std.specs.Io.KnownBytes.{Appends};
 ghost use Rattle.devices.specs.Device.{OneFails, Writes};
-ghost use Rattle.ent_trace.specs.Text.{lines_of};
+ghost use Rattle.ent_replay.specs.Text.{lines_of};
 ghost use Rattle.tracecheck.specs.Status.{IsSaidOf, status_of};
 ghost use Rattle.tracecheck.specs.Verdict.{MayEnd, verdict_text};
 

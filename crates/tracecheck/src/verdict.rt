@@ -1,11 +1,11 @@
 //! What is said of a trace.
 ghost use Rattle.std.specs.Prelude.{◌≡◌, ◌++◌, codes, IfOk, OnOk};
-ghost use Rattle.ent_trace.specs.Text.{spaced};
+ghost use Rattle.ent_replay.specs.Text.{spaced};
 ghost use Rattle.tracecheck.specs.Verdict.{difference_text, pool_words, refusal_text};
 ghost use Rattle.tracecheck.specs.Verdict.{state_text, verdict_text};
 
 use ent_handle::{Handle, Memory};
-use ent_trace::{Cause, Difference, append_answer, append_handles, write_line};
+use ent_replay::trace::{Cause, Difference, append_answer, append_handles, write_line};
 use std::alloc::Global;
 
 // A difference shows at most this many handles of a pool.

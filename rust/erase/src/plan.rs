@@ -14,7 +14,7 @@ use std::fs;
 use std::path::{Path, PathBuf};
 
 /// The crates that the package's face calls. They are erased with all that they stand on.
-const TOPS: &[&str] = &["ent_runner", "ent_total", "ent_trace"];
+const TOPS: &[&str] = &["ent_replay", "ent_runner", "ent_total"];
 
 /// The tests of those crates.
 const TESTS: &[&str] = &["cases_and_examples", "ent_tests"];

@@ -19,5 +19,4 @@ pub mod ent_runner;
 pub mod ent_shared;
 pub mod ent_storage;
 pub mod ent_total;
-pub mod ent_trace;
 pub mod ent_world;

@@ -4,7 +4,7 @@ use super::call::Call;
 use super::line::list;
 use crate::errors::OutOfMemory;
 use crate::handle::Handle;
-use crate::proved::ent_trace::{self, Stop};
+use crate::proved::ent_replay::trace::{self, Stop};
 use alloc::vec::Vec;
 use core::error::Error;
 use core::fmt;
@@ -29,7 +29,7 @@ pub struct Difference {
 }
 
 impl Difference {
-    fn of(difference: ent_trace::Difference) -> Self {
+    fn of(difference: trace::Difference) -> Self {
         Self {
             line: difference.number,
             told: Call::of(difference.told),

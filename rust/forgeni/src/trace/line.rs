@@ -9,8 +9,8 @@ use crate::kit::alloc::Global;
 use crate::kit::vec::Vec as List;
 use crate::limits::Limits;
 use crate::lists::all_handles;
+use crate::proved::ent_replay::trace::{self, Line};
 use crate::proved::ent_replay::HandleList;
-use crate::proved::ent_trace::{self, Line};
 use crate::proved::{ent_alloc, ent_handle};
 use alloc::vec::Vec;
 
@@ -26,7 +26,7 @@ impl Call {
             Self::Alloc(reply) => Line::Alloc(reply.proved()),
             Self::Free(handle, reply) => Line::Free(handle.proved(), reply.proved()),
             Self::Flush(reply) => Line::Flush(reply.proved()?),
-            Self::Reserve(reservation) => Line::Reserve(ent_trace::Reservation {
+            Self::Reserve(reservation) => Line::Reserve(trace::Reservation {
                 number,
                 caller: reservation.caller,
                 requested: reservation.requested,
@@ -60,78 +60,78 @@ impl Call {
 }
 
 impl AllocReply {
-    fn proved(self) -> Option<ent_trace::AllocReply> {
+    fn proved(self) -> Option<trace::AllocReply> {
         match self {
-            Self::Handle(handle) => Some(ent_trace::AllocReply::Handle(handle.proved())),
-            Self::Space => Some(ent_trace::AllocReply::Space),
-            Self::NeedsFlush => Some(ent_trace::AllocReply::NeedsFlush),
+            Self::Handle(handle) => Some(trace::AllocReply::Handle(handle.proved())),
+            Self::Space => Some(trace::AllocReply::Space),
+            Self::NeedsFlush => Some(trace::AllocReply::NeedsFlush),
             Self::Untold => None,
         }
     }
 
-    fn of(reply: ent_trace::AllocReply) -> Self {
+    fn of(reply: trace::AllocReply) -> Self {
         match reply {
-            ent_trace::AllocReply::Handle(handle) => Self::Handle(Handle::of(handle)),
-            ent_trace::AllocReply::Space => Self::Space,
-            ent_trace::AllocReply::NeedsFlush => Self::NeedsFlush,
+            trace::AllocReply::Handle(handle) => Self::Handle(Handle::of(handle)),
+            trace::AllocReply::Space => Self::Space,
+            trace::AllocReply::NeedsFlush => Self::NeedsFlush,
         }
     }
 }
 
 impl FreeReply {
-    fn proved(self) -> Option<ent_trace::FreeReply> {
+    fn proved(self) -> Option<trace::FreeReply> {
         match self {
-            Self::Freed => Some(ent_trace::FreeReply::Freed),
-            Self::Next(handle) => Some(ent_trace::FreeReply::Next(handle.proved())),
-            Self::Retired => Some(ent_trace::FreeReply::Retired),
-            Self::NotAlive => Some(ent_trace::FreeReply::NotAlive),
-            Self::NeedsFlush => Some(ent_trace::FreeReply::NeedsFlush),
+            Self::Freed => Some(trace::FreeReply::Freed),
+            Self::Next(handle) => Some(trace::FreeReply::Next(handle.proved())),
+            Self::Retired => Some(trace::FreeReply::Retired),
+            Self::NotAlive => Some(trace::FreeReply::NotAlive),
+            Self::NeedsFlush => Some(trace::FreeReply::NeedsFlush),
             Self::Untold => None,
         }
     }
 
-    fn of(reply: ent_trace::FreeReply) -> Self {
+    fn of(reply: trace::FreeReply) -> Self {
         match reply {
-            ent_trace::FreeReply::Freed => Self::Freed,
-            ent_trace::FreeReply::Next(handle) => Self::Next(Handle::of(handle)),
-            ent_trace::FreeReply::Retired => Self::Retired,
-            ent_trace::FreeReply::NotAlive => Self::NotAlive,
-            ent_trace::FreeReply::NeedsFlush => Self::NeedsFlush,
+            trace::FreeReply::Freed => Self::Freed,
+            trace::FreeReply::Next(handle) => Self::Next(Handle::of(handle)),
+            trace::FreeReply::Retired => Self::Retired,
+            trace::FreeReply::NotAlive => Self::NotAlive,
+            trace::FreeReply::NeedsFlush => Self::NeedsFlush,
         }
     }
 }
 
 impl FlushReply {
-    fn proved(&self) -> Result<Option<ent_trace::FlushReply>, OutOfMemory> {
+    fn proved(&self) -> Result<Option<trace::FlushReply>, OutOfMemory> {
         Ok(match self {
-            Self::Born(handles) => Some(ent_trace::FlushReply::Born(proved_list(handles)?)),
-            Self::Count(count) => Some(ent_trace::FlushReply::Count(*count)),
+            Self::Born(handles) => Some(trace::FlushReply::Born(proved_list(handles)?)),
+            Self::Count(count) => Some(trace::FlushReply::Count(*count)),
             Self::Untold => None,
         })
     }
 
-    fn of(reply: ent_trace::FlushReply) -> Self {
+    fn of(reply: trace::FlushReply) -> Self {
         match reply {
-            ent_trace::FlushReply::Born(handles) => Self::Born(list(handles)),
-            ent_trace::FlushReply::Count(count) => Self::Count(count),
+            trace::FlushReply::Born(handles) => Self::Born(list(handles)),
+            trace::FlushReply::Count(count) => Self::Count(count),
         }
     }
 }
 
 impl ReserveReply {
-    fn proved(&self) -> Result<ent_trace::ReserveReply, OutOfMemory> {
+    fn proved(&self) -> Result<trace::ReserveReply, OutOfMemory> {
         Ok(match self {
-            Self::Handles(handles) => ent_trace::ReserveReply::Handles(proved_list(handles)?),
-            Self::Space => ent_trace::ReserveReply::Space,
-            Self::SpaceLeft(left) => ent_trace::ReserveReply::SpaceLeft(*left),
+            Self::Handles(handles) => trace::ReserveReply::Handles(proved_list(handles)?),
+            Self::Space => trace::ReserveReply::Space,
+            Self::SpaceLeft(left) => trace::ReserveReply::SpaceLeft(*left),
         })
     }
 
-    fn of(reply: ent_trace::ReserveReply) -> Self {
+    fn of(reply: trace::ReserveReply) -> Self {
         match reply {
-            ent_trace::ReserveReply::Handles(handles) => Self::Handles(list(handles)),
-            ent_trace::ReserveReply::Space => Self::Space,
-            ent_trace::ReserveReply::SpaceLeft(left) => Self::SpaceLeft(left),
+            trace::ReserveReply::Handles(handles) => Self::Handles(list(handles)),
+            trace::ReserveReply::Space => Self::Space,
+            trace::ReserveReply::SpaceLeft(left) => Self::SpaceLeft(left),
         }
     }
 }

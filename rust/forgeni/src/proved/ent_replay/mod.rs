@@ -1,7 +1,7 @@
 // Made of crates/ent_replay/src/lib.rt by rust/erase. It isn't edited by hand.
 
 //! Schedules of allocator events: their text, the machine that applies them, and the lines that
-//! report their outcomes.
+//! report their outcomes. And recorded traces of an allocator, checked against the proved one.
 
 mod by_caller;
 mod event;
@@ -12,6 +12,7 @@ mod outcome;
 mod read_fault;
 mod reading;
 mod stored_call;
+pub mod trace;
 mod writing;
 
 pub use by_caller::ByCaller;

@@ -1,0 +1,236 @@
+-- Orders of the lines of a run as orders of its reservations with their keys, and without those for
+-- nothing.
+use Rattle.std.proofs.Common.{rules, ◌≡◌, ℕ, ◌+◌, ◌<◌, ◌≤◌, Bool, true, false, cond, List, [], ◌∷◌}
+use Rattle.std.proofs.Common.{◌++◌, filter, Ok, refl, sym, ap, subst, ◌∙◌, arith, inl, inr}
+use Rattle.std.specs.List.{AllByRecursion}
+use Rattle.std.proofs.lemmas.Bool.{cases_eq}
+use Rattle.std.proofs.lemmas.List.Elements.{filter-append}
+use Rattle.std.proofs.lemmas.List.Sums.{sum_by-cons}
+use Rattle.ent_handle.specs.Handle.{Handle}
+use Rattle.ent_alloc.specs.Sequential.{Allocator, available}
+use Rattle.ent_alloc.specs.Sound.{IsSound}
+use Rattle.ent_replay.specs.declared.trace.line.Line.{Line}
+use Rattle.ent_replay.specs.declared.trace.line.Line.TheVariants as line
+use Rattle.ent_replay.specs.declared.trace.reply.ReserveReply.{ReserveReply}
+use Rattle.ent_replay.specs.declared.trace.placed.Placed.{Placed}
+use Rattle.ent_replay.specs.Trace.{MayPass, IsOrderOf, FitsReserved, AreAnswered, after_lines}
+use Rattle.ent_replay.specs.Checker.{KeyOf, AreKeyed, raised, reservations_of, requested_in}
+use Rattle.ent_replay.proofs.Sorted.{lines, tie, IsRising, TieAlike}
+use Rattle.ent_replay.proofs.Legal.{asks, asks_some, some_or_none, kept, left_out, total}
+use Rattle.ent_replay.proofs.Legal.{FitsNothing, Answers-some, after-some, nothing-fits}
+use Rattle.ent_replay.proofs.Legal.{Answers-from_some}
+use Rattle.ent_replay.proofs.KeysOf.{IsOfOther, raised_own, raised_other}
+use Rattle.ent_replay.proofs.Complete.{IsPlacedOrder, all_unordered, all_alike, sorted_is}
+
+-- ---- with their keys
+
+record Unmapped (run : List Placed) (before after : List Line) (c : Line) : Type 0 where
+  first : List Placed
+  rest : List Placed
+  placed : Placed
+  is : run ≡ first ++ placed ∷ rest
+  before_is : lines first ≡ before
+  placed_is : line.Reserve placed.reservation ≡ c
+  after_is : lines rest ≡ after
+
+unmapped : (run : List Placed) (before after : List Line) (c : Line)
+    → lines run ≡ before ++ c ∷ after → Unmapped run before after c
+unmapped [] [] after c e = absurd (let no : [] ≡ c ∷ after = e in cc)
+unmapped [] (b ∷ before) after c e = absurd (let no : [] ≡ b ∷ (before ++ c ∷ after) = e in cc)
+unmapped (p ∷ run) [] after c e =
+    let one : line.Reserve p.reservation ≡ c = cc in
+    let others : lines run ≡ after = cc in
+    record {
+      first = [];
+      rest = run;
+      placed = p;
+      is = refl;
+      before_is = refl;
+      placed_is = one;
+      after_is = others;
+    }
+unmapped (p ∷ run) (b ∷ before) after c e =
+    let one : line.Reserve p.reservation ≡ b = cc in
+    let others : lines run ≡ before ++ c ∷ after = cc in
+    let u = unmapped run before after c others in
+    record {
+      first = p ∷ u.first;
+      rest = u.rest;
+      placed = u.placed;
+      is = ap (λ ps. p ∷ ps) u.is;
+      before_is = λ i. one i ∷ u.before_is i;
+      placed_is = u.placed_is;
+      after_is = u.after_is;
+    }
+
+lines_append : (xs ys : List Placed) → lines (xs ++ ys) ≡ lines xs ++ lines ys
+lines_append [] ys = refl
+lines_append (x ∷ xs) ys = search (rules, lines_append xs ys)
+
+others_of : (p : Placed) (before : List Placed)
+    → AllByRecursion (MayPass (line.Reserve p.reservation)) (lines before)
+    → AllByRecursion (IsOfOther p) before
+others_of p [] all = tt
+others_of p (b ∷ before) all = (all.0, others_of p before all.1)
+
+pub record Lifted (run : List Placed) (order : List Line) : Type 0 where
+  pub placed : List Placed
+  pub is : order ≡ lines placed
+  pub is_order : IsPlacedOrder run placed
+
+pub lifted : (order : List Line) (run : List Placed) → IsOrderOf (lines run) order
+    → Lifted run order
+lifted [] [] is = record { placed = []; is = refl; is_order = refl }
+lifted [] (p ∷ run) is = absurd (let no : line.Reserve p.reservation ∷ lines run ≡ [] = is in cc)
+lifted (c ∷ order) run (before, after, parts, passes, more) =
+    let u = unmapped run before after c parts in
+    let same : before ++ after ≡ lines (u.first ++ u.rest) =
+    (λ i. sym u.before_is i ++ sym u.after_is i) ∙ sym (lines_append u.first u.rest) in
+    let next = lifted order (u.first ++ u.rest)
+    (subst (λ (ls : List Line). IsOrderOf ls order) same more) in
+    let here = subst (λ (ls : List Line).
+    AllByRecursion (MayPass (line.Reserve u.placed.reservation)) ls) (sym u.before_is)
+    (subst (λ (l : Line). AllByRecursion (MayPass l) before) (sym u.placed_is) passes) in
+    record {
+      placed = u.placed ∷ next.placed;
+      is = λ i. sym u.placed_is i ∷ next.is i;
+      is_order = (u.first, u.rest, u.is, others_of u.placed u.first here, next.is_order);
+    }
+
+-- ---- without those for nothing
+
+all_filtered : (P : Placed → Type 0) (p : Placed → Bool) (xs : List Placed) → AllByRecursion P xs
+    → AllByRecursion P (filter p xs)
+all_filtered P p [] all = tt
+all_filtered P p (x ∷ xs) all = go (all_filtered P p xs all.1) (p x)
+  where
+    go : AllByRecursion P (filter p xs) → (b : Bool)
+        → AllByRecursion P (cond b (x ∷ filter p xs) (filter p xs))
+    go rest true = (all.0, rest)
+    go rest false = rest
+
+rising_filtered : (p : Placed → Bool) (xs : List Placed) → IsRising xs → IsRising (filter p xs)
+rising_filtered p [] up = tt
+rising_filtered p (x ∷ xs) up = go (rising_filtered p xs up.1) (p x)
+  where
+    go : IsRising (filter p xs) → (b : Bool) → IsRising (cond b (x ∷ filter p xs) (filter p xs))
+    go rest true = (all_filtered (λ (q : Placed). x.key ≤ q.key) p xs up.0, rest)
+    go rest false = rest
+
+swap_filters : (p q : Placed → Bool) (xs : List Placed)
+    → filter p (filter q xs) ≡ filter q (filter p xs)
+swap_filters p q [] = refl
+swap_filters p q (x ∷ xs) = swap_with (swap_filters p q xs) (p x) (q x) refl refl
+  where
+    with_p : (b : Bool) → p x ≡ b → (ys : List Placed)
+        → filter p (x ∷ ys) ≡ cond b (x ∷ filter p ys) (filter p ys)
+    with_p b is ys = ap (λ v. cond v (x ∷ filter p ys) (filter p ys)) is
+
+    with_q : (b : Bool) → q x ≡ b → (ys : List Placed)
+        → filter q (x ∷ ys) ≡ cond b (x ∷ filter q ys) (filter q ys)
+    with_q b is ys = ap (λ v. cond v (x ∷ filter q ys) (filter q ys)) is
+
+    swap_with : filter p (filter q xs) ≡ filter q (filter p xs) → (a b : Bool) → p x ≡ a
+        → q x ≡ b → filter p (filter q (x ∷ xs)) ≡ filter q (filter p (x ∷ xs))
+    swap_with rest true true is_a is_b =
+        ap (filter p) (with_q true is_b xs) ∙ with_p true is_a (filter q xs)
+        ∙ ap (λ ps. x ∷ ps) rest ∙ sym (with_q true is_b (filter p xs))
+        ∙ sym (ap (filter q) (with_p true is_a xs))
+    swap_with rest true false is_a is_b =
+        ap (filter p) (with_q false is_b xs) ∙ rest ∙ sym (with_q false is_b (filter p xs))
+        ∙ sym (ap (filter q) (with_p true is_a xs))
+    swap_with rest false true is_a is_b =
+        ap (filter p) (with_q true is_b xs) ∙ with_p false is_a (filter q xs) ∙ rest
+        ∙ sym (ap (filter q) (with_p false is_a xs))
+    swap_with rest false false is_a is_b =
+        ap (filter p) (with_q false is_b xs) ∙ rest ∙ sym (ap (filter q) (with_p false is_a xs))
+
+alike_filtered : (p : Placed → Bool) (sorted run : List Placed) → TieAlike sorted run
+    → TieAlike (filter p sorted) (filter p run)
+alike_filtered p sorted run alike x = search (rules, swap_filters, tie)
+
+pub order_filtered : (order run : List Placed) → IsPlacedOrder run order
+    → IsPlacedOrder (filter asks_some run) (filter asks_some order)
+order_filtered [] run none = ap (filter asks_some) none
+order_filtered (p ∷ order) run (before, after, parts, others, more) =
+    let rest = order_filtered order (before ++ after) more in
+    let joined = filter-append asks_some before after in
+    let split_here = ap (filter asks_some) parts ∙ filter-append asks_some before (p ∷ after) in
+    elim (some_or_none (asks p)) [
+      | inl some ↦ search (rules, IsPlacedOrder, asks_some, kept, all_filtered, IsOfOther)
+      | inr none ↦ search (rules, IsPlacedOrder, asks_some, left_out)
+    ]
+
+nothing_key : (given : List Handle) (n own : ℕ) (reply : ReserveReply) → FitsReserved reply (Ok [])
+    → KeyOf given n reply own → own ≡ 0
+nothing_key given n own told fits key = search rules
+
+not_raised : (f : ℕ → ℕ) (p : Placed) → p.key ≡ f p.reservation.caller → raised f p ≡ f
+not_raised f p same = λ i q. each q i
+  where
+    each : (q : ℕ) → raised f p q ≡ f q
+    each q = elim (cases_eq q p.reservation.caller) [
+      | inl own ↦ raised_own f p q own ∙ same ∙ ap f (sym own)
+      | inr other ↦ raised_other f p q other
+    ]
+
+pub keyed_filtered : (given : List Handle) (f : ℕ → ℕ) (run : List Placed) → AreKeyed given f run
+    → AllByRecursion FitsNothing run → AreKeyed given f (filter asks_some run)
+keyed_filtered given f [] keyed fits = tt
+keyed_filtered given f (p ∷ run) keyed fits = elim (some_or_none (asks p)) [
+  | inl some ↦ subst (AreKeyed given f) (sym (kept p run some.0))
+      (keyed.0, keyed_filtered given (raised f p) run keyed.1 fits.1)
+  | inr none ↦
+      let key = keyed.0 in
+      let zero_own = nothing_key given (asks p) key.own p.reservation.reply (fits.0 none.1)
+      key.key_of in
+      search (rules, left_out, asks_some, not_raised, keyed_filtered given (raised f p) run keyed.1 fits.1)
+]
+
+total_filtered : (run : List Placed) → total (filter asks_some run) ≡ total run
+total_filtered [] = refl
+total_filtered (p ∷ run) = search
+    (rules, some_or_none, asks, total, kept, left_out, total_filtered run)
+
+total_append : (xs ys : List Placed) → total (xs ++ ys) ≡ total xs + total ys
+total_append [] ys = omega arith
+total_append (x ∷ xs) ys = let rest = total_append xs ys in omega arith
+
+total_ordered : (order run : List Placed) → IsPlacedOrder run order → total order ≡ total run
+total_ordered [] run none = ap total (sym none)
+total_ordered (p ∷ order) run (before, after, parts, others, more) =
+    search (rules, total_append, total, total_ordered order (before ++ after) more)
+
+pub total_is : (run : List Placed) → total run ≡ requested_in (reservations_of run)
+total_is [] = refl
+total_is (p ∷ run) = search (rules, sum_by-cons, total_is run)
+
+some_filtered : (run : List Placed) → AllByRecursion (λ p. 0 < asks p) (filter asks_some run)
+some_filtered [] = tt
+some_filtered (p ∷ run) = search (rules, some_filtered run)
+
+-- If any order of a run is answered so, the sorted one is, and leaves the same state.
+pub sorted_run : (s : Allocator) (sorted run : List Placed) (order : List Line) → IsSound s
+    → AreKeyed (available s) (λ _. 0) run → IsRising sorted → TieAlike sorted run
+    → requested_in (reservations_of sorted) ≡ requested_in (reservations_of run)
+    → IsOrderOf (lines run) order → AreAnswered s order
+    → AreAnswered s (lines sorted) × (after_lines s order ≡ after_lines s (lines sorted))
+sorted_run s sorted run order sound keyed up alike sum is answered =
+    let l = lifted order run is in
+    let order_yes = subst (AreAnswered s) l.is answered in
+    let fits_order = nothing-fits l.placed s order_yes in
+    let fits_run = all_unordered FitsNothing run l.placed l.is_order fits_order in
+    let fits_sorted = all_alike FitsNothing sorted run alike fits_run in
+    let some = filter asks_some in
+    let sums : total (some sorted) ≡ total (some l.placed) =
+    total_filtered sorted ∙ total_is sorted ∙ sum ∙ sym (total_is run)
+    ∙ sym (total_ordered l.placed run l.is_order) ∙ sym (total_filtered l.placed) in
+    let ends = sorted_is (available s) (some l.placed) (some sorted) (some run) s (λ _. 0) sound
+    refl
+    (λ q. (omega arith, omega arith)) (keyed_filtered (available s) (λ _. 0) run keyed fits_run)
+    (order_filtered l.placed run l.is_order) (some_filtered l.placed)
+    (Answers-some l.placed s order_yes) (rising_filtered asks_some sorted up)
+    (alike_filtered asks_some sorted run alike) sums in (
+      Answers-from_some sorted s fits_sorted ends.0,
+      ap (after_lines s) l.is ∙ after-some l.placed s ∙ ends.1 ∙ sym (after-some sorted s),
+    )

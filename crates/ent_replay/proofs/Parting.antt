@@ -1,0 +1,97 @@
+-- An order of lines of which one overlaps nothing: an order of those before it, that line, and an
+-- order of those after it.
+use Rattle.std.proofs.lemmas.Grind.{common_steps}
+use Rattle.std.proofs.Common.{rules, arith, ◌≡◌, List, [], ◌∷◌, ◌++◌, refl, sym, ap, subst, ◌⊎◌}
+use Rattle.std.proofs.Common.{inl, inr}
+use Rattle.std.specs.List.{AllByRecursion}
+use Rattle.std.proofs.lemmas.List.{append_assoc}
+use Rattle.ent_replay.specs.declared.trace.line.Line.{Line}
+use Rattle.ent_replay.specs.declared.trace.line.Line.TheVariants as line
+use Rattle.ent_replay.specs.declared.trace.line.Reservation.{Reservation}
+use Rattle.ent_replay.specs.Trace.{MayPass, IsAlone, IsOrderOf}
+use Rattle.ent_replay.specs.Checker.{reserve_lines}
+use Rattle.ent_replay.proofs.Lists.{all_at, all_without}
+
+abbrev pub IsReserve : Line → Type 0
+IsReserve (line.Reserve r) = Unit {0}
+IsReserve other = ⊥
+
+pub all_reserve : (run : List Reservation) → AllByRecursion IsReserve (reserve_lines run)
+all_reserve [] = tt
+all_reserve (r ∷ run) = (tt, all_reserve run)
+
+-- where an element stands in a list that another one parts
+module _ {X : Type 0} where
+  pub record InFront (front rest before after : List X) (x l : X) : Type 0 where
+    pub more : List X
+    pub front_is : front ≡ before ++ l ∷ more
+    pub after_is : after ≡ more ++ x ∷ rest
+
+  pub record Itself (front rest before after : List X) (x l : X) : Type 0 where
+    pub before_is : before ≡ front
+    pub is : l ≡ x
+    pub after_is : after ≡ rest
+
+  pub record Behind (front rest before after : List X) (x l : X) : Type 0 where
+    pub more : List X
+    pub before_is : before ≡ front ++ x ∷ more
+    pub rest_is : rest ≡ more ++ l ∷ after
+
+  pub parted : (front rest before after : List X) (x l : X)
+      → front ++ x ∷ rest ≡ before ++ l ∷ after → InFront front rest before after x l
+      ⊎ (Itself front rest before after x l ⊎ Behind front rest before after x l)
+  parted [] rest [] after x l e =
+      let first : x ≡ l = cc in
+      let others : rest ≡ after = cc in
+      inr (inl (record { before_is = refl; is = sym first; after_is = sym others }))
+  parted [] rest (b ∷ before) after x l e = search rules
+  parted (f ∷ front) rest [] after x l e =
+      let first : f ≡ l = cc in
+      let others : front ++ x ∷ rest ≡ after = cc in
+      inl (record { more = front; front_is = ap (λ y. y ∷ front) first; after_is = sym others })
+  parted (f ∷ front) rest (b ∷ before) after x l e =
+      let first : f ≡ b = cc in
+      let others : front ++ x ∷ rest ≡ before ++ l ∷ after = cc in
+      grind (arith, common_steps, parted front rest before after x l others)
+
+  no_middle : (front rest : List X) (x : X) → front ++ x ∷ rest ≡ [] → ⊥
+  no_middle [] rest x e = cc
+  no_middle (f ∷ front) rest x e = cc
+
+not_passed : (l x : Line) → IsAlone x → MayPass l x → ⊥
+not_passed l other alone p = search rules
+
+none_before : (x : Line) (front : List Line) → IsAlone x → AllByRecursion (MayPass x) front
+    → front ≡ []
+none_before x [] alone all = refl
+none_before x (y ∷ front) alone all = absurd (grind (arith, common_steps))
+
+pub record Parts (front rest order : List Line) (x : Line) : Type 0 where
+  pub first : List Line
+  pub second : List Line
+  pub is : order ≡ first ++ x ∷ second
+  pub first_is : IsOrderOf front first
+  pub second_is : IsOrderOf rest second
+
+pub parts : (front rest : List Line) (x : Line) (order : List Line) → AllByRecursion IsReserve front
+    → IsAlone x → IsOrderOf (front ++ x ∷ rest) order → Parts front rest order x
+parts front rest x [] reserves alone e = absurd (no_middle front rest x e)
+parts front rest x (l ∷ order) reserves alone (before, after, is, passes, more) =
+    elim (parted front rest before after x l is) [
+      | inl p ↦
+          let here = subst (λ (ls : List Line). IsOrderOf ls order)
+          (grind (arith, common_steps, append_assoc)) more in
+          let left = all_without IsReserve before p.more l
+          (subst (AllByRecursion IsReserve) p.front_is reserves) in
+          let next = parts (before ++ p.more) rest x order left alone here in
+          record {
+            first = l ∷ next.first;
+            second = next.second;
+            is = ap (λ (ls : List Line). l ∷ ls) next.is;
+            first_is = (before, p.more, p.front_is, passes, next.first_is);
+            second_is = next.second_is;
+          }
+      | inr (inl p) ↦ search (rules, none_before)
+      | inr (inr p) ↦ absurd (not_passed l x alone (all_at (MayPass l) front p.more x
+          (subst (AllByRecursion (MayPass l)) p.before_is passes)))
+    ]

@@ -1,0 +1,185 @@
+-- A sorted run is in an order that its reservations may have come in: a stable sort by keys that don't
+-- fall along a caller keeps each caller's order.
+use Rattle.std.proofs.Common.{rules, ◌≡◌, ℕ, suc, ◌≤◌, Bool, true, false, not, ◌&&◌, cond, nat_lt}
+use Rattle.std.proofs.Common.{List, [], ◌∷◌, ◌++◌, filter, All, refl, sym, ap, subst, ◌∙◌, arith}
+use Rattle.std.proofs.Common.{true≢false}
+use Rattle.std.proofs.lemmas.Grind.{common_steps}
+use Rattle.std.specs.List.{AllByRecursion}
+use Rattle.std.specs.List.Sorted.{ties, IsNonDecreasingBy}
+use Rattle.std.specs.Ordering.{nat_cmp, is_lt}
+use Rattle.std.specs.declared.cmp.Ordering.TheVariants.{Less, Equal, Greater}
+use Rattle.std.proofs.lemmas.Bool.{le-ltb}
+use Rattle.std.proofs.lemmas.List.Elements.{All-head, All-tail, All-cons, All-filter, filter-append}
+use Rattle.std.proofs.lemmas.List.Elements.{All-from_recursion, recursion_from_All}
+use Rattle.ent_replay.specs.declared.trace.line.Line.{Line}
+use Rattle.ent_replay.specs.declared.trace.line.Line.TheVariants as line
+use Rattle.ent_replay.specs.declared.trace.placed.Placed.{Placed}
+use Rattle.ent_replay.specs.Trace.{MayPass, IsOrderOf}
+use Rattle.ent_replay.specs.Checker.{reservations_of, reserve_lines, ComesAfter, AreSteady}
+use Rattle.ent_replay.proofs.Lists.{split, all_at, all_without, all_left}
+
+abbrev pub lines : List Placed → List Line
+lines run = reserve_lines (reservations_of run)
+
+abbrev pub key : Placed → ℕ
+key p = p.key
+
+-- ---- keys that tie
+
+abbrev pub tie : Placed → Placed → Bool
+tie = ties (λ x y. is_lt (nat_cmp (key x) (key y)))
+
+not_less : (b : Bool) → is_lt (cond b Equal Greater) ≡ false
+not_less b = search rules
+
+less_if : (a b : Bool) → is_lt (cond a Less (cond b Equal Greater)) ≡ a
+less_if true b = refl
+less_if false b = not_less b
+
+tie_is : (p q : Placed) → tie p q ≡ (not (nat_lt p.key q.key) && not (nat_lt q.key p.key))
+tie_is p q = search rules
+
+tests_same : (a b : ℕ) → a ≡ b → (not (nat_lt a b) && not (nat_lt b a)) ≡ true
+tests_same a b e = λ i. not (le-ltb a b (omega arith) i) && not (le-ltb b a (omega arith) i)
+
+tests_apart : (a b : ℕ) → (not (nat_lt a b) && not (nat_lt b a)) ≡ true → a ≡ b
+tests_apart a b e = grind (arith, common_steps)
+
+pub tie_from : (p q : Placed) → p.key ≡ q.key → tie p q ≡ true
+tie_from p q e = tie_is p q ∙ tests_same p.key q.key e
+
+pub tie_key : (p q : Placed) → tie p q ≡ true → p.key ≡ q.key
+tie_key p q e = tests_apart p.key q.key (sym (tie_is p q) ∙ e)
+
+-- ---- a sorted list
+
+abbrev pub IsRising : List Placed → Type 0
+IsRising [] = Unit {0}
+IsRising (h ∷ run) = AllByRecursion (λ (p : Placed). h.key ≤ p.key) run × IsRising run
+
+pub rising : (run : List Placed) → IsNonDecreasingBy key run → IsRising run
+rising [] up = tt
+rising (h ∷ run) up = (
+  recursion_from_All (λ (p : Placed). h.key ≤ p.key) run
+      (λ k d lt. up 0 (suc k) d (omega arith) (omega arith)),
+  rising run (λ i j d le lt. up (suc i) (suc j) d (omega arith) (omega arith)),
+)
+
+-- what holds of all that tie with any one holds of all
+module _ (Q : Placed → Type 0) where
+  rest_of : (d x : Placed) (run : List Placed) (b : Bool)
+      → All Q (cond b (d ∷ filter (tie x) run) (filter (tie x) run)) → All Q (filter (tie x) run)
+  rest_of d x run true all = All-tail Q d (filter (tie x) run) all
+  rest_of d x run false all = all
+
+  pub whole : (run : List Placed) → ((x : Placed) → All Q (filter (tie x) run)) → AllByRecursion Q
+      run
+  whole [] each = tt
+  whole (d ∷ run) each = (
+    All-head Q d (filter (tie d) run)
+        (subst (λ b. All Q (cond b (d ∷ filter (tie d) run) (filter (tie d) run)))
+        (tie_from d d refl) (each d)),
+    whole run (λ x. rest_of d x run (tie x d) (each x)),
+  )
+
+-- the second list has what ties with any one in the same order
+abbrev pub TieAlike : List Placed → List Placed → Type 0
+TieAlike sorted run = (x : Placed) → filter (tie x) sorted ≡ filter (tie x) run
+
+pub least : (h : Placed) (sorted run : List Placed)
+    → AllByRecursion (λ (p : Placed). h.key ≤ p.key) sorted → TieAlike (h ∷ sorted) run
+    → AllByRecursion (λ (p : Placed). h.key ≤ p.key) run
+least h sorted run up alike =
+    let Q : Placed → Type 0 = λ (p : Placed). h.key ≤ p.key in
+    whole Q run (λ x. subst (All Q) (alike x) (All-filter (tie x) Q (h ∷ sorted)
+    (All-cons Q h sorted (omega arith) (All-from_recursion Q sorted up))))
+
+-- ---- steady callers
+
+steady_before : (before after : List Placed) (h : Placed) → AreSteady (before ++ h ∷ after)
+    → AllByRecursion (λ (b : Placed). ComesAfter b h) before
+steady_before [] after h steady = tt
+steady_before (b ∷ before) after h steady =
+    (all_at (ComesAfter b) before after h steady.0, steady_before before after h steady.1)
+
+steady_without : (before after : List Placed) (h : Placed) → AreSteady (before ++ h ∷ after)
+    → AreSteady (before ++ after)
+steady_without [] after h steady = steady.1
+steady_without (b ∷ before) after h steady =
+    (all_without (ComesAfter b) before after h steady.0, steady_without before after h steady.1)
+
+passes : (h : Placed) (before : List Placed) → AllByRecursion (λ b. tie h b ≡ false) before
+    → AllByRecursion (λ (b : Placed). h.key ≤ b.key) before
+    → AllByRecursion (λ (b : Placed). ComesAfter b h) before
+    → AllByRecursion (MayPass (line.Reserve h.reservation)) (lines before)
+passes h [] none least steady = tt
+passes h (b ∷ before) none least steady =
+    search (rules, true≢false, tie_from, passes h before none.1 least.1 steady.1)
+
+-- ---- one is taken out
+
+lines_split : (before after : List Placed) (h : Placed) → lines (before ++ h ∷ after)
+    ≡ lines before ++ line.Reserve h.reservation ∷ lines after
+lines_split [] after h = refl
+lines_split (b ∷ before) after h = search (rules, lines_split before after h)
+
+lines_append : (xs ys : List Placed) → lines (xs ++ ys) ≡ lines xs ++ lines ys
+lines_append [] ys = refl
+lines_append (x ∷ xs) ys = search (rules, lines_append xs ys)
+
+none_tie : (x h : Placed) (before : List Placed) → x.key ≡ h.key
+    → AllByRecursion (λ b. tie h b ≡ false) before → filter (tie x) before ≡ []
+none_tie x h [] same none = refl
+none_tie x h (b ∷ before) same none = go (none_tie x h before same none.1) (tie x b) refl
+  where
+    go : filter (tie x) before ≡ [] → (v : Bool) → tie x b ≡ v
+        → cond v (b ∷ filter (tie x) before) (filter (tie x) before) ≡ []
+    go rest true is =
+        let equal : x.key ≡ b.key = tie_key x b is in
+        absurd (true≢false (sym (tie_from h b (sym same ∙ equal)) ∙ none.0))
+    go rest false is = rest
+
+pub alike_rest : (h : Placed) (sorted before after : List Placed)
+    → AllByRecursion (λ b. tie h b ≡ false) before → TieAlike (h ∷ sorted) (before ++ h ∷ after)
+    → TieAlike sorted (before ++ after)
+alike_rest h sorted before after none alike x =
+    go (tie x h) refl (alike x ∙ filter-append (tie x) before (h ∷ after))
+    ∙ sym (filter-append (tie x) before after)
+  where
+    go : (v : Bool) → tie x h ≡ v
+        → cond v (h ∷ filter (tie x) sorted) (filter (tie x) sorted)
+        ≡ filter (tie x) before ++ cond v (h ∷ filter (tie x) after) (filter (tie x) after)
+        → filter (tie x) sorted ≡ filter (tie x) before ++ filter (tie x) after
+    go true is e =
+        let empty : filter (tie x) before ≡ [] = none_tie x h before (tie_key x h is) none in
+        let both : h ∷ filter (tie x) sorted ≡ h ∷ filter (tie x) after =
+        e ∙ ap (λ (ps : List Placed). ps ++ h ∷ filter (tie x) after) empty in
+        let same : filter (tie x) sorted ≡ filter (tie x) after = cc in
+        same ∙ ap (λ (ps : List Placed). ps ++ filter (tie x) after) (sym empty)
+    go false is e = e
+
+pub begins : (h : Placed) (sorted run : List Placed) → TieAlike (h ∷ sorted) run
+    → filter (tie h) run ≡ h ∷ filter (tie h) sorted
+begins h sorted run alike = search (rules, tie_from)
+
+pub nothing_left : (run : List Placed) → TieAlike [] run → run ≡ []
+nothing_left [] alike = refl
+nothing_left (d ∷ run) alike = search (rules, tie_from d d refl)
+
+pub sorted-IsOrderOf : (sorted run : List Placed) → IsRising sorted → TieAlike sorted run
+    → AreSteady run → IsOrderOf (lines run) (lines sorted)
+sorted-IsOrderOf [] run up alike steady = ap lines (nothing_left run alike)
+sorted-IsOrderOf (h ∷ sorted) run up alike steady =
+    let s = split (tie h) h (filter (tie h) sorted) run (begins h sorted run alike) in
+    let low = least h sorted run up.0 alike in
+    let alike_here = subst (TieAlike (h ∷ sorted)) s.is alike in
+    let low_here = subst (AllByRecursion (λ (p : Placed). h.key ≤ p.key)) s.is low in (
+      lines s.before,
+      lines s.after,
+      ap lines s.is ∙ lines_split s.before s.after h,
+      search (rules, passes, all_left, steady_before),
+      subst (λ (ls : List Line). IsOrderOf ls (lines sorted)) (lines_append s.before s.after)
+          (sorted-IsOrderOf sorted (s.before ++ s.after) up.1
+          (alike_rest h sorted s.before s.after s.none alike_here)
+          (steady_without s.before s.after h (subst AreSteady s.is steady))),
+    )

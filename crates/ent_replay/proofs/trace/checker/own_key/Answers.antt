@@ -1,0 +1,11 @@
+use Rattle.std.proofs.Common.{ap, sym, subst, ◌∙◌}
+use Rattle.ent_alloc.specs.Sequential.{available}
+use Rattle.ent_replay.specs.declared.trace.reply.ReserveReply.TheVariants as reserve
+use Rattle.ent_replay.specs.Checker.{KeyOf}
+use Rattle.ent_replay.proofs.trace.checker.own_key.Goals as goal
+
+pub returns-in-Handles-clause-key : goal.returns-in-Handles-clause-key
+returns-in-Handles-clause-key c =
+    subst (λ r. KeyOf (available c.args.entities.now.allocator) c.args.requested r
+    c.list_key.result) (ap reserve.Handles c.as_slice.ensures ∙ sym c.in-Handles.is)
+    (c.list_key.ensures c.args.requested)

@@ -1,0 +1,7 @@
+use Rattle.std.proofs.Common.{rules}
+use Rattle.std.proofs.lemmas.Int.{ints}
+use Rattle.ent_replay.proofs.Fronts.{Listed, Listed-next}
+use Rattle.ent_replay.proofs.trace.front.front_at.Goals as goal
+
+pub loop-handle-preserved : goal.loop-handle-preserved
+loop-handle-preserved c = search (rules, ints, Listed, Listed-next)

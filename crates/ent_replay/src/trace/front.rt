@@ -1,0 +1,47 @@
+//! The front of the pool, for a difference to show.
+ghost use Rattle.std.specs.Prelude.{◌≡◌, ◌^◌, pos, ◌+ℤ◌, ◌≤ℤ◌, neg_ℤ, take, slice_get, IfOk};
+ghost use Rattle.ent_alloc.specs.Sequential.{top, pool_at};
+
+use crate::handle_list::HandleList;
+use ent_alloc::Entities;
+use ent_handle::{Handle, Memory};
+use std::alloc::Global;
+
+/// How many handles are shown.
+const SHOWN: usize = 8;
+
+/// The handle of the pool that a request finds first that finds the cursor at this position.
+fn handle_at(entities: &Entities, position: i64) -> Option<Handle>
+    requires least { neg_ℤ (pos (2 ^ 60)) ≤ℤ position }
+    requires passed { position ≤ℤ pos (top entities.now.allocator) }
+    ensures { result ≡ slice_get (pool_at entities.now.allocator position) 0 }
+{
+    match entities.reply_one(position) {
+        Ok(handle) => Some(handle),
+        Err(_) => None,
+    }
+}
+
+/// The front of the pool that a request finds that finds the cursor at this position. Requests that
+/// follow don't change it.
+pub(super) fn front_at(
+    alloc: Global,
+    entities: &Entities,
+    position: i64,
+) -> Result<HandleList, Memory>
+    requires least { pos (top entities.now.allocator) ≤ℤ (position +ℤ pos (2 ^ 50)) }
+    requires passed { position ≤ℤ pos (top entities.now.allocator) }
+    ensures { IfOk result (λ front.
+        front ≡ take 8 (pool_at entities.now.allocator position)) }
+{
+    let mut front = Vec::new(alloc);
+    let mut next = position;
+    while front.len() < SHOWN {
+        let Some(handle) = handle_at(entities, next) else {
+            break;
+        };
+        front.push(handle)?;
+        next -= 1;
+    }
+    Ok(HandleList::new(front))
+}

@@ -1,0 +1,139 @@
+//! A line of a trace, read from its text.
+ghost use Rattle.std.specs.Prelude.{◌≡◌};
+ghost use Rattle.ent_replay.specs.Text.{number_word, handle_word, words_in, words_of, ReadsAs};
+ghost use Rattle.ent_replay.specs.Text.{alloc_line, free_line, flush_line, reserve_line, state_line};
+ghost use Rattle.ent_replay.specs.Text.{len_line, call_of, line_of};
+
+use crate::trace::answers::{
+    read_alloc, read_flush, read_free, read_len, read_reserved, read_state,
+};
+use crate::trace::line::{Line, Reservation};
+use crate::trace::read_fault::{Cause, ReadFault};
+use crate::trace::words::{before_comment, first_word, no_argument, one_argument, two_arguments};
+use ent_handle::{Handle, read_decimal};
+use std::alloc::Global;
+
+fn read_number(word: &[u8]) -> Result<u32, Cause>
+    ensures { result ≡ number_word word.now }
+{
+    read_decimal(word).map_err(|_| Cause::Number)
+}
+
+fn read_handle(word: &[u8]) -> Result<Handle, Cause>
+    ensures { result ≡ handle_word word.now }
+{
+    Handle::read_text(word).map_err(|_| Cause::Handle)
+}
+
+#[tactic(auto, unfolding(crate::specs::Text::alloc_line))]
+fn alloc_line(text: &[u8]) -> Result<Line, Cause>
+    ensures { result ≡ alloc_line (words_in text.now) }
+{
+    match no_argument(text)? {
+        None => Ok(Line::Alloc(None)),
+        Some(told) => Ok(Line::Alloc(Some(read_alloc(told)?))),
+    }
+}
+
+#[tactic(auto, unfolding(crate::specs::Text::free_line))]
+fn free_line(text: &[u8]) -> Result<Line, Cause>
+    ensures { result ≡ free_line (words_in text.now) }
+{
+    let (word, told) = one_argument(text)?;
+    let handle = read_handle(word)?;
+    match told {
+        None => Ok(Line::Free(handle, None)),
+        Some(told) => Ok(Line::Free(handle, Some(read_free(told)?))),
+    }
+}
+
+#[tactic(auto, unfolding(crate::specs::Text::flush_line))]
+fn flush_line(alloc: Global, text: &[u8]) -> Result<Line, ReadFault>
+    ensures { ReadsAs result (flush_line (words_in text.now)) }
+{
+    match no_argument(text)? {
+        None => Ok(Line::Flush(None)),
+        Some(told) => Ok(Line::Flush(Some(read_flush(alloc, told)?))),
+    }
+}
+
+#[tactic(auto, unfolding(crate::specs::Text::reserve_line))]
+fn reserve_line(alloc: Global, number: u64, text: &[u8]) -> Result<Line, ReadFault>
+    ensures { ReadsAs result (reserve_line number (words_in text.now)) }
+{
+    let (caller, requested, told) = two_arguments(text)?;
+    let caller = read_number(caller)?;
+    let requested = read_number(requested)?;
+    let told = told.ok_or(Cause::Reply)?;
+    let reply = read_reserved(alloc, told)?;
+    Ok(Line::Reserve(Reservation {
+        number,
+        caller,
+        requested,
+        reply,
+    }))
+}
+
+#[tactic(auto, unfolding(crate::specs::Text::state_line))]
+fn state_line(text: &[u8]) -> Result<Line, Cause>
+    ensures { result ≡ state_line (words_in text.now) }
+{
+    let (word, told) = one_argument(text)?;
+    let handle = read_handle(word)?;
+    match told {
+        None => Ok(Line::State(handle, None)),
+        Some(told) => Ok(Line::State(handle, Some(read_state(told)?))),
+    }
+}
+
+#[tactic(auto, unfolding(crate::specs::Text::len_line))]
+fn len_line(text: &[u8]) -> Result<Line, Cause>
+    ensures { result ≡ len_line (words_in text.now) }
+{
+    match no_argument(text)? {
+        None => Ok(Line::Len(None)),
+        Some(told) => Ok(Line::Len(Some(read_len(told)?))),
+    }
+}
+
+#[tactic(auto, unfolding(crate::specs::Text::call_of))]
+fn read_call(alloc: Global, number: u64, word: &[u8], text: &[u8]) -> Result<Line, ReadFault>
+    ensures { ReadsAs result (call_of number word.now (words_in text.now)) }
+{
+    if word == b"reserve".as_slice() {
+        reserve_line(alloc, number, text)
+    } else if word == b"alloc".as_slice() {
+        Ok(alloc_line(text)?)
+    } else if word == b"free".as_slice() {
+        Ok(free_line(text)?)
+    } else if word == b"flush".as_slice() {
+        flush_line(alloc, text)
+    } else if word == b"state".as_slice() {
+        Ok(state_line(text)?)
+    } else if word == b"len".as_slice() {
+        Ok(len_line(text)?)
+    } else {
+        Err(ReadFault::Cause(Cause::Word))
+    }
+}
+
+/// The call of a line of a trace, and what the line says was answered. `None` if the line has no
+/// words.
+///
+/// The line is given without the bytes that end it. It has this number, which a reservation keeps.
+/// `docs/FORMATS.md` says what is a line. It takes time linear in the line, and memory for the
+/// handles that the line names.
+///
+/// # Errors
+///
+/// `Cause` if the line is no call with its answer, with the first of the causes that it has;
+/// `Memory` if memory ran out.
+pub fn read_line(alloc: Global, number: u64, line: &[u8]) -> Result<Option<Line>, ReadFault>
+    // All of it, as a function of the words.
+    ensures exact { ReadsAs result (line_of number (words_of line.now)) }
+{
+    match first_word(before_comment(line)) {
+        None => Ok(None),
+        Some((word, others)) => Ok(Some(read_call(alloc, number, word, others)?)),
+    }
+}

@@ -1,7 +1,0 @@
-use Rattle.std.proofs.Common.{rules}
-use Rattle.std.proofs.lemmas.Int.{ints}
-use Rattle.ent_trace.proofs.Fronts.{Listed, Listed-next}
-use Rattle.ent_trace.proofs.front.front_at.Goals as goal
-
-pub loop-handle-preserved : goal.loop-handle-preserved
-loop-handle-preserved c = search (rules, ints, Listed, Listed-next)

@@ -1,4 +1,0 @@
-pub mod Trace
-pub mod Checker
-pub mod Text
-pub mod Words

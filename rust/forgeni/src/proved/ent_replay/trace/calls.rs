@@ -1,0 +1,126 @@
+// Made of crates/ent_replay/src/trace/calls.rt by rust/erase. It isn't edited by hand.
+
+//! The calls that nothing overlaps: each is made, and says what the allocator answered.
+
+use crate::kit::vec::Vec;
+use crate::proved::ent_replay::handle_list::HandleList;
+use crate::proved::ent_replay::trace::fitting::{fits_born, fits_freed};
+use crate::proved::ent_replay::trace::line::Line;
+use crate::proved::ent_replay::trace::reply::{AllocReply, FlushReply, FreeReply};
+use crate::proved::ent_alloc::{AllocFault, Entities, FreeFault};
+use crate::proved::ent_handle::{Handle, Memory};
+use crate::kit::alloc::Global;
+
+/// Makes the call of a line that is no reservation. If what it says was answered isn't what the
+/// allocator answered, returns the line as it should be.
+#[inline]
+pub(super) fn answered(
+    alloc: Global,
+    entities: &mut Entities,
+    line: &Line,
+) -> Result<Option<Line>, Memory>
+    // requires { IsAlone line.now }
+    // ensures fits { IfOk result (λ expected. IfNone expected (Fits entities.old.allocator line.now)) }
+    // ensures differs { IfOk result (λ expected. IfSome expected (λ other.
+    //     (¬ (Fits entities.old.allocator line.now))
+    //     × (other ≡ answered_line entities.old.allocator line.now))) }
+    // ensures after { OnOk result (entities.new.allocator
+    //     ≡ after_line entities.old.allocator line.now) }
+{
+    match line {
+        Line::Alloc(told) => {
+            let given = allocated(entities)?;
+            let fits = told.is_none_or(|told| told == given);
+            Ok(if fits {
+                None
+            } else {
+                Some(Line::Alloc(Some(given)))
+            })
+        }
+        Line::Free(handle, told) => {
+            let given = freed(entities, *handle)?;
+            let fits = told.is_none_or(|told| fits_freed(told, given));
+            Ok(if fits {
+                None
+            } else {
+                Some(Line::Free(*handle, Some(given)))
+            })
+        }
+        Line::Flush(told) => {
+            let given = flushed(alloc, entities)?;
+            match told {
+                Some(told) if !fits_born(told, &given) => Ok(Some(Line::Flush(Some(FlushReply::Born(
+                    given,
+                ))))),
+                _ => Ok(None),
+            }
+        }
+        Line::State(handle, told) => {
+            let given = entities.state(*handle);
+            let fits = told.is_none_or(|told| told == given);
+            Ok(if fits {
+                None
+            } else {
+                Some(Line::State(*handle, Some(given)))
+            })
+        }
+        Line::Len(told) => {
+            let given = entities.len();
+            let fits = told.is_none_or(|told| told == given);
+            Ok(if fits {
+                None
+            } else {
+                Some(Line::Len(Some(given)))
+            })
+        }
+        Line::Reserve(_) => unreachable!(),
+    }
+}
+
+#[inline]
+fn allocated(entities: &mut Entities) -> Result<AllocReply, Memory>
+    // ensures reply { IfOk result (λ reply. reply ≡ alloc_reply entities.old.allocator) }
+    // ensures after { OnOk result (entities.new.allocator
+    //     ≡ after_line entities.old.allocator (Line.Alloc None)) }
+{
+    match entities.alloc() {
+        Ok(handle) => Ok(AllocReply::Handle(handle)),
+        Err(AllocFault::NeedsFlush) => Ok(AllocReply::NeedsFlush),
+        Err(AllocFault::Space) => Ok(AllocReply::Space),
+        Err(AllocFault::Memory) => Err(Memory),
+    }
+}
+
+#[inline]
+fn freed(entities: &mut Entities, handle: Handle) -> Result<FreeReply, Memory>
+    // ensures reply { IfOk result (λ reply. reply ≡ free_reply entities.old.allocator handle) }
+    // ensures after { OnOk result (entities.new.allocator
+    //     ≡ after_line entities.old.allocator (Line.Free handle None)) }
+{
+    match entities.free(handle) {
+        Ok(freed) => Ok(freed_reply(freed.next)),
+        Err(FreeFault::NeedsFlush) => Ok(FreeReply::NeedsFlush),
+        Err(FreeFault::NotAlive) => Ok(FreeReply::NotAlive),
+        Err(FreeFault::Memory) => Err(Memory),
+    }
+}
+
+#[inline]
+fn freed_reply(next: Option<Handle>) -> FreeReply
+    // ensures { result ≡ freed_reply next }
+{
+    match next {
+        Some(next) => FreeReply::Next(next),
+        None => FreeReply::Retired,
+    }
+}
+
+#[inline]
+fn flushed(alloc: Global, entities: &mut Entities) -> Result<HandleList, Memory>
+    // ensures reply { IfOk result (λ handles. handles ≡ born entities.old.allocator) }
+    // ensures after { OnOk result (entities.new.allocator ≡ after_flush entities.old.allocator) }
+{
+    let mut born = Vec::new(alloc);
+    entities.flush(&mut born)?;
+    Ok(HandleList::new(born))
+}

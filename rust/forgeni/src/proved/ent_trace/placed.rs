@@ -1,9 +1,0 @@
-// Made of crates/ent_trace/src/placed.rt by rust/erase. It isn't edited by hand.
-
-use crate::proved::ent_trace::line::Reservation;
-
-/// A reservation of the run, and the key that says where in the run it comes.
-pub(super) struct Placed {
-    pub(super) reservation: Reservation,
-    pub(super) key: u64,
-}
