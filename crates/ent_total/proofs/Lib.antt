@@ -2,3 +2,4 @@ pub mod OneHandle
 pub mod Replied
 pub mod Unused
 pub mod Walking
+mod Refusals
