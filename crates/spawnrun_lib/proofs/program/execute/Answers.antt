@@ -31,3 +31,17 @@ returns-after-task-clause-reads g c = λ unfailed _ other.
           (λ same. w.run-status.ensures.reads same
           (λ is. other (c.finish.ensures.number ∙ ap exit_number (w.status-is ∙ is)))) unfailed
     ]
+
+pub returns-after-task-clause-stops : goal.returns-after-task-clause-stops
+returns-after-task-clause-stops g c =
+    elim c.match-task.branch [
+      | in-Replay w ↦ rw w.input-is w.replay-status.ensures.stops
+      | in-Run w ↦ rw w.input-is w.run-status.ensures.stops
+    ]
+
+pub returns-after-task-clause-unread : goal.returns-after-task-clause-unread
+returns-after-task-clause-unread g c =
+    elim c.match-task.branch [
+      | in-Replay w ↦ rw (w.input-is, w.output-is) w.replay-status.ensures.unread
+      | in-Run w ↦ rw (w.input-is, w.output-is) w.run-status.ensures.unread
+    ]
