@@ -38,10 +38,3 @@ returns-after-task-clause-stops g c =
       | in-Replay w ↦ rw w.input-is w.replay-status.ensures.stops
       | in-Run w ↦ rw w.input-is w.run-status.ensures.stops
     ]
-
-pub returns-after-task-clause-unread : goal.returns-after-task-clause-unread
-returns-after-task-clause-unread g c =
-    elim c.match-task.branch [
-      | in-Replay w ↦ rw (w.input-is, w.output-is) w.replay-status.ensures.unread
-      | in-Run w ↦ rw (w.input-is, w.output-is) w.run-status.ensures.unread
-    ]

@@ -10,20 +10,19 @@ narrowed : (parser : ValueParser) (from start end : ℤ) (most : ℕ) → most <
     → from ≡ pos most → end ≡ to_z w64 (of_z w64 from) → parser ≡ Signed (pos 1) (pos most)
 narrowed parser from start end most fits narrow starts is ends = search rules
 
-parser_is : (c : goal.After-help) → c.value_parser-2.result.value_parser
-    ≡ Some (Signed (pos 1) (pos c.args.most))
-parser_is c = c.value_parser-2.ensures.given.1
-    ∙ ap Some (c.value_parser-2.ensures.given.2
-    ∙ narrowed _ c.from.result _ _ c.args.most c.ranges.most.fits (rw c.value_parser.ensures at c.range-range.ensures)
-    c.new.ensures.start c.from.ensures c.new.ensures.end)
-
 pub returns-clause-rule : goal.returns-clause-rule
 returns-clause-rule c =
+    let given = c.value_parser-2.ensures.given in
+    let narrow = rw c.value_parser.ensures at c.range-range.ensures in
+    let new = c.new.ensures in
+    let parser : c.value_parser-2.result.value_parser ≡ Some (Signed (pos 1) (pos c.args.most)) =
+    given.1 ∙ ap Some (given.2
+    ∙ narrowed _ c.from.result _ _ _ c.ranges.most.fits narrow new.start c.from.ensures new.end) in
     rw (
       c.help.ensures,
       c.default_value.ensures,
       c.value_parser-2.ensures.others,
-      parser_is c,
+      parser,
       c.value_name.ensures,
       c.long.ensures,
     )
