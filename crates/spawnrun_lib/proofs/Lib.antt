@@ -32,6 +32,7 @@ pub mod MovedNames
 pub mod MovedFaults
 pub mod MovedTakes
 pub mod CommandLineOptions
+mod Commands
 pub mod TaskOfWords
 pub mod GivenInput
 pub mod FaultRead

@@ -1,6 +1,6 @@
 -- Texts following one another.
 use Rattle.std.proofs.Common.{◌≡◌, ℕ, ◌+◌, ◌<◌, ◌≤◌, List, ◌∷◌, ◌++◌, length, get_or, drop, ap}
-use Rattle.std.proofs.Common.{arith, length-append}
+use Rattle.std.proofs.Common.{append_assoc, arith, length-append}
 use Rattle.std.proofs.lemmas.Grind.{common_steps}
 use Rattle.std.specs.List.{flat_map}
 
@@ -24,3 +24,8 @@ pub first_fits : {X : Type 0} (g : X → List ℕ) (old now : List ℕ) (all lef
     → length now + length (g x) ≤ length old + length (flat_map g all)
 first_fits g old now all left rest x front e = omega
     (arith, simp length-append at (ap length (rw front at e)))
+
+-- four parts, each written behind the one before
+pub four_parts : (old one two three new a b c d : List ℕ) → one ≡ old ++ a → two ≡ one ++ b
+    → three ≡ two ++ c → new ≡ three ++ d → new ≡ old ++ (a ++ b ++ c ++ d)
+four_parts old one two three new a b c d p q r s = rw (s, r, q, p) (simp append_assoc)

@@ -31,3 +31,10 @@ returns-after-task-clause-reads g c = λ unfailed _ other.
           (λ same. w.run-status.ensures.reads same
           (λ is. other (c.finish.ensures.number ∙ ap exit_number (w.status-is ∙ is)))) unfailed
     ]
+
+pub returns-after-task-clause-stops : goal.returns-after-task-clause-stops
+returns-after-task-clause-stops g c =
+    elim c.match-task.branch [
+      | in-Replay w ↦ rw w.input-is w.replay-status.ensures.stops
+      | in-Run w ↦ rw w.input-is w.run-status.ensures.stops
+    ]
