@@ -3,7 +3,7 @@ use Rattle.std.proofs.Common.{rules, ◌≡◌, ℕ, ◌+◌, ◌*◌, ◌<◌, 
 use Rattle.std.proofs.Common.{length-drop, slice_index, refl, [], ◌∷◌, arith, sym, subst}
 use Rattle.std.specs.List.{All, flat_map}
 use Rattle.ent_handle.specs.Handle.{Handle, IsHandle}
-use Rattle.ent_bundle.specs.Bundle.{Bundle, IsBundle}
+use Rattle.ent_storage.specs.Bundle.{Bundle, IsBundle}
 use Rattle.ent_queue.specs.Command.{Command, IsRefusal, IsCommand, Spawn, SpawnMany, Insert, Remove}
 use Rattle.ent_queue.specs.Command.{Despawn, Refused}
 use Rattle.ent_queue.specs.Packing.{command_bytes, bytes_4, handle_bytes, bundle_bytes}

@@ -11,7 +11,7 @@ use Rattle.ent_shared.specs.Phase.{Shared, Reserver}
 use Rattle.ent_alloc.specs.Sequential.{listed_alone}
 use Rattle.ent_queue.specs.declared.fault.QueueFault.{QueueFault}
 use Rattle.ent_queue.specs.declared.fault.QueueFault.TheVariants as fault
-use Rattle.ent_bundle.specs.Bundle.{Bundle}
+use Rattle.ent_storage.specs.Bundle.{Bundle}
 use Rattle.ent_queue.specs.Command.{Command, Spawn, SpawnMany, Refused}
 use Rattle.ent_queue.specs.Commands.{Issued, IsReady, Extends, queue_of, reserver_of, shared_of}
 use Rattle.ent_queue.specs.Reserving.{stands_for, FitsCredit, Gains, IsReturned, queued, as_list}

@@ -12,7 +12,7 @@ use Rattle.std.proofs.lemmas.Int.{to_z-of_z}
 use Rattle.std.proofs.Math.Facts.{Fits-lt-pow, Fits-of_z}
 use Rattle.ent_handle.specs.declared.component.ComponentId.{ComponentId}
 use Rattle.ent_handle.specs.Handle.{Handle, IsHandle}
-use Rattle.ent_bundle.specs.Bundle.{Bundle, IsItem}
+use Rattle.ent_storage.specs.Bundle.{Bundle, IsItem}
 use Rattle.ent_queue.specs.Packing.{handle_bytes, item_bytes, bundle_bytes}
 use Rattle.ent_queue.specs.Unpacking.{number_2, unpacked_handles, unpacked_item, unpacked_bundle}
 use Rattle.ent_queue.proofs.Numbers.{length-bytes_2, length-bytes_8, number_2-bytes, number_8-alone}

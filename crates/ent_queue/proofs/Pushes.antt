@@ -6,7 +6,7 @@ use Rattle.std.proofs.Math.Facts.{Fits-of_lt}
 use Rattle.std.specs.List.{flat_map, All}
 use Rattle.std.proofs.lemmas.List.Elements.{All-nil, All-push}
 use Rattle.ent_handle.specs.Handle.{Handle}
-use Rattle.ent_bundle.specs.Bundle.{Bundle}
+use Rattle.ent_storage.specs.Bundle.{Bundle}
 use Rattle.ent_queue.specs.Command.{Command, SpawnMany, IsCommand}
 use Rattle.ent_queue.specs.Packing.{command_bytes, queue_bytes, bytes_4, handle_bytes, bundle_bytes}
 use Rattle.ent_queue.specs.Unpacking.{unpacked_commands, ArePacked}

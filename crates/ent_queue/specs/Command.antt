@@ -3,7 +3,7 @@ use Rattle.std.specs.Prelude.{◌≡◌, ℕ, ◌^◌, ◌<◌, List, length}
 use Rattle.std.specs.List.{All}
 use Rattle.ent_handle.specs.declared.component.ComponentId.{ComponentId}
 use Rattle.ent_handle.specs.Handle.{Handle, IsHandle}
-use Rattle.ent_bundle.specs.Bundle.{Bundle, IsBundle}
+use Rattle.ent_storage.specs.Bundle.{Bundle, IsBundle}
 use Rattle.ent_shared.specs.declared.refused.Refused.{Refused as Refusal}
 use Rattle.ent_shared.specs.declared.refused.Refused.TheVariants.{Space, Quota}
 

@@ -5,7 +5,7 @@ ghost use Rattle.std.specs.Simd.{first_chunks};
 ghost use Rattle.std.specs.Iterator.{YieldsFirst, UpTo, item_count};
 ghost use Rattle.std.specs.Iterator.SizeHint.{IsWithinCount};
 ghost use Rattle.ent_handle.specs.Component.{component_cmp};
-ghost use Rattle.ent_bundle.specs.Bundle.{IsBundle};
+ghost use Rattle.ent_storage.specs.Bundle.{IsBundle};
 ghost use Rattle.ent_queue.specs.Unpacking.{number_2, unpacked_bundle, unpacked_item};
 
 use crate::reading::{read_u8, read_u16, read_u64};
@@ -27,7 +27,7 @@ impl<'a> Model for BundleRef<'a> {
 
     ghost Value = { List (ComponentId × ℤ) };
 
-    ghost use Rattle.ent_bundle.specs.Bundle.{IsBundle};
+    ghost use Rattle.ent_storage.specs.Bundle.{IsBundle};
     ghost use Rattle.ent_queue.specs.Unpacking.{unpacked_item};
 
     ghost view = { λ b. map unpacked_item b.items.now };

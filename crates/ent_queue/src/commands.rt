@@ -8,9 +8,9 @@ ghost use Rattle.ent_queue.specs.Command.{Spawn, SpawnMany, Insert, Remove, Desp
 
 use crate::fault::QueueFault;
 use crate::queue::CommandQueue;
-use ent_bundle::Bundle;
 use ent_handle::{ComponentId, Handle, Memory};
 use ent_shared::{Reserver, Shared};
+use ent_storage::Bundle;
 use std::alloc::Global;
 
 /// Issues the commands of one system. They take effect when the queue is applied.

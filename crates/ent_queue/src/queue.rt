@@ -4,7 +4,7 @@ ghost use Rattle.ent_handle.specs.Handle.{Handle as HandleValue};
 ghost use Rattle.ent_shared.specs.declared.refused.Refused.{Refused as Refusal};
 ghost use Rattle.ent_shared.specs.Phase.{IsOf};
 ghost use Rattle.ent_alloc.specs.Sequential.{listed_alone};
-ghost use Rattle.ent_bundle.specs.Bundle.{IsBundle};
+ghost use Rattle.ent_storage.specs.Bundle.{IsBundle};
 ghost use Rattle.ent_queue.specs.Command.{IsCommand};
 ghost use Rattle.ent_queue.specs.Command.{Spawn, SpawnMany, Insert, Remove, Despawn};
 ghost use Rattle.ent_queue.specs.Packing.{queue_bytes};

@@ -1,7 +1,7 @@
 //! Commands at the end of packed bytes, and their parts. There is room for all that is written.
 ghost use Rattle.std.specs.Prelude.{◌≡◌, ◌+◌, ◌*◌, ◌^◌, ◌<◌, ◌≤◌, ◌++◌, ◌∷◌, [], length, vec_len};
 ghost use Rattle.std.specs.Prelude.{vec_capacity};
-ghost use Rattle.ent_bundle.specs.Bundle.{IsBundle};
+ghost use Rattle.ent_storage.specs.Bundle.{IsBundle};
 ghost use Rattle.ent_queue.specs.Command.{HasRange};
 ghost use Rattle.ent_queue.specs.Packing.{bytes_2, bytes_4, bytes_8};
 ghost use Rattle.ent_queue.specs.Packing.{handle_bytes, item_bytes, bundle_bytes, refusal_bytes};

@@ -1,6 +1,6 @@
 -- Reading the members of a bundle one after another.
 use Rattle.std.proofs.Common.{Result, Ok, Err}
-use Rattle.ent_bundle.specs.Bundle.{Bundle, with_put}
+use Rattle.ent_storage.specs.Bundle.{Bundle, with_put}
 use Rattle.ent_script.specs.declared.cause.Cause.{Cause}
 
 -- the bundle so far, with what is read after it

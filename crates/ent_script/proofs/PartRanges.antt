@@ -10,7 +10,7 @@ use Rattle.serde_json.specs.Data.{Data}
 use Rattle.serde_json.specs.Find.{get}
 use Rattle.ent_handle.specs.declared.component.ComponentId.{ComponentId}
 use Rattle.ent_handle.specs.Component.{component_cmp}
-use Rattle.ent_bundle.specs.Bundle.{with_put}
+use Rattle.ent_storage.specs.Bundle.{with_put}
 use Rattle.ent_script.specs.declared.format.Format.{Format}
 use Rattle.ent_script.specs.declared.format.Format.TheVariants as format
 use Rattle.ent_script.specs.declared.kind.Kind.{Kind}

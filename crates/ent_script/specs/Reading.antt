@@ -11,7 +11,7 @@ use Rattle.serde_json.specs.Read.{read}
 use Rattle.ent_handle.specs.declared.birth.Birth.{Birth}
 use Rattle.ent_handle.specs.declared.component.ComponentId.{ComponentId}
 use Rattle.ent_handle.specs.Text.{handle_of, number_of}
-use Rattle.ent_bundle.specs.Bundle.{bundle_of}
+use Rattle.ent_storage.specs.Bundle.{bundle_of}
 use Rattle.ent_script.specs.Json.{at_most, members, keys_among, whole, whole_within}
 use Rattle.ent_script.specs.Names.{as_name, number_among, names_in}
 use Rattle.ent_script.specs.Script.{Script}

@@ -2,4 +2,4 @@
 ///
 /// A long script has millions of bundles, and most are of one component. Such a bundle takes no
 /// memory.
-pub type Bundle = ent_bundle::Bundle<1>;
+pub type Bundle = ent_storage::Bundle<1>;

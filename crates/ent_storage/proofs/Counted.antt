@@ -8,7 +8,7 @@ use Rattle.std.specs.Cmp.{tied_itself}
 use Rattle.std.proofs.lemmas.Bool.{false≢true, false_from_ne_true}
 use Rattle.std.proofs.lemmas.List.{get_or-map, get_or_default, length-map, length-set, length_push}
 use Rattle.std.specs.List.{AllWithin, insert}
-use Rattle.ent_bundle.specs.Position.{IsGapFor}
+use Rattle.ent_storage.specs.Position.{IsGapFor}
 use Rattle.std.proofs.lemmas.List.Elements.{filter_passes}
 use Rattle.std.proofs.lemmas.Map.Keys.{IsDistinct-from_apart}
 use Rattle.std.proofs.lemmas.Map.Views.{Contains-from_any}
@@ -23,7 +23,7 @@ use Rattle.ent_storage.specs.Indexed.{HasAll}
 use Rattle.ent_storage.proofs.Keys.{tied, insert_tells, remove_tells}
 use Rattle.ent_storage.proofs.Indexed.{some_not_none, some_entity, indexed_set, indexed_push}
 use Rattle.ent_storage.proofs.Indexed.{indexed_none}
-use Rattle.ent_bundle.proofs.Rising.{rising_at}
+use Rattle.ent_storage.proofs.Positions.{rising_at}
 use Rattle.ent_storage.proofs.Rising.{equal, get_at, map_insert, rising_insert}
 use Rattle.ent_storage.proofs.Overwritten.{is_sorted-filter, find-filter, passed, is_sorted-set}
 use Rattle.ent_storage.proofs.Overwritten.{find-set_same, find-set_other}

@@ -1,3 +1,9 @@
+pub mod Positions
+pub mod Putting
+pub mod Results
+pub mod Few
+pub mod Bundles
+pub mod Puts
 pub mod ByBirth
 pub mod Changed
 pub mod Reborn

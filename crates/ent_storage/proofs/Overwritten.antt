@@ -9,7 +9,7 @@ use Rattle.std.specs.List.{AllWithin}
 use Rattle.std.specs.FinMap.{IsAntisymmetric, find, is_sorted}
 use Rattle.std.specs.FinMap.Entries.{below_all}
 use Rattle.ent_storage.proofs.Keys.{tied, apart}
-use Rattle.ent_bundle.proofs.Rising.{first, second, less, turn}
+use Rattle.ent_storage.proofs.Positions.{first, second, less, turn}
 use Rattle.ent_storage.proofs.Rising.{both, equal}
 
 is_less : (r : Ordering) → r ≡ Less → T (is_lt r)

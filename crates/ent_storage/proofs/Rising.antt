@@ -11,9 +11,9 @@ use Rattle.std.proofs.lemmas.Bool.{cases_lt}
 use Rattle.std.specs.FinMap as map
 use Rattle.std.specs.FinMap.{IsAntisymmetric, find, put, is_sorted}
 use Rattle.std.specs.FinMap.Entries.{is_sorted-put}
-use Rattle.ent_bundle.specs.Position.{IsAt, IsGapFor}
-use Rattle.ent_bundle.proofs.Rising.{first, second, turn, below_at, rising_at}
-use Rattle.ent_bundle.proofs.Putting.{find_in_gap, inserted, written}
+use Rattle.ent_storage.specs.Position.{IsAt, IsGapFor}
+use Rattle.ent_storage.proofs.Positions.{first, second, turn, below_at, rising_at}
+use Rattle.ent_storage.proofs.Putting.{find_in_gap, inserted, written}
 
 pub both : (a b : Bool) → T a → T b → T (a && b)
 both true b x y = y

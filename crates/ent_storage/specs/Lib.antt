@@ -1,3 +1,5 @@
+pub mod Position
+pub mod Bundle
 pub mod Components
 pub mod EntityMap
 pub mod BirthOrder

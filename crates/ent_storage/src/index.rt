@@ -4,7 +4,7 @@ ghost use Rattle.std.specs.Prelude.{IfOk, IfErr, is_none};
 ghost use Rattle.std.specs.FinMap as map;
 ghost use Rattle.ent_handle.specs.Handle.{handle_cmp};
 ghost use Rattle.ent_storage.specs.Indexed.{counted, Keeps, IsFree};
-ghost use Rattle.ent_bundle.specs.Position.{IsAt, IsGapFor};
+ghost use Rattle.ent_storage.specs.Position.{IsAt, IsGapFor};
 
 use super::key::Key;
 use super::living::{Living, has_handle_at};

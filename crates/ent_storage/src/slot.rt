@@ -3,7 +3,7 @@ ghost use Rattle.std.specs.declared.cmp.Ordering.TheVariants.{Less, Greater};
 ghost use Rattle.std.specs.FinMap.{is_sorted};
 ghost use Rattle.std.specs.List.{HoldsAt};
 ghost use Rattle.ent_handle.specs.Handle.{handle_cmp};
-ghost use Rattle.ent_bundle.specs.Position.{IsAt, IsGapFor};
+ghost use Rattle.ent_storage.specs.Position.{IsAt, IsGapFor};
 
 use super::key::Key;
 use ent_handle::Handle;

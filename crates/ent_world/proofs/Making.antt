@@ -23,7 +23,7 @@ use Rattle.ent_storage.specs.Components.{with_items, missing}
 use Rattle.ent_storage.specs.EntityMap.{Entity, EntityMap, newborn, with_components, components_of}
 use Rattle.ent_storage.specs.Places.{AreWithout}
 use Rattle.ent_storage.proofs.ElementsAt.{at_push_before}
-use Rattle.ent_bundle.specs.Bundle.{Bundle}
+use Rattle.ent_storage.specs.Bundle.{Bundle}
 use Rattle.ent_world.specs.Effects.{spawned}
 
 -- what a test of a result tells

@@ -20,7 +20,7 @@ use Rattle.ent_handle.specs.Handle.{Handle, handle_cmp}
 use Rattle.ent_alloc.specs.Sequential.{stands_in}
 use Rattle.ent_alloc.proofs.HandleSets.{same_handle, itself}
 use Rattle.ent_storage.specs.EntityMap.{Entity, EntityMap, birth_of, newborn}
-use Rattle.ent_bundle.specs.Bundle.{Bundle}
+use Rattle.ent_storage.specs.Bundle.{Bundle}
 use Rattle.ent_world.specs.Sync.{with_born}
 use Rattle.ent_world.specs.BirthsAlone.{BirthMap, entered_alone}
 use Rattle.ent_world.specs.Named.{AreNamed}

@@ -25,7 +25,7 @@ use Rattle.ent_alloc.proofs.ListLaws.{AllPairs-head, AllPairs-tail}
 use Rattle.ent_storage.proofs.Overwritten.{is_sorted-filter, find-filter, passed}
 use Rattle.ent_storage.specs.BirthOrder.{birth_order, ListsByBirth}
 use Rattle.ent_storage.specs.EntityMap.{Entity, EntityMap}
-use Rattle.ent_bundle.specs.Bundle.{Bundle}
+use Rattle.ent_storage.specs.Bundle.{Bundle}
 use Rattle.ent_world.specs.BirthsAlone.{BirthMap}
 use Rattle.ent_world.specs.Named.{AreNamed, AreNames, IsThere}
 use Rattle.ent_world.proofs.Named.{entity_with, birth_by_name, names_apart}

@@ -7,7 +7,7 @@ use Rattle.std.proofs.lemmas.Bool.Decides.{nat_tests}
 use Rattle.std.proofs.lemmas.List.{drop_more}
 use Rattle.std.proofs.lemmas.Option.{slice_get-get_or}
 use Rattle.ent_handle.specs.Handle.{Handle}
-use Rattle.ent_bundle.specs.Bundle.{Bundle}
+use Rattle.ent_storage.specs.Bundle.{Bundle}
 use Rattle.ent_queue.specs.Command.{Command}
 use Rattle.ent_world.specs.World.{World}
 use Rattle.ent_world.specs.Memory.{insert_takes_memory, one_takes_memory, command_takes_memory}

@@ -8,7 +8,7 @@ use Rattle.ent_alloc.specs.History.{Call, after_history}
 use Rattle.ent_alloc.proofs.Soundness.{after_flush-sound, after_free-sound, after_alloc-sound}
 use Rattle.ent_storage.specs.Components.{Components}
 use Rattle.ent_storage.specs.EntityMap.{EntityMap, with_components}
-use Rattle.ent_bundle.specs.Bundle.{Bundle}
+use Rattle.ent_storage.specs.Bundle.{Bundle}
 use Rattle.ent_queue.specs.Command.{Command}
 use Rattle.ent_world.specs.World.{World, IsWorld, lives_in}
 use Rattle.ent_world.specs.Effects.{Applied, after_spawn, after_despawn, after_queues}

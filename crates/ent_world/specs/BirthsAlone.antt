@@ -9,7 +9,7 @@ use Rattle.ent_handle.specs.declared.birth.Birth.{Birth}
 use Rattle.ent_handle.specs.declared.component.ComponentId.{ComponentId}
 use Rattle.ent_handle.specs.Birth.{birth_cmp}
 use Rattle.ent_handle.specs.Component.{component_cmp}
-use Rattle.ent_bundle.specs.Bundle.{Bundle, with_put}
+use Rattle.ent_storage.specs.Bundle.{Bundle, with_put}
 
 -- the components of each entity that is there, by rising birth
 abbrev pub BirthMap : Type 0

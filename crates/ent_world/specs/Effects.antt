@@ -9,7 +9,7 @@ use Rattle.ent_shared.specs.declared.refused.Refused.{Refused as Refusal}
 use Rattle.ent_shared.specs.declared.refused.Refused.TheVariants as refusal
 use Rattle.ent_storage.specs.Components.{with_items}
 use Rattle.ent_storage.specs.EntityMap.{Entity, with_components}
-use Rattle.ent_bundle.specs.Bundle.{Bundle}
+use Rattle.ent_storage.specs.Bundle.{Bundle}
 use Rattle.ent_queue.specs.Command.{Command, Spawn, SpawnMany, Insert, Remove}
 use Rattle.ent_queue.specs.Command.{Despawn, Refused}
 use Rattle.ent_world.specs.World.{World, lives_in}

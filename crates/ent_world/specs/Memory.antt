@@ -4,7 +4,7 @@ use Rattle.std.specs.Prelude.{Option, None, Some, false, IsSomeAnd}
 use Rattle.std.specs.Option.{is_some}
 use Rattle.ent_handle.specs.Handle.{Handle}
 use Rattle.ent_alloc.specs.Sequential.{next}
-use Rattle.ent_bundle.specs.Bundle.{Bundle}
+use Rattle.ent_storage.specs.Bundle.{Bundle}
 use Rattle.ent_queue.specs.Command.{Command, Spawn, SpawnMany, Insert, Remove}
 use Rattle.ent_queue.specs.Command.{Despawn, Refused}
 use Rattle.ent_world.specs.World.{World, lives_in}

@@ -8,7 +8,7 @@ use Rattle.ent_handle.specs.Birth.{birth_cmp}
 use Rattle.ent_handle.specs.Handle.{Handle}
 use Rattle.ent_alloc.specs.Sequential.{Allocator}
 use Rattle.ent_storage.specs.EntityMap.{Entity, EntityMap, birth_of}
-use Rattle.ent_bundle.specs.Bundle.{Bundle}
+use Rattle.ent_storage.specs.Bundle.{Bundle}
 use Rattle.ent_queue.specs.Command.{Command, Spawn, SpawnMany, Insert, Remove, Despawn}
 use Rattle.ent_queue.specs.Command.{Refused}
 use Rattle.ent_world.specs.declared.fault.Fault.{Fault}

@@ -27,7 +27,7 @@ use Rattle.ent_alloc.proofs.HandleSets.{stands_in-from_Contains}
 use Rattle.ent_storage.specs.BirthOrder.{ListsAll}
 use Rattle.ent_storage.specs.EntityMap.{Entity, EntityMap, birth_of}
 use Rattle.ent_storage.proofs.ByBirth.{filter-all}
-use Rattle.ent_bundle.specs.Bundle.{Bundle}
+use Rattle.ent_storage.specs.Bundle.{Bundle}
 use Rattle.ent_world.specs.declared.fault.Fault.{Fault}
 use Rattle.ent_world.specs.World.{World}
 use Rattle.ent_world.specs.BirthsAlone.{BirthMap, BirthFault, frame_alone}

@@ -5,7 +5,7 @@ use Rattle.std.specs.Prelude.{ℕ, ◌+◌, List, [], ◌∷◌, ◌++◌, lengt
 use Rattle.std.specs.Fmt.{decimal}
 use Rattle.std.specs.List.{flat_map}
 use Rattle.ent_handle.specs.declared.birth.Birth.{Birth}
-use Rattle.ent_bundle.specs.Bundle.{Bundle}
+use Rattle.ent_storage.specs.Bundle.{Bundle}
 use Rattle.ent_world.specs.BirthsAlone.{BirthMap, BirthCommand, BirthFault, AppliedAlone}
 use Rattle.ent_world.specs.BirthsAlone.{births_in, frame_alone}
 use Rattle.ent_script.specs.Script.{Script}

@@ -25,13 +25,18 @@ where
     R: Threads + Sync + Print + AllocGlobal,
     requires flushed { world.old.allocator.asked ≡ 0 }
 {
-    println!(rt; "by hand: {} alive", world.len())?;
+    tell(rt, "by hand", world)?;
     let _ = sow_and_grow(rt, world)?;
-    println!(rt; "sown and grown: {} alive", world.len())?;
+    tell(rt, "sown and grown", world)?;
     let _ = reap(rt, world)?;
-    println!(rt; "reaped: {} alive", world.len())?;
+    tell(rt, "reaped", world)?;
     let _ = frame_that_goes_on(rt, world, &[Sow, Sow])?;
-    println!(rt; "sown twice: {} alive", world.len())?;
+    tell(rt, "sown twice", world)
+}
+
+/// Prints how many plants there are.
+fn tell(rt: &impl Print, when: &str, world: &World) -> Result<()> {
+    println!(rt; "{when}: {} alive", world.len())?;
     Ok(())
 }
 

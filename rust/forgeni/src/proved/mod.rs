@@ -11,7 +11,6 @@
 #![allow(dead_code, unused_imports, unused_variables, clippy::all)]
 
 pub mod ent_alloc;
-pub mod ent_bundle;
 pub mod ent_handle;
 pub mod ent_queue;
 pub mod ent_replay;

@@ -2,7 +2,7 @@ use Rattle.std.proofs.Common.{rules, ◌≡◌, length, arith}
 use Rattle.std.specs.List.{insert}
 use Rattle.ent_handle.specs.Handle.{handle_cmp, handle_cmp_total as total}
 use Rattle.ent_handle.specs.Handle.{handle_cmp-IsAntisymmetric as same}
-use Rattle.ent_bundle.specs.Position.{IsGapFor}
+use Rattle.ent_storage.specs.Position.{IsGapFor}
 use Rattle.ent_storage.proofs.Counted.{put_between, counted_none}
 use Rattle.ent_storage.proofs.Rising.{get_in_gap}
 use Rattle.std.proofs.lemmas.List.Edits.{insert_end}

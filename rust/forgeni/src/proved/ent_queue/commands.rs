@@ -3,9 +3,9 @@
 use crate::kit::vec::Vec;
 use crate::proved::ent_queue::fault::QueueFault;
 use crate::proved::ent_queue::queue::CommandQueue;
-use crate::proved::ent_bundle::Bundle;
 use crate::proved::ent_handle::{ComponentId, Handle, Memory};
 use crate::proved::ent_shared::{Reserver, Shared};
+use crate::proved::ent_storage::Bundle;
 use crate::kit::alloc::Global;
 
 /// Issues the commands of one system. They take effect when the queue is applied.

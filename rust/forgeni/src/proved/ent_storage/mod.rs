@@ -6,8 +6,12 @@
 //! the vector an index has the place of each handle, and for each component number a sparse set has
 //! the values, by places.
 //!
+//! [`Bundle`] has components and their values by themselves, as commands carry them. And [`search`]
+//! finds where a key stands among pairs of a key and a value, by strictly rising key.
+//!
 //! `handle_map` has a map from handles to values of any type, at most one for each slot.
 
+mod bundle;
 mod columns;
 mod fault;
 pub mod handle_map;
@@ -17,11 +21,14 @@ mod key;
 mod living;
 mod looking;
 mod order;
+mod pairs;
 mod places;
 mod slot;
 mod sparse_set;
 mod storage;
 
+pub use bundle::Bundle;
 pub use fault::StorageFault;
 pub use items::Items;
+pub use pairs::search;
 pub use storage::Storage;

@@ -1,7 +1,7 @@
 use Rattle.std.proofs.Common.{◌≡◌, ◌≤◌, ◌∷◌, ◌∙◌, sym, ap, arith, List, length, drop}
 use Rattle.std.specs.Prelude.{max}
 use Rattle.ent_handle.specs.Handle.{Handle}
-use Rattle.ent_bundle.specs.Bundle.{Bundle}
+use Rattle.ent_storage.specs.Bundle.{Bundle}
 use Rattle.ent_queue.specs.Command.{Command, SpawnMany}
 use Rattle.ent_queue.specs.Entry.{command_of}
 use Rattle.ent_queue.specs.declared.entry.Entry.{Entry}

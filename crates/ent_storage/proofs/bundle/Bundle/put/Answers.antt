@@ -6,13 +6,13 @@ use Rattle.std.proofs.Math.ListN.{length-set}
 use Rattle.std.proofs.lemmas.Int.{to_z-of_z}
 use Rattle.std.specs.FinMap.{put}
 use Rattle.ent_handle.specs.Component.{component_cmp, component_cmp_total as total}
-use Rattle.ent_bundle.specs.Bundle.{Bundle, IsBundle}
-use Rattle.ent_bundle.specs.Position.{IsAt, IsGapFor}
-use Rattle.ent_bundle.proofs.Putting.{find_in_gap, written, inserted}
+use Rattle.ent_storage.specs.Bundle.{Bundle, IsBundle}
+use Rattle.ent_storage.specs.Position.{IsAt, IsGapFor}
+use Rattle.ent_storage.proofs.Putting.{find_in_gap, written, inserted}
 use Rattle.std.proofs.lemmas.Bool.{cases_lt, false≢true}
-use Rattle.ent_bundle.proofs.Bundles.{bundle_put, refill_whole}
-use Rattle.ent_bundle.proofs.bundle.Bundle.put.Goals as goal
-use Rattle.ent_bundle.proofs.bundle.Bundle.put.Given.{Over}
+use Rattle.ent_storage.proofs.Bundles.{bundle_put, refill_whole}
+use Rattle.ent_storage.proofs.bundle.Bundle.put.Goals as goal
+use Rattle.ent_storage.proofs.bundle.Bundle.put.Given.{Over}
 
 -- what is written over
 over : (g : Over) (c : goal.After-self-1 g) → refill (length c.self.inside.items.items)

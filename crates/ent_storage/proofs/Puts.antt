@@ -7,7 +7,7 @@ use Rattle.std.specs.FinMap.Entries.{find-put, length-put, is_sorted-put}
 use Rattle.std.specs.Ordering.{eq_by_cmp}
 use Rattle.ent_handle.specs.declared.component.ComponentId.{ComponentId}
 use Rattle.ent_handle.specs.Component.{component_cmp, component_cmp_total}
-use Rattle.ent_bundle.specs.Bundle.{Bundle, with_put, bundle_of}
+use Rattle.ent_storage.specs.Bundle.{Bundle, with_put, bundle_of}
 
 -- A later item counts before an earlier one, and before what was held.
 find_with : (id : ComponentId) (held earlier items : List (ComponentId × ℤ))

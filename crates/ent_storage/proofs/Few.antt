@@ -8,8 +8,8 @@ use Rattle.std.specs.declared.cmp.Ordering.TheVariants.{Less}
 use Rattle.std.specs.FinMap.{is_sorted}
 use Rattle.ent_handle.specs.Component.{component_cmp}
 use Rattle.ent_handle.specs.declared.component.ComponentId.{ComponentId}
-use Rattle.ent_bundle.specs.Bundle.{Bundle, IsItem, IsBundle}
-use Rattle.ent_bundle.proofs.Rising.{second, less}
+use Rattle.ent_storage.specs.Bundle.{Bundle, IsItem, IsBundle}
+use Rattle.ent_storage.proofs.Positions.{second, less}
 
 below : (m n : ℕ) → T (is_lt (nat_cmp m n)) → m < n
 below m n h = ranked m n Less (sym (less (nat_cmp m n) h))

@@ -8,8 +8,8 @@ use Rattle.std.specs.Cmp.{IsTotalOrder}
 use Rattle.std.specs.List.{insert, AllWithin}
 use Rattle.std.specs.FinMap.{find, put, is_sorted}
 use Rattle.std.specs.FinMap.Entries.{by_order}
-use Rattle.ent_bundle.specs.Position.{IsAt, IsGapFor}
-use Rattle.ent_bundle.proofs.Rising.{first, second, turn, below_at}
+use Rattle.ent_storage.specs.Position.{IsAt, IsGapFor}
+use Rattle.ent_storage.proofs.Positions.{first, second, turn, below_at}
 
 module _ {K X : Type 0} {R : K → K → Ordering} (o : IsTotalOrder R) where
   abbrev putting : K → X → K × X → List (K × X) → Ordering → List (K × X)

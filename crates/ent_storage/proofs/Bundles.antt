@@ -10,7 +10,7 @@ use Rattle.std.specs.FinMap.{put}
 use Rattle.std.specs.FinMap.Entries.{by_order, is_sorted-put}
 use Rattle.ent_handle.specs.declared.component.ComponentId.{ComponentId}
 use Rattle.ent_handle.specs.Component.{component_cmp, component_cmp_total}
-use Rattle.ent_bundle.specs.Bundle.{Bundle, IsItem, IsBundle}
+use Rattle.ent_storage.specs.Bundle.{Bundle, IsItem, IsBundle}
 
 module _ (id : ComponentId) (value : ℤ) where
   abbrev putting : ComponentId × ℤ → Bundle → Ordering → Bundle

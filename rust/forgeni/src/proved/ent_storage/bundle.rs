@@ -1,42 +1,22 @@
-ghost use Rattle.std.specs.Prelude.{◌≡◌, ◌<◌, ◌≤◌, [], length, reverse, None};
-ghost use Rattle.std.specs.Prelude.{OnOk, OnErr, IfOk};
-ghost use Rattle.std.specs.FinMap.{put, find};
-ghost use Rattle.ent_handle.specs.Component.{component_cmp};
-ghost use Rattle.ent_handle.specs.declared.component.ComponentId.{ComponentId as Id};
-ghost use Rattle.ent_bundle.specs.Bundle.{IsBundle, bundle_of};
+// Made of crates/ent_storage/src/bundle.rt by rust/erase. It isn't edited by hand.
 
-use crate::pairs::search;
-use ent_handle::{ComponentId, Memory};
-use smallvec::SmallVec;
-use std::alloc::Global;
-use std::marker::Model;
+use crate::proved::ent_storage::pairs::search;
+use crate::proved::ent_handle::{ComponentId, Memory};
+use crate::kit::smallvec::SmallVec;
+use crate::kit::alloc::Global;
 
 /// Components and their values, by strictly rising number. Contracts see the list of them.
 ///
 /// Up to `INLINE` components lie in the bundle itself, and take no memory.
-#[derive(Drop)]
 pub struct Bundle<const INLINE: usize> {
     items: SmallVec<(ComponentId, i64), INLINE>,
 }
 
-impl<const INLINE: usize> Model for Bundle<INLINE> {
-    ghost use Rattle.std.specs.Prelude.{ℤ, List};
-    ghost use Rattle.ent_handle.specs.declared.component.ComponentId.{ComponentId};
-
-    ghost Value = { List (ComponentId × ℤ) };
-
-    ghost use Rattle.std.specs.Prelude.{◌≤◌};
-    ghost use Rattle.ent_bundle.specs.Bundle.{IsBundle};
-
-    ghost view = { λ b. b.items.items };
-
-    ghost invariant = { λ b. IsBundle b.items.items × (INLINE ≤ b.items.capacity) };
-}
-
 impl<const INLINE: usize> Bundle<INLINE> {
     /// A bundle with no components.
+    #[inline]
     pub fn new(alloc: Global) -> Self
-        ensures { result ≡ [] }
+        // ensures { result ≡ [] }
     {
         Bundle {
             items: SmallVec::new(alloc),
@@ -48,9 +28,10 @@ impl<const INLINE: usize> Bundle<INLINE> {
     /// # Errors
     ///
     /// `Memory`, which needs a count of more than `INLINE`.
+    #[inline]
     pub fn with_capacity(alloc: Global, count: usize) -> Result<Self, Memory>
-        ensures ok { IfOk result (λ bundle. bundle ≡ []) }
-        ensures memory { OnErr result (INLINE < count) }
+        // ensures ok { IfOk result (λ bundle. bundle ≡ []) }
+        // ensures memory { OnErr result (INLINE < count) }
     {
         Ok(Bundle {
             items: SmallVec::with_capacity(alloc, count)?,
@@ -63,11 +44,12 @@ impl<const INLINE: usize> Bundle<INLINE> {
     /// # Errors
     ///
     /// `Memory`, which needs more than `INLINE` different components. Nothing is left behind.
+    #[inline]
     pub fn of(alloc: Global, items: &[(ComponentId, i64)]) -> Result<Self, Memory>
-        ensures ok { IfOk result (λ bundle. bundle ≡ bundle_of items.now) }
-        ensures last { IfOk result (λ bundle. (id : Id) →
-            find component_cmp id bundle ≡ find component_cmp id (reverse items.now)) }
-        ensures memory { OnErr result (INLINE < length (bundle_of items.now)) }
+        // ensures ok { IfOk result (λ bundle. bundle ≡ bundle_of items.now) }
+        // ensures last { IfOk result (λ bundle. (id : Id) →
+        //     find component_cmp id bundle ≡ find component_cmp id (reverse items.now)) }
+        // ensures memory { OnErr result (INLINE < length (bundle_of items.now)) }
     {
         let mut bundle = Bundle::new(alloc);
         for (id, value) in items {
@@ -82,11 +64,12 @@ impl<const INLINE: usize> Bundle<INLINE> {
     ///
     /// `Memory`, which needs a component that is not there and at least `INLINE` that are. Nothing
     /// has changed.
+    #[inline]
     pub fn put(&mut self, id: ComponentId, value: i64) -> Result<(), Memory>
-        ensures ok { OnOk result (self.new ≡ put component_cmp id value self.old) }
-        ensures memory { OnErr result
-            ((INLINE ≤ length self.old) × (find component_cmp id self.old ≡ None)) }
-        ensures err { OnErr result (self.new ≡ self.old) }
+        // ensures ok { OnOk result (self.new ≡ put component_cmp id value self.old) }
+        // ensures memory { OnErr result
+        //     ((INLINE ≤ length self.old) × (find component_cmp id self.old ≡ None)) }
+        // ensures err { OnErr result (self.new ≡ self.old) }
     {
         match search(self.items.as_slice(), id) {
             Ok(index) => self.items[index].1 = value,
@@ -96,9 +79,10 @@ impl<const INLINE: usize> Bundle<INLINE> {
     }
 
     /// The components and their values, by strictly rising number.
+    #[inline]
     pub fn items(&self) -> &[(ComponentId, i64)]
-        ensures items { result.now ≡ self.now }
-        ensures is { IsBundle self.now }
+        // ensures items { result.now ≡ self.now }
+        // ensures is { IsBundle self.now }
     {
         self.items.as_slice()
     }

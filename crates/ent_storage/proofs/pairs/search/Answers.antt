@@ -1,7 +1,7 @@
 use Rattle.std.proofs.Common.{rules}
 use Rattle.std.proofs.lemmas.List.Sorted.{answers_always}
-use Rattle.ent_bundle.proofs.Rising.{searched}
-use Rattle.ent_bundle.proofs.pairs.search.Goals as goal
+use Rattle.ent_storage.proofs.Positions.{searched}
+use Rattle.ent_storage.proofs.pairs.search.Goals as goal
 
 -- the closure gives a pair's key
 pub returns : goal.returns

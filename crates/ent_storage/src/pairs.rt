@@ -1,6 +1,6 @@
 ghost use Rattle.std.specs.Prelude.{T, IfOk, IfErr};
 ghost use Rattle.std.specs.FinMap.{is_sorted};
-ghost use Rattle.ent_bundle.specs.Position.{IsAt, IsGapFor};
+ghost use Rattle.ent_storage.specs.Position.{IsAt, IsGapFor};
 
 /// The position of the key among pairs whose keys strictly rise.
 ///

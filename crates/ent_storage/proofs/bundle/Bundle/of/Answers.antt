@@ -3,9 +3,9 @@ use Rattle.std.proofs.lemmas.Int.{to_z-of_z}
 use Rattle.std.proofs.lemmas.List.{drop_all, drop_more}
 use Rattle.std.specs.FinMap.{put}
 use Rattle.ent_handle.specs.Component.{component_cmp}
-use Rattle.ent_bundle.proofs.Puts.{last_value, more_than, still_rising}
-use Rattle.ent_bundle.proofs.Results.{OnErr-always}
-use Rattle.ent_bundle.proofs.bundle.Bundle.of.Goals as goal
+use Rattle.ent_storage.proofs.Puts.{last_value, more_than, still_rising}
+use Rattle.ent_storage.proofs.Results.{OnErr-always}
+use Rattle.ent_storage.proofs.bundle.Bundle.of.Goals as goal
 
 pub loop-id-preserved : goal.loop-id-preserved
 loop-id-preserved g c =

@@ -1,4 +1,4 @@
-// Made of crates/ent_bundle/src/pairs.rt by rust/erase. It isn't edited by hand.
+// Made of crates/ent_storage/src/pairs.rt by rust/erase. It isn't edited by hand.
 
 /// The position of the key among pairs whose keys strictly rise.
 ///

@@ -8,7 +8,7 @@ use Rattle.std.specs.List.Sorted.{IsSearchInRange, IsBinarySearchResult}
 use Rattle.std.proofs.lemmas.List.Sorted.{searchable_from_sorted}
 use Rattle.std.specs.FinMap.{is_sorted}
 use Rattle.std.specs.FinMap.Entries.{below_all}
-use Rattle.ent_bundle.specs.Position.{IsAt, IsGapFor}
+use Rattle.ent_storage.specs.Position.{IsAt, IsGapFor}
 
 -- what tests tell
 pub first : (a b : Bool) → T (a && b) → T a

@@ -1,9 +1,0 @@
-//! Bundles: components and their values, by strictly rising number. And pairs of a key and a value
-//! by strictly rising key: where a key stands among them.
-#![tactic(auto)]
-
-mod bundle;
-mod pairs;
-
-pub use bundle::Bundle;
-pub use pairs::search;
