@@ -1,8 +1,7 @@
 #!/bin/sh
 # Proves the program and all crates below it, and builds and runs it, as the gate does, but without wrong bodies, tests and other crates.
-# With arguments it takes these crates in place of the program. What it builds stands in crates/NAME/out/NAME. What an earlier run on this
-# machine proved of the same files is not proved again. It works on a copy, needs `rt` on the path, and ends with 0 exactly if all is
-# proved.
+# With arguments it takes these crates in place of the program. What it builds stands in crates/NAME/out/NAME. It works on a copy, needs `rt`
+# on the path, and ends with 0 exactly if all is proved.
 set -eu
 top=$(cd "$(dirname "$0")" && pwd)
 [ $# -gt 0 ] || set -- spawnrun

@@ -1,7 +1,6 @@
-//! Tests of scripts and of what the program does with its devices: devices that fail, memory that is
-//! refused, and values of single calls. What a run shows is a case of the program
-//! (`crates/spawnrun/cases`). The package in plain Rust has no scripts, so these aren't erased.
-mod counted;
+//! Tests of scripts and of what the program does with its devices: memory that is refused, and
+//! values of single calls. What a run shows is a case of the program (`crates/spawnrun/cases`). The
+//! package in plain Rust has no scripts, so these aren't erased.
 mod faults;
 mod inputs;
 mod memory;

@@ -43,6 +43,11 @@ const MODULES: &[Module] = &[
     ),
     module("std::env", "crate::host::env", &["args"]),
     module("std::fs", "crate::host::fs", &["read_to_string"]),
+    module(
+        "std::io",
+        "std::io",
+        &["Error", "ErrorKind", "Read", "Result", "Write"],
+    ),
     module("std::process", "crate::host::rt", &["Abort"]),
     module("std::rt", "crate::host::rt", &["Files"]),
     module(
@@ -100,6 +105,9 @@ const METHODS: &[&str] = &[
     "ends_with",
     "eq",
     "err",
+    "fail",
+    "flush",
+    "kind",
     "load",
     "map_or",
     "nth",
@@ -108,6 +116,7 @@ const METHODS: &[&str] = &[
     "sort",
     "lines",
     "push_str",
+    "read",
     "split",
     "split_once",
     "split_whitespace",
@@ -120,12 +129,14 @@ const METHODS: &[&str] = &[
     "wrapping_add",
     "wrapping_mul",
     "wrapping_sub",
+    "write_all",
     "write_text",
 ];
 
 const ASSOCIATED: &[Associated] = &[
     ("AtomicBool", &["new"]),
     ("AtomicU32", &["new"]),
+    ("ErrorKind", &["Interrupted", "TimedOut"]),
     ("Fail", &["new"]),
     ("HashMap", &["new"]),
     ("Ordering", &["Equal", "Greater", "Less", "SeqCst"]),

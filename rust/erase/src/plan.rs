@@ -16,8 +16,8 @@ use std::path::{Path, PathBuf};
 /// The crates that the package's face calls. They are erased with all that they stand on.
 const TOPS: &[&str] = &["ent_replay", "ent_runner", "ent_total"];
 
-/// The tests of those crates.
-const TESTS: &[&str] = &["cases_and_examples", "ent_tests"];
+/// The tests of those crates, and what only the tests in plain Rust use.
+const TESTS: &[&str] = &["cases_and_examples", "devices", "ent_tests"];
 
 /// A module of the tests that isn't erased: the package has no scripts.
 const SCRIPTS: &str = "scripts";

@@ -3,6 +3,7 @@
 
 mod allocators;
 mod claims;
+mod devices;
 mod faults;
 mod handles;
 mod maps;

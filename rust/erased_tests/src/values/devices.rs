@@ -1,12 +1,13 @@
-use super::memory::NEVER;
-use spawnrun_lib::{Counted, Failed, Sink, Source};
-use std::io;
-use std::io::{ErrorKind, Read, Write};
-use std::test::Fail;
+//! Devices over readers and writers that are interrupted, fail, would block, or can't be flushed.
 
-// A reader and writer of single bytes. A signal interrupts this many calls before each that goes
-// on, and it fails after `calls` calls that went on.
-#[derive(Drop)]
+use crate::made::devices::{Counted, Failed, Sink, Source};
+use std::io::{self, ErrorKind, Read, Write};
+
+/// For a device that never fails.
+const NEVER: u64 = u64::MAX;
+
+/// A reader and writer of single bytes. A signal interrupts this many calls before each that goes
+/// on, and it fails after `calls` calls that went on.
 struct Choppy {
     bytes: Vec<u8>,
     interruptions: u32,
@@ -18,11 +19,11 @@ impl Choppy {
     fn next_call(&mut self) -> io::Result<()> {
         if self.left > 0 {
             self.left -= 1;
-            return Err(io::Error::from(ErrorKind::Interrupted));
+            return Err(ErrorKind::Interrupted.into());
         }
         self.left = self.interruptions;
         if self.calls == 0 {
-            return Err(io::Error::from(ErrorKind::BrokenPipe));
+            return Err(ErrorKind::BrokenPipe.into());
         }
         self.calls -= 1;
         Ok(())
@@ -43,13 +44,8 @@ impl Read for Choppy {
 impl Write for Choppy {
     fn write(&mut self, piece: &[u8]) -> io::Result<usize> {
         self.next_call()?;
-        match piece.first() {
-            Some(byte) => {
-                self.bytes.push(*byte)?;
-                Ok(1)
-            }
-            None => Ok(0),
-        }
+        self.bytes.extend(piece.first());
+        Ok(piece.len().min(1))
     }
 
     fn flush(&mut self) -> io::Result<()> {
@@ -59,9 +55,9 @@ impl Write for Choppy {
 
 /// A device of these bytes, that is interrupted so often before each call, and fails after `calls`
 /// calls.
-fn device_of(bytes: Vec<u8>, interruptions: u32, calls: u64) -> Counted<Choppy> {
+fn device_of(bytes: &[u8], interruptions: u32, calls: u64) -> Counted<Choppy> {
     Counted::new(Choppy {
-        bytes,
+        bytes: bytes.to_vec(),
         interruptions,
         left: interruptions,
         calls,
@@ -76,39 +72,37 @@ fn taken(counted: &mut Counted<Choppy>) -> Result<(usize, u8), Failed> {
 }
 
 #[test]
-fn interruptions_are_no_failures(rt: HostRuntime) {
+fn interruptions_are_no_failures() {
     for interruptions in [0, 1, 100] {
-        let mut counted = device_of(Vec::new(rt.alloc()), interruptions, NEVER);
-        assert!(rt; counted.put(b"ab") == Ok(()), "at {interruptions}");
+        let mut counted = device_of(b"", interruptions, NEVER);
+        assert_eq!(counted.put(b"ab"), Ok(()), "at {interruptions}");
         for wanted in [(1, b'a'), (1, b'b'), (0, 0)] {
-            assert!(rt; taken(&mut counted) == Ok(wanted), "at {interruptions}");
+            assert_eq!(taken(&mut counted), Ok(wanted), "at {interruptions}");
         }
     }
 }
 
 #[test]
-fn a_failure_comes_once(rt: HostRuntime) -> Result<(), Fail> {
-    let mut counted = device_of(vec![in rt.alloc(); b'a', b'b']?, 1, 1);
-    assert!(rt; taken(&mut counted) == Ok((1, b'a')));
-    assert!(rt; taken(&mut counted) == Err(Failed));
-    assert!(rt; counted.put(b"c") == Err(Failed));
-    Ok(())
+fn a_failure_comes_once() {
+    let mut counted = device_of(b"ab", 1, 1);
+    assert_eq!(taken(&mut counted), Ok((1, b'a')));
+    assert_eq!(taken(&mut counted), Err(Failed));
+    assert_eq!(counted.put(b"c"), Err(Failed));
 }
 
-// A reader and writer that would block at its first call. From then on it is at its end, and takes
-// all.
-#[derive(Drop)]
+/// A reader and writer that would block at its first call. From then on it is at its end, and takes
+/// all.
+#[derive(Default)]
 struct Blocked {
     is_called: bool,
 }
 
 impl Blocked {
     fn next_call(&mut self) -> io::Result<()> {
-        if self.is_called {
+        if std::mem::replace(&mut self.is_called, true) {
             return Ok(());
         }
-        self.is_called = true;
-        Err(io::Error::from(ErrorKind::WouldBlock))
+        Err(ErrorKind::WouldBlock.into())
     }
 }
 
@@ -131,16 +125,15 @@ impl Write for Blocked {
 }
 
 #[test]
-fn a_call_that_would_block_is_a_failure(rt: HostRuntime) {
+fn a_call_that_would_block_is_a_failure() {
     let mut buffer = [0; 8];
-    let mut source = Counted::new(Blocked { is_called: false });
-    assert!(rt; source.take(&mut buffer) == Err(Failed));
-    let mut sink = Counted::new(Blocked { is_called: false });
-    assert!(rt; sink.put(b"born\n") == Err(Failed));
+    let mut source = Counted::new(Blocked::default());
+    assert_eq!(source.take(&mut buffer), Err(Failed));
+    let mut sink = Counted::new(Blocked::default());
+    assert_eq!(sink.put(b"born\n"), Err(Failed));
 }
 
-// A writer that takes all that it is given and can't flush it.
-#[derive(Drop)]
+/// A writer that takes all that it is given and can't flush it.
 struct Clogged;
 
 impl Write for Clogged {
@@ -149,11 +142,11 @@ impl Write for Clogged {
     }
 
     fn flush(&mut self) -> io::Result<()> {
-        Err(io::Error::from(ErrorKind::StorageFull))
+        Err(ErrorKind::StorageFull.into())
     }
 }
 
 #[test]
-fn a_flush_that_fails_is_a_failure(rt: HostRuntime) {
-    assert!(rt; Counted::new(Clogged).put(b"born\n") == Err(Failed));
+fn a_flush_that_fails_is_a_failure() {
+    assert_eq!(Counted::new(Clogged).put(b"born\n"), Err(Failed));
 }
