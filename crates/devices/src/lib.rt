@@ -3,6 +3,8 @@
 
 mod counted;
 mod device;
+mod input;
 
 pub use counted::Counted;
 pub use device::{Failed, Sink, Source};
+pub use input::{InputFault, read_all};

@@ -2,7 +2,6 @@
 //! values of single calls. What a run shows is a case of the program (`crates/spawnrun/cases`). The
 //! package in plain Rust has no scripts, so these aren't erased.
 mod faults;
-mod inputs;
 mod memory;
 mod program;
 mod report_memory;

@@ -8,14 +8,16 @@ ghost use Rattle.spawnrun_lib.specs.Work.{Refusal as Refused, Refuses, input_lim
 ghost use Rattle.spawnrun_lib.specs.Work.{size_line};
 
 use crate::found::Found;
-use crate::input::{INPUT_LIMIT, InputFault, read_all};
 use crate::output::{refuse, write};
 use crate::progress::Progress;
 use crate::status::Status;
 use crate::wants::size_wants;
-use devices::{Sink, Source};
+use devices::{InputFault, Sink, Source, read_all};
 use ent_handle::Memory;
 use std::alloc::Global;
+
+/// The longest input that the program reads, in bytes.
+pub const INPUT_LIMIT: usize = 67_108_864;
 
 /// What is made of an input.
 #[derive(Drop)]

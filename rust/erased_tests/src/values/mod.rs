@@ -6,5 +6,6 @@ mod claims;
 mod devices;
 mod faults;
 mod handles;
+mod inputs;
 mod maps;
 mod replays;

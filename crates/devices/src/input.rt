@@ -1,15 +1,12 @@
-//! The whole input of a program, within a limit.
+//! The whole of what a device gives, within a limit.
 ghost use Rattle.std.specs.Prelude.{◌≡◌, ◌≢◌, ◌+◌, ◌<◌, ◌≤◌, length, vec_len, Err, IfOk, OnOk};
 ghost use Rattle.std.specs.Prelude.{IfSome};
 ghost use Rattle.std.specs.Io.KnownBytes.{Consumes, IsAtEnd};
 ghost use Rattle.devices.specs.Device.{Takes, TakesAtMost};
-ghost use Rattle.spawnrun_lib.specs.declared.input.InputFault.TheVariants.{TooLong, Memory, Device};
+ghost use Rattle.devices.specs.declared.input.InputFault.TheVariants.{TooLong, Memory, Device};
 
-use devices::{Failed, Source};
+use crate::device::{Failed, Source};
 use std::alloc::{AllocError, Global};
-
-/// The longest input that the program reads, in bytes.
-pub const INPUT_LIMIT: usize = 67_108_864;
 
 // How many bytes one call of the source may bring.
 const PIECE: usize = 16_384;
