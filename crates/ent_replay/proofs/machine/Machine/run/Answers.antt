@@ -1,10 +1,10 @@
 use Rattle.std.proofs.Common.{rules, ℕ, ◌≤◌, List, Result, ◌≡◌, ◌≢◌, ◌+◌, ◌++◌, ◌∷◌, [], sym, ap}
-use Rattle.std.proofs.Common.{subst, ◌∙◌, Err, length, take, arith}
-use Rattle.std.proofs.lemmas.Grind.{common_steps}
+use Rattle.std.proofs.Common.{refl, subst, ◌∙◌, Err, length, take, arith}
 use Rattle.std.proofs.lemmas.List.{take_more, take_all}
+use Rattle.std.proofs.lemmas.Option.{slice_get_read}
 use Rattle.ent_replay.specs.declared.outcome.Outcome.{Outcome}
 use Rattle.ent_replay.specs.declared.fault.ReplayFault.{ReplayFault}
-use Rattle.ent_replay.specs.Histories.{given_by_all}
+use Rattle.ent_replay.specs.Histories.{given_by_all, new_phase, StandInHistory}
 use Rattle.ent_alloc.specs.History.{AreGivenOnce}
 use Rattle.ent_replay.proofs.Linear.{linear}
 use Rattle.ent_replay.proofs.Giving.{given_once}
@@ -22,8 +22,32 @@ all_outcomes : (s : MachineState) (outcomes : List (Result Outcome ReplayFault))
     ≡ outcomes_of s (take done events) → outcomes ≡ outcomes_of s events
 all_outcomes s outcomes events done seen is = is ∙ ap (outcomes_of s) (take_all done events seen)
 
+pub returns-then-is_out_of_memory-clause-grows :
+    goal.returns-then-is_out_of_memory-clause-grows
+returns-then-is_out_of_memory-clause-grows c =
+    let event = c.index-events-done.result in
+    let got = slice_get_read c.args.events.now (length c.args.events.now) c.loop-done.done event
+    refl (omega arith) c.index-events-done.is in
+    let memory = c.step-outcome.ensures.grows
+    (c.is_out_of_memory.ensures.0 c.if-is_out_of_memory.true) in
+    search (rules, got, memory, c.loop-done.invariant.0)
+
+pub returns-clause-outcomes : goal.returns-clause-outcomes
+returns-clause-outcomes c =
+    all_outcomes c.args.self.now c.loop-done.outcomes.items c.args.events.now c.loop-done.done
+    (omega arith) c.loop-done.invariant.1
+
+pub returns-clause-state : goal.returns-clause-state
+returns-clause-state c =
+    c.loop-done.invariant.0 ∙ ap (after_events c.args.self.now)
+    (take_all c.loop-done.done c.args.events.now (omega arith))
+
 pub returns-clause-history : goal.returns-clause-history
-returns-clause-history c = grind (arith, common_steps, all_outcomes, linear)
+returns-clause-history c = λ rest.
+    let all = all_outcomes c.args.self.now c.loop-done.outcomes.items c.args.events.now
+    c.loop-done.done (omega arith) c.loop-done.invariant.1 in
+    subst (StandInHistory (new_phase c.args.self.now) c.args.self.now c.args.events.now) (sym all)
+    (linear c.args.self.now c.args.events.now rest)
 
 pub returns-clause-given_once : goal.returns-clause-given_once
 returns-clause-given_once c =
