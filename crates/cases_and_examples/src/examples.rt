@@ -15,12 +15,18 @@ use std::thread::Threads;
 
 /// Shows them all.
 pub fn show<R: Threads + Sync + Print + AllocGlobal>(rt: &R) -> Result<()> {
-    println!(rt; "One thread:")?;
+    head(rt, "One thread")?;
     one_thread::show(rt)?;
-    println!(rt; "Two threads:")?;
+    head(rt, "Two threads")?;
     two_threads::show(rt)?;
-    println!(rt; "The meadow:")?;
+    head(rt, "The meadow")?;
     frames::show(rt)?;
-    println!(rt; "The game:")?;
+    head(rt, "The game")?;
     game::show(rt)
+}
+
+/// Prints the head of an example.
+fn head(rt: &impl Print, name: &str) -> Result<()> {
+    println!(rt; "{name}:")?;
+    Ok(())
 }

@@ -25,11 +25,27 @@ fn issue(alloc: Global, shared: &Shared, reserver: &mut Reserver) -> Result<Comm
     requires own { IsOf shared.now reserver.old }
     ensures own { OnOk result (IsOf shared.now reserver.new) }
 {
-    // Each spawn reserves its handle at once.
+    let empty = Bundle::new(alloc);
+    let grown = Bundle::of(alloc, &[(AGE, 2)])?;
+    fill(alloc, shared, reserver, &empty, &grown)
+}
+
+/// Fills the queue with two spawns, an insert and a despawn.
+fn fill(
+    alloc: Global,
+    shared: &Shared,
+    reserver: &mut Reserver,
+    empty: &Bundle,
+    grown: &Bundle,
+) -> Result<CommandQueue>
+    requires own { IsOf shared.now reserver.old }
+    ensures own { OnOk result (IsOf shared.now reserver.new) }
+{
     let mut commands = Commands::new(alloc, shared, reserver);
-    let oak = commands.spawn(&Bundle::of(alloc, &[(AGE, 1)])?)?;
-    let ash = commands.spawn(&Bundle::new(alloc))?;
-    commands.insert(oak, &Bundle::of(alloc, &[(AGE, 2)])?)?;
+    // Each spawn reserves its handle at once.
+    let oak = commands.spawn(empty)?;
+    let ash = commands.spawn(grown)?;
+    commands.insert(oak, grown)?;
     commands.despawn(ash)?;
     Ok(commands.finish())
 }
@@ -40,20 +56,34 @@ fn phase(alloc: Global, opened: OpenWorld, mut reservers: Vec<Reserver>) -> Resu
     requires own { All (IsOf opened.shared) reservers.items }
     ensures flushed { IfOk result (λ world. world.allocator.asked ≡ 0) }
 {
+    let queue = issue_by_first(alloc, opened.shared(), &mut reservers)?;
+    let mut world = opened.close(reservers);
+    sync(&mut world, queue)?;
+    Ok(world)
+}
+
+/// Issues the commands with the first reserver.
+fn issue_by_first(
+    alloc: Global,
+    shared: &Shared,
+    reservers: &mut Vec<Reserver>,
+) -> Result<CommandQueue>
+    requires own { All (IsOf shared.now) reservers.old.items }
+    ensures all { OnOk result (length reservers.new.items ≡ length reservers.old.items) }
+    ensures own { OnOk result (All (IsOf shared.now) reservers.new.items) }
+{
     let Some(reserver) = reservers.get_mut(0) else {
         return Err(anyhow!("no reserver"));
     };
-    let queue = issue(alloc, opened.shared(), reserver)?;
-    sync(opened.close(reservers), queue)
+    issue(alloc, shared, reserver)
 }
 
 /// First what was reserved comes to life, then the commands take effect.
-fn sync(mut world: World, queue: CommandQueue) -> Result<World>
-    ensures flushed { IfOk result (λ world. world.allocator.asked ≡ 0) }
+fn sync(world: &mut World, queue: CommandQueue) -> Result<()>
+    ensures flushed { OnOk result (world.new.allocator.asked ≡ 0) }
 {
-    let report = world.apply(&[queue])?;
-    if !report.faults.is_empty() {
+    if !world.apply(&[queue])?.faults.is_empty() {
         return Err(anyhow!("a command had no effect"));
     }
-    Ok(world)
+    Ok(())
 }

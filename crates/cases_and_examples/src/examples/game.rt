@@ -16,7 +16,7 @@ use anyhow::{Result, anyhow};
 use components::{AGE, TARGET};
 use ent_alloc::Limits;
 use ent_runner::{NoGate, run_frame};
-use ent_world::World;
+use ent_world::{SyncReport, World};
 use role::Role;
 use std::thread::Threads;
 use systems::{Age, Aim, Launch};
@@ -40,12 +40,11 @@ pub fn show<R: Threads + Sync + Print + AllocGlobal>(rt: &R) -> Result<()> {
     if alone != together {
         return Err(anyhow!("the story depends on the number of workers"));
     }
-    print!(rt; "{alone}")?;
-    println!(rt; "1 worker and 4 workers agree")?;
+    println!(rt; "{alone}1 worker and 4 workers agree")?;
     Ok(())
 }
 
-/// Plays the game with that many workers, and tells what each frame did and who is left in the end.
+/// Plays the game with that many workers, and returns its story.
 fn play<R>(rt: &R, workers: usize) -> Result<String>
 where
     R: Threads + Sync + AllocGlobal,
@@ -53,11 +52,22 @@ where
     requires few { workers ≤ 64 }
 {
     let mut world = World::new(rt.alloc(), Limits::default_limits());
+    run_frames(rt, &mut world, workers)
+}
+
+/// Runs the frames, and tells what each did and who is left in the end.
+fn run_frames<R>(rt: &R, world: &mut World, workers: usize) -> Result<String>
+where
+    R: Threads + Sync + AllocGlobal,
+    requires flushed { world.old.allocator.asked ≡ 0 }
+    requires some { 0 < workers }
+    requires few { workers ≤ 64 }
+{
     let mut story = String::new(rt.alloc());
     for frame in 0..FRAMES {
-        step(rt, &mut world, workers, frame, &mut story)?;
+        step(rt, world, workers, frame, &mut story)?;
     }
-    tell_survivors(&world, &mut story)?;
+    tell_survivors(world, &mut story)?;
     Ok(story)
 }
 
@@ -71,13 +81,17 @@ where
     ensures flushed { OnOk result (world.new.allocator.asked ≡ 0) }
 {
     let report = run_frame(rt, rt.alloc(), world, &SYSTEMS, workers, &NoGate)?;
-    let (born, faults) = (report.sync.born.len(), report.sync.faults.len());
-    let alive = world.len();
+    tell_frame(frame, world.len(), &report.sync, story)
+}
+
+/// Tells what a frame did, and which of its commands had no effect.
+fn tell_frame(frame: u32, alive: usize, sync: &SyncReport, story: &mut String) -> Result<()> {
+    let (born, faults) = (sync.born.len(), sync.faults.len());
     writeln!(
         story,
         "frame {frame}: born {born}, alive {alive}, faults {faults}"
     )?;
-    for fault in &report.sync.faults {
+    for fault in &sync.faults {
         let (system, command) = (fault.system, fault.command);
         writeln!(
             story,

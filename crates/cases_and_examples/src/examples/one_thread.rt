@@ -39,15 +39,20 @@ impl Game {
     }
 }
 
-/// Plays a short game, and prints who is alive and what is found.
+/// Begins a short game, and plays it.
 pub fn show<R: Print + AllocGlobal>(rt: &R) -> Result<()> {
     let mut game = Game {
         entities: Entities::new(rt.alloc(), Limits::default_limits()),
         storage: Storage::new(rt.alloc()),
     };
-    let (rat, raven) = take_the_slot(rt, &mut game)?;
-    print_both(rt, &game, rat, raven)?;
-    print_healths(rt, &game)
+    play(rt, &mut game)
+}
+
+/// Plays the game, and prints who is alive and what is found.
+fn play<R: Print + AllocGlobal>(rt: &R, game: &mut Game) -> Result<()> {
+    let (rat, raven) = take_the_slot(rt, game)?;
+    print_both(rt, game, rat, raven)?;
+    print_healths(rt, game)
 }
 
 /// Spawns a knight and a rat, and a raven in the slot of the rat, which is gone then. Returns the

@@ -12,8 +12,8 @@ pub returns-clause-distinct : goal.returns-clause-distinct
 returns-clause-distinct g c =
     let a = c.args.a in
     let b = c.args.b in
-    let handed_in : c.in_ok-from_array.field-0.items ≡ a.reserver ∷ b.reserver
-    ∷ [] = c.in_ok-from_array.ensures.items in
+    let handed_in : c.in_ok-both.field-0.items ≡ a.reserver ∷ b.reserver
+    ∷ [] = c.in_ok-both.ensures.items in
     let distinct = given-distinct (a.reserver.own ∷ b.reserver.own ∷ [])
     (subst (λ (rs : List Reserver). AllPairs (λ g h. g ≢ h)
     (given_in (history_of (map (λ (r : Reserver). r.own) rs)))) handed_in

@@ -1,5 +1,5 @@
 use Rattle.std.proofs.Common.{◌≡◌}
-use Rattle.cases_and_examples.proofs.examples.game.play.Given as goal
+use Rattle.cases_and_examples.proofs.examples.game.run_frames.Given as goal
 
 -- each frame ends with a flush
 abbrev pub invariant-loop-frame : goal.invariant-loop-frame

@@ -2,7 +2,7 @@ use Rattle.std.proofs.Common.{◌≡◌, List, [], ◌∷◌, ◌++◌, subst}
 use Rattle.std.specs.List.{All}
 use Rattle.std.proofs.lemmas.List.Elements.{All-nil, All-cons, All-head, All-tail}
 use Rattle.ent_shared.specs.Phase.{Reserver, IsOf}
-use Rattle.cases_and_examples.proofs.examples.two_threads.show.Goals as goal
+use Rattle.cases_and_examples.proofs.examples.two_threads.with_both.Goals as goal
 
 front_of : (P : Reserver → Type 0) (xs ys : List Reserver) → All P (xs ++ ys) → All P xs
 front_of P [] ys all = All-nil P
@@ -24,17 +24,17 @@ last_two P all rest less a b first second every =
     )
 
 pub phase-requires-clause-first : goal.phase-requires-clause-first
-phase-requires-clause-first g c κs _ = (last_two (IsOf c.in-Ok.shared) c.in-Ok.reservers.items
-    c.pop.new.self.items c.pop-in-Ok.new.self.items c.in-Some-Some.a c.in-Some-Some.b
-    c.in-Some-Some.ensures.items c.in-Some-Some.ensures'.items c.in-Ok.ensures.own).0
+phase-requires-clause-first g c κs _ = (last_two (IsOf c.args.shared) c.args.reservers.items
+    c.pop.new.self.items c.pop-2.new.self.items c.in-Some-Some.a c.in-Some-Some.b
+    c.in-Some-Some.ensures.items c.in-Some-Some.ensures'.items c.requires.own).0
 
 pub phase-requires-clause-second : goal.phase-requires-clause-second
-phase-requires-clause-second g c κs _ = (last_two (IsOf c.in-Ok.shared) c.in-Ok.reservers.items
-    c.pop.new.self.items c.pop-in-Ok.new.self.items c.in-Some-Some.a c.in-Some-Some.b
-    c.in-Some-Some.ensures.items c.in-Some-Some.ensures'.items c.in-Ok.ensures.own).1
+phase-requires-clause-second g c κs _ = (last_two (IsOf c.args.shared) c.args.reservers.items
+    c.pop.new.self.items c.pop-2.new.self.items c.in-Some-Some.a c.in-Some-Some.b
+    c.in-Some-Some.ensures.items c.in-Some-Some.ensures'.items c.requires.own).1
 
 pub phase-requires-clause-unused : goal.phase-requires-clause-unused
 phase-requires-clause-unused g c κs _ = last_two (λ (r : Reserver). r.own.entries ≡ [])
-    c.in-Ok.reservers.items c.pop.new.self.items c.pop-in-Ok.new.self.items c.in-Some-Some.a
+    c.args.reservers.items c.pop.new.self.items c.pop-2.new.self.items c.in-Some-Some.a
     c.in-Some-Some.b c.in-Some-Some.ensures.items c.in-Some-Some.ensures'.items
-    c.in-Ok.ensures.unused
+    c.requires.unused
