@@ -153,13 +153,21 @@ pub fn issue(alloc: Global, commands: &mut Commands<'_>, call: &Call<'_>, out: &
     requires { IsReady commands.old }
     ensures { Extends commands.old commands.new }
 {
-    let Ok(bundle) = Bundle::of(alloc, &call.items) else {
-        return out.word("out of memory");
-    };
+    match Bundle::of(alloc, &call.items) {
+        Ok(bundle) => issue_with(commands, call, &bundle, out),
+        Err(_) => out.word("out of memory"),
+    }
+}
+
+#[tactic(auto, using(ent_queue::proofs::Extending::extends_nothing, ent_queue::proofs::Extending::extends_then))]
+fn issue_with(commands: &mut Commands<'_>, call: &Call<'_>, bundle: &Bundle, out: &mut Out)
+    requires { IsReady commands.old }
+    ensures { Extends commands.old commands.new }
+{
     match call.name {
-        "spawn" => out.given(commands.spawn(&bundle)),
-        "spawn_many" => out.list(commands.spawn_many(call.number(), &bundle)),
-        "insert" => out.done(commands.insert(call.handle, &bundle)),
+        "spawn" => out.given(commands.spawn(bundle)),
+        "spawn_many" => out.list(commands.spawn_many(call.number(), bundle)),
+        "insert" => out.done(commands.insert(call.handle, bundle)),
         "remove" => out.done(commands.remove(call.handle, call.id())),
         "despawn" => out.done(commands.despawn(call.handle)),
         _ => out.word("no such call"),
