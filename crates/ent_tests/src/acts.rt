@@ -2,10 +2,10 @@
 ghost use Rattle.std.specs.Prelude.{List};
 ghost use Rattle.ent_queue.specs.Commands.{IsReady, Extends};
 
-use crate::counts::Counts;
+use crate::counts::{Counts, room};
 use crate::rendezvous::Rendezvous;
 use ent_handle::{ComponentId, Handle, Memory};
-use ent_queue::{Bundle, Commands, QueueFault};
+use ent_queue::{Bundle, Commands};
 use ent_runner::System;
 use ent_world::View;
 use std::alloc::Global;
@@ -19,8 +19,6 @@ pub enum Act {
     Nothing,
     /// Spawns one entity with this `HP`.
     Spawn(i64),
-    /// Spawns so many entities at once, each with this `HP`.
-    SpawnMany(u32, i64),
     /// Spawns one entity with this `HP`, also if memory is refused to it once.
     SpawnSurely(i64),
     /// Spawns one entity with this `HP`, and then returns that memory was refused.
@@ -43,7 +41,6 @@ impl System for Act {
         match self {
             Act::Nothing => Ok(()),
             Act::Spawn(value) => spawn(alloc, commands, *value),
-            Act::SpawnMany(count, value) => spawn_many(alloc, commands, *count, *value),
             Act::SpawnSurely(value) => spawn_surely(alloc, commands, *value),
             Act::SpawnAndStop(value) => {
                 spawn(alloc, commands, *value)?;
@@ -97,6 +94,17 @@ impl System for Counted<'_> {
     }
 }
 
+/// So many systems. Each spawns one entity, which has the system's number as `HP`.
+pub fn spawns(rt: &impl Abort, alloc: Global, count: u32) -> Vec<Act> {
+    let mut systems = Vec::new(alloc);
+    for number in 0..count {
+        systems
+            .push(Act::Spawn(i64::from(number)))
+            .expect(rt, "memory for the systems");
+    }
+    systems
+}
+
 /// These systems, counted.
 pub fn all_counted<'a>(
     rt: &impl Abort,
@@ -104,18 +112,15 @@ pub fn all_counted<'a>(
     counts: &'a Counts,
     acts: &[Act],
 ) -> Vec<Counted<'a>> {
-    let made = match Vec::with_capacity(alloc, acts.len()) {
-        Err(_) => Vec::with_capacity(alloc, acts.len()),
-        made => made,
-    };
-    let mut systems = made.expect(rt, "memory for the systems");
+    let mut systems = room(rt, alloc, acts.len());
     for (number, act) in acts.iter().enumerate() {
         let act = *act;
-        let pushed = systems.push(Counted {
+        let counted = Counted {
             counts,
             number,
             act,
-        });
+        };
+        let pushed = systems.push(counted);
         assert!(rt; pushed.is_ok());
     }
     systems
@@ -131,24 +136,8 @@ fn spawn(alloc: Global, commands: &mut Commands<'_>, value: i64) -> Result<(), M
 {
     let bundle = one(alloc, value)?;
     match commands.spawn(&bundle) {
-        Err(QueueFault::Memory) => Err(Memory),
-        _ => Ok(()),
-    }
-}
-
-fn spawn_many(
-    alloc: Global,
-    commands: &mut Commands<'_>,
-    count: u32,
-    value: i64,
-) -> Result<(), Memory>
-    requires { IsReady commands.old }
-    ensures { Extends commands.old commands.new }
-{
-    let bundle = one(alloc, value)?;
-    match commands.spawn_many(count, &bundle) {
-        Err(QueueFault::Memory) => Err(Memory),
-        _ => Ok(()),
+        Ok(_) => Ok(()),
+        Err(fault) => fault.or_memory(),
     }
 }
 

@@ -5,6 +5,7 @@ use crate::meeting::Meeting;
 use ent_handle::Handle;
 use ent_shared::{Refused, Reserver, Shared};
 use std::alloc::Global;
+use std::process::Abort;
 
 /// So many times so many handles: one by `reserve`, several by `reserve_many`.
 #[derive(Clone, Copy)]
@@ -40,6 +41,13 @@ impl Refusals {
             }
             _ => self.other = self.other.wrapping_add(1),
         }
+    }
+
+    /// So many found nothing left, so many two handles, and none something else.
+    pub fn assert_are(&self, rt: &impl Abort, none: u32, short: u32) {
+        assert!(rt; self.none == none);
+        assert!(rt; self.short == short);
+        assert!(rt; self.other == 0);
     }
 
     pub fn add(&mut self, more: Refusals) {

@@ -21,11 +21,7 @@ struct Line {
 
 impl Counts {
     pub fn new(rt: &impl Abort, alloc: Global, systems: usize) -> Self {
-        let made = match Vec::with_capacity(alloc, systems) {
-            Err(_) => Vec::with_capacity(alloc, systems),
-            made => made,
-        };
-        let mut lines = made.expect(rt, "memory for the counts");
+        let mut lines = room(rt, alloc, systems);
         for _ in 0..systems {
             let line = Line {
                 told: AtomicU32::new(0),
@@ -52,17 +48,28 @@ impl Counts {
 
     /// The first systems, that many, were entered and ran that often, and the others did not.
     pub fn assert_first(&self, rt: &impl Abort, first: usize, times: u32) {
-        assert_eq!(rt; self.wrong.load(Ordering::SeqCst), 0);
+        assert!(rt; self.wrong.load(Ordering::SeqCst) == 0);
         for (number, line) in self.lines.iter().enumerate() {
-            let wanted = if number < first { times } else { 0 };
-            let told = line.told.load(Ordering::SeqCst);
-            let ran = line.ran.load(Ordering::SeqCst);
-            assert!(rt;
-                told == wanted && ran == wanted,
-                "system {number}: {told} and {ran}"
-            );
+            line.assert_counts(rt, if number < first { times } else { 0 });
         }
     }
+}
+
+impl Line {
+    /// The system was entered and ran that often.
+    fn assert_counts(&self, rt: &impl Abort, times: u32) {
+        assert!(rt; self.told.load(Ordering::SeqCst) == times);
+        assert!(rt; self.ran.load(Ordering::SeqCst) == times);
+    }
+}
+
+/// An empty list with room for so many. Memory that is refused once is asked for again.
+pub fn room<T: Drop>(rt: &impl Abort, alloc: Global, len: usize) -> Vec<T> {
+    let made = match Vec::with_capacity(alloc, len) {
+        Err(_) => Vec::with_capacity(alloc, len),
+        made => made,
+    };
+    made.expect(rt, "memory for a list")
 }
 
 impl Gate for Counts {

@@ -12,11 +12,26 @@ use std::thread::Threads;
 /// How many systems the frames have in which some stop.
 const MANY: usize = 500;
 
+/// Why a frame of these systems stopped, if it did. Each of them is counted.
+fn stopped<R>(
+    rt: &R,
+    alloc: Global,
+    world: &mut World,
+    acts: &[Act],
+    workers: usize,
+    counts: &Counts,
+) -> Option<FrameFault>
+where
+    R: Threads + Sync + Abort,
+{
+    let systems = all_counted(rt, alloc, counts, acts);
+    tried(rt, alloc, world, &systems, workers, counts).err()
+}
+
 /// Systems that issue nothing, that only insert, only despawn or only spawn: each is entered and
 /// runs once in each of two frames.
 #[test]
 fn each_system_is_entered_once_in_each_frame(rt: HostRuntime) {
-    let alloc = rt.alloc();
     let acts = [
         Act::Nothing,
         Act::Insert(first(&rt, 0), 9),
@@ -24,22 +39,29 @@ fn each_system_is_entered_once_in_each_frame(rt: HostRuntime) {
         Act::Spawn(7),
         Act::Nothing,
     ];
-    for workers in [1, 2, 8] {
-        let mut world = World::new(alloc, Limits::default_limits());
-        let _report = frame(&rt, alloc, &mut world, &[Act::SpawnMany(3, 1)], 1, &NoGate);
-        assert_each_enters(&rt, alloc, &mut world, &acts, workers);
+    for workers in &[1, 2, 8] {
+        assert_each_enters(&rt, rt.alloc(), &acts, *workers);
     }
 }
 
-/// Each of these systems is entered and runs once in each of two frames.
-fn assert_each_enters<R>(rt: &R, alloc: Global, world: &mut World, acts: &[Act], workers: usize)
+/// In a world of three entities each of these systems is entered and runs once in each of two
+/// frames.
+fn assert_each_enters<R>(rt: &R, alloc: Global, acts: &[Act], workers: usize)
+where
+    R: Threads + Sync + Abort,
+{
+    let mut world = World::new(alloc, Limits::default_limits());
+    let _report = frame(rt, alloc, &mut world, &[Act::Spawn(1); 3], 1, &NoGate);
+    assert_enter_twice(rt, alloc, &mut world, acts, workers);
+}
+
+fn assert_enter_twice<R>(rt: &R, alloc: Global, world: &mut World, acts: &[Act], workers: usize)
 where
     R: Threads + Sync + Abort,
 {
     let counts = Counts::new(rt, alloc, acts.len());
-    let systems = all_counted(rt, alloc, &counts, acts);
-    for times in [1, 2] {
-        let _report = frame(rt, alloc, world, &systems, workers, &counts);
+    for times in 1..3 {
+        assert!(rt; stopped(rt, alloc, world, acts, workers, &counts).is_none());
         counts.assert_first(rt, acts.len(), times);
     }
 }
@@ -65,41 +87,59 @@ fn assert_entered<R>(rt: &R, alloc: Global, acts: &[Act], workers: usize, entere
 where
     R: Threads + Sync + Abort,
 {
-    let counts = Counts::new(rt, alloc, acts.len());
-    let systems = all_counted(rt, alloc, &counts, acts);
     let mut world = World::new(alloc, Limits::default_limits());
-    let ended = tried(rt, alloc, &mut world, &systems, workers, &counts);
-    assert!(rt; matches!(ended, Err(FrameFault::Lost)));
-    counts.assert_first(rt, entered, 1);
+    assert_stops(rt, alloc, &mut world, acts, workers, entered);
+    assert!(rt; world.is_empty());
     assert_reserved(rt, &mut world, entered);
 }
 
-/// So many are reserved, and nobody lives.
+/// A frame in which systems stop, and just the first ones are entered, that many.
+fn assert_stops<R>(
+    rt: &R,
+    alloc: Global,
+    world: &mut World,
+    acts: &[Act],
+    workers: usize,
+    entered: usize,
+)
+where
+    R: Threads + Sync + Abort,
+{
+    let counts = Counts::new(rt, alloc, acts.len());
+    let stopped = stopped(rt, alloc, world, acts, workers, &counts);
+    assert!(rt; matches!(stopped, Some(FrameFault::Lost)));
+    counts.assert_first(rt, entered, 1);
+}
+
+/// A flush brings to life what is reserved, and so many live then.
 fn assert_reserved(rt: &impl Abort, world: &mut World, entered: usize) {
-    assert!(rt; world.is_empty());
     world.flush().expect(rt, "memory for the flush");
     assert!(rt; world.len() == entered);
 }
+
+/// How many workers a frame has, how many systems spawn before some stop, how many these are, and
+/// how many systems are entered.
+const STOPS: &[(usize, usize, usize, usize)] = &[
+    (1, 0, 1, 1),
+    (1, 4, 1, 5),
+    (1, 499, 1, 500),
+    (2, 0, 1, 500),
+    (2, 7, 1, 500),
+    (2, 7, 2, 9),
+    (2, 7, 5, 9),
+    (4, 1, 3, 500),
+    (64, 0, 63, 500),
+    (64, 0, 64, 64),
+];
 
 /// A worker that has stopped does no more. The others run what is left, as long as one of them has
 /// not stopped.
 #[test]
 fn a_worker_that_stops_does_no_more(rt: HostRuntime) {
     let alloc = rt.alloc();
-    for (workers, before, stops, entered) in [
-        (1, 0, 1, 1),
-        (1, 4, 1, 5),
-        (1, 499, 1, 500),
-        (2, 0, 1, 500),
-        (2, 7, 1, 500),
-        (2, 7, 2, 9),
-        (2, 7, 5, 9),
-        (4, 1, 3, 500),
-        (64, 0, 63, 500),
-        (64, 0, 64, 64),
-    ] {
-        let acts = stopping(&rt, alloc, before, stops);
-        assert_entered(&rt, alloc, &acts, workers, entered);
+    for (workers, before, stops, entered) in STOPS {
+        let acts = stopping(&rt, alloc, *before, *stops);
+        assert_entered(&rt, alloc, &acts, *workers, *entered);
     }
 }
 
@@ -112,17 +152,23 @@ const SURE: [Act; 2] = [Act::SpawnSurely(5), Act::SpawnSurely(7)];
 #[test]
 fn refused_memory_and_what_was_entered(rt: HostRuntime) {
     let alloc = rt.alloc();
-    let counts = Counts::new(&rt, alloc, 2);
-    let systems = all_counted(&rt, alloc, &counts, &SURE);
     let mut world = World::new(alloc, Limits::default_limits());
-    let entered = match tried(&rt, alloc, &mut world, &systems, 1, &counts) {
-        Err(FrameFault::Memory) => 0,
-        Err(FrameFault::Lost) => 1,
+    let entered = entered(&rt, alloc, &mut world);
+    assert_reserved(&rt, &mut world, entered);
+}
+
+/// How many of the systems that do not fail are entered, as the end of the frame tells. The gate
+/// says the same.
+fn entered<R>(rt: &R, alloc: Global, world: &mut World) -> usize
+where
+    R: Threads + Sync + Abort,
+{
+    let counts = Counts::new(rt, alloc, 2);
+    let entered = match stopped(rt, alloc, world, &SURE, 1, &counts) {
+        Some(FrameFault::Memory) => 0,
+        Some(FrameFault::Lost) => 1,
         _ => 2,
     };
-    counts.assert_first(&rt, entered, 1);
-    if world.needs_flush() {
-        world.flush().expect(&rt, "memory for the flush");
-    }
-    assert_eq!(rt; world.len(), entered);
+    counts.assert_first(rt, entered, 1);
+    entered
 }

@@ -1,4 +1,7 @@
 //! Frames, with what they require tested before.
+use crate::acts::spawns;
+use crate::rendezvous::Rendezvous;
+use crate::spawned::{assert_spawned, assert_spawns};
 use ent_handle::Handle;
 use ent_runner::{FrameFault, FrameReport, Gate, System, run_frame};
 use ent_world::World;
@@ -44,6 +47,36 @@ where
         panic!(rt; "memory for a frame")
     };
     report
+}
+
+/// A frame of as many systems as the gate is for. Each spawns an entity, and so many of those that
+/// wait at the gate see all others. Queues and births stand in the order of the systems.
+pub fn assert_saw_all<R>(
+    rt: &R,
+    alloc: Global,
+    world: &mut World,
+    workers: usize,
+    gate: &Rendezvous,
+    seeing: u32,
+)
+where
+    R: Threads + Sync + Abort,
+{
+    let (before, number) = (world.len(), world.phase());
+    run_spawns(rt, alloc, world, workers, gate);
+    assert!(rt; gate.saw_all() == seeing);
+    assert!(rt; world.len() == before.saturating_add(gate.systems() as usize));
+    assert_spawned(rt, world, before, number, 0);
+}
+
+fn run_spawns<R>(rt: &R, alloc: Global, world: &mut World, workers: usize, gate: &Rendezvous)
+where
+    R: Threads + Sync + Abort,
+{
+    let systems = spawns(rt, alloc, gate.systems());
+    let report = frame(rt, alloc, world, &systems, workers, gate);
+    assert!(rt; report.queues.len() == systems.len());
+    assert_spawns(rt, &report.queues);
 }
 
 /// The first handle of a slot.

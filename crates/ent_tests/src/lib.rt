@@ -37,6 +37,6 @@ mod reserving;
 #[cfg(test)]
 mod scripts;
 #[cfg(test)]
-mod shown;
+mod spawned;
 #[cfg(test)]
 mod workers;

@@ -5,17 +5,23 @@ use ent_storage::handle_map::{HandleMap, InsertFault, Uninserted};
 use std::alloc::Global;
 use std::process::Abort;
 
+const INDEXES: &[u32] = &[0, 5, 100];
+
 // Passes whichever one allocation is refused: the refused call changes nothing, and is made again.
 // `rt try --test --fail-alloc N -- refused_memory` refuses the Nth.
 #[test]
 fn refused_memory_changes_nothing(rt: HostRuntime) {
     let mut numbers = with_capacity_at_last(&rt, rt.alloc());
-    for index in [0, 5, 100] {
-        insert_at_last(&rt, &mut numbers, index);
+    for index in INDEXES {
+        insert_at_last(&rt, &mut numbers, *index);
     }
     reserve_at_last(&rt, &mut numbers);
-    for index in [0, 5, 100] {
-        assert!(rt; numbers.get(handle(&rt, index)) == Some(&index));
+    assert_has_all(&rt, &numbers);
+}
+
+fn assert_has_all(rt: &impl Abort, numbers: &HandleMap<u32>) {
+    for index in INDEXES {
+        assert!(rt; numbers.get(handle(rt, *index)) == Some(index));
     }
 }
 
@@ -31,10 +37,10 @@ fn with_capacity_at_last(rt: &impl Abort, alloc: Global) -> HandleMap<u32> {
 }
 
 fn insert_at_last(rt: &impl Abort, numbers: &mut HandleMap<u32>, index: u32) {
-    let before = (numbers.len(), numbers.capacity());
+    let (len, capacity) = (numbers.len(), numbers.capacity());
     if let Err(Uninserted { value, why }) = numbers.insert(handle(rt, index), index) {
         assert!(rt; why == InsertFault::Memory && value == index);
-        assert!(rt; (numbers.len(), numbers.capacity()) == before);
+        assert!(rt; numbers.len() == len && numbers.capacity() == capacity);
         assert!(rt; numbers.insert(handle(rt, index), index).is_ok());
     }
 }

@@ -3,6 +3,7 @@ ghost use Rattle.std.specs.Prelude.{◌≡◌, ◌<◌, ◌≤◌, All};
 ghost use Rattle.ent_shared.specs.Phase.{IsOf};
 
 use crate::caller::{Caller, Refusals, Requests};
+use crate::frames::first;
 use crate::meeting::Meeting;
 use ent_alloc::{Entities, Limits};
 use ent_handle::Handle;
@@ -32,15 +33,20 @@ pub fn with_freed(rt: &impl Abort, alloc: Global, n: u32) -> Entities
     ensures { result.allocator.asked ≡ 0 }
 {
     let mut entities = Entities::new(alloc, Limits::default_limits());
+    make_and_free(rt, &mut entities, n);
+    assert!(rt; !entities.needs_flush());
+    entities
+}
+
+fn make_and_free(rt: &impl Abort, entities: &mut Entities, n: u32) {
     for _ in 0..n {
         entities.alloc().expect(rt, "memory for a slot");
     }
     for index in 0..n {
-        let first = Handle::new(index, 1).expect(rt, "a handle in range");
-        entities.free(first).expect(rt, "memory for a slot");
+        entities
+            .free(first(rt, index))
+            .expect(rt, "memory for a slot");
     }
-    assert!(rt; !entities.needs_flush());
-    entities
 }
 
 /// A shared allocator, and a caller for each of these requests.
@@ -75,7 +81,7 @@ fn callers(
 {
     let mut callers = Vec::new(alloc);
     for some in requests {
-        let reserver = reservers.pop().expect(rt, "a reserver for each");
+        let reserver = last(rt, shared, &mut reservers);
         push(
             rt,
             shared,
@@ -84,6 +90,16 @@ fn callers(
         );
     }
     callers
+}
+
+/// The last reserver of a list.
+fn last(rt: &impl Abort, shared: &Shared, reservers: &mut Vec<Reserver>) -> Reserver
+    requires { All (IsOf shared.now) reservers.old.items }
+    ensures rest { All (IsOf shared.now) reservers.new.items }
+    ensures last { IsOf shared.now result }
+{
+    let _ = shared.count();
+    reservers.pop().expect(rt, "a reserver for each")
 }
 
 fn push(rt: &impl Abort, shared: &Shared, callers: &mut Vec<Caller>, caller: Caller)

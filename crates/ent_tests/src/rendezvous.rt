@@ -30,6 +30,11 @@ impl Rendezvous {
         }
     }
 
+    /// How many systems the frame has.
+    pub fn systems(&self) -> u32 {
+        self.systems
+    }
+
     /// How many systems have entered.
     pub fn entered(&self) -> u32 {
         self.entered.load(Ordering::SeqCst)

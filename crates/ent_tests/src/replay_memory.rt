@@ -1,7 +1,9 @@
 //! Memory that is refused to a run of a schedule.
 
 use ent_alloc::Limits;
+use ent_handle::Memory;
 use ent_replay::{Event, Machine, RunMemory};
+use std::alloc::Global;
 use std::test::Fail;
 
 const BULK: [Event; 4] = [
@@ -15,13 +17,18 @@ const BULK: [Event; 4] = [
 // `rt try --test --fail-alloc N -- refused_memory` refuses the Nth.
 #[test]
 fn refused_memory_cuts_a_run(rt: HostRuntime) -> Result<(), Fail> {
-    let mut machine = Machine::new(rt.alloc(), Limits::default_limits())?;
-    assert!(rt; is_run_at_last(&mut machine));
+    assert!(rt; is_run_at_last(rt.alloc())?);
     Ok(())
 }
 
-fn is_run_at_last(machine: &mut Machine) -> bool {
-    let done = events_done(machine, &BULK);
+fn is_run_at_last(alloc: Global) -> Result<bool, Memory> {
+    let mut machine = Machine::new(alloc, Limits::default_limits())?;
+    let done = events_done(&mut machine, &BULK);
+    Ok(has_done_rest(&mut machine, done))
+}
+
+// Whether a run does all events but so many first ones.
+fn has_done_rest(machine: &mut Machine, done: usize) -> bool {
     match BULK.get(done..) {
         Some(left) => events_done(machine, left) == left.len(),
         None => false,

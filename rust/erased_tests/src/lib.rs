@@ -7,7 +7,7 @@
 extern crate alloc;
 
 mod cases;
-#[allow(dead_code, unused_imports)] // Not all that the eraser may name is used.
+#[allow(dead_code, unused_imports, unused_macros)] // Not all that the eraser may name is used.
 mod host;
 #[path = "../../forgeni/src/kit/mod.rs"]
 mod kit;

@@ -1,4 +1,5 @@
 use ent_script::{Cause, ReadFault, ScriptCause};
+use std::alloc::{AllocError, Global};
 use std::test::Fail;
 
 // Why a text is no script, and how that is printed.
@@ -28,10 +29,11 @@ const SCRIPT_FAULTS: &[(ReadFault, &str)] = &[
 #[test]
 fn a_fault_of_a_script_is_printed(rt: HostRuntime) -> Result<(), Fail> {
     for (fault, text) in SCRIPT_FAULTS {
-        assert!(rt;
-            format!(in rt.alloc(); "{fault}")?.as_str() == *text,
-            "at {text}"
-        );
+        assert!(rt; is_printed(rt.alloc(), fault, text)?);
     }
     Ok(())
+}
+
+fn is_printed(alloc: Global, fault: &ReadFault, text: &str) -> Result<bool, AllocError> {
+    Ok(format!(in alloc; "{fault}")?.as_str() == text)
 }

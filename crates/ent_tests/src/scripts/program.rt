@@ -19,7 +19,12 @@ const UNREAD: &[(ErrorKind, u8, &str)] = &[
 fn words_that_cannot_be_read(rt: HostRuntime) {
     for (kind, status, text) in UNREAD {
         let mut errors = MemorySink::new(rt.alloc(), NEVER);
-        assert!(rt; refuse_words(&io::Error::from(*kind), &mut errors) == *status);
+        assert!(rt; refused(*kind, &mut errors) == *status);
         assert!(rt; errors.bytes.as_slice() == text.as_bytes());
     }
+}
+
+// The status for words that can't be read for this reason.
+fn refused(kind: ErrorKind, errors: &mut MemorySink) -> u8 {
+    refuse_words(&io::Error::from(kind), errors)
 }

@@ -6,6 +6,7 @@ use ent_queue::Bundle;
 use ent_world::{Fault, FaultKind, SyncReport, World};
 use spawnrun_lib::{Show, write_frame, write_world};
 use std::alloc::Global;
+use std::process::Abort;
 
 // The greatest number of a frame, a handle whose numbers are long, and a credit that is used up.
 const FRAME: &[u8] = b"frame 18446744073709551615 born 1 faults 2\n\
@@ -14,28 +15,27 @@ const FRAME: &[u8] = b"frame 18446744073709551615 born 1 faults 2\n\
 #[test]
 fn refused_memory_of_a_frame(rt: HostRuntime) {
     let mut out = Vec::new(rt.alloc());
-    if !has_written_frame(rt.alloc(), &mut out) {
-        assert!(rt; out.is_empty() && has_written_frame(rt.alloc(), &mut out));
-    }
+    append_frame_at_last(&rt, rt.alloc(), &mut out);
     assert!(rt; out.as_slice() == FRAME);
 }
 
-// Appends the frame, unless memory is refused.
-fn has_written_frame(alloc: Global, out: &mut Vec<u8>) -> bool {
-    match report(alloc) {
-        Ok(report) => write_frame(u64::MAX, &report, Show::Handles, out).is_ok(),
-        Err(_) => false,
+// Appends the frame, once more if memory is refused. Nothing is appended then.
+fn append_frame_at_last(rt: &impl Abort, alloc: Global, out: &mut Vec<u8>) {
+    if append_frame(alloc, out).is_err() {
+        assert!(rt; out.is_empty());
+        assert!(rt; append_frame(alloc, out).is_ok());
     }
 }
 
+fn append_frame(alloc: Global, out: &mut Vec<u8>) -> Result<(), Memory> {
+    write_frame(u64::MAX, &report(alloc)?, Show::Handles, out)
+}
+
 fn report(alloc: Global) -> Result<SyncReport, Memory> {
-    let (Some(born), Some(gone)) = (Handle::new(0, 1), Handle::new(1_234_567, 89)) else {
-        return Err(Memory);
-    };
     let late = Fault {
         system: 3,
         command: 70,
-        kind: FaultKind::NotAlive(gone),
+        kind: FaultKind::NotAlive(Handle::from_parts(1_234_567, 89)),
     };
     let spent = Fault {
         system: 255,
@@ -45,7 +45,7 @@ fn report(alloc: Global) -> Result<SyncReport, Memory> {
         },
     };
     Ok(SyncReport {
-        born: Vec::from_slice(alloc, &[born])?,
+        born: Vec::from_slice(alloc, &[Handle::from_parts(0, 1)])?,
         faults: Vec::from_slice(alloc, &[late, spent])?,
     })
 }
@@ -56,30 +56,44 @@ const WORLD: &[u8] = b"18446744073709551615.4294967295.4294967295 0v1 hp=-7 =123
 #[test]
 fn refused_memory_of_a_world(rt: HostRuntime) {
     let mut out = Vec::new(rt.alloc());
-    if !has_written_world(rt.alloc(), &mut out) {
-        assert!(rt; out.is_empty() && has_written_world(rt.alloc(), &mut out));
-    }
+    append_world_at_last(&rt, rt.alloc(), &mut out);
     assert!(rt; out.as_slice() == WORLD);
 }
 
-// Appends the world, unless memory is refused.
-fn has_written_world(alloc: Global, out: &mut Vec<u8>) -> bool {
-    match (world(alloc), String::from_str(alloc, "hp")) {
-        (Ok(world), Ok(name)) => write_world(&world, &[name], Show::Handles, out).is_ok(),
-        _ => false,
+// Appends the world, once more if memory is refused. Nothing is appended then.
+fn append_world_at_last(rt: &impl Abort, alloc: Global, out: &mut Vec<u8>) {
+    if append_world(alloc, out).is_err() {
+        assert!(rt; out.is_empty());
+        assert!(rt; append_world(alloc, out).is_ok());
     }
 }
 
-fn world(alloc: Global) -> Result<World, Memory> {
+fn append_world(alloc: Global, out: &mut Vec<u8>) -> Result<(), Memory> {
+    let mut world = World::new(alloc, Limits::default_limits());
+    spawn(alloc, &mut world)?;
+    append(alloc, &world, out)
+}
+
+fn append(alloc: Global, world: &World, out: &mut Vec<u8>) -> Result<(), Memory> {
+    let names = names(alloc)?;
+    write_world(world, &names, Show::Handles, out)
+}
+
+fn spawn(alloc: Global, world: &mut World) -> Result<(), Memory> {
     let birth = Birth {
         frame: u64::MAX,
         system: u32::MAX,
         ordinal: u32::MAX,
     };
     let items = Bundle::of(alloc, &[(ComponentId(0), -7), (ComponentId(1), 123_456)])?;
-    let mut world = World::new(alloc, Limits::default_limits());
     match world.spawn(birth, &items) {
-        Ok(_) => Ok(world),
+        Ok(_) => Ok(()),
         Err(_) => Err(Memory),
     }
+}
+
+fn names(alloc: Global) -> Result<Vec<String>, Memory> {
+    let mut names = Vec::new(alloc);
+    names.push(String::from_str(alloc, "hp")?)?;
+    Ok(names)
 }

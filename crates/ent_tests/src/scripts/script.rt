@@ -39,46 +39,47 @@ fn has_parts(script: &Script) -> bool {
         && last.operations().is_empty()
 }
 
-// Components stand by their numbers, and names are numbered as they are bound first.
-fn has_operations(script: &Script) -> bool {
-    let Some(system) = script.frames().last().and_then(|it| it.systems().first()) else {
-        return false;
-    };
-    let [a, b, c, d, e, f, g, h] = system.operations() else {
-        return false;
-    };
-    is_spawn(a, Some((0, -6)), Some((1, 5)), Some(0))
-        && is_spawn_many(b, 3, None, Some(1))
-        && is_spawn_many(c, 4, Some((1, 0)), Some(0))
-        && is_insert(d, (0, 1), Target::Name(1))
-        && is_remove(e, 1, Handle::new(7, 8))
-        && is_despawn(f, Target::Each(ComponentId(0)))
-        && is_despawn(g, Target::Name(0))
-        && is_spawn(h, None, None, None)
-}
-
-// Whether these are the components and values of a bundle.
-fn has(bundle: &Bundle, first: Option<(u8, i64)>, second: Option<(u8, i64)>) -> bool {
-    let mut items = bundle.items().iter();
-    is(items.next(), first) && is(items.next(), second) && items.next().is_none()
-}
-
-fn is(found: Option<&(ComponentId, i64)>, expected: Option<(u8, i64)>) -> bool {
-    match (found, expected) {
-        (Some((id, value)), Some((number, other))) => id.0 == number && *value == other,
-        (None, None) => true,
-        _ => false,
+// The operations of the first system of the last frame.
+fn operations(script: &Script) -> &[Operation] {
+    match script.frames().last().and_then(|it| it.systems().first()) {
+        Some(system) => system.operations(),
+        None => &[],
     }
 }
 
-fn is_spawn(
-    operation: &Operation,
-    first: Option<(u8, i64)>,
-    second: Option<(u8, i64)>,
-    name: Option<usize>,
-) -> bool {
+const MP: ComponentId = ComponentId(0);
+
+const HP: ComponentId = ComponentId(1);
+
+// Components stand by their numbers, and names are numbered as they are bound first.
+fn has_operations(script: &Script) -> bool {
+    let [a, b, c, changes @ .., last] = operations(script) else {
+        return false;
+    };
+    is_spawn(a, &[(MP, -6), (HP, 5)], Some(0))
+        && is_spawn_many(b, 3, &[], Some(1))
+        && is_spawn_many(c, 4, &[(HP, 0)], Some(0))
+        && has_changes(changes)
+        && is_spawn(last, &[], None)
+}
+
+fn has_changes(operations: &[Operation]) -> bool {
+    let [a, b, c, d] = operations else {
+        return false;
+    };
+    is_insert(a, &[(MP, 1)], Target::Name(1))
+        && is_remove(b, HP, Target::Handle(Handle::from_parts(7, 8)))
+        && is_despawn(c, Target::Each(MP))
+        && is_despawn(d, Target::Name(0))
+}
+
+fn has(bundle: &Bundle, items: &[(ComponentId, i64)]) -> bool {
+    bundle.items() == items
+}
+
+fn is_spawn(operation: &Operation, items: &[(ComponentId, i64)], name: Option<usize>) -> bool {
     match operation {
-        Operation::Spawn { bundle, binds } => has(bundle, first, second) && *binds == name,
+        Operation::Spawn { bundle, binds } => has(bundle, items) && *binds == name,
         _ => false,
     }
 }
@@ -86,7 +87,7 @@ fn is_spawn(
 fn is_spawn_many(
     operation: &Operation,
     wanted: u32,
-    first: Option<(u8, i64)>,
+    items: &[(ComponentId, i64)],
     name: Option<usize>,
 ) -> bool {
     match operation {
@@ -94,23 +95,21 @@ fn is_spawn_many(
             count,
             bundle,
             binds,
-        } => *count == wanted && has(bundle, first, None) && *binds == name,
+        } => *count == wanted && has(bundle, items) && *binds == name,
         _ => false,
     }
 }
 
-fn is_insert(operation: &Operation, item: (u8, i64), on: Target) -> bool {
+fn is_insert(operation: &Operation, items: &[(ComponentId, i64)], on: Target) -> bool {
     match operation {
-        Operation::Insert { bundle, target } => has(bundle, Some(item), None) && *target == on,
+        Operation::Insert { bundle, target } => has(bundle, items) && *target == on,
         _ => false,
     }
 }
 
-fn is_remove(operation: &Operation, number: u8, on: Option<Handle>) -> bool {
+fn is_remove(operation: &Operation, id: ComponentId, on: Target) -> bool {
     match operation {
-        Operation::Remove { component, target } => {
-            component.0 == number && Some(*target) == on.map(Target::Handle)
-        }
+        Operation::Remove { component, target } => *component == id && *target == on,
         _ => false,
     }
 }
@@ -147,10 +146,7 @@ fn births_of_targets(rt: HostRuntime) -> Result<(), Fail> {
 }
 
 fn has_births(script: &Script) -> bool {
-    let Some(system) = script.frames().last().and_then(|it| it.systems().first()) else {
-        return false;
-    };
-    let [least, greatest] = system.operations() else {
+    let [least, greatest] = operations(script) else {
         return false;
     };
     is_despawn(least, birth(0, 0, 0)) && is_despawn(greatest, birth(1, 255, 4_294_967_295))

@@ -1,6 +1,7 @@
 use ent_alloc::Limits;
 use spawnrun_lib::{Show, Task, command_line};
-use std::test::Fail;
+use std::alloc::Global;
+use std::process::Abort;
 
 const REPLAYS: &[(&[&str], u32, u32)] = &[
     (&["replay"], u32::MAX, 2_147_483_647),
@@ -18,12 +19,19 @@ const REPLAYS: &[(&[&str], u32, u32)] = &[
 ];
 
 #[test]
-fn options_have_ranges_and_defaults(rt: HostRuntime) -> Result<(), Fail> {
+fn options_have_ranges_and_defaults(rt: HostRuntime) {
     for (words, slots, generations) in REPLAYS {
-        let limits = Limits::new(*slots, *generations).ok_or("limits")?;
-        assert!(rt; command_line(rt.alloc(), words)? == Task::Replay(limits));
+        let limits = Limits::new(*slots, *generations).expect(&rt, "limits");
+        assert!(rt; task(&rt, rt.alloc(), words) == Task::Replay(limits));
     }
-    Ok(())
+}
+
+// What the words ask for.
+fn task(rt: &impl Abort, alloc: Global, words: &[&str]) -> Task {
+    let Ok(task) = command_line(alloc, words) else {
+        panic!(rt; "words that are taken")
+    };
+    task
 }
 
 const RUNS: &[(&[&str], usize, Show)] = &[
@@ -35,15 +43,12 @@ const RUNS: &[(&[&str], usize, Show)] = &[
 ];
 
 #[test]
-fn a_run_has_workers_and_shows(rt: HostRuntime) -> Result<(), Fail> {
+fn a_run_has_workers_and_shows(rt: HostRuntime) {
     for (words, workers, show) in RUNS {
-        let task = command_line(rt.alloc(), words)?;
-        assert!(rt;
-            task == Task::Run {
-                workers: *workers,
-                show: *show
-            }
-        );
+        let run = Task::Run {
+            workers: *workers,
+            show: *show,
+        };
+        assert!(rt; task(&rt, rt.alloc(), words) == run);
     }
-    Ok(())
 }

@@ -8,4 +8,5 @@ mod faults;
 mod handles;
 mod inputs;
 mod maps;
+mod queues;
 mod replays;
