@@ -74,3 +74,6 @@ returns-clause-later g c =
         c.if-generation-standing.false,
       )) is),
     )
+
+pub index_mut-requires : goal.index_mut-requires
+index_mut-requires g c = grind (arith, common_steps)

@@ -1,3 +1,4 @@
+use Rattle.std.proofs.lemmas.Grind.{common_steps}
 use Rattle.std.proofs.Common.{ℕ, ℤ, get_or, Some, ap, sym, ◌∙◌, arith, pos, Option}
 use Rattle.ent_handle.specs.declared.birth.Birth.{Birth}
 use Rattle.ent_handle.specs.Handle.{Handle}
@@ -35,3 +36,6 @@ loop-pair-preserved c =
     let push = map_push {X = Birth × Handle} {Y = Option (Birth × Handle)} Some
     c.loop-pair.births.items born in
     rw (c.in_ok-push.ensures.items, push, c.loop-pair.invariant, sym here) (sym more)
+
+pub returns-clause-ok : goal.returns-clause-ok
+returns-clause-ok c = grind (arith, common_steps)
