@@ -8,6 +8,7 @@ mod call;
 mod case;
 mod filling;
 mod frames;
+mod layer;
 mod numbers;
 mod phase;
 mod queues;
@@ -18,13 +19,11 @@ mod viewing;
 mod worlding;
 mod writing;
 
-use allocating::Allocating;
 use anyhow::Result;
 use case::Case;
+use layer::Layer;
 use std::rt::Files;
 use std::thread::Threads;
-use storing::Storing;
-use worlding::Worlding;
 
 /// Runs the calls of one file, and tells how many of them return something else than it says.
 pub fn compare<R>(rt: &R, name: &str) -> Result<u64>
@@ -42,36 +41,14 @@ fn run<R>(rt: &R, name: &str, text: &str) -> Result<u64>
 where
     R: Print + Threads + Sync + AllocGlobal,
 {
-    let mut case = Case::new(rt.alloc(), name);
-    if name.starts_with("alloc") {
-        run_alloc(rt, &mut case, text)?;
-    } else if name.starts_with("storage") {
-        run_storage(rt, &mut case, text)?;
-    } else {
-        run_world(rt, &mut case, text)?;
-    }
-    let (calls, differ) = (case.calls, case.differ);
-    println!(rt; "{name}: {calls} calls, {differ} differ")?;
-    Ok(differ)
+    let mut case = Case::new(rt.alloc(), name)?;
+    make_calls(rt, &mut case, name, text);
+    case.report(rt)
 }
 
-fn run_alloc<R>(rt: &R, case: &mut Case<'_>, text: &str) -> Result<()>
+fn make_calls<R>(rt: &R, case: &mut Case<'_>, name: &str, text: &str)
 where
-    R: Print + Threads + Sync + AllocGlobal,
+    R: Threads + Sync + AllocGlobal,
 {
-    case.run(rt, &mut Allocating::new(rt.alloc()), text)
-}
-
-fn run_storage<R>(rt: &R, case: &mut Case<'_>, text: &str) -> Result<()>
-where
-    R: Print + Threads + Sync + AllocGlobal,
-{
-    case.run(rt, &mut Storing::new(rt.alloc()), text)
-}
-
-fn run_world<R>(rt: &R, case: &mut Case<'_>, text: &str) -> Result<()>
-where
-    R: Print + Threads + Sync + AllocGlobal,
-{
-    case.run(rt, &mut Worlding::new(rt.alloc()), text)
+    case.run(rt, &mut Layer::new(rt.alloc(), name), text);
 }

@@ -1,9 +1,7 @@
 //! Calls of an allocator.
 
 use crate::cases::call::Call;
-use crate::cases::case::Layer;
 use crate::cases::sharing::Sharing;
-use crate::cases::worlding::Worlding;
 use crate::cases::writing::Out;
 use ent_alloc::{Entities, Limits, State};
 use ent_handle::Handle;
@@ -20,8 +18,12 @@ pub struct Allocating {
 
 impl Allocating {
     pub fn new(alloc: Global) -> Self {
+        Allocating::of(alloc, Limits::default_limits())
+    }
+
+    fn of(alloc: Global, limits: Limits) -> Self {
         Allocating {
-            entities: Some(Entities::new(alloc, Limits::default_limits())),
+            entities: Some(Entities::new(alloc, limits)),
             sharing: None,
             alloc,
         }
@@ -32,31 +34,22 @@ impl Allocating {
         let Some(limits) = Limits::new(slots, generations) else {
             return "no limits";
         };
-        self.sharing = None;
-        self.entities = Some(Entities::new(self.alloc, limits));
+        *self = Allocating::of(self.alloc, limits);
         "done"
     }
 
     fn share(&mut self, reservers: usize) -> &'static str {
-        match self.entities.take() {
-            Some(entities) => self.share_entities(entities, reservers),
-            None => "it is shared",
-        }
-    }
-
-    fn share_entities(&mut self, entities: Entities, reservers: usize) -> &'static str {
-        if entities.needs_flush() || reservers < 1 || reservers > 1024 {
-            self.entities = Some(entities);
-            return "refused";
-        }
+        let Some(entities) = self.entities.take() else {
+            return "it is shared";
+        };
         match Sharing::begin(self.alloc, entities, reservers) {
             Ok(sharing) => {
                 self.sharing = Some(sharing);
                 "done"
             }
-            Err(entities) => {
+            Err((entities, why)) => {
                 self.entities = Some(entities);
-                "out of memory"
+                why
             }
         }
     }
@@ -78,18 +71,8 @@ impl Allocating {
             (None, None) => out.word("no allocator"),
         }
     }
-}
 
-impl Layer for Allocating {
-    fn worlding(&mut self) -> Option<&mut Worlding> {
-        None
-    }
-
-    fn holds(&mut self, _when: &Call<'_>) -> bool {
-        false
-    }
-
-    fn answer(&mut self, call: &Call<'_>, out: &mut Out) {
+    pub fn answer(&mut self, call: &Call<'_>, out: &mut Out) {
         let [first, second, _] = call.numbers;
         match call.name {
             "limits" => out.word(self.renew(first, second)),

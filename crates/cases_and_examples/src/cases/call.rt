@@ -1,4 +1,4 @@
-use ent_handle::{Birth, ComponentId, Handle, Memory};
+use ent_handle::{Birth, ComponentId, Handle};
 use std::alloc::Global;
 
 /// A call: its name, and what it is given. Each word tells by its form what it is: `0v1` is a
@@ -7,7 +7,7 @@ use std::alloc::Global;
 #[derive(Drop)]
 pub struct Call<'a> {
     pub line: &'a str,
-    /// It is empty if a word has none of these forms.
+    /// It is empty if a word has none of these forms, or if the word before `: ` is no number.
     pub name: &'a str,
     /// Whose call it is: `0: spawn` is a call of system 0.
     pub system: Option<usize>,
@@ -19,33 +19,18 @@ pub struct Call<'a> {
     /// 0 where none is given.
     pub numbers: [u32; 3],
     given: usize,
+    /// Memory for an item was refused.
+    pub is_cut: bool,
 }
 
 impl<'a> Call<'a> {
     /// The call of a line.
-    pub fn read(alloc: Global, line: &'a str) -> Result<Self, Memory> {
-        let mut words = line.split_whitespace();
-        let mut call = Call::of(alloc, line, words.next().unwrap_or(""));
-        if call.name == "system" {
-            return Ok(call);
-        }
-        if let Some(system) = call.name.strip_suffix(':') {
-            call.system = system.parse().ok();
-            call.name = words.next().unwrap_or("");
-        }
-        for word in words {
-            if call.take(word)?.is_none() {
-                call.name = "";
-            }
-        }
-        Ok(call)
-    }
-
-    fn of(alloc: Global, line: &'a str, name: &'a str) -> Self {
-        Call {
+    pub fn read(alloc: Global, line: &'a str) -> Self {
+        let (system, words) = line.split_once(": ").unwrap_or(("", line));
+        let mut call = Call {
             line,
-            name,
-            system: None,
+            name: "",
+            system: system.parse().ok(),
             handle: Handle::from_parts(0, 1),
             birth: Birth {
                 frame: 0,
@@ -55,23 +40,41 @@ impl<'a> Call<'a> {
             items: Vec::new(alloc),
             numbers: [0; 3],
             given: 0,
+            is_cut: false,
+        };
+        call.take_all(words);
+        if call.system.is_none() && !system.is_empty() {
+            call.name = "";
+        }
+        call
+    }
+
+    fn take_all(&mut self, words: &'a str) {
+        let mut words = words.split_whitespace();
+        self.name = words.next().unwrap_or("");
+        if self.name == "system" {
+            return;
+        }
+        for word in words {
+            if self.take(word).is_none() {
+                self.name = "";
+            }
         }
     }
 
     /// Takes the word as what its form tells. `None` if it has no such form.
-    fn take(&mut self, word: &str) -> Result<Option<()>, Memory> {
-        if let Some((id, value)) = word.split_once('=') {
-            return self.put(id, value);
-        }
-        Ok(self.set(word))
+    fn take(&mut self, word: &str) -> Option<()> {
+        let Some((id, value)) = word.split_once('=') else {
+            return self.set(word);
+        };
+        self.put(ComponentId(id.parse().ok()?), value.parse().ok()?);
+        Some(())
     }
 
-    fn put(&mut self, id: &str, value: &str) -> Result<Option<()>, Memory> {
-        if let (Ok(id), Ok(value)) = (id.parse(), value.parse()) {
-            self.items.push((ComponentId(id), value))?;
-            return Ok(Some(()));
+    fn put(&mut self, id: ComponentId, value: i64) {
+        if self.items.push((id, value)).is_err() {
+            self.is_cut = true;
         }
-        Ok(None)
     }
 
     fn set(&mut self, word: &str) -> Option<()> {

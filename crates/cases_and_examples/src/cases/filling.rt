@@ -1,8 +1,7 @@
 //! Lines that depend on the numbers of rounds.
 
 use crate::cases::numbers::Numbers;
-use ent_handle::Memory;
-use std::alloc::Global;
+use crate::cases::writing::Out;
 
 /// In which round a line is: the number of the lines' round, and that of the line's own.
 #[derive(Clone, Copy)]
@@ -11,59 +10,47 @@ pub struct Round {
     pub m: u32,
 }
 
-/// The text with what stands in brackets written out.
+/// Writes the text, with what stands in brackets written out.
 ///
 /// `{..}` is a number: `{n}`, `{m+1}`, `{9-n}`, `{n*256+m}`, or `{~n}`, which is scattered over all
 /// numbers below 2^32, each `n` to another one. `[0..3 {n}v1]` is `0v1 1v1 2v1`: there `n` has each
 /// of the numbers.
-fn filled(alloc: Global, text: &str, round: Round) -> Result<String, Memory> {
-    let mut out = String::new(alloc);
+pub fn fill(out: &mut Out, text: &str, round: Round) {
     for part in text.split('[') {
         match part.split_once(']') {
             Some((list, after)) => {
-                fill_list(&mut out, list, round)?;
-                fill(&mut out, after, round)?;
+                fill_list(out, list, round);
+                fill_words(out, after, round);
             }
-            None => fill(&mut out, part, round)?,
+            None => fill_words(out, part, round),
         }
     }
-    Ok(out)
 }
 
-/// The same, also if memory is refused to it once.
-pub fn filled_at_last(alloc: Global, text: &str, round: Round) -> Result<String, Memory> {
-    match filled(alloc, text, round) {
-        Err(Memory) => filled(alloc, text, round),
-        made => made,
-    }
-}
-
-fn fill_list(out: &mut String, list: &str, round: Round) -> Result<(), Memory> {
+fn fill_list(out: &mut Out, list: &str, round: Round) {
     let (range, words) = list.split_once(' ').unwrap_or((list, ""));
     let Some(numbers) = Numbers::read(range) else {
-        return Ok(out.push_str("no numbers")?);
+        return out.word("no numbers");
     };
     for at in 0..numbers.count {
         if at > 0 {
-            out.push_str(" ")?;
+            out.word(" ");
         }
         let n = numbers.at(at);
-        fill(out, words, Round { n, ..round })?;
+        fill_words(out, words, Round { n, ..round });
     }
-    Ok(())
 }
 
-fn fill(out: &mut String, text: &str, round: Round) -> Result<(), Memory> {
+fn fill_words(out: &mut Out, text: &str, round: Round) {
     for part in text.split('{') {
         match part.split_once('}') {
             Some((sum, after)) => {
-                let number = number_of(sum, round);
-                write!(out, "{number}{after}")?;
+                out.show(&number_of(sum, round));
+                out.word(after);
             }
-            None => out.push_str(part)?,
+            None => out.word(part),
         }
     }
-    Ok(())
 }
 
 fn number_of(sum: &str, round: Round) -> i64 {

@@ -46,7 +46,23 @@ fn run(
     requires { IsReady commands.old }
     ensures { Extends commands.old commands.new }
 {
-    let call = Call::read(alloc, line)?;
+    let call = Call::read(alloc, line);
+    if call.is_cut {
+        return Err(Memory);
+    }
+    make(alloc, view, commands, &call)
+}
+
+#[tactic(auto, using(ent_queue::proofs::Extending::extends_nothing, ent_queue::proofs::Extending::extends_then))]
+fn make(
+    alloc: Global,
+    view: &View<'_>,
+    commands: &mut Commands<'_>,
+    call: &Call<'_>,
+) -> Result<(), Memory>
+    requires { IsReady commands.old }
+    ensures { Extends commands.old commands.new }
+{
     match call.name {
         "" => Ok(()),
         "stop" => Err(Memory),
@@ -54,15 +70,20 @@ fn run(
             let [from, to, _] = call.numbers;
             copy(alloc, view, commands, component(from), component(to))
         }
-        _ => {
-            let mut out = Out::new(alloc);
-            issue(alloc, commands, &call, &mut out);
-            if out.text.as_str() == "out of memory" {
-                return Err(Memory);
-            }
-            Ok(())
-        }
+        _ => issue_listed(alloc, commands, call),
     }
+}
+
+fn issue_listed(alloc: Global, commands: &mut Commands<'_>, call: &Call<'_>) -> Result<(), Memory>
+    requires { IsReady commands.old }
+    ensures { Extends commands.old commands.new }
+{
+    let mut out = Out::new(alloc);
+    issue(alloc, commands, call, &mut out);
+    if out.text.as_str() == "out of memory" {
+        return Err(Memory);
+    }
+    Ok(())
 }
 
 #[tactic(auto, using(ent_queue::proofs::Extending::extends_nothing, ent_queue::proofs::Extending::extends_then))]

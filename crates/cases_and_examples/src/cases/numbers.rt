@@ -11,6 +11,14 @@ pub struct Numbers {
 }
 
 impl Numbers {
+    /// Those of one round.
+    pub const ONCE: Numbers = Numbers {
+        low: 0,
+        step: 1,
+        count: 1,
+        falls: false,
+    };
+
     /// The numbers that the text writes, if it does.
     pub fn read(text: &str) -> Option<Self> {
         let (range, step) = text.split_once('/').unwrap_or((text, "1"));

@@ -32,15 +32,14 @@ impl Model for Phase {
 }
 
 impl Phase {
-    /// The world comes back if there is no memory.
-    pub fn open(world: World, reservers: usize) -> Result<Self, World>
-        requires flushed { world.allocator.asked ≡ 0 }
-        requires some { 0 < reservers }
-        requires few { reservers ≤ 1024 }
-    {
+    /// If none can be opened, the world comes back, and why.
+    pub fn open(world: World, reservers: usize) -> Result<Self, (World, &'static str)> {
+        if world.needs_flush() || reservers < 1 || reservers > 1024 {
+            return Err((world, "refused"));
+        }
         match world.open(reservers) {
             Ok((open, reservers)) => Ok(Phase { open, reservers }),
-            Err((world, _)) => Err(world),
+            Err((world, _)) => Err((world, "out of memory")),
         }
     }
 

@@ -28,15 +28,18 @@ impl Model for Sharing {
 }
 
 impl Sharing {
-    /// The allocator comes back if there is no memory.
-    pub fn begin(alloc: Global, entities: Entities, reservers: usize) -> Result<Self, Entities>
-        requires flushed { entities.allocator.asked ≡ 0 }
-        requires some { 0 < reservers }
-        requires few { reservers ≤ 1024 }
-    {
+    /// If it can't be shared, the allocator comes back, and why.
+    pub fn begin(
+        alloc: Global,
+        entities: Entities,
+        reservers: usize,
+    ) -> Result<Self, (Entities, &'static str)> {
+        if entities.needs_flush() || reservers < 1 || reservers > 1024 {
+            return Err((entities, "refused"));
+        }
         match share(alloc, entities, reservers) {
             Ok((shared, reservers)) => Ok(Sharing { shared, reservers }),
-            Err((entities, _)) => Err(entities),
+            Err((entities, _)) => Err((entities, "out of memory")),
         }
     }
 

@@ -1,10 +1,8 @@
 //! Calls of a storage.
 
 use crate::cases::call::Call;
-use crate::cases::case::Layer;
-use crate::cases::worlding::Worlding;
 use crate::cases::writing::Out;
-use ent_storage::{Storage, StorageFault};
+use ent_storage::Storage;
 use std::alloc::Global;
 
 /// A storage, as calls change it.
@@ -24,18 +22,8 @@ impl Storing {
             alloc,
         }
     }
-}
 
-impl Layer for Storing {
-    fn worlding(&mut self) -> Option<&mut Worlding> {
-        None
-    }
-
-    fn holds(&mut self, _when: &Call<'_>) -> bool {
-        false
-    }
-
-    fn answer(&mut self, call: &Call<'_>, out: &mut Out) {
+    pub fn answer(&mut self, call: &Call<'_>, out: &mut Out) {
         match call.name {
             "new" => {
                 self.storage = Storage::new(self.alloc);
@@ -46,11 +34,9 @@ impl Layer for Storing {
                 out.word("done");
             }
             "spare_since" => write_change(self.noted, self.storage.spare(), out),
-            "born" | "insert" | "despawn" | "reserve" => out.done(change(&mut self.storage, call)),
-            "remove" => remove(&mut self.storage, call, out),
             name => match name.strip_suffix("_at") {
                 Some(name) => at_place(&mut self.storage, name, call, out),
-                None => look(&self.storage, call, out),
+                None => change(&mut self.storage, call, out),
             },
         }
     }
@@ -66,12 +52,14 @@ fn write_change(before: usize, now: usize, out: &mut Out) {
     }
 }
 
-fn change(storage: &mut Storage, call: &Call<'_>) -> Result<(), StorageFault> {
+fn change(storage: &mut Storage, call: &Call<'_>, out: &mut Out) {
     match call.name {
-        "born" => storage.born(call.handle, call.birth),
-        "insert" => storage.insert(call.handle, &call.items),
-        "despawn" => storage.despawn(call.handle),
-        _ => Ok(storage.reserve(call.number() as usize)?),
+        "born" => out.done(storage.born(call.handle, call.birth)),
+        "insert" => out.done(storage.insert(call.handle, &call.items)),
+        "remove" => remove(storage, call, out),
+        "despawn" => out.done(storage.despawn(call.handle)),
+        "reserve" => out.done(storage.reserve(call.number() as usize)),
+        _ => look(storage, call, out),
     }
 }
 

@@ -1,7 +1,6 @@
 //! Calls of a world, of its phases, and of the queues that are issued in them.
 
 use crate::cases::call::Call;
-use crate::cases::case::Layer;
 use crate::cases::frames::Listed;
 use crate::cases::phase::Phase;
 use crate::cases::queues::{stops_at, write_queue};
@@ -49,35 +48,6 @@ impl Worlding {
         }
     }
 
-    fn set_up(&mut self, call: &Call<'_>) -> &'static str {
-        let [first, second, _] = call.numbers;
-        match call.name {
-            "world" => self.renew(first, second),
-            "open" => self.open(first as usize),
-            "close" => self.close(false),
-            _ => self.close(true),
-        }
-    }
-
-    fn sync(&mut self, call: &Call<'_>) -> &'static str {
-        match call.name {
-            "flush" => self.flush(),
-            "apply" => self.apply(),
-            "go_on" => self.go_on(),
-            _ => self.apply_from(call.numbers),
-        }
-    }
-
-    fn set_systems(&mut self, call: &Call<'_>) -> &'static str {
-        match call.name {
-            "system" => self.add_system(call.line),
-            _ => {
-                self.systems.clear();
-                "done"
-            }
-        }
-    }
-
     /// A world of so many slots and generations.
     fn renew(&mut self, slots: u32, generations: u32) -> &'static str {
         let Some(limits) = Limits::new(slots, generations) else {
@@ -92,25 +62,17 @@ impl Worlding {
 
     fn open(&mut self, reservers: usize) -> &'static str {
         self.queues.clear();
-        match self.world.take() {
-            Some(world) => self.open_world(world, reservers),
-            None => "a phase is open",
-        }
-    }
-
-    fn open_world(&mut self, world: World, reservers: usize) -> &'static str {
-        if world.needs_flush() || reservers < 1 || reservers > 1024 {
-            self.world = Some(world);
-            return "refused";
-        }
+        let Some(world) = self.world.take() else {
+            return "a phase is open";
+        };
         match Phase::open(world, reservers) {
             Ok(phase) => {
                 self.phase = Some(phase);
                 "done"
             }
-            Err(world) => {
+            Err((world, why)) => {
                 self.world = Some(world);
-                "out of memory"
+                why
             }
         }
     }
@@ -201,6 +163,27 @@ impl Worlding {
         }
     }
 
+    fn set_up(&mut self, call: &Call<'_>, out: &mut Out) {
+        let [first, second, _] = call.numbers;
+        match call.name {
+            "world" => out.word(self.renew(first, second)),
+            "open" => out.word(self.open(first as usize)),
+            "close" => out.word(self.close(false)),
+            "close_lost" => out.word(self.close(true)),
+            _ => self.sync(call, out),
+        }
+    }
+
+    fn sync(&mut self, call: &Call<'_>, out: &mut Out) {
+        match call.name {
+            "flush" => out.word(self.flush()),
+            "apply" => out.word(self.apply()),
+            "apply_from" => out.word(self.apply_from(call.numbers)),
+            "go_on" => out.word(self.go_on()),
+            _ => self.tell(call, out),
+        }
+    }
+
     /// A call that is no system's and that leaves the phase.
     fn tell(&mut self, call: &Call<'_>, out: &mut Out) {
         match call.name {
@@ -210,23 +193,29 @@ impl Worlding {
             "faults" => out.faults(&self.synced.report.faults),
             "bundle" => write_put(self.alloc, call, out),
             "bundle_of" => write_list(self.alloc, call, out),
-            "queue" | "queue_len" | "bytes" => match self.queues.get(call.number() as usize) {
-                Some(queue) => look_at_queue(queue, call, out),
-                None => out.word("no queue"),
-            },
+            "queue" | "queue_len" | "bytes" => self.tell_queue(call, out),
             _ => self.tell_world(call, out),
         }
     }
 
+    fn tell_queue(&self, call: &Call<'_>, out: &mut Out) {
+        match self.queues.get(call.number() as usize) {
+            Some(queue) => look_at_queue(queue, call, out),
+            None => out.word("no queue"),
+        }
+    }
+
     fn tell_world(&mut self, call: &Call<'_>, out: &mut Out) {
-        match (&mut self.world, &self.phase) {
-            (Some(world), _) => match call.name {
-                "spawn" => spawn(world, self.alloc, call, out),
-                "despawn" => despawn(world, call, out),
-                _ => look(world, call, out),
-            },
-            (None, Some(phase)) => view(&phase.view(), call, out),
-            (None, None) => out.word("no world"),
+        match &mut self.world {
+            Some(world) => answer(world, self.alloc, call, out),
+            None => self.tell_phase(call, out),
+        }
+    }
+
+    fn tell_phase(&self, call: &Call<'_>, out: &mut Out) {
+        match &self.phase {
+            Some(phase) => view(&phase.view(), call, out),
+            None => out.word("no world"),
         }
     }
 
@@ -242,47 +231,45 @@ impl Worlding {
         }
     }
 
-    pub fn answer_frame<R: Threads + Sync>(&mut self, rt: &R, call: &Call<'_>) -> &'static str {
-        let answer = self.frame(rt, call.number() as usize);
-        if call.name == "frame" {
-            return answer;
-        }
+    /// A frame that is done also if it was lost.
+    fn try_frame<R: Threads + Sync>(&mut self, rt: &R, workers: u32) -> &'static str {
+        let answer = self.frame(rt, workers);
         self.is_lost = answer == LOST;
         if self.is_lost { "done" } else { answer }
     }
 
     /// A frame of the systems that were listed.
-    fn frame<R: Threads + Sync>(&mut self, rt: &R, workers: usize) -> &'static str {
+    fn frame<R: Threads + Sync>(&mut self, rt: &R, workers: u32) -> &'static str {
         let Some(world) = &mut self.world else {
             return "a phase is open";
         };
         if world.needs_flush() || self.systems.len() > 65_536 || workers < 1 || workers > 64 {
             return "refused";
         }
+        let workers = workers as usize;
         match run_frame(rt, self.alloc, world, &self.systems, workers, &NoGate) {
-            Ok(FrameReport { queues, sync }) => {
-                self.queues = queues;
-                self.synced.keep(Ok(sync))
-            }
+            Ok(FrameReport { queues, sync }) => self.keep(queues, Ok(sync)),
             Err(FrameFault::Memory) => "out of memory",
             Err(FrameFault::Lost) => LOST,
-            Err(FrameFault::Sync { fault, queues }) => {
-                self.queues = queues;
-                match fault {
-                    SyncFault::FlushMemory => self.apply(),
-                    stopped => self.synced.keep(Err(stopped)),
-                }
-            }
+            Err(FrameFault::Sync { fault, queues }) => self.keep(queues, Err(fault)),
         }
     }
-}
 
-impl Layer for Worlding {
-    fn worlding(&mut self) -> Option<&mut Worlding> {
-        Some(self)
+    /// Keeps what a frame left. If no entity was born at its sync point, the queues are applied.
+    fn keep(
+        &mut self,
+        queues: Vec<CommandQueue>,
+        synced: Result<SyncReport, SyncFault>,
+    ) -> &'static str {
+        self.queues = queues;
+        match synced {
+            Err(SyncFault::FlushMemory) => self.apply(),
+            synced => self.synced.keep(synced),
+        }
     }
 
-    fn holds(&mut self, when: &Call<'_>) -> bool {
+    /// Whether that is how the last sync point or frame went.
+    pub fn holds(&mut self, when: &Call<'_>) -> bool {
         match when.name {
             "at" => self.synced.is_at(when.numbers),
             "lost" => self.is_lost,
@@ -291,16 +278,29 @@ impl Layer for Worlding {
         }
     }
 
-    fn answer(&mut self, call: &Call<'_>, out: &mut Out) {
+    /// Makes the call, and writes what it returned.
+    pub fn answer<R: Threads + Sync>(&mut self, rt: &R, call: &Call<'_>, out: &mut Out) {
         if let Some(system) = call.system {
             return self.in_phase(system, call, out);
         }
         match call.name {
-            "world" | "open" | "close" | "close_lost" => out.word(self.set_up(call)),
-            "flush" | "apply" | "apply_from" | "go_on" => out.word(self.sync(call)),
-            "system" | "no_systems" => out.word(self.set_systems(call)),
-            _ => self.tell(call, out),
+            "frame" => out.word(self.frame(rt, call.number())),
+            "try_frame" => out.word(self.try_frame(rt, call.number())),
+            "system" => out.word(self.add_system(call.line)),
+            "no_systems" => {
+                self.systems.clear();
+                out.word("done");
+            }
+            _ => self.set_up(call, out),
         }
+    }
+}
+
+fn answer(world: &mut World, alloc: Global, call: &Call<'_>, out: &mut Out) {
+    match call.name {
+        "spawn" => spawn(world, alloc, call, out),
+        "despawn" => despawn(world, call, out),
+        _ => look(world, call, out),
     }
 }
 

@@ -36,6 +36,11 @@ impl Out {
         })
     }
 
+    pub fn clear(&mut self) {
+        self.text.clear();
+        self.is_cut = false;
+    }
+
     pub fn word(&mut self, word: &str) {
         if self.text.push_str(word).is_err() {
             self.is_cut = true;

@@ -28,6 +28,10 @@ impl String {
         Ok(())
     }
 
+    pub fn clear(&mut self) {
+        self.0.clear();
+    }
+
     pub fn of(_alloc: Global, text: std::string::String) -> Result<Self, AllocError> {
         Ok(String(text))
     }
