@@ -6,7 +6,7 @@ ghost use Rattle.ent_shared.specs.Phase.{IsOf};
 use crate::examples::caller::Caller;
 use anyhow::{Result, anyhow};
 use ent_alloc::{Entities, Limits};
-use ent_handle::Handle;
+use ent_handle::{Handle, Memory};
 use ent_shared::{Reserver, Shared, share};
 use std::alloc::Global;
 use std::thread::{Threads, join_mut};
@@ -105,7 +105,7 @@ fn end<R: Print + AllocGlobal>(rt: &R, shared: Shared, a: Caller, b: Caller) -> 
 }
 
 /// Both reservers as one list.
-fn both(alloc: Global, first: Reserver, second: Reserver) -> Result<Vec<Reserver>>
+fn both(alloc: Global, first: Reserver, second: Reserver) -> Result<Vec<Reserver>, Memory>
     ensures items { IfOk result (λ list. list.items ≡ first ∷ second ∷ []) }
 {
     let mut list = Vec::new(alloc);
