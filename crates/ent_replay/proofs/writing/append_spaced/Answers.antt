@@ -1,3 +1,4 @@
+use Rattle.std.proofs.lemmas.Grind.{common_steps}
 use Rattle.std.proofs.Common.{rules, length, [], ◌∷◌, ap, ◌∙◌, arith, length-append, ◌+◌, ◌≤◌}
 use Rattle.std.proofs.lemmas.Result.{err_from_is_err_and}
 use Rattle.ent_replay.proofs.SpacedHandles.{spaced_fits}
@@ -32,3 +33,15 @@ returns-in_err-write_text-clause-full c =
       ap length c.in_ok-append.ensures.ok
           ∙ length-append c.loop-handle.out.items (32 ∷ []),
     ))
+
+pub loop-handle-init : goal.loop-handle-init
+loop-handle-init c = grind (arith, common_steps)
+
+pub returns-in_err-write_text-clause-kept : goal.returns-in_err-write_text-clause-kept
+returns-in_err-write_text-clause-kept c = grind (arith, common_steps)
+
+pub loop-handle-preserved : goal.loop-handle-preserved
+loop-handle-preserved c = grind (arith, common_steps)
+
+pub returns-clause-ok : goal.returns-clause-ok
+returns-clause-ok c = grind (arith, common_steps)

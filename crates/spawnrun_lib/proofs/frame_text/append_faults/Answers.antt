@@ -1,4 +1,5 @@
-use Rattle.std.proofs.Common.{rules}
+use Rattle.std.proofs.lemmas.Grind.{common_steps}
+use Rattle.std.proofs.Common.{rules, arith}
 use Rattle.std.proofs.lemmas.Result.{err_from_is_err_and}
 use Rattle.spawnrun_lib.specs.FrameText.{fault_line}
 use Rattle.spawnrun_lib.proofs.Parts.{part_fits}
@@ -10,3 +11,15 @@ returns-in_err-append_fault-clause-full c =
     c.args.faults.now c.loop-fault.fault-index c.fault-item.result c.loop-fault-test.true
     c.fault-item.is c.loop-fault.invariant.told in
     search (rules, err_from_is_err_and, c.in_err-append_fault.ensures.full)
+
+pub loop-fault-init : goal.loop-fault-init
+loop-fault-init c = grind (arith, common_steps)
+
+pub returns-in_err-append_fault-clause-kept : goal.returns-in_err-append_fault-clause-kept
+returns-in_err-append_fault-clause-kept c = grind (arith, common_steps)
+
+pub loop-fault-preserved : goal.loop-fault-preserved
+loop-fault-preserved c = grind (arith, common_steps)
+
+pub returns-clause-ok : goal.returns-clause-ok
+returns-clause-ok c = grind (arith, common_steps)

@@ -1,3 +1,4 @@
+use Rattle.std.proofs.lemmas.Grind.{common_steps}
 use Rattle.std.proofs.Common.{rules, ◌≡◌, ◌+◌, ◌∙◌, ◌++◌, ◌∷◌, [], ap, arith, sym, take}
 use Rattle.std.proofs.lemmas.List.{append-nil, take_more}
 use Rattle.std.proofs.lemmas.Grind.{flat_map-append}
@@ -26,3 +27,6 @@ loop-done-preserved g c =
           ∙ ap (λ known. outcome_of known event) c.loop-done.invariant.machine) i))
           ∙ sym (search (rules, outcomes_of-append, flat_map-append, append-nil));
     }
+
+pub returns : goal.returns
+returns g c = grind (arith, common_steps)

@@ -1,4 +1,5 @@
-use Rattle.std.proofs.Common.{rules}
+use Rattle.std.proofs.lemmas.Grind.{common_steps}
+use Rattle.std.proofs.Common.{rules, arith}
 use Rattle.spawnrun_lib.proofs.NextFrame.{has_run}
 use Rattle.spawnrun_lib.proofs.script_run.run_frames.Goals as goal
 
@@ -13,3 +14,6 @@ loop-number-preserved g c =
           c.loop-number.world c.run.new.world c.args.frames.now c.loop-number.number systems
           c.loop-number.text.items went.0,
     )
+
+pub returns : goal.returns
+returns g c = grind (arith, common_steps)

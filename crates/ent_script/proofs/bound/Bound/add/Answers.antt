@@ -1,4 +1,5 @@
-use Rattle.std.proofs.Common.{◌∙◌, ◌∷◌, ◌++◌, [], ap, sym, subst, List, length, Global, String}
+use Rattle.std.proofs.lemmas.Grind.{common_steps}
+use Rattle.std.proofs.Common.{◌∙◌, ◌∷◌, ◌++◌, [], ap, sym, subst, List, length, Global, String, arith}
 use Rattle.ent_script.specs.Numbers.{HaveTextNumbers}
 use Rattle.ent_script.proofs.BoundLaws.{text_numbers_added}
 use Rattle.ent_script.proofs.NamesLaws.{none_of}
@@ -17,3 +18,6 @@ invariant_of-self-2 c =
     (λ (ns : List (String Global)). ns ++ c.in_ok-text.text
     ∷ []) c.in_ok-reserve.ensures.items in
     subst (λ (ns : List (String Global)). HaveTextNumbers ns c.insert.new.self) (sym items) added
+
+pub returns : goal.returns
+returns c = grind (arith, common_steps)
