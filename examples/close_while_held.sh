@@ -24,16 +24,14 @@ printf '%s\n' 'mod caller;' 'pub mod two_threads;' >src/examples.rt
 patch --quiet -p1 <<'PATCH'
 --- a/src/examples/two_threads.rt
 +++ b/src/examples/two_threads.rt
-@@ -3,5 +3,7 @@
-     // From now on a reserves after all that b has reserved.
-     a.meet(&shared, &mut b);
--    a.at_once(&shared, 24)?;
-+    let held = shared.reserve_many(&mut a.reserver, 24)?;
- 
+@@ -3,3 +3,6 @@
+     reserve(rt, &shared, &mut a, &mut b)?;
 -    end(rt, shared, a, b)
++    let held = shared.reserve_many(&mut a.reserver, 24)?;
 +    let given = end(rt, shared, a, b)?;
 +    println!(rt; "{} held", held.len())?;
 +    Ok(given)
+ }
 PATCH
 # The quick pass over the sources, which comes before the first proof, refuses it.
 timeout 300 rt check >"$copy/said" 2>&1 || true

@@ -47,7 +47,7 @@ impl<'a> Case<'a> {
     /// Makes all calls of the text. Those from a line `for n in 0..3` to `end` are made in rounds.
     pub fn run<R: Threads + Sync>(&mut self, rt: &R, layer: &mut Layer, text: &str) {
         for part in text.split("\nend") {
-            match part.split_once("\nfor n in ") {
+            match rounds_in(part) {
                 Some((lines, rounds)) => {
                     self.run_lines(rt, layer, lines, 0);
                     self.run_rounds(rt, layer, rounds);
@@ -142,6 +142,14 @@ impl<'a> Case<'a> {
         self.differences.word(", where ");
         self.differences.word(self.wanted.text.as_str());
         self.differences.word(" is wanted\n");
+    }
+}
+
+/// The lines before those of rounds, and what the rounds' first line tells with the lines after it.
+fn rounds_in(part: &str) -> Option<(&str, &str)> {
+    match part.strip_prefix("for n in ") {
+        Some(rounds) => Some(("", rounds)),
+        None => part.split_once("\nfor n in "),
     }
 }
 
