@@ -23,8 +23,14 @@ pub mod Sorted
 pub mod Legal
 pub mod KeysOf
 pub mod Complete
+pub mod Callers
+pub mod Lineups
+pub mod Suspects
+pub mod Stuck
+pub mod Settled
 pub mod Lifted
 pub mod Runs
+pub mod Requested
 pub mod Keys
 pub mod WordParts
 pub mod InBrackets

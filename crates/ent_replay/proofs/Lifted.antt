@@ -24,16 +24,16 @@ use Rattle.ent_replay.proofs.Complete.{IsPlacedOrder, all_unordered, all_alike, 
 
 -- ---- with their keys
 
-record Unmapped (run : List Placed) (before after : List Line) (c : Line) : Type 0 where
-  first : List Placed
-  rest : List Placed
-  placed : Placed
-  is : run ≡ first ++ placed ∷ rest
-  before_is : lines first ≡ before
-  placed_is : line.Reserve placed.reservation ≡ c
-  after_is : lines rest ≡ after
+pub record Unmapped (run : List Placed) (before after : List Line) (c : Line) : Type 0 where
+  pub first : List Placed
+  pub rest : List Placed
+  pub placed : Placed
+  pub is : run ≡ first ++ placed ∷ rest
+  pub before_is : lines first ≡ before
+  pub placed_is : line.Reserve placed.reservation ≡ c
+  pub after_is : lines rest ≡ after
 
-unmapped : (run : List Placed) (before after : List Line) (c : Line)
+pub unmapped : (run : List Placed) (before after : List Line) (c : Line)
     → lines run ≡ before ++ c ∷ after → Unmapped run before after c
 unmapped [] [] after c e = absurd (let no : [] ≡ c ∷ after = e in cc)
 unmapped [] (b ∷ before) after c e = absurd (let no : [] ≡ b ∷ (before ++ c ∷ after) = e in cc)
@@ -67,7 +67,7 @@ lines_append : (xs ys : List Placed) → lines (xs ++ ys) ≡ lines xs ++ lines 
 lines_append [] ys = refl
 lines_append (x ∷ xs) ys = search (rules, lines_append xs ys)
 
-others_of : (p : Placed) (before : List Placed)
+pub others_of : (p : Placed) (before : List Placed)
     → AllByRecursion (MayPass (line.Reserve p.reservation)) (lines before)
     → AllByRecursion (IsOfOther p) before
 others_of p [] all = tt
@@ -192,7 +192,7 @@ total_filtered [] = refl
 total_filtered (p ∷ run) = search
     (rules, some_or_none, asks, total, kept, left_out, total_filtered run)
 
-total_append : (xs ys : List Placed) → total (xs ++ ys) ≡ total xs + total ys
+pub total_append : (xs ys : List Placed) → total (xs ++ ys) ≡ total xs + total ys
 total_append [] ys = omega arith
 total_append (x ∷ xs) ys = let rest = total_append xs ys in omega arith
 

@@ -8,8 +8,13 @@ use Rattle.ent_replay.specs.declared.trace.line.Line.TheVariants as line
 use Rattle.ent_replay.specs.declared.trace.line.Reservation.{Reservation}
 use Rattle.ent_replay.specs.Trace.{Fits, AreAnswered, after_line, after_lines, IsAlone, IsOrderOf}
 use Rattle.ent_replay.specs.Checker.{Checked, reserve_lines, AgreesWith, IsSettled, Follows, Reaches}
-use Rattle.ent_replay.specs.Checker.{Differs, Fails, Shows, HasNoOrder, NoneFollows}
-use Rattle.ent_replay.proofs.Parting.{parts, all_reserve}
+use Rattle.ent_replay.specs.Checker.{Differs, Shows, HasNoOrder, NoneFollows}
+use Rattle.ent_replay.proofs.Parting.{IsReserve, parts, parted, all_reserve}
+use Rattle.ent_replay.proofs.Lists.{all_at}
+use Rattle.ent_replay.proofs.Requested.{reserves-ordered}
+use Rattle.std.specs.List.{AllByRecursion}
+use Rattle.std.proofs.lemmas.List.{append-nil, length-append}
+use Rattle.std.proofs.Common.{length, sym, ◌∙◌, inl, inr}
 use Rattle.ent_replay.specs.declared.trace.difference.Difference.{Difference}
 
 -- an order of the front and one of the rest are one of all
@@ -42,7 +47,7 @@ answered_front s [] second all = tt
 answered_front s (l ∷ first) second all =
     (all.0, answered_front (after_line s l) first second all.1)
 
-answered_back : (s : Allocator) (first second : List Line) → AreAnswered s (first ++ second)
+pub answered_back : (s : Allocator) (first second : List Line) → AreAnswered s (first ++ second)
     → AreAnswered (after_lines s first) second
 answered_back s [] second all = all
 answered_back s (l ∷ first) second all = answered_back (after_line s l) first second all.1
@@ -77,34 +82,102 @@ called-Follows c l after alone settled fits = record {
 
 -- ---- where a trace doesn't agree
 
-Fails-append : (s : Allocator) (n : ℕ) (order more : List Line) (d : Difference)
-    → Fails s n order d → Fails s n (order ++ more) d
-Fails-append s n order more d fails = grind (arith, common_steps)
+length-ordered : (order lines : List Line) → IsOrderOf lines order → length order ≡ length lines
+length-ordered [] lines is = ap length (sym is)
+length-ordered (l ∷ order) lines (before, after, parts, passes, more) =
+    let a = length-ordered order (before ++ after) more in
+    let b = length-append before after in
+    let e = length-append before (l ∷ after) in
+    let f : length lines ≡ length (before ++ l ∷ after) = ap length parts in
+    omega arith
+
+-- an alone line isn't one of a run
+not_in_run : (run : List Reservation) (order before after : List Line) (l : Line)
+    → IsOrderOf (reserve_lines run) order → order ≡ before ++ l ∷ after → IsAlone l → ⊥
+not_in_run run order before after l is parts alone = not_both l alone
+    (all_at IsReserve before after l (subst (AllByRecursion IsReserve) parts
+    (reserves-ordered order (reserve_lines run) is (all_reserve run))))
+  where
+    not_both : (l : Line) → IsAlone l → IsReserve l → ⊥
+    not_both (line.Reserve r) alone reserve = alone
+    not_both (line.Alloc told) alone reserve = reserve
+    not_both (line.Free h told) alone reserve = reserve
+    not_both (line.Flush told) alone reserve = reserve
+    not_both (line.State h told) alone reserve = reserve
+    not_both (line.Len told) alone reserve = reserve
+
+no_rest : (run : List Reservation) (order : List Line) → IsOrderOf (reserve_lines run ++ []) order
+    → IsOrderOf (reserve_lines run) order
+no_rest run order is = subst (λ (ls : List Line). IsOrderOf ls order) (append-nil (reserve_lines run)) is
+
+some_rest : (run : List Reservation) (order : List Line) → IsOrderOf (reserve_lines run) order
+    → IsOrderOf (reserve_lines run ++ []) order
+some_rest run order is =
+    subst (λ (ls : List Line). IsOrderOf ls order) (sym (append-nil (reserve_lines run))) is
 
 -- one more line doesn't change it
-pub Shows-more : (c : Checked) (n : ℕ) (l : Line) (d : Difference) → Shows c n [] d
+pub Shows-more : (c : Checked) (n : ℕ) (l : Line) (d : Difference) → IsAlone l → Shows c n [] d
     → Shows c n (l ∷ []) d
-Shows-more c n l d shows = record {
-  order = shows.order ++ l ∷ [];
-  is_order = search (rules, append_assoc, c.run, IsOrderOf-append, IsOrderOf-cons);
-  fails = Fails-append c.allocator n shows.order (l ∷ []) d shows.fails;
+Shows-more c n l d alone shows = record {
+  placed = shows.placed;
+  next = shows.next;
+  left = shows.left ++ l ∷ [];
+  is_order = subst (IsOrderOf (reserve_lines c.run ++ l ∷ []))
+      (append_assoc shows.placed (shows.next ∷ shows.left) (l ∷ []))
+      (IsOrderOf-append (reserve_lines c.run) (l ∷ []) (shows.placed ++ shows.next ∷ shows.left) (l ∷ [])
+      (no_rest c.run (shows.placed ++ shows.next ∷ shows.left) shows.is_order)
+      (IsOrderOf-cons l [] [] refl));
+  answered = shows.answered;
+  differs = shows.differs;
+  stuck = λ x more is.
+      let p = parts (reserve_lines c.run) [] l (shows.placed ++ x ∷ more) (all_reserve c.run) alone is in
+      let own = no_rest c.run (shows.placed ++ shows.next ∷ shows.left) shows.is_order in
+      elim (parted shows.placed more p.first p.second x l p.is) [
+        | inl inside ↦
+            absurd (not_in_run c.run (shows.placed ++ shows.next ∷ shows.left) p.first
+            (inside.more ++ shows.next ∷ shows.left) l own
+            (ap (λ (ls : List Line). ls ++ shows.next ∷ shows.left) inside.front_is
+            ∙ append_assoc p.first (l ∷ inside.more) (shows.next ∷ shows.left)) alone)
+        | inr (inl itself) ↦
+            let a = length-ordered p.first (reserve_lines c.run) p.first_is in
+            let b = length-ordered (shows.placed ++ shows.next ∷ shows.left) (reserve_lines c.run) own in
+            let e = length-append shows.placed (shows.next ∷ shows.left) in
+            let f : length p.first ≡ length shows.placed = ap length itself.before_is in
+            absurd (omega arith)
+        | inr (inr behind) ↦
+            shows.stuck x behind.more (some_rest c.run (shows.placed ++ x ∷ behind.more)
+            (subst (IsOrderOf (reserve_lines c.run)) behind.before_is p.first_is))
+      ];
 }
 
 -- the run was settled, and the line differs then
-pub called-Shows : (c : Checked) (l : Line) (after : Allocator) (n : ℕ) (d : Difference)
+pub called-Shows : (c : Checked) (l : Line) (after : Allocator) (n : ℕ) (d : Difference) → IsAlone l
     → IsSettled c after → Differs after n l d → Shows c n (l ∷ []) d
-called-Shows c l after n d settled differs = grind (
-  arith,
-  common_steps,
-  IsOrderOf-append (reserve_lines c.run) (l ∷ []) settled.order (l ∷ []) settled.is_order
-      (IsOrderOf-cons l [] [] refl),
-  IsOrderOf-cons l,
-  settled.order,
-  c.run,
-  settled.is_order,
-  settled.answered,
-  settled.after_is,
-)
+called-Shows c l after n d alone settled differs = record {
+  placed = settled.order;
+  next = l;
+  left = [];
+  is_order = IsOrderOf-append (reserve_lines c.run) (l ∷ []) settled.order (l ∷ []) settled.is_order
+      (IsOrderOf-cons l [] [] refl);
+  answered = settled.answered;
+  differs = subst (λ s. Differs s n l d) settled.after_is differs;
+  stuck = λ x more is fits.
+      let p = parts (reserve_lines c.run) [] l (settled.order ++ x ∷ more) (all_reserve c.run) alone is in
+      elim (parted settled.order more p.first p.second x l p.is) [
+        | inl inside ↦
+            not_in_run c.run settled.order p.first inside.more l settled.is_order inside.front_is alone
+        | inr (inl itself) ↦
+            differs.unlike (subst (λ s. Fits s l) (sym settled.after_is)
+            (subst (Fits (after_lines c.allocator settled.order)) (sym itself.is) fits))
+        | inr (inr behind) ↦
+            let a = length-ordered p.first (reserve_lines c.run) p.first_is in
+            let b = length-ordered settled.order (reserve_lines c.run) settled.is_order in
+            let e = length-append settled.order (x ∷ behind.more) in
+            let f : length p.first ≡ length (settled.order ++ x ∷ behind.more) =
+            ap length behind.before_is in
+            absurd (omega arith)
+      ];
+}
 
 -- and no other order of the run would help
 pub called-None : (c : Checked) (l : Line) (after : Allocator) → IsAlone l → IsSettled c after
@@ -115,16 +188,6 @@ called-None c l after alone settled unlike rest agrees =
 -- no order of the run is answered so
 pub settled-None : (c : Checked) (l : Line) → IsAlone l → HasNoOrder c → NoneFollows c l
 settled-None c l alone none rest agrees = grind (arith, common_steps, told c l rest alone agrees)
-
--- the run isn't answered so in this order
-pub fails_none : (s : Allocator) (n : ℕ) (order : List Line) (d : Difference) → Fails s n order d
-    → AreAnswered s order → ⊥
-fails_none s n order d fails all = search (rules, answered_back)
-
--- the run isn't answered so in this order
-pub ordered-Shows : (c : Checked) (order : List Line) (n : ℕ) (d : Difference)
-    → IsOrderOf (reserve_lines c.run) order → Fails c.allocator n order d → Shows c n [] d
-ordered-Shows c order n d is fails = grind (arith, common_steps)
 
 -- a call that nothing overlaps is made in the state after the run
 pub alone_Reaches : (c : Checked) (l : Line) (new : Checked) (at : Allocator) → IsAlone l

@@ -96,19 +96,19 @@ least h sorted run up alike =
 
 -- ---- steady callers
 
-steady_before : (before after : List Placed) (h : Placed) → AreSteady (before ++ h ∷ after)
+pub steady_before : (before after : List Placed) (h : Placed) → AreSteady (before ++ h ∷ after)
     → AllByRecursion (λ (b : Placed). ComesAfter b h) before
 steady_before [] after h steady = tt
 steady_before (b ∷ before) after h steady =
     (all_at (ComesAfter b) before after h steady.0, steady_before before after h steady.1)
 
-steady_without : (before after : List Placed) (h : Placed) → AreSteady (before ++ h ∷ after)
+pub steady_without : (before after : List Placed) (h : Placed) → AreSteady (before ++ h ∷ after)
     → AreSteady (before ++ after)
 steady_without [] after h steady = steady.1
 steady_without (b ∷ before) after h steady =
     (all_without (ComesAfter b) before after h steady.0, steady_without before after h steady.1)
 
-passes : (h : Placed) (before : List Placed) → AllByRecursion (λ b. tie h b ≡ false) before
+pub passes : (h : Placed) (before : List Placed) → AllByRecursion (λ b. tie h b ≡ false) before
     → AllByRecursion (λ (b : Placed). h.key ≤ b.key) before
     → AllByRecursion (λ (b : Placed). ComesAfter b h) before
     → AllByRecursion (MayPass (line.Reserve h.reservation)) (lines before)
@@ -118,12 +118,12 @@ passes h (b ∷ before) none least steady =
 
 -- ---- one is taken out
 
-lines_split : (before after : List Placed) (h : Placed) → lines (before ++ h ∷ after)
+pub lines_split : (before after : List Placed) (h : Placed) → lines (before ++ h ∷ after)
     ≡ lines before ++ line.Reserve h.reservation ∷ lines after
 lines_split [] after h = refl
 lines_split (b ∷ before) after h = search (rules, lines_split before after h)
 
-lines_append : (xs ys : List Placed) → lines (xs ++ ys) ≡ lines xs ++ lines ys
+pub lines_append : (xs ys : List Placed) → lines (xs ++ ys) ≡ lines xs ++ lines ys
 lines_append [] ys = refl
 lines_append (x ∷ xs) ys = search (rules, lines_append xs ys)
 
@@ -165,21 +165,3 @@ begins h sorted run alike = search (rules, tie_from)
 pub nothing_left : (run : List Placed) → TieAlike [] run → run ≡ []
 nothing_left [] alike = refl
 nothing_left (d ∷ run) alike = search (rules, tie_from d d refl)
-
-pub sorted-IsOrderOf : (sorted run : List Placed) → IsRising sorted → TieAlike sorted run
-    → AreSteady run → IsOrderOf (lines run) (lines sorted)
-sorted-IsOrderOf [] run up alike steady = ap lines (nothing_left run alike)
-sorted-IsOrderOf (h ∷ sorted) run up alike steady =
-    let s = split (tie h) h (filter (tie h) sorted) run (begins h sorted run alike) in
-    let low = least h sorted run up.0 alike in
-    let alike_here = subst (TieAlike (h ∷ sorted)) s.is alike in
-    let low_here = subst (AllByRecursion (λ (p : Placed). h.key ≤ p.key)) s.is low in (
-      lines s.before,
-      lines s.after,
-      ap lines s.is ∙ lines_split s.before s.after h,
-      search (rules, passes, all_left, steady_before),
-      subst (λ (ls : List Line). IsOrderOf ls (lines sorted)) (lines_append s.before s.after)
-          (sorted-IsOrderOf sorted (s.before ++ s.after) up.1
-          (alike_rest h sorted s.before s.after s.none alike_here)
-          (steady_without s.before s.after h (subst AreSteady s.is steady))),
-    )

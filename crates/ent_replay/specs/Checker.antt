@@ -64,6 +64,11 @@ Reaches old l new =
     (at : Allocator) × IsSettled old at × Fits at l
     × (new ≡ record { allocator = after_line at l; run = [] })
 
+-- the state after these lines, one after the other
+abbrev pub ReachesAll : Checked → List Line → Checked → Type 0
+ReachesAll old [] new = new ≡ old
+ReachesAll old (l ∷ lines) new = (next : Checked) × Reaches old l next × ReachesAll next lines new
+
 -- ---- where a trace doesn't agree
 
 -- what a stop for a difference has to say
@@ -86,20 +91,21 @@ pub record Differs (s : Allocator) (number : ℕ) (l : Line) (d : Difference) : 
   pub front_is : d.front ≡ take 8 s.pool
   pub cursor_is : d.cursor ≡ cursor s
 
--- In this order some lines agree, and the next one doesn't.
-pub record Fails (s : Allocator) (number : ℕ) (order : List Line) (d : Difference) : Type 0 where
+-- no line that may come next after these fits
+abbrev pub IsStuck : Allocator → List Line → List Line → Type 0
+IsStuck s lines placed = (next : Line) (left : List Line)
+    → IsOrderOf lines (placed ++ next ∷ left) → ¬ (Fits (after_lines s placed) next)
+
+-- The lines may have come in this order, in which some agree and the next one doesn't. After those that
+-- agree no line that may come next does.
+pub record Shows (c : Checked) (number : ℕ) (rest : List Line) (d : Difference) : Type 0 where
   pub placed : List Line
   pub next : Line
   pub left : List Line
-  pub is : order ≡ placed ++ next ∷ left
-  pub answered : AreAnswered s placed
-  pub differs : Differs (after_lines s placed) number next d
-
--- The lines may have come in this order, in which they don't agree.
-pub record Shows (c : Checked) (number : ℕ) (rest : List Line) (d : Difference) : Type 0 where
-  pub order : List Line
-  pub is_order : IsOrderOf (reserve_lines c.run ++ rest) order
-  pub fails : Fails c.allocator number order d
+  pub is_order : IsOrderOf (reserve_lines c.run ++ rest) (placed ++ next ∷ left)
+  pub answered : AreAnswered c.allocator placed
+  pub differs : Differs (after_lines c.allocator placed) number next d
+  pub stuck : IsStuck c.allocator (reserve_lines c.run ++ rest) placed
 
 -- in no order the reservations of the run were answered so
 abbrev pub HasNoOrder : Checked → Type 0

@@ -7,5 +7,6 @@ pub mod Machine
 pub mod Histories
 pub mod Trace
 pub mod Checker
+pub mod Lineup
 pub mod Text
 pub mod Words

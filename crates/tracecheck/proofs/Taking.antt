@@ -1,19 +1,26 @@
 -- One more line is taken, or shows what is to be said of the trace.
-use Rattle.std.proofs.Common.{rules, ◌≡◌, ℕ, ◌+◌, List, [], ◌∷◌, ◌++◌, length, Option, Some, None}
+use Rattle.std.proofs.lemmas.Bool.{cases_lt}
+use Rattle.std.proofs.Common.{rules, ◌≡◌, ℕ, ◌+◌, ◌^◌, ◌<◌, ◌≤◌, inl, inr, List, [], ◌∷◌, ◌++◌, length, Option, Some, None}
 use Rattle.std.proofs.Common.{Result, Ok, Err, refl, sym, ap, subst, ◌∙◌, arith, length-append}
 use Rattle.std.proofs.lemmas.Grind.{common_steps}
 use Rattle.std.proofs.lemmas.List.{append-nil}
 use Rattle.std.proofs.lemmas.List.Sums.{sum_by_push}
 use Rattle.ent_alloc.specs.Limits.{Limits}
-use Rattle.ent_replay.specs.Checker.{AgreesWith, Follows, IsTooMany, NoneFollows, Shows}
+use Rattle.ent_replay.specs.Checker.{AgreesWith, Checked, Follows, IsTooMany, NoneFollows, Reaches}
+use Rattle.ent_replay.specs.Checker.{ReachesAll, Shows, requested_in}
+use Rattle.ent_replay.proofs.Requested.{ReachesAll-next, requested_by, requested-reserve}
+use Rattle.ent_replay.proofs.Requested.{requested-flush, requested-alloc, requested-free}
+use Rattle.ent_replay.proofs.Requested.{requested-state, requested-len}
 use Rattle.tracecheck.specs.Verdict.{IsVerdict, StandsAt, agrees, asks_too_many, differs}
 use Rattle.tracecheck.specs.Verdict.{differs_in_all, is_none}
 use Rattle.ent_replay.specs.Trace.{Agrees}
 use Rattle.ent_replay.specs.Text.{line_of, words_of}
 use Rattle.ent_replay.specs.declared.trace.difference.Difference.{Difference}
 use Rattle.ent_replay.specs.declared.trace.line.Line.{Line}
+use Rattle.ent_replay.specs.declared.trace.line.Line.TheVariants as line
 use Rattle.ent_replay.specs.declared.trace.read_fault.Cause.{Cause}
-use Rattle.tracecheck.specs.Calls.{Refused, calls_from, goes_on, given_in}
+use Rattle.tracecheck.specs.Calls.{Refused, calls_from, goes_on, given_in, requested_after}
+use Rattle.tracecheck.specs.Calls.{requested_from}
 use Rattle.tracecheck.specs.Checking.{AllFollow, HasTaken, opened}
 use Rattle.tracecheck.specs.declared.checking.Checking.{Checking}
 use Rattle.tracecheck.specs.declared.verdict.Verdict.TheVariants as verdict
@@ -42,23 +49,70 @@ HasTaken-none limits texts text old new number next lines given same named h =
           (ap (λ n. line_of n (words_of text)) (sym here) ∙ named) refl
           ∙ ap (λ (ls : List Line). Ok ls) (append-nil h.calls);
       follow = subst (AllFollow (opened limits) h.calls) (sym same) h.follow;
+      reached = subst (ReachesAll (opened limits) h.calls) (sym same) h.reached;
+      requested = ap requested_by same ∙ h.requested;
+      few = h.few;
       lines = omega (arith, h.lines, length-append texts (text ∷ []));
       given = given ∙ h.given;
     }
+
+-- what is requested with one more call
+requested_from-append : (n : ℕ) (calls : List Line) (l : Line) → requested_from n (calls ++ l ∷ [])
+    ≡ requested_after (requested_from n calls) l
+requested_from-append n [] l = refl
+requested_from-append n (x ∷ calls) l = requested_from-append (requested_after n x) calls l
+
+requested_next : (old new : Checked) (l : Line) → Reaches old l new → requested_by new
+    ≡ requested_after (requested_by old) l
+requested_next old new (line.Reserve r) reaches = requested-reserve old new r reaches
+requested_next old new (line.Flush told) reaches = requested-flush old new told reaches
+requested_next old new (line.Alloc told) reaches = requested-alloc old new told reaches
+requested_next old new (line.Free h told) reaches = requested-free old new h told reaches
+requested_next old new (line.State h told) reaches = requested-state old new h told reaches
+requested_next old new (line.Len told) reaches = requested-len old new told reaches
+
+few_next : (old : Checked) (l : Line) → requested_by old ≤ 2 ^ 50 → (IsTooMany old l → ⊥)
+    → requested_after (requested_by old) l ≤ 2 ^ 50
+few_next old (line.Reserve r) few more = elim
+    (cases_lt (2 ^ 50) (old.allocator.asked + requested_in old.run + r.requested)) [
+      | inl many ↦ absurd (more many)
+      | inr within ↦ within
+    ]
+few_next old (line.Flush told) few more = omega arith
+few_next old (line.Alloc told) few more = few
+few_next old (line.Free h told) few more = few
+few_next old (line.State h told) few more = few
+few_next old (line.Len told) few more = few
+
+many_next : (old : Checked) (l : Line) → IsTooMany old l → 2 ^ 50
+    < requested_after (requested_by old) l
+many_next old (line.Reserve r) many = many
+many_next old (line.Flush told) many = absurd many
+many_next old (line.Alloc told) many = absurd many
+many_next old (line.Free h told) many = absurd many
+many_next old (line.State h told) many = absurd many
+many_next old (line.Len told) many = absurd many
 
 -- a call
 pub HasTaken-call : (limits : Limits) (texts : List (List ℕ)) (text : List ℕ) (l : Line)
     (old new : Checking) (number : ℕ) → number ≡ old.lines + 1 → new.lines ≡ number
     → new.given ≡ old.given + given_in l → Follows old.checker l new.checker
+    → Reaches old.checker l new.checker → (IsTooMany old.checker l → ⊥)
     → line_of number (words_of text) ≡ Ok (Some l)
     → HasTaken limits texts old → HasTaken limits (texts ++ text ∷ []) new
-HasTaken-call limits texts text l old new number next lines given follows named h =
+HasTaken-call limits texts text l old new number next lines given follows reaches more named h =
     let here : number ≡ 1 + length texts = omega (arith, h.lines) in
     record {
       calls = h.calls ++ l ∷ [];
       read = next_call texts text h.calls (Ok (Some l)) (Ok (l ∷ [])) h.read
           (ap (λ n. line_of n (words_of text)) (sym here) ∙ named) refl;
       follow = AllFollow-call (opened limits) old.checker new.checker h.calls l h.follow follows;
+      reached = ReachesAll-next (opened limits) old.checker new.checker h.calls l h.reached reaches;
+      requested = requested_next old.checker new.checker l reaches
+          ∙ ap (λ n. requested_after n l) h.requested ∙ sym (requested_from-append 0 h.calls l);
+      few = subst (λ n. n ≤ 2 ^ 50)
+          (ap (λ n. requested_after n l) h.requested ∙ sym (requested_from-append 0 h.calls l))
+          (few_next old.checker l (subst (λ n. n ≤ 2 ^ 50) (sym h.requested) h.few) more);
       lines = omega (arith, h.lines, length-append texts (text ∷ []));
       given = omega (arith, h.given, given, sum_by_push given_in h.calls l);
     }
@@ -79,7 +133,7 @@ differs_here limits texts after text l old number d next named shows none h = di
   next = l;
   stands = stands limits texts after text l old number next named h;
   checked = old.checker;
-  follow = h.follow;
+  reached = h.reached;
   shows = shows;
   none = λ rest a. none rest (h.follow.complete (l ∷ rest) a);
 })
@@ -89,8 +143,17 @@ pub asks_here : (limits : Limits) (texts after : List (List ℕ)) (text : List �
     → line_of number (words_of text) ≡ Ok (Some l) → IsTooMany old.checker l
     → HasTaken limits texts old
     → IsVerdict limits (texts ++ text ∷ after) (verdict.Refused number refusal.Requests)
-asks_here limits texts after text l old number next named many h = asks_too_many number
-    (search (rules, stands limits texts after text l old number next named h))
+asks_here limits texts after text l old number next named many h = asks_too_many number (record {
+  calls = h.calls;
+  next = l;
+  stands = stands limits texts after text l old number next named h;
+  checked = old.checker;
+  reached = h.reached;
+  few = h.few;
+  many = subst (λ n. 2 ^ 50 < n)
+      (ap (λ n. requested_after n l) h.requested ∙ sym (requested_from-append 0 h.calls l))
+      (many_next old.checker l many);
+})
 
 pub none_here : (limits : Limits) (texts after : List (List ℕ)) (text : List ℕ) (c : Cause)
     (old : Checking) (number : ℕ) → number ≡ old.lines + 1
@@ -99,6 +162,16 @@ pub none_here : (limits : Limits) (texts after : List (List ℕ)) (text : List �
 none_here limits texts after text c old number next named h =
     let here : number ≡ 1 + length texts = omega (arith, h.lines) in
     is_none number c (search (rules, calls_from-append 1 texts (text ∷ after) h.calls h.read, here))
+    (record {
+      before = texts;
+      after = text ∷ after;
+      is = refl;
+      number_is = omega (arith, h.lines);
+      calls = h.calls;
+      read = h.read;
+      checked = old.checker;
+      reached = h.reached;
+    })
 
 -- ---- the end
 
@@ -117,7 +190,7 @@ differs_at_end limits texts old d shows none h = differs_in_all d (record {
   calls = h.calls;
   read = h.read;
   checked = old.checker;
-  follow = h.follow;
+  reached = h.reached;
   shows = shows;
   none = search (rules, append-nil);
 })

@@ -39,3 +39,14 @@ abbrev pub given_in : Line → ℕ
 given_in (line.Alloc (Some (alloc.Handle h))) = 1
 given_in (line.Reserve r) = listed_in r.reply
 given_in other = 0
+
+-- how many handles were requested since the last flush, after one more call
+abbrev pub requested_after : ℕ → Line → ℕ
+requested_after n (line.Reserve r) = n + r.requested
+requested_after n (line.Flush told) = 0
+requested_after n other = n
+
+-- how many handles these calls request after their last flush; so many were requested before them
+abbrev pub requested_from : ℕ → List Line → ℕ
+requested_from n [] = n
+requested_from n (l ∷ calls) = requested_from (requested_after n l) calls

@@ -1,12 +1,12 @@
 -- What was taken of a trace so far.
-use Rattle.std.specs.Prelude.{◌≡◌, ◌≢◌, ℕ, List, [], ◌++◌, length, All, Ok}
+use Rattle.std.specs.Prelude.{◌≡◌, ◌≢◌, ℕ, ◌+◌, ◌^◌, ◌≤◌, List, [], ◌++◌, length, All, Ok}
 use Rattle.std.specs.List.{sum_by}
 use Rattle.ent_alloc.specs.Limits.{Limits}
 use Rattle.ent_alloc.specs.Sequential.{opening}
-use Rattle.ent_replay.specs.Checker.{Checked, AgreesWith}
+use Rattle.ent_replay.specs.Checker.{Checked, AgreesWith, ReachesAll, requested_in}
 use Rattle.ent_replay.specs.Text.{lines_of}
 use Rattle.ent_replay.specs.declared.trace.line.Line.{Line}
-use Rattle.tracecheck.specs.Calls.{calls_from, given_in}
+use Rattle.tracecheck.specs.Calls.{calls_from, given_in, requested_from}
 use Rattle.tracecheck.specs.declared.checking.Checking.{Checking}
 
 -- no line is checked yet
@@ -23,6 +23,9 @@ pub record HasTaken (limits : Limits) (texts : List (List ℕ)) (c : Checking) :
   pub calls : List Line
   pub read : calls_from 1 texts ≡ Ok calls
   pub follow : AllFollow (opened limits) calls c.checker
+  pub reached : ReachesAll (opened limits) calls c.checker
+  pub requested : c.checker.allocator.asked + requested_in c.checker.run ≡ requested_from 0 calls
+  pub few : requested_from 0 calls ≤ 2 ^ 50
   pub lines : c.lines ≡ length texts
   pub given : c.given ≡ sum_by given_in calls
 

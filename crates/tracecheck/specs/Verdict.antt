@@ -1,5 +1,5 @@
 -- What is said of a trace, and when.
-use Rattle.std.specs.Prelude.{⊤, ◌≡◌, ℕ, ◌+◌, ℤ, List, [], ◌∷◌, ◌++◌, length, map, codes}
+use Rattle.std.specs.Prelude.{⊤, ◌≡◌, ℕ, ◌+◌, ◌^◌, ◌<◌, ◌≤◌, ℤ, List, [], ◌∷◌, ◌++◌, length, map, codes}
 use Rattle.std.specs.Prelude.{◌==◌, if◌then◌else◌, Some, Ok, Err}
 use Rattle.std.specs.Fmt.{decimal, signed_decimal}
 use Rattle.std.specs.List.{sum_by}
@@ -7,7 +7,7 @@ use Rattle.ent_handle.specs.Handle.{Handle}
 use Rattle.ent_handle.specs.Text.{handle_text}
 use Rattle.ent_alloc.specs.Limits.{Limits}
 use Rattle.ent_alloc.specs.Sequential.{opening}
-use Rattle.ent_replay.specs.Checker.{Checked, IsTooMany, Shows}
+use Rattle.ent_replay.specs.Checker.{Checked, ReachesAll, Shows}
 use Rattle.ent_replay.specs.Trace.{Agrees}
 use Rattle.ent_replay.specs.Text.{Word, answer_words, cause_text, line_of, line_text, spaced}
 use Rattle.ent_replay.specs.Text.{words_of}
@@ -16,8 +16,8 @@ use Rattle.ent_replay.specs.declared.trace.difference.Stop.{Stop}
 use Rattle.ent_replay.specs.declared.trace.difference.Stop.TheVariants as stop
 use Rattle.ent_replay.specs.declared.trace.line.Line.{Line}
 use Rattle.ent_replay.specs.declared.trace.read_fault.Cause.{Cause}
-use Rattle.tracecheck.specs.Calls.{calls_from, given_in}
-use Rattle.tracecheck.specs.Checking.{AllFollow, opened}
+use Rattle.tracecheck.specs.Calls.{calls_from, given_in, requested_from}
+use Rattle.tracecheck.specs.Checking.{opened}
 use Rattle.tracecheck.specs.declared.checking.End.{End}
 use Rattle.tracecheck.specs.declared.checking.End.TheVariants as end
 use Rattle.tracecheck.specs.declared.verdict.Refusal.{Refusal}
@@ -36,34 +36,48 @@ pub record StandsAt (lines : List (List ℕ)) (number : ℕ) (calls : List Line)
   pub read : calls_from 1 before ≡ Ok calls
   pub named : line_of number (words_of text) ≡ Ok (Some next)
 
--- The difference is shown by the lines up to one of them. No trace that goes on after it agrees.
+-- The lines before the one of this number are calls that were taken.
+pub record AreTaken (limits : Limits) (lines : List (List ℕ)) (number : ℕ) : Type 0 where
+  pub before : List (List ℕ)
+  pub after : List (List ℕ)
+  pub is : lines ≡ before ++ after
+  pub number_is : number ≡ length before + 1
+  pub calls : List Line
+  pub read : calls_from 1 before ≡ Ok calls
+  pub checked : Checked
+  pub reached : ReachesAll (opened limits) calls checked
+
+-- The calls before this line were taken. With its call the difference shows, and no trace that goes on
+-- after it agrees.
 pub record DiffersAt (limits : Limits) (lines : List (List ℕ)) (d : Difference) : Type 0 where
   pub number : ℕ
   pub calls : List Line
   pub next : Line
   pub stands : StandsAt lines number calls next
   pub checked : Checked
-  pub follow : AllFollow (opened limits) calls checked
+  pub reached : ReachesAll (opened limits) calls checked
   pub shows : Shows checked number (next ∷ []) d
   pub none : (rest : List Line) → Agrees (opening limits) (calls ++ next ∷ rest) → ⊥
 
--- The difference is shown by all lines.
+-- All calls were taken. At the end of the trace the difference shows.
 pub record DiffersInAll (limits : Limits) (lines : List (List ℕ)) (d : Difference) : Type 0 where
   pub calls : List Line
   pub read : calls_from 1 lines ≡ Ok calls
   pub checked : Checked
-  pub follow : AllFollow (opened limits) calls checked
+  pub reached : ReachesAll (opened limits) calls checked
   pub shows : Shows checked 0 [] d
   pub none : Agrees (opening limits) calls → ⊥
 
--- With the reservation that stands there, more is requested than an allocator counts.
+-- The calls before this line were taken. With its call more was requested since the last flush than an
+-- allocator counts, and without it not.
 pub record AsksAt (limits : Limits) (lines : List (List ℕ)) (number : ℕ) : Type 0 where
   pub calls : List Line
   pub next : Line
   pub stands : StandsAt lines number calls next
   pub checked : Checked
-  pub follow : AllFollow (opened limits) calls checked
-  pub many : IsTooMany checked next
+  pub reached : ReachesAll (opened limits) calls checked
+  pub few : requested_from 0 calls ≤ 2 ^ 50
+  pub many : 2 ^ 50 < requested_from 0 (calls ++ next ∷ [])
 
 -- what may be said of the trace of these lines
 pub data IsVerdict (limits : Limits) (lines : List (List ℕ)) : Verdict → Type 0 where
@@ -75,6 +89,7 @@ pub data IsVerdict (limits : Limits) (lines : List (List ℕ)) : Verdict → Typ
       → IsVerdict limits lines (verdict.Differs d)
   -- the first line that is none, and its first fault
   is_none : (number : ℕ) (cause : Cause) → calls_from 1 lines ≡ Err (number, cause)
+      → AreTaken limits lines number
       → IsVerdict limits lines (verdict.Refused number (refusal.Line cause))
   asks_too_many : (number : ℕ) → AsksAt limits lines number
       → IsVerdict limits lines (verdict.Refused number refusal.Requests)

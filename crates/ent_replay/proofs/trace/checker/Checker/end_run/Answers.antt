@@ -18,7 +18,7 @@ returns-in_err-settle c =
       reaches = rw p.1 tt;
       differs = rw (p.1, p.2) (on_differs c.in_err-settle.field-0.0
           (λ d. (n : ℕ) → Shows self n [] d) (Shows self c.args.number (l ∷ []))
-          (λ d shows. Shows-more self c.args.number l d (shows c.args.number))
+          (λ d shows. Shows-more self c.args.number l d c.requires (shows c.args.number))
           c.in_err-settle.ensures.differs);
       none = rw (p.1, p.2) (on_differs c.in_err-settle.field-0.0
           (λ d. HasNoOrder self) (λ d. NoneFollows self l)
@@ -45,7 +45,7 @@ returns c =
       differs = on_err c.call.result (λ stop. OnDiffers stop (Differs at c.args.number l))
           (λ stop. OnDiffers stop (Shows self c.args.number (l ∷ [])))
           (λ stop. on_differs stop (Differs at c.args.number l) (Shows self c.args.number (l ∷ []))
-          (λ d differs. called-Shows self l at c.args.number d c.in_ok-settle.ensures.settled
+          (λ d differs. called-Shows self l at c.args.number d alone c.in_ok-settle.ensures.settled
           differs)) c.call.ensures.differs;
       none = on_err c.call.result (λ stop. OnDiffers stop (Differs at c.args.number l))
           (λ stop. OnDiffers stop (λ d. NoneFollows self l))

@@ -1,5 +1,5 @@
 use Rattle.std.proofs.Common.{◌≡◌, ◌+◌, ◌≤◌, ◌++◌, length, vec_len, vec_capacity}
-use Rattle.ent_replay.proofs.trace.placing.listed.Given as goal
+use Rattle.ent_replay.proofs.trace.lineup.listed.Given as goal
 
 -- what is listed and what is left are the reply, and there is room for the rest
 abbrev pub invariant-loop-handle : goal.invariant-loop-handle

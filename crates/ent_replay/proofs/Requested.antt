@@ -1,0 +1,144 @@
+-- What the lines that were taken request.
+use Rattle.std.proofs.Common.{rules, ◌≡◌, ℕ, ◌+◌, Bool, true, false, if◌then◌else◌, nat_lt, arith}
+use Rattle.std.proofs.Common.{List, [], ◌∷◌, ◌++◌, Option, ap, sym, subst, ◌∙◌, refl}
+use Rattle.std.proofs.lemmas.Grind.{common_steps}
+use Rattle.std.proofs.lemmas.List.Sums.{sum_by-cons, sum_by_push}
+use Rattle.std.specs.List.{AllByRecursion}
+use Rattle.std.specs.FinSet as set
+use Rattle.ent_handle.specs.Handle.{Handle}
+use Rattle.ent_alloc.specs.Sequential.{Allocator, after_free}
+use Rattle.ent_alloc.proofs.PoolLaw.{asked-after_take}
+use Rattle.ent_replay.specs.declared.trace.line.Line.{Line}
+use Rattle.ent_replay.specs.declared.trace.line.Line.TheVariants as line
+use Rattle.ent_replay.specs.declared.trace.line.Reservation.{Reservation}
+use Rattle.ent_replay.specs.Trace.{IsOrderOf, IsAlone, after_front, after_line, after_lines}
+use Rattle.ent_replay.specs.Checker.{Checked, IsSettled, Reaches, ReachesAll, requested_in}
+use Rattle.ent_replay.specs.Checker.{reserve_lines}
+use Rattle.ent_replay.specs.declared.trace.reply.AllocReply.{AllocReply}
+use Rattle.ent_replay.specs.declared.trace.reply.FreeReply.{FreeReply}
+use Rattle.ent_replay.specs.declared.trace.reply.FlushReply.{FlushReply}
+use Rattle.ent_alloc.specs.declared.state.State.{State}
+use Rattle.ent_replay.proofs.Lists.{all_at, all_without}
+use Rattle.ent_replay.proofs.Parting.{IsReserve, all_reserve}
+
+abbrev asks_line : Line → ℕ
+asks_line (line.Reserve r) = r.requested
+asks_line other = 0
+
+abbrev asks_in : List Line → ℕ
+asks_in [] = 0
+asks_in (l ∷ lines) = asks_line l + asks_in lines
+
+asks-run : (run : List Reservation) → asks_in (reserve_lines run) ≡ requested_in run
+asks-run [] = refl
+asks-run (r ∷ run) = search (rules, sum_by-cons, asks-run run)
+
+asks-middle : (before after : List Line) (l : Line) → asks_in (before ++ l ∷ after)
+    ≡ asks_line l + asks_in (before ++ after)
+asks-middle [] after l = refl
+asks-middle (b ∷ before) after l = let more = asks-middle before after l in omega arith
+
+asks-ordered : (order lines : List Line) → IsOrderOf lines order → asks_in order ≡ asks_in lines
+asks-ordered [] lines is = ap asks_in (sym is)
+asks-ordered (l ∷ order) lines (before, after, parts, passes, more) =
+    ap (λ n. asks_line l + n) (asks-ordered order (before ++ after) more)
+    ∙ sym (asks-middle before after l) ∙ ap asks_in (sym parts)
+
+pub reserves-ordered : (order lines : List Line) → IsOrderOf lines order → AllByRecursion IsReserve lines
+    → AllByRecursion IsReserve order
+reserves-ordered [] lines is all = tt
+reserves-ordered (l ∷ order) lines (before, after, parts, passes, more) all =
+    let here = subst (AllByRecursion IsReserve) parts all in (
+      all_at IsReserve before after l here,
+      reserves-ordered order (before ++ after) more (all_without IsReserve before after l here),
+    )
+
+asked-reserves : (order : List Line) (s : Allocator) → AllByRecursion IsReserve order
+    → (after_lines s order).asked ≡ s.asked + asks_in order
+asked-reserves [] s all = omega arith
+asked-reserves (line.Reserve r ∷ order) s all =
+    let here = asked-after_take s r.requested in
+    let more = asked-reserves order (after_line s (line.Reserve r)) all.1 in
+    omega arith
+asked-reserves (line.Alloc told ∷ order) s all = absurd all.0
+asked-reserves (line.Free h told ∷ order) s all = absurd all.0
+asked-reserves (line.Flush told ∷ order) s all = absurd all.0
+asked-reserves (line.State h told ∷ order) s all = absurd all.0
+asked-reserves (line.Len told ∷ order) s all = absurd all.0
+
+-- the state after a run has asked for what the run requests
+pub asked-settled : (c : Checked) (at : Allocator) → IsSettled c at → at.asked
+    ≡ c.allocator.asked + requested_in c.run
+asked-settled c at settled =
+    ap (λ (s : Allocator). s.asked) settled.after_is
+    ∙ asked-reserves settled.order c.allocator
+    (reserves-ordered settled.order (reserve_lines c.run) settled.is_order (all_reserve c.run))
+    ∙ ap (λ n. c.allocator.asked + n)
+    (asks-ordered settled.order (reserve_lines c.run) settled.is_order ∙ asks-run c.run)
+
+-- ---- after one more line
+
+asked-front : (s : Allocator) (pool : List Handle) → (after_front s pool).asked ≡ s.asked
+asked-front s [] = refl
+asked-front s (h ∷ pool) = refl
+
+asked-alloc : (b : Bool) (s : Allocator) → (if b then s else after_front s s.pool).asked ≡ s.asked
+asked-alloc true s = refl
+asked-alloc false s = asked-front s s.pool
+
+asked-free : (b c : Bool) (s : Allocator) (h : Handle)
+    → (if b then s else (if c then after_free s h else s)).asked ≡ s.asked
+asked-free true c s h = refl
+asked-free false true s h = refl
+asked-free false false s h = refl
+
+-- how many are requested since the last flush, in the lines that were taken
+abbrev pub requested_by : Checked → ℕ
+requested_by c = c.allocator.asked + requested_in c.run
+
+module _ (old new : Checked) where
+  pub requested-reserve : (r : Reservation) → Reaches old (line.Reserve r) new
+      → requested_by new ≡ requested_by old + r.requested
+  requested-reserve r is =
+      let more = sum_by_push (λ (q : Reservation). q.requested) old.run r in
+      ap requested_by is ∙ omega arith
+
+  pub requested-flush : (told : Option FlushReply) → Reaches old (line.Flush told) new
+      → requested_by new ≡ 0
+  requested-flush told (at, settled, fits, is) = ap requested_by is
+
+  -- a call that changes nothing that is requested
+  kept : (at : Allocator) (l : Line) → IsSettled old at
+      → new ≡ record { allocator = after_line at l; run = [] }
+      → (after_line at l).asked ≡ at.asked → requested_by new ≡ requested_by old
+  kept at l settled is stays =
+      let one : requested_by new ≡ (after_line at l).asked + 0 = ap requested_by is in
+      let before = asked-settled old at settled in
+      omega arith
+
+  pub requested-alloc : (told : Option AllocReply) → Reaches old (line.Alloc told) new
+      → requested_by new ≡ requested_by old
+  requested-alloc told (at, settled, fits, is) =
+      kept at (line.Alloc told) settled is (asked-alloc (nat_lt 0 at.asked) at)
+
+  pub requested-free : (h : Handle) (told : Option FreeReply) → Reaches old (line.Free h told) new
+      → requested_by new ≡ requested_by old
+  requested-free h told (at, settled, fits, is) =
+      kept at (line.Free h told) settled is
+      (asked-free (nat_lt 0 at.asked) (set.contains at.live h) at h)
+
+  pub requested-state : (h : Handle) (told : Option State) → Reaches old (line.State h told) new
+      → requested_by new ≡ requested_by old
+  requested-state h told (at, settled, fits, is) = kept at (line.State h told) settled is refl
+
+  pub requested-len : (told : Option ℕ) → Reaches old (line.Len told) new
+      → requested_by new ≡ requested_by old
+  requested-len told (at, settled, fits, is) = kept at (line.Len told) settled is refl
+
+-- one line after the others
+pub ReachesAll-next : (old middle new : Checked) (lines : List Line) (l : Line)
+    → ReachesAll old lines middle → Reaches middle l new → ReachesAll old (lines ++ l ∷ []) new
+ReachesAll-next old middle new [] l is next =
+    (new, subst (λ c. Reaches c l new) is next, refl)
+ReachesAll-next old middle new (x ∷ lines) l (second, first, more) next =
+    (second, first, ReachesAll-next second middle new lines l more next)

@@ -1,0 +1,82 @@
+-- The sorted run is lined up: all of it is placed, or no order of the run is answered so.
+use Rattle.std.proofs.Common.{◌≡◌, ◌≢◌, ℕ, ◌++◌, ◌≤◌, List, [], ◌∷◌, filter, sym, ap, subst, ◌∙◌, rules}
+use Rattle.std.proofs.lemmas.List.{append-nil}
+use Rattle.std.specs.List.{AllByRecursion}
+use Rattle.ent_alloc.specs.Sequential.{Allocator, available}
+use Rattle.ent_alloc.specs.Sound.{IsSound}
+use Rattle.ent_replay.specs.declared.trace.line.Line.{Line}
+use Rattle.ent_replay.specs.declared.trace.lineup.Lineup.{Lineup}
+use Rattle.ent_replay.specs.declared.trace.placed.Placed.{Placed}
+use Rattle.ent_replay.specs.declared.trace.difference.Difference.{Difference}
+use Rattle.ent_replay.specs.Trace.{AreAnswered, IsOrderOf, after_lines}
+use Rattle.ent_replay.specs.Checker.{AreKeyed, AreSteady, Checked, HasNoOrder, IsSettled, Shows}
+use Rattle.ent_replay.specs.Checker.{requested_in, reservations_of}
+use Rattle.ent_replay.specs.Lineup.{IsLineup, KeepsCallers, NamesOne, NoneFits, all_of, lines_of, reached}
+use Rattle.ent_replay.proofs.Lists.{split, all_left}
+use Rattle.ent_replay.proofs.KeysOf.{IsOfOther}
+use Rattle.ent_replay.proofs.Complete.{IsPlacedOrder}
+use Rattle.ent_replay.proofs.Lifted.{others_of, sorted_run}
+use Rattle.ent_replay.proofs.Sorted.{IsRising, TieAlike, alike_rest, begins, least, nothing_left, passes}
+use Rattle.ent_replay.proofs.Sorted.{steady_before, steady_without, tie}
+use Rattle.ent_replay.proofs.Callers.{keeps-IsOrderOf, keeps-again, order-keeps}
+use Rattle.ent_replay.proofs.Stuck.{lineup-Shows}
+
+-- a stable sort by keys that don't fall along a caller keeps each caller's order
+sorted-placed : (sorted run : List Placed) → IsRising sorted → TieAlike sorted run → AreSteady run
+    → IsPlacedOrder run sorted
+sorted-placed [] run up alike steady = nothing_left run alike
+sorted-placed (h ∷ sorted) run up alike steady =
+    let s = split (tie h) h (filter (tie h) sorted) run (begins h sorted run alike) in
+    let low = least h sorted run up.0 alike in
+    let alike_here = subst (TieAlike (h ∷ sorted)) s.is alike in
+    let low_here = subst (AllByRecursion (λ (p : Placed). h.key ≤ p.key)) s.is low in
+    let steady_here = subst AreSteady s.is steady in (
+      s.before,
+      s.after,
+      s.is,
+      others_of h s.before (passes h s.before s.none
+          (all_left (λ (p : Placed). h.key ≤ p.key) s.before (h ∷ s.after) low_here)
+          (steady_before s.before s.after h steady_here)),
+      sorted-placed sorted (s.before ++ s.after) up.1
+          (alike_rest h sorted s.before s.after s.none alike_here)
+          (steady_without s.before s.after h steady_here),
+    )
+
+module _ (s : Allocator) (run sorted : List Placed) (l : Lineup) (sound : IsSound s)
+    (keyed : AreKeyed (available s) (λ _. 0) run) (steady : AreSteady run) (up : IsRising sorted)
+    (alike : TieAlike sorted run)
+    (sum : requested_in (reservations_of sorted) ≡ requested_in (reservations_of run))
+    (lined : IsLineup s l) (keeps : KeepsCallers sorted (all_of l)) where
+  kept : KeepsCallers run (all_of l)
+  kept = keeps-again run sorted (all_of l)
+      (order-keeps sorted run (sorted-placed sorted run up alike steady)) keeps
+
+  -- if any order of the run is answered so, the sorted one is, and leaves the same state
+  best : (other : List Line) → IsOrderOf (lines_of run) other → AreAnswered s other
+      → AreAnswered s (lines_of sorted) × (after_lines s other ≡ after_lines s (lines_of sorted))
+  best other is all = sorted_run s sorted run other sound keyed up alike sum is all
+
+  pub all-settled : l.rest.items ≡ [] → (at : Allocator)
+      → at ≡ after_lines s (lines_of l.placed.items)
+      → IsSettled (record { allocator = s; run = reservations_of run }) at
+  all-settled none at at_is =
+      let whole : all_of l ≡ l.placed.items =
+      ap (λ (ps : List Placed). l.placed.items ++ ps) none ∙ append-nil l.placed.items in
+      let is_order = keeps-IsOrderOf l.placed.items run (subst (KeepsCallers run) whole kept) in
+      record {
+        order = lines_of l.placed.items;
+        is_order = is_order;
+        answered = lined.answered;
+        after_is = at_is;
+        only = λ other is all.
+            (best other is all).1 ∙ sym (best (lines_of l.placed.items) is_order lined.answered).1
+            ∙ sym at_is;
+      }
+
+  pub some-none : l.rest.items ≢ [] → (AreAnswered s (lines_of sorted) → l.rest.items ≡ [])
+      → HasNoOrder (record { allocator = s; run = reservations_of run })
+  some-none some whole other is all = some (whole (best other is all).0)
+
+  pub some-Shows : NoneFits (reached s l) l.rest.items → (d : Difference) → NamesOne s l d → (n : ℕ)
+      → Shows (record { allocator = s; run = reservations_of run }) n [] d
+  some-Shows none d names n = lineup-Shows s run l kept lined none d names n

@@ -1,0 +1,82 @@
+-- Which of those that are left is its caller's first one.
+use Rattle.std.proofs.Common.{rules, arith, ◌≡◌, ◌≢◌, ℕ, suc, ◌+◌, ◌<◌, List, [], ◌∷◌, ◌++◌, filter, length}
+use Rattle.std.proofs.Common.{take, drop, get_or, None, Some, refl, sym, ap, subst, ◌∙◌, inl, inr}
+use Rattle.std.proofs.Common.{append-nil}
+use Rattle.std.proofs.Math.Seq.{drop-cons}
+use Rattle.std.proofs.lemmas.Bool.{cases_eq}
+use Rattle.std.proofs.lemmas.List.{take_more, take-append-drop, length-take}
+use Rattle.std.proofs.lemmas.List.Elements.{filter-append}
+use Rattle.std.specs.Ordering.{nat_cmp}
+use Rattle.std.specs.FinMap as finite
+use Rattle.ent_replay.specs.declared.trace.placed.Placed.{Placed}
+use Rattle.ent_replay.specs.Lineup.{IsFirstAt, is_of}
+use Rattle.ent_replay.proofs.Maps.{get-inserted, get-insert_other}
+use Rattle.ent_replay.proofs.Callers.{left_other}
+
+one_up : (n : ℕ) → suc n ≡ n + 1
+one_up n = omega arith
+
+-- a caller that was not seen has none among the first ones
+abbrev pub AreSeen : finite.FinMap nat_cmp ℕ → List Placed → ℕ → Type 0
+AreSeen seen rest index = (q : ℕ) → finite.get seen q ≡ None → filter (is_of q) (take index rest) ≡ []
+
+module _ (seen : finite.FinMap nat_cmp ℕ) (rest : List Placed) (index : ℕ) (p : Placed)
+    (within : index < length rest) (at : p ≡ get_or rest index p) (h : AreSeen seen rest index) where
+  more : take (index + 1) rest ≡ take index rest ++ p ∷ []
+  more = take_more rest index p within ∙ ap (λ x. take index rest ++ x ∷ []) (sym at)
+
+  others : (q : ℕ) → q ≢ p.reservation.caller → finite.get seen q ≡ None
+      → filter (is_of q) (take (index + 1) rest) ≡ []
+  others q apart is =
+      ap (filter (is_of q)) more ∙ filter-append (is_of q) (take index rest) (p ∷ [])
+      ∙ ap (λ (ps : List Placed). filter (is_of q) (take index rest) ++ ps)
+      (left_other p q [] (λ e. apart (sym e)))
+      ∙ append-nil (filter (is_of q) (take index rest)) ∙ h q is
+
+  pub AreSeen-again : (v : ℕ) → finite.get seen p.reservation.caller ≡ Some v
+      → AreSeen seen rest (index + 1)
+  AreSeen-again v found q is = elim (cases_eq q p.reservation.caller) [
+    | inl same ↦
+        let no : Some v ≡ None = sym found ∙ ap (finite.get seen) (sym same) ∙ is in
+        absurd cc
+    | inr apart ↦ others q apart is
+  ]
+
+  pub AreSeen-next : (key : ℕ) → AreSeen (finite.insert seen p.reservation.caller key) rest (index + 1)
+  AreSeen-next key q is = elim (cases_eq q p.reservation.caller) [
+    | inl same ↦
+        let no : Some key ≡ None =
+        sym (get-inserted seen p.reservation.caller key)
+        ∙ ap (finite.get (finite.insert seen p.reservation.caller key)) (sym same) ∙ is in
+        absurd cc
+    | inr apart ↦ others q apart (sym (get-insert_other seen p.reservation.caller key q apart) ∙ is)
+  ]
+
+  pub IsFirstAt-unseen : finite.get seen p.reservation.caller ≡ None → IsFirstAt rest index
+  IsFirstAt-unseen none = record {
+    before = take index rest;
+    named = p;
+    after = drop (index + 1) rest;
+    is = sym (take-append-drop index rest)
+        ∙ ap (λ (ps : List Placed). take index rest ++ ps)
+        (drop-cons rest index p within ∙ ap (λ n. get_or rest index p ∷ drop n rest) (one_up index) ∙ ap (λ (x : Placed). x ∷ drop (index + 1) rest) (sym at));
+    index_is = let a = length-take index rest in omega arith;
+    first = h p.reservation.caller none;
+  }
+
+pub IsFirstAt-head : (rest : List Placed) → rest ≢ [] → IsFirstAt rest 0
+IsFirstAt-head [] some = absurd (some refl)
+IsFirstAt-head (p ∷ rest) some = record {
+  before = [];
+  named = p;
+  after = rest;
+  is = refl;
+  index_is = refl;
+  first = refl;
+}
+
+-- what the search for it keeps
+pub record Trying (seen : finite.FinMap nat_cmp ℕ) (rest : List Placed) (index tries : ℕ)
+    : Type 0 where
+  pub seen_are : AreSeen seen rest index
+  pub few : tries < 16

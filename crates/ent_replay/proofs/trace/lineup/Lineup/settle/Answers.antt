@@ -1,0 +1,9 @@
+use Rattle.std.proofs.Common.{rules}
+use Rattle.ent_replay.proofs.Lineups.{Settling-start, Settling-next, Settling-stuck, Settling-whole}
+use Rattle.ent_replay.proofs.trace.lineup.Lineup.settle.Goals as goal
+
+pub loop-before-init : goal.loop-before-init
+loop-before-init c = search (rules, Settling-start)
+
+pub loop-before-preserved : goal.loop-before-preserved
+loop-before-preserved c = search (rules, Settling-next)

@@ -1,0 +1,5 @@
+use Rattle.ent_replay.proofs.Suspects.{Trying}
+use Rattle.ent_replay.proofs.trace.suspect.suspect.Given as goal
+
+abbrev pub invariant-loop-index : goal.invariant-loop-index
+invariant-loop-index l = Trying l.seen l.rest l.index l.tries
