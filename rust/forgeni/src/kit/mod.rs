@@ -24,7 +24,7 @@ pub mod thread;
 pub mod vec;
 
 /// Two values of which the kit has proved that they are equal. Where debug assertions are on, it is
-/// tested.
+/// tested. Elsewhere nothing is run, so `rust/erase` lets through only what looks at values.
 macro_rules! prove_eq {
     ($($part:tt)*) => {
         debug_assert_eq!($($part)*)
