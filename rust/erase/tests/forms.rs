@@ -1,6 +1,7 @@
 //! Forms that could become another program. Each file of `forms` has one, with what it is in its first line and
-//! what becomes of it in its second: `refused: LINE: WHY`, or `shown: VALUE`, which its function `shown` has to
-//! return in a debug build and in a release build, of the package's edition.
+//! what becomes of it in its second: `refused: LINE: WHY`; `stopped: WHY`, where it is the package's kit that refuses it,
+//! as it is built; or `shown: VALUE`, which its function `shown` has to return in a debug build and in a release build,
+//! of the package's edition.
 
 mod common;
 use common::erased_as;
@@ -42,7 +43,7 @@ fn forms() -> Vec<Form> {
 
 #[test]
 fn each_form_says_what_becomes_of_it() {
-    let counts = ["refused", "shown"].map(|word| {
+    let counts = ["refused", "stopped", "shown"].map(|word| {
         let forms = forms();
         forms
             .iter()
@@ -90,6 +91,31 @@ fn other_forms_do_what_they_did() {
             .expect("the program");
         assert!(run.status.success(), "{}", said(&run));
         assert_eq!(String::from_utf8_lossy(&run.stdout), wanted, "{name}");
+    }
+}
+
+#[test]
+fn the_kit_stops_what_it_has_otherwise() {
+    let folder = folder("stopped");
+    for form in forms() {
+        let Some(why) = form.says("stopped") else {
+            continue;
+        };
+        let modules = put(&folder, &form);
+        let calls = format!(
+            "    println!(\"{{:?}}\", proved::{}::shown());\n",
+            form.name
+        );
+        for (name, options) in BUILDS {
+            let built = build(&folder, &modules, &calls, name, &options);
+            assert!(!built.status.success(), "{} is built", form.name);
+            assert!(
+                said(&built).contains(why),
+                "{}: {}",
+                form.name,
+                said(&built)
+            );
+        }
     }
 }
 

@@ -17,9 +17,17 @@ use core::slice;
 pub struct Vec<T>(::alloc::vec::Vec<T>);
 
 impl<T> Vec<T> {
+    /// A list of values without a size has all room there is in Rust, and what was asked for in the kit. No source
+    /// has one, so none is built.
+    const HAVE_A_SIZE: () = assert!(
+        size_of::<T>() > 0,
+        "the room of a list of values without a size isn't what the kit says"
+    );
+
     /// The contract: no items, and no room. It takes no memory.
     #[inline]
     pub const fn new(_alloc: Global) -> Self {
+        let () = Self::HAVE_A_SIZE;
         Vec(::alloc::vec::Vec::new())
     }
 
@@ -208,6 +216,7 @@ fn allow_growth() -> Result<(), AllocError> {
 impl<T> From<::alloc::vec::Vec<T>> for Vec<T> {
     #[inline]
     fn from(list: ::alloc::vec::Vec<T>) -> Self {
+        let () = Vec::<T>::HAVE_A_SIZE;
         Vec(list)
     }
 }
