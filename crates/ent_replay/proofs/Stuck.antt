@@ -58,7 +58,7 @@ module _ (s : Allocator) (run : List Placed) (l : Lineup) (keeps : KeepsCallers 
       let q = u.placed.reservation.caller in
       let order = order-keeps up.placed run up.is_order in
       let whole : filter (is_of q) u.first ++ u.placed ∷ filter (is_of q) u.rest
-          ≡ filter (is_of q) l.placed.items ++ filter (is_of q) l.rest.items =
+      ≡ filter (is_of q) l.placed.items ++ filter (is_of q) l.rest.items =
       ap (λ (ps : List Placed). filter (is_of q) u.first ++ ps)
       (sym (kept_own u.placed q u.rest refl))
       ∙ sym (filter-append (is_of q) u.first (u.placed ∷ u.rest))

@@ -2,4 +2,5 @@ pub mod CommandLine
 pub mod Calls
 pub mod Checking
 pub mod Verdict
+pub mod Progress
 pub mod Status

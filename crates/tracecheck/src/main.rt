@@ -16,7 +16,8 @@ use std::io::IsTerminal;
 use std::process::ExitCode;
 
 fn main(rt: HostRuntime) -> ExitCode {
+    let terminal = rt.stderr();
+    let tells = terminal.is_terminal();
     let errors = rt.stderr();
-    let tells = errors.is_terminal();
-    ExitCode::from(start(&rt, rt.stdin(), rt.stdout(), errors, tells))
+    ExitCode::from(start(&rt, rt.stdin(), rt.stdout(), errors, terminal, tells))
 }

@@ -1,5 +1,5 @@
-//! The program: what its words ask for, done between two devices, and what it says on the error
-//! stream.
+//! The program: what its words ask for, done between two devices, what it says on the error stream,
+//! and what a terminal is told.
 ghost use Rattle.std.specs.Prelude.{◌≡◌, ◌≢◌, ◌≤◌, ◌⊎◌, IfOk, OnErr, OnOk, map, true, false};
 ghost use Rattle.std.specs.Prelude.{codes, string_bytes};
 ghost use Rattle.std.specs.IoError.{error_kind};
@@ -34,14 +34,15 @@ const LINE_FAULT: u8 = 2;
 /// | 3 | Memory ran out. Nothing was written. | `memory` |
 /// | 4 | A call of the input or the output failed. | `device` |
 ///
-/// If `tells`, the error stream is also told how many lines were read, after each million. A
-/// failure of the error stream changes no status.
-pub fn execute<S: AsStr, I: Source, O: Sink, E: Sink>(
+/// If `tells`, the terminal is told how many lines were read, after each million. A failure of the
+/// error stream or of the terminal changes no status.
+pub fn execute<S: AsStr, I: Source, O: Sink, E: Sink, T: Sink>(
     alloc: Global,
     words: &[S],
     input: &mut I,
     output: &mut O,
     errors: &mut E,
+    terminal: &mut T,
     tells: bool,
 ) -> u8
     ensures statuses { result ≤ 4 }
@@ -74,20 +75,20 @@ pub fn execute<S: AsStr, I: Source, O: Sink, E: Sink>(
     ensures output_unfailed { result ≢ 4 → O.failures output.new ≡ O.failures output.old }
     ensures unread { I.failures input.new ≢ I.failures input.old → output.new ≡ output.old }
 
-    // What the error stream tells.
-    ensures quiet { tells ≡ false → result ≤ 1 → errors.new ≡ errors.old }
-    ensures quiet_refused { tells ≡ false → takes program (map S.text words.now) ≡ true
-        → result ≡ 2 → errors.new ≡ errors.old }
-    ensures memory_said { tells ≡ false → result ≡ 3
-        → E.failures errors.new ≡ E.failures errors.old
+    // What the error stream says.
+    ensures quiet { result ≤ 1 → errors.new ≡ errors.old }
+    ensures quiet_refused { takes program (map S.text words.now) ≡ true → result ≡ 2
+        → errors.new ≡ errors.old }
+    ensures memory_said { result ≡ 3 → E.failures errors.new ≡ E.failures errors.old
         → Appends (E.written errors.old) (E.written errors.new) (codes "memory\n") }
-    ensures device_said { tells ≡ false → result ≡ 4
-        → E.failures errors.new ≡ E.failures errors.old
+    ensures device_said { result ≡ 4 → E.failures errors.new ≡ E.failures errors.old
         → Appends (E.written errors.old) (E.written errors.new) (codes "device\n") }
+
+    ensures untold { tells ≡ false → terminal.new ≡ terminal.old }
 {
     match command_line(alloc, words) {
         Ok(limits) => {
-            let status = check_trace(alloc, input, output, errors, tells, limits);
+            let status = check_trace(alloc, input, output, terminal, tells, limits);
             finish(errors, status)
         }
         Err(LineFault::Line(error)) => refuse_line(format!(in alloc; "{error}"), errors),
@@ -151,11 +152,12 @@ fn finish<E: Sink>(errors: &mut E, status: Status) -> u8
 }
 
 /// Runs the program on the words that it was started with, and returns its exit status.
-pub fn start<R, I: Read + Drop, O: Write + Drop, E: Write + Drop>(
+pub fn start<R, I: Read + Drop, O: Write + Drop, E: Write + Drop, T: Write + Drop>(
     rt: &R,
     input: I,
     output: O,
     errors: E,
+    terminal: T,
     tells: bool,
 ) -> u8
 where
@@ -165,6 +167,7 @@ where
     let mut input = Counted::new(input);
     let mut output = Counted::new(output);
     let mut errors = Counted::new(errors);
+    let mut terminal = Counted::new(terminal);
     match words(rt) {
         Ok(words) => execute(
             rt.alloc(),
@@ -172,6 +175,7 @@ where
             &mut input,
             &mut output,
             &mut errors,
+            &mut terminal,
             tells,
         ),
         Err(error) => refuse_words(&error, &mut errors),

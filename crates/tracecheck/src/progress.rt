@@ -1,24 +1,39 @@
-//! What the error stream is told while a trace is read.
-ghost use Rattle.std.specs.Prelude.{◌≡◌, ◌++◌, ◌+◌, ◌/◌, codes, nat_lt, ◌&&◌, false};
+//! What a terminal is told while a trace is read.
+ghost use Rattle.std.specs.Prelude.{◌≡◌, ◌+◌, ◌/◌, ◌<◌, ◌≤◌, true, false, OnErr, OnOk};
 ghost use Rattle.std.specs.Io.KnownBytes.{Appends};
+ghost use Rattle.tracecheck.specs.Progress.{millions_text};
 
-use devices::Sink;
+use devices::{Failed, Sink};
 use itoa::Buffer;
 
 // After how many lines it is told.
 const STEP: u64 = 1_000_000;
 
-/// Tells after each million lines how many were read, if that is wanted. Returns how many millions
-/// were told.
-pub fn tell<E: Sink>(errors: &mut E, is_wanted: bool, told: u64, lines: u64) -> u64
-    ensures quiet { is_wanted ≡ false → errors.new ≡ errors.old }
+/// Tells the terminal after each million lines how many were read, if that is wanted. Returns how many
+/// millions were told.
+pub fn tell<T: Sink>(terminal: &mut T, is_wanted: bool, told: u64, lines: u64) -> u64
+    ensures unwanted { is_wanted ≡ false → terminal.new ≡ terminal.old }
+    ensures early { lines / 1000000 ≤ told → terminal.new ≡ terminal.old }
+    ensures said { is_wanted ≡ true → told < lines / 1000000
+        → T.failures terminal.new ≡ T.failures terminal.old
+        → Appends (T.written terminal.old) (T.written terminal.new) (millions_text (lines / 1000000)) }
+    ensures once { is_wanted ≡ true → told < lines / 1000000 → result ≡ lines / 1000000 }
+    ensures kept { lines / 1000000 ≤ told → result ≡ told }
 {
     let millions = lines / STEP;
     if !is_wanted || millions <= told {
         return told;
     }
-    // If the error stream fails, there is nobody to tell.
-    let _ = errors.put(Buffer::new().format(millions).as_bytes());
-    let _ = errors.put(b" million lines\n");
+    // If the terminal fails, there is nobody to tell.
+    let _ = put_millions(terminal, millions);
     millions
+}
+
+fn put_millions<T: Sink>(terminal: &mut T, millions: u64) -> Result<(), Failed>
+    ensures said { OnOk result (Appends (T.written terminal.old) (T.written terminal.new)
+        (millions_text millions)) }
+    ensures failed { OnErr result (T.failures terminal.new ≡ T.failures terminal.old + 1) }
+{
+    terminal.put(Buffer::new().format(millions).as_bytes())?;
+    terminal.put(b" million lines\n")
 }

@@ -19,10 +19,10 @@ use std::alloc::Global;
 const PIECE: usize = 16_384;
 
 // Takes the lines of the input one after the other, and says what is to be said of the trace.
-fn check<I: Source, E: Sink>(
+fn check<I: Source, T: Sink>(
     alloc: Global,
     input: &mut I,
-    errors: &mut E,
+    terminal: &mut T,
     tells: bool,
     limits: Limits,
 ) -> Result<End, Failed>
@@ -30,7 +30,7 @@ fn check<I: Source, E: Sink>(
         MayEnd limits (lines_of text) end)) }
     ensures taken { OnOk result (I.failures input.new ≡ I.failures input.old) }
     ensures failed { OnErr result (I.failures input.new ≡ I.failures input.old + 1) }
-    ensures quiet { tells ≡ false → errors.new ≡ errors.old }
+    ensures untold { tells ≡ false → terminal.new ≡ terminal.old }
 {
     let mut checking = Checking::new(alloc, limits);
     let mut pending = Vec::new(alloc);
@@ -45,7 +45,7 @@ fn check<I: Source, E: Sink>(
             Ok(next) => checking = next,
             Err(end) => return Ok(end),
         }
-        told = tell(errors, tells, told, checking.lines());
+        told = tell(terminal, tells, told, checking.lines());
     }
     // No program runs long enough to come here.
     Ok(End::Memory)
@@ -58,13 +58,13 @@ fn check<I: Source, E: Sink>(
 /// have any length. It stops at the first line that is none or differs.
 ///
 /// After `Memory`, or a failure of the input, the output is as it was. `Device` is one failed call
-/// of one of the two devices. If `tells`, the error stream is told after each million lines how
-/// many were read, and else nothing.
-pub fn check_trace<I: Source, O: Sink, E: Sink>(
+/// of one of the two devices. If `tells`, the terminal is told after each million lines how many
+/// were read, and else nothing.
+pub fn check_trace<I: Source, O: Sink, T: Sink>(
     alloc: Global,
     input: &mut I,
     output: &mut O,
-    errors: &mut E,
+    terminal: &mut T,
     tells: bool,
     limits: Limits,
 ) -> Status
@@ -82,9 +82,9 @@ pub fn check_trace<I: Source, O: Sink, E: Sink>(
     ensures output_unfailed { result ≢ Status.Device
         → O.failures output.new ≡ O.failures output.old }
     ensures unread { I.failures input.new ≢ I.failures input.old → output.new ≡ output.old }
-    ensures quiet { tells ≡ false → errors.new ≡ errors.old }
+    ensures untold { tells ≡ false → terminal.new ≡ terminal.old }
 {
-    match check(alloc, input, errors, tells, limits) {
+    match check(alloc, input, terminal, tells, limits) {
         Ok(End::Verdict(verdict)) => say(alloc, output, &verdict),
         Ok(End::Memory) => Status::Memory,
         Err(Failed) => Status::Device,

@@ -64,7 +64,10 @@ fn mends(
         if index == named {
             next = next.saturating_sub(i64::from(reservation.requested));
         } else if reservation.requested > 0 {
-            order.push((own_key(entities, reservation.requested, &reservation.reply), index))?;
+            order.push((
+                own_key(entities, reservation.requested, &reservation.reply),
+                index,
+            ))?;
         } else if !is_nothing(&reservation.reply) {
             return Ok(false);
         }
@@ -77,7 +80,10 @@ fn mends(
         };
         let reservation = &one.reservation;
         let place = index as u64;
-        if last.get(reservation.caller).is_some_and(|before| before > place) {
+        if last
+            .get(reservation.caller)
+            .is_some_and(|before| before > place)
+        {
             return Ok(false);
         }
         last.insert(reservation.caller, place)?;
@@ -90,12 +96,7 @@ fn mends(
 }
 
 /// Whether the reservation fits at a position that an allocator counts.
-fn fits_within(
-    alloc: Global,
-    entities: &Entities,
-    at: i64,
-    one: &Placed,
-) -> Result<bool, Memory> {
+fn fits_within(alloc: Global, entities: &Entities, at: i64, one: &Placed) -> Result<bool, Memory> {
     let cursor = entities.cursor();
     let room = MOST - entities.asked() as i64;
     match at.checked_add(room) {

@@ -40,5 +40,5 @@ loop-preserved g c =
         c.in-Ok.ensures.taken c.args.limits before.0 before.2,
       );
       failures = c.in_ok-count.ensures.taken ∙ c.loop.invariant.failures;
-      quiet = λ off. c.tell-told.ensures.quiet off ∙ c.loop.invariant.quiet off;
+      untold = λ off. c.tell-told.ensures.unwanted off ∙ c.loop.invariant.untold off;
     }

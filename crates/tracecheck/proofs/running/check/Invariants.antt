@@ -12,5 +12,5 @@ invariant-loop g l =
           × Consumes (device.remaining l.initial.input) (device.remaining l.input) text
           × HasRead l.fn.limits text l.checking l.pending.items;
       failures : device.failures l.input ≡ device.failures l.initial.input;
-      quiet : l.tells ≡ false → l.errors ≡ l.initial.errors;
+      untold : l.tells ≡ false → l.terminal ≡ l.initial.terminal;
     }

@@ -34,7 +34,7 @@ alike c = c.in_ok-sort_by_cached_key.ensures.stable key
 pub new-requires : goal.new-requires
 new-requires c =
     let sum : requested_in (reservations_of c.sort_by_cached_key.new.self.items)
-        ≡ requested_in (reservations_of c.self.inside.run.items) =
+    ≡ requested_in (reservations_of c.self.inside.run.items) =
     search (rules, sum_by-IsPermutation, IsPermutation-map) in
     let wanted = c.self.invariant.wanted_is in
     let few = c.self.invariant.wanted_in in
