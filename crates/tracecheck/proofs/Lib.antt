@@ -4,3 +4,4 @@ pub mod LinesRead
 pub mod InputRead
 pub mod OptionsGiven
 pub mod LimitsOfWords
+pub mod Strangers

@@ -90,9 +90,9 @@ fn difference_text(alloc: Global, difference: &Difference) -> Result<Vec<u8>, Me
 {
     let number = difference.number;
     let mut text = format!(in alloc; "differs line {number}: ")?.into_bytes();
-    write_line(&mut text, &difference.told)?;
+    write_line(alloc, &mut text, &difference.told)?;
     text.extend_from_slice(b", expected")?;
-    append_answer(&mut text, &difference.expected)?;
+    append_answer(alloc, &mut text, &difference.expected)?;
     text.push(b'\n')?;
     append_state(
         alloc,
@@ -112,12 +112,12 @@ fn append_state(
 ) -> Result<(), Memory>
     ensures { OnOk result (out.new.items ≡ out.old.items ++ state_text front.now cursor) }
 {
-    append_pool(out, front)?;
+    append_pool(alloc, out, front)?;
     let cursor = format!(in alloc; ", cursor {cursor}\n")?;
     Ok(out.extend_from_slice(cursor.as_bytes())?)
 }
 
-fn append_pool(out: &mut Vec<u8>, front: &[Handle]) -> Result<(), Memory>
+fn append_pool(alloc: Global, out: &mut Vec<u8>, front: &[Handle]) -> Result<(), Memory>
     ensures { OnOk result (out.new.items
         ≡ out.old.items ++ codes "pool" ++ spaced (pool_words front.now)) }
 {
@@ -125,7 +125,7 @@ fn append_pool(out: &mut Vec<u8>, front: &[Handle]) -> Result<(), Memory>
         return Ok(out.extend_from_slice(b"pool empty")?);
     }
     out.extend_from_slice(b"pool")?;
-    append_handles(out, front)?;
+    append_handles(alloc, out, front)?;
     if front.len() == SHOWN {
         out.extend_from_slice(b" ..")?;
     }

@@ -17,6 +17,13 @@ const TRIES: u32 = 16;
 /// How many positions may be requested between two flushes.
 const MOST: i64 = 1 << 50;
 
+/// A reservation in its turn.
+#[derive(Drop)]
+struct Turn {
+    key: u64,
+    index: usize,
+}
+
 /// The index of the reservation that is named if none of these fits at this position: the first one
 /// that is its caller's next one, and is the only one whose answer is wrong. If there is none among the
 /// first 16 callers, it is the first of the list.
@@ -57,40 +64,44 @@ fn mends(
     rest: &[Placed],
     named: usize,
 ) -> Result<bool, Memory> {
-    let mut order = Vec::with_capacity(alloc, rest.len())?;
+    let mut others = Vec::with_capacity(alloc, rest.len())?;
     let mut next = at;
     for (index, one) in rest.iter().enumerate() {
         let reservation = &one.reservation;
         if index == named {
             next = next.saturating_sub(i64::from(reservation.requested));
         } else if reservation.requested > 0 {
-            order.push((
-                own_key(entities, reservation.requested, &reservation.reply),
-                index,
-            ))?;
+            let key = own_key(entities, reservation.requested, &reservation.reply);
+            others.push(Turn { key, index })?;
         } else if !is_nothing(&reservation.reply) {
             return Ok(false);
         }
     }
-    order.sort()?;
+    others.sort_by_cached_key(|turn| turn.key)?;
+    all_fit(alloc, entities, next, rest, &others)
+}
+
+/// Whether the reservations fit in this order, one after the other, which is also that of each caller.
+fn all_fit(
+    alloc: Global,
+    entities: &Entities,
+    at: i64,
+    rest: &[Placed],
+    order: &[Turn],
+) -> Result<bool, Memory> {
     let mut last = ByCaller::new(alloc);
-    for (_, index) in order {
-        let Some(one) = rest.get(index) else {
+    let mut next = at;
+    for turn in order {
+        let Some(one) = rest.get(turn.index) else {
             return Ok(false);
         };
-        let reservation = &one.reservation;
-        let place = index as u64;
-        if last
-            .get(reservation.caller)
-            .is_some_and(|before| before > place)
-        {
+        let caller = one.reservation.caller;
+        let place = turn.index as u64;
+        if last.get(caller).unwrap_or(0) > place || !fits_within(alloc, entities, next, one)? {
             return Ok(false);
         }
-        last.insert(reservation.caller, place)?;
-        if !fits_within(alloc, entities, next, one)? {
-            return Ok(false);
-        }
-        next = next.saturating_sub(i64::from(reservation.requested));
+        last.insert(caller, place)?;
+        next = next.saturating_sub(i64::from(one.reservation.requested));
     }
     Ok(true)
 }

@@ -1,5 +1,5 @@
 //! A line of a trace as text.
-ghost use Rattle.std.specs.Prelude.{◌≡◌, ◌++◌, ◌∷◌, [], map, OnOk};
+ghost use Rattle.std.specs.Prelude.{◌≡◌, ◌++◌, ◌∷◌, [], map, OnOk, OnErr};
 ghost use Rattle.ent_handle.specs.Text.{handle_text};
 ghost use Rattle.std.specs.Fmt.{decimal};
 ghost use Rattle.ent_replay.specs.Text.{alloc_words, free_words, flush_words, reserve_words};
@@ -10,9 +10,11 @@ use crate::trace::reply::{AllocReply, FlushReply, FreeReply, ReserveReply};
 use ent_alloc::State;
 use ent_handle::{Handle, Memory};
 use itoa::Buffer;
+use std::alloc::Global;
 
 fn append(out: &mut Vec<u8>, text: &[u8]) -> Result<(), Memory>
-    ensures { OnOk result (out.new.items ≡ out.old.items ++ text.now) }
+    ensures ok { OnOk result (out.new.items ≡ out.old.items ++ text.now) }
+    ensures err { OnErr result (out.new.items ≡ out.old.items) }
 {
     Ok(out.extend_from_slice(text)?)
 }
@@ -41,8 +43,18 @@ fn append_handle(out: &mut Vec<u8>, handle: Handle) -> Result<(), Memory>
 ///
 /// # Errors
 ///
-/// `Memory`: there is no memory for the texts. What was appended isn't said then.
-pub fn append_handles(out: &mut Vec<u8>, handles: &[Handle]) -> Result<(), Memory>
+/// `Memory`: memory ran out. `out` is as it was.
+pub fn append_handles(alloc: Global, out: &mut Vec<u8>, handles: &[Handle]) -> Result<(), Memory>
+    ensures ok { OnOk result (out.new.items
+        ≡ out.old.items ++ spaced (map handle_text handles.now)) }
+    ensures err { OnErr result (out.new.items ≡ out.old.items) }
+{
+    let mut text = Vec::new(alloc);
+    put_handles(&mut text, handles)?;
+    append(out, &text)
+}
+
+fn put_handles(out: &mut Vec<u8>, handles: &[Handle]) -> Result<(), Memory>
     ensures ok { OnOk result (out.new.items
         ≡ out.old.items ++ spaced (map handle_text handles.now)) }
 {
@@ -82,7 +94,7 @@ fn write_flush(out: &mut Vec<u8>, reply: &FlushReply) -> Result<(), Memory>
 {
     append(out, b" born")?;
     match reply {
-        FlushReply::Born(handles) => append_handles(out, handles.as_slice()),
+        FlushReply::Born(handles) => put_handles(out, handles.as_slice()),
         FlushReply::Count(count) => {
             append(out, b" (")?;
             append(out, Buffer::new().format(*count).as_bytes())?;
@@ -95,7 +107,7 @@ fn write_reserved(out: &mut Vec<u8>, reply: &ReserveReply) -> Result<(), Memory>
     ensures { OnOk result (out.new.items ≡ out.old.items ++ spaced (reserve_words reply.now)) }
 {
     match reply {
-        ReserveReply::Handles(handles) => append_handles(out, handles.as_slice()),
+        ReserveReply::Handles(handles) => put_handles(out, handles.as_slice()),
         ReserveReply::Space => append(out, b" space"),
         ReserveReply::SpaceLeft(left) => {
             append(out, b" space left")?;
@@ -130,8 +142,17 @@ fn write_reserve(out: &mut Vec<u8>, reservation: &Reservation) -> Result<(), Mem
 ///
 /// # Errors
 ///
-/// `Memory`: there is no memory for the words. What was appended isn't said then.
-pub fn append_answer(out: &mut Vec<u8>, line: &Line) -> Result<(), Memory>
+/// `Memory`: memory ran out. `out` is as it was.
+pub fn append_answer(alloc: Global, out: &mut Vec<u8>, line: &Line) -> Result<(), Memory>
+    ensures ok { OnOk result (out.new.items ≡ out.old.items ++ spaced (answer_words line.now)) }
+    ensures err { OnErr result (out.new.items ≡ out.old.items) }
+{
+    let mut text = Vec::new(alloc);
+    put_answer(&mut text, line)?;
+    append(out, &text)
+}
+
+fn put_answer(out: &mut Vec<u8>, line: &Line) -> Result<(), Memory>
     ensures ok { OnOk result (out.new.items ≡ out.old.items ++ spaced (answer_words line.now)) }
 {
     match line {
@@ -150,8 +171,17 @@ pub fn append_answer(out: &mut Vec<u8>, line: &Line) -> Result<(), Memory>
 ///
 /// # Errors
 ///
-/// `Memory`: there is no memory for the text. What was appended isn't said then.
-pub fn write_line(out: &mut Vec<u8>, line: &Line) -> Result<(), Memory>
+/// `Memory`: memory ran out. `out` is as it was.
+pub fn write_line(alloc: Global, out: &mut Vec<u8>, line: &Line) -> Result<(), Memory>
+    ensures ok { OnOk result (out.new.items ≡ out.old.items ++ line_text line.now) }
+    ensures err { OnErr result (out.new.items ≡ out.old.items) }
+{
+    let mut text = Vec::new(alloc);
+    put_line(&mut text, line)?;
+    append(out, &text)
+}
+
+fn put_line(out: &mut Vec<u8>, line: &Line) -> Result<(), Memory>
     ensures ok { OnOk result (out.new.items ≡ out.old.items ++ line_text line.now) }
 {
     match line {

@@ -8,12 +8,14 @@ mod checker;
 mod difference;
 mod fitting;
 mod front;
+mod key;
 mod line;
+mod lineup;
 mod placed;
-mod placing;
 mod read_fault;
 mod reading;
 mod reply;
+mod suspect;
 mod words;
 mod writing;
 

@@ -2,27 +2,20 @@
 
 //! The checker: one line of a trace after the other.
 
-use crate::kit::prove_eq;
 use crate::kit::vec::Vec;
 use crate::proved::ent_replay::by_caller::ByCaller;
 use crate::proved::ent_replay::trace::calls::answered;
 use crate::proved::ent_replay::trace::difference::{Difference, Stop};
 use crate::proved::ent_replay::trace::front::front_at;
+use crate::proved::ent_replay::trace::key::own_key;
 use crate::proved::ent_replay::trace::line::{Line, Reservation};
+use crate::proved::ent_replay::trace::lineup::{Lineup, make_all};
 use crate::proved::ent_replay::trace::placed::Placed;
-use crate::proved::ent_replay::trace::placing::place_all;
-use crate::proved::ent_replay::trace::reply::ReserveReply;
 use crate::proved::ent_alloc::{Entities, Limits};
-use crate::proved::ent_handle::Handle;
 use crate::kit::alloc::Global;
 
 /// How many handles may be requested between two flushes.
 const MOST: u64 = 1 << 50;
-
-/// The keys of refusals. A reservation that was served has a lesser one: the place of a handle.
-const FIRST_REFUSED: u64 = 1 << 32;
-
-const LAST_REFUSED: u64 = 1 << 33;
 
 /// Takes the lines of a trace one after the other, and compares each reply with the allocator's.
 ///
@@ -84,6 +77,7 @@ impl Checker {
     /// `Differs` or `Memory`, as `take`.
     #[inline]
     pub fn finish(self) -> Result<Self, Stop>
+        // ensures settled { IfOk result (λ next. IsSettled self next.allocator × (next.run ≡ [])) }
         // ensures agrees { OnOk result (AgreesWith self []) }
         // ensures differs { IfErr result (λ stop. OnDiffers stop (Shows self 0 [])) }
         // ensures none { IfErr result (λ stop. OnDiffers stop (λ d. AgreesWith self [] → ⊥)) }
@@ -123,10 +117,17 @@ impl Checker {
             mut latest,
             wanted,
         } = self;
-        // The state is sound, so no handle has two places.
-        prove_eq!(entities.cursor(), entities.cursor());
         run.sort_by_cached_key(|placed| placed.key)?;
-        place_all(alloc, &mut entities, &run)?;
+        let lineup = Lineup::new(alloc, run, &entities).settle(alloc, &entities)?;
+        if !lineup.rest.is_empty() {
+            return Err(Stop::Differs(lineup.difference(alloc, &entities)?));
+        }
+        let Lineup {
+            placed: mut run,
+            rest: _,
+            at: _,
+        } = lineup;
+        make_all(&mut entities, &run);
         run.clear();
         latest.clear();
         Ok(Checker {
@@ -212,38 +213,5 @@ impl Checker {
             latest,
             wanted,
         })
-    }
-}
-
-/// Where a reservation comes in a run, if nothing else is known of its caller.
-///
-/// Those that were served come by the place of a handle that they were given. Then come those that
-/// were refused: first the one that says how many handles it left, then those that don't say it, the
-/// greatest first, then those that found none.
-#[inline]
-fn own_key(entities: &Entities, requested: u32, reply: &ReserveReply) -> u64
-    // ensures key { KeyOf (available entities.now.allocator) requested reply.now result }
-    // ensures small { requested < 2 ^ 32 }
-{
-    match reply {
-        ReserveReply::Handles(handles) => list_key(entities, handles.as_slice()),
-        ReserveReply::Space => LAST_REFUSED - u64::from(requested),
-        ReserveReply::SpaceLeft(0) => LAST_REFUSED,
-        ReserveReply::SpaceLeft(_) => FIRST_REFUSED,
-    }
-}
-
-/// The place of the first of these handles, or 0 if there is none or it can't be given.
-#[inline]
-fn list_key(entities: &Entities, handles: &[Handle]) -> u64
-    // ensures { (n : ℕ)
-    //     → KeyOf (available entities.now.allocator) n (ReserveReply.Handles handles.now) result }
-{
-    let Some((first, _)) = handles.split_first() else {
-        return 0;
-    };
-    match entities.place(*first) {
-        Some(place) => u64::from(place),
-        None => 0,
     }
 }

@@ -1,7 +1,7 @@
 use Rattle.std.proofs.Common.{◌≡◌, ◌++◌, drop, map}
 use Rattle.ent_handle.specs.Text.{handle_text}
 use Rattle.ent_replay.specs.Text.{spaced}
-use Rattle.ent_replay.proofs.trace.writing.append_handles.Given as goal
+use Rattle.ent_replay.proofs.trace.writing.put_handles.Given as goal
 
 -- what is written and what is left are the whole
 abbrev pub invariant-loop-handle : goal.invariant-loop-handle

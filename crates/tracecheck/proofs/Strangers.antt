@@ -1,0 +1,162 @@
+-- What is said of a trace whose first line can't be. The edits in must-fail/ say something else of it.
+use Rattle.std.proofs.Common.{rules, ◌≡◌, ℕ, ◌+◌, ◌^◌, ◌<◌, ◌≤◌, List, [], ◌∷◌, ◌++◌, length, take, None}
+use Rattle.std.proofs.Common.{Some, Ok, Err, refl, sym, ap, subst, ◌∙◌, arith}
+use Rattle.std.specs.Prelude.{Bool, true, false, nat_le, if◌then◌else◌}
+use Rattle.std.proofs.lemmas.Grind.{common_steps}
+use Rattle.ent_handle.specs.Handle.{Handle}
+use Rattle.ent_alloc.specs.declared.space.Space.{Space}
+use Rattle.ent_alloc.specs.Limits.{Limits}
+use Rattle.ent_alloc.specs.Sequential.{Allocator, cursor, listed, opening}
+use Rattle.ent_replay.specs.declared.trace.difference.Difference.{Difference}
+use Rattle.ent_replay.specs.declared.trace.line.Line.{Line}
+use Rattle.ent_replay.specs.declared.trace.line.Line.TheVariants as line
+use Rattle.ent_replay.specs.declared.trace.line.Reservation.{Reservation}
+use Rattle.ent_replay.specs.declared.trace.reply.ReserveReply.TheVariants as reserve
+use Rattle.ent_replay.specs.Trace.{AreAnswered, Fits, FitsReserved, IsOrderOf, MayPass, after_line}
+use Rattle.ent_replay.specs.Text.{line_of, words_of}
+use Rattle.tracecheck.specs.Calls.{calls_from, requested_from}
+use Rattle.tracecheck.specs.Checking.{HasTaken}
+use Rattle.tracecheck.specs.Verdict.{IsVerdict, asks_too_many, differs}
+use Rattle.tracecheck.specs.declared.checking.Checking.{Checking}
+use Rattle.tracecheck.specs.declared.verdict.Verdict.TheVariants as verdict
+use Rattle.tracecheck.specs.declared.verdict.Refusal.TheVariants as refusal
+
+abbrev first_of : Line → List Line → Line
+first_of d [] = d
+first_of d (x ∷ xs) = x
+
+abbrev IsCons : List Line → Type 0
+IsCons [] = ⊥
+IsCons (x ∷ xs) = Unit {0}
+
+-- a request for none that was refused
+abbrev pub never : ℕ → ℕ → Reservation
+never number caller = record { number = number; caller = caller; requested = 0; reply = reserve.Space }
+
+none_refused : (b : Bool) (x : List Handle) (e : Space) → b ≡ true
+    → FitsReserved reserve.Space (if b then Ok x else Err e) → ⊥
+none_refused true x e is fits = fits
+none_refused false x e is fits = grind arith
+
+never_fits : (number caller : ℕ) (s : Allocator) → Fits s (line.Reserve (never number caller)) → ⊥
+never_fits number caller s fits =
+    let some : nat_le 0 (length s.pool) ≡ true = grind arith in
+    none_refused (nat_le 0 (length s.pool)) (listed s.made (take 0 s.pool))
+    (record { wanted = 0; left = length s.pool }) some fits
+
+-- a line that fits nowhere stands in no trace that agrees
+dead : (l : Line) → ((s : Allocator) → Fits s l → ⊥) → (order rest : List Line) (s : Allocator)
+    → IsOrderOf (l ∷ rest) order → AreAnswered s order → ⊥
+dead l unfit [] rest s is answered = subst IsCons is tt
+dead l unfit (k ∷ order) rest s ([], after, parts, passes, more) answered =
+    unfit s (subst (Fits s) (sym (ap (first_of l) parts)) answered.0)
+dead l unfit (k ∷ order) rest s (x ∷ before, after, parts, passes, more) answered =
+    dead l unfit order (before ++ after) (after_line s k)
+    (subst (λ (y : Line). IsOrderOf (y ∷ (before ++ after)) order) (sym (ap (first_of l) parts)) more)
+    answered.1
+
+-- the first line of the trace, and the line that is named
+abbrev first : Reservation
+first = never 1 1
+
+abbrev named : Reservation
+named = never 1 1
+
+abbrev rest_of : List Line → List Line
+rest_of [] = []
+rest_of (x ∷ xs) = xs
+
+-- of the two lines only the first may come next
+only_first : (s : Allocator) (next : Line) (left : List Line)
+    → IsOrderOf (line.Reserve named ∷ line.Flush None ∷ []) (next ∷ left) → Fits s next → ⊥
+only_first s next left ([], after, parts, passes, more) fits =
+    never_fits named.number named.caller s
+    (subst (Fits s) (sym (ap (first_of (line.Flush None)) parts)) fits)
+only_first s next left (b ∷ [], after, parts, passes, more) fits =
+    let one : line.Flush None ≡ next = ap (λ ls. first_of (line.Flush None) (rest_of ls)) parts in
+    let own : line.Reserve named ≡ b = ap (first_of b) parts in
+    let pass = passes.0 in
+    flush_stays b next (sym one) pass
+  where
+    flush_stays : (b next : Line) → next ≡ line.Flush None → MayPass next b → ⊥
+    flush_stays b next is pass = subst (λ (l : Line). MayPass l b) is pass
+only_first s next left (b ∷ d ∷ before, after, parts, passes, more) fits =
+    let no : [] ≡ before ++ next ∷ after = ap (λ ls. rest_of (rest_of ls)) parts in
+    none_in before after next no
+  where
+    none_in : (before after : List Line) (l : Line) → [] ≡ before ++ l ∷ after → ⊥
+    none_in [] after l is = cc
+    none_in (x ∷ before) after l is = cc
+
+abbrev said : Limits → Difference
+said limits = record {
+  number = named.number;
+  told = line.Reserve named;
+  expected = line.Reserve (record named { reply = reserve.Handles [] });
+  front = take 8 (opening limits).pool;
+  cursor = cursor (opening limits);
+}
+
+module _ (limits : Limits) (one two : List ℕ)
+    (read : calls_from 1 (one ∷ []) ≡ Ok (line.Reserve first ∷ [])) where
+  pub names_the_first : line_of 2 (words_of two) ≡ Ok (Some (line.Flush None))
+      → IsVerdict limits (one ∷ two ∷ []) (verdict.Differs (said limits))
+  names_the_first is = differs (said limits) (record {
+    number = 2;
+    calls = line.Reserve first ∷ [];
+    next = line.Flush None;
+    stands = record {
+      before = one ∷ [];
+      text = two;
+      after = [];
+      is = refl;
+      number_is = refl;
+      read = read;
+      named = is;
+    };
+    checked = record { allocator = opening limits; run = named ∷ [] };
+    reached = (record { allocator = opening limits; run = first ∷ [] }, refl, refl);
+    shows = record {
+      placed = [];
+      next = line.Reserve named;
+      left = line.Flush None ∷ [];
+      is_order = ([], line.Flush None ∷ [], refl, tt, ([], [], refl, tt, refl));
+      answered = tt;
+      differs = record {
+        unlike = never_fits named.number named.caller (opening limits);
+        expected = grind (arith, common_steps);
+        number_is = refl;
+        told_is = refl;
+        front_is = refl;
+        cursor_is = refl;
+      };
+      stuck = only_first (opening limits);
+    };
+    none = λ rest a. dead (line.Reserve first) (never_fits 1 1) a.order (line.Flush None ∷ rest)
+        (opening limits) a.is_order a.answered;
+  })
+
+-- a trace is refused for its requests since the last flush
+pub refuses_too_many : (limits : Limits) (texts after : List (List ℕ)) (text : List ℕ) (r : Reservation)
+    (old : Checking) (h : HasTaken limits texts old)
+    → line_of (length texts + 1) (words_of text) ≡ Ok (Some (line.Reserve r))
+    → 2 ^ 50 < requested_from 0 (h.calls ++ line.Reserve r ∷ [])
+    → IsVerdict limits (texts ++ text ∷ after)
+    (verdict.Refused (length texts + 1) refusal.Requests)
+refuses_too_many limits texts after text r old h named many = asks_too_many (length texts + 1) (record {
+  calls = h.calls;
+  next = line.Reserve r;
+  stands = record {
+    before = texts;
+    text = text;
+    after = after;
+    is = refl;
+    number_is = refl;
+    read = h.read;
+    named = named;
+  };
+  checked = old.checker;
+  reached = h.reached;
+  few = h.few;
+  many = many;
+})
