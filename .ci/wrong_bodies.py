@@ -305,7 +305,7 @@ def refusals(crate, said):
     for folder, goal, why in re.findall(r"(?m)^(?:\./)?proofs/(\S+)/\w+\.antt:\d+:\d+: error: (?:in )?`([^`]+)`(.*)", said):
         # An answer whose goal is gone with the edit says nothing of the contract.
         function = folder.replace("/", "::")
-        if function in found and not re.search(r"has no `|is not in scope", why):
+        if function in found and not re.search(r"has no (?:field )?`|is not in scope", why):
             found[function].append(goal)
     for function, goals in re.findall(rf"(?m)^fn {crate}::(\S+): no proof: .*?`search` did not prove (.*)$", said):
         found[function] += re.findall(r"`([^`]+)`", goals)
