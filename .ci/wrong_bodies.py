@@ -10,8 +10,9 @@
 An edit is a file `crates/CRATE/wrong_bodies/NAME.edit`. It has pairs of lines: `old: TEXT`, which stands once in the file that a line
 `file: PATH` above names, and `new: TEXT`. Lines with `#` say what it does.
 
-Its line `refused by: FUNCTION: GOAL` says which function the prover refuses then, and which goal of that proof it names. A goal's name ends
-with the name of a clause, of an invariant, or of what a call requires. With a line `gate` the gate tries it.
+Its line `refused by: FUNCTION: GOAL` says which function the prover refuses then, and which goal of that proof it names. A goal is a clause
+at a return, an invariant, or what a call requires, and its name says which. If a lemma fails that the goal's answer cites, or the answer
+cites a step that is gone with the edit, it is cut, and the prover has to name the goal. With a line `gate` the gate tries it.
 
 Only the function that the file names is checked. Of those that it calls the contracts count, which no edit changes: their bodies are left
 out, and a hole stands for each of their proofs, and for the proof of each lemma. So a try takes seconds where the check of a crate takes
@@ -32,6 +33,8 @@ import time
 
 PARTS = ("src", "specs", "proofs")
 GATE = 70
+# What the prover calls a clause at a return, an invariant of a type or of a loop, and what a call requires.
+GOAL = re.compile(r"(returns|invariant_of-[\w.-]+?|[\w.-]+-(requires|init|preserved))(-[\w.-]+)?")
 
 
 class Edit:
@@ -72,6 +75,8 @@ class Edit:
         texts = self.over({})
         if isinstance(texts, str):
             return texts
+        if self.refused_by and not GOAL.fullmatch(self.refused_by[1]):
+            return f"`{self.refused_by[1]}` is no clause, no invariant, and nothing that a call requires"
         return None if self.refused_by or not self.is_of_gate else "it has no line `refused by: FUNCTION: GOAL`"
 
     def functions(self):
@@ -300,12 +305,11 @@ def with_functions(room, said):
 
 
 def refusals(crate, said):
-    """Which functions a check doesn't prove, each with the goals that it names: what refuses an edit."""
+    """Which functions a check doesn't prove, each with what it names of their proofs: the goals and lemmas that don't hold."""
     found = {it: [] for it in re.findall(rf"(?m)^fn {crate}::(\S+): (?:not proved|no proof)", said)}
-    for folder, goal, why in re.findall(r"(?m)^(?:\./)?proofs/(\S+)/\w+\.antt:\d+:\d+: error: (?:in )?`([^`]+)`(.*)", said):
-        # An answer whose goal is gone with the edit says nothing of the contract.
-        function = folder.replace("/", "::")
-        if function in found and not re.search(r"has no `|is not in scope", why):
+    for function, goal, why in failing(said):
+        # An answer that cites what is gone with the edit says nothing of the contract.
+        if function in found and not GONE.search(why):
             found[function].append(goal)
     for function, goals in re.findall(rf"(?m)^fn {crate}::(\S+): no proof: .*?`search` did not prove (.*)$", said):
         found[function] += re.findall(r"`([^`]+)`", goals)
@@ -317,6 +321,43 @@ def refusals(crate, said):
         if len(owners) == 1:
             found[owners[0]].append(goal)
     return {it: list(dict.fromkeys(goals)) for it, goals in found.items()}
+
+
+GONE = re.compile(r"has no (?:field )?`|is not in scope")
+
+
+def failing(said):
+    """What fails in the answers: of which function, what it is called, and why."""
+    errors = re.findall(r"(?m)^(?:\./)?proofs/(\S+)/\w+\.antt:\d+:\d+: error: (?:in )?`([^`]+)`(.*)", said)
+    return [(folder.replace("/", "::"), name, why) for folder, name, why in errors]
+
+
+def goals_in(found):
+    """What is named without the lemmas: an edit is refused by what the function owes, and not by a step of its proof."""
+    return {it: [goal for goal in named if GOAL.fullmatch(goal)] for it, named in found.items()}
+
+
+def answers_left(crate, said):
+    """The answers by path, without lemmas that fail, answers that cite what is gone with the edit, and all that cites one of those."""
+    texts = {}
+    for function in {it for it, _, _ in failing(said)}:
+        folder = "/".join(("proofs", *function.split("::")))
+        path = pathlib.Path("crates", crate, folder, "Answers.antt")
+        cut = [name for it, name, why in failing(said) if it == function and (not GOAL.fullmatch(name) or GONE.search(why))]
+        cut += re.findall(rf"(?m)^(?:\./)?{re.escape(folder)}/.* has no `([^`]+)` that can be named", said)
+        if not cut or not path.is_file():
+            continue
+        blocks = re.split(r"\n\n(?=\S)", path.read_text())
+        for lemma in cut:
+            cites = re.compile(rf"(?<![\w.-]){re.escape(lemma)}(?![\w-])")
+            cut += [name for it in blocks if cites.search(it) for name in declared(it) if name not in cut]
+        texts[f"{folder}/Answers.antt"] = "\n\n".join(it for it in blocks if not set(declared(it)) & set(cut))
+    return texts
+
+
+def declared(block):
+    """The names that a part of a proof file declares."""
+    return re.findall(r"(?m)^ *(?:pub )?([^\s:(){}]+) :", block)
 
 
 def of_clause_first(goals):
@@ -360,7 +401,7 @@ def verdict(edit, status, said, names):
     """What a check with the edit came to, and what to say of it."""
     if status == 0:
         return LET_THROUGH, "the prover proves it"
-    found = refusals(edit.crate, said)
+    found = goals_in(refusals(edit.crate, said))
     if status != 1 or not found or re.search(r"\berror\[[\w-]+\]", said):
         errors = [it for it in said.splitlines() if "error" in it][:3] or said.splitlines()[-3:]
         return UNKNOWN, f"no verdict (status {status}): " + " | ".join(it[:200] for it in errors)
@@ -387,6 +428,9 @@ def alone(prover, edit, kept, names):
     status, said = prover.check(edit.crate, texts, functions, kept)
     if functions and not edit.refused_by and status in (0, 2):
         status, said = prover.check(edit.crate, texts, [], kept)
+    left = answers_left(edit.crate, said)
+    if left and verdict(edit, status, said, False)[0] == OTHERWISE:
+        status, said = prover.check(edit.crate, {**texts, **left}, functions, kept)
     return verdict(edit, status, said, names)
 
 
@@ -414,7 +458,7 @@ def together(prover, crate, group, functions, texts, kept, names):
     settled = {}
     if len(group) > 1:
         status, said = prover.check(crate, texts, sorted(functions), kept)
-        found = refusals(crate, said) if status == 1 and not re.search(r"\berror\[[\w-]+\]", said) else {}
+        found = goals_in(refusals(crate, said)) if status == 1 and not re.search(r"\berror\[[\w-]+\]", said) else {}
         for edit in group:
             if goals_of(edit, found):
                 mine = verdict(edit, status, said, names)

@@ -242,7 +242,8 @@ impl Shared {
             ..
         } = self;
         let (cursor, _) = end_phase(word, i64::from(entities.top()), reservers);
-        entities.settle(cursor, cursor.max(-i64::from(entities.room())));
+        let end = cursor.max(-i64::from(entities.room()));
+        entities.settle(cursor, end);
         entities
     }
 }

@@ -1,79 +1,87 @@
-use Rattle.std.proofs.Common.{take, rules, arith, ◌≡◌, ◌≤◌, ◌≤ℤ◌, ap, ◌∙◌, to_z, of_z, w64, All}
-use Rattle.std.proofs.Common.{Contains}
+use Rattle.std.proofs.Common.{take, rules, arith, ◌≡◌, ◌≤ℤ◌, ap, ◌∙◌, to_z, of_z, w64, All}
+use Rattle.std.proofs.Common.{Contains, List}
 use Rattle.std.proofs.lemmas.Grind.{common_steps}
+use Rattle.ent_handle.specs.Handle.{Handle}
 use Rattle.ent_alloc.specs.Sequential.{cursor}
 use Rattle.ent_shared.specs.declared.record.Record.{Record}
 use Rattle.ent_shared.specs.Record.{own_reservations}
-use Rattle.ent_shared.specs.Order.{handles_of}
-use Rattle.ent_shared.specs.Phase.{Shared, records_of, after_loss}
+use Rattle.ent_shared.specs.Order.{handles_of, handles_given}
+use Rattle.ent_shared.specs.Phase.{Shared, records_of}
 use Rattle.ent_shared.proofs.Losing.{lost, Lost}
 use Rattle.ent_shared.proofs.Merging.{length-records_of, sum_by-records_of, all_owners}
 use Rattle.ent_shared.proofs.shared.Shared.close_lost.Goals as goal
-use Rattle.ent_shared.proofs.shared.Shared.close_lost.Goals.{After-max}
+use Rattle.ent_shared.proofs.shared.Shared.close_lost.Goals.{After-max-end}
 
 -- what is known before the allocator is settled
-known : (c : After-max) → Lost c.self.inside.entities.allocator c.args.self.start c.args.self.count
+known : (c : After-max-end) → Lost c.self.inside.entities.allocator c.args.self.start c.args.self.count
     (records_of c.args.reservers.items) (to_z w64 (of_z w64 c.end_phase-cursor.result.0))
-    (to_z w64 (of_z w64 c.max.result))
+    (to_z w64 (of_z w64 c.max-end.result))
 known c =
     let phase = c.self.invariant in
     lost _ _ _ _ c.room.result c.self.inside.word.shared.key _ _ _ c.from-2.result phase.begins
     phase.sound phase.few phase.key_is (ap (λ (s : Shared). s.start) c.self.view_is)
     (ap (λ (s : Shared). s.count) c.self.view_is) c.end_phase-cursor.ensures.cursor c.room.ensures
-    c.room.type_inv c.from-2.ensures c.max.ensures.value
+    c.room.type_inv c.from-2.ensures c.max-end.ensures.value
 
 pub settle-requires-clause-least : goal.settle-requires-clause-least
-settle-requires-clause-least c = (known (goal.at.settle-requires-clause-least c).After-max).least
+settle-requires-clause-least c = (known (goal.at.settle-requires-clause-least c).After-max-end).least
 
 pub settle-requires-clause-greatest : goal.settle-requires-clause-greatest
 settle-requires-clause-greatest c =
-    (known (goal.at.settle-requires-clause-greatest c).After-max).greatest
+    (known (goal.at.settle-requires-clause-greatest c).After-max-end).greatest
 
 pub settle-requires-clause-all_given : goal.settle-requires-clause-all_given
 settle-requires-clause-all_given c = search (rules, known)
 
--- what is left, and how much it was asked for
-left_is : (c : goal.After-settle)
-    (l : Lost c.self.inside.entities.allocator c.args.self.start c.args.self.count
-    (records_of c.args.reservers.items) (to_z w64 (of_z w64 c.end_phase-cursor.result.0))
-    (to_z w64 (of_z w64 c.max.result))) → c.settle.new.self.allocator ≡ after_loss
-    c.args.self.start l.asked
-left_is c l = c.settle.ensures.settled ∙ l.after
-
 pub returns-clause-after : goal.returns-clause-after
 returns-clause-after c =
-    let l = known (goal.at.returns-clause-after c).After-max in
-    search (rules, c.settle.new.self.allocator.asked, left_is, c.args.self.start)
+    let l = known (goal.at.returns-clause-after c).After-max-end in
+    let left = c.settle.ensures.settled ∙ l.after in
+    search (rules, left)
 
 pub returns-clause-least : goal.returns-clause-least
 returns-clause-least c =
-    let l = known (goal.at.returns-clause-least c).After-max in
-    search (rules, c.args.reservers.items, sum_by-records_of, left_is)
+    let l = known (goal.at.returns-clause-least c).After-max-end in
+    let left = c.settle.ensures.settled ∙ l.after in
+    search (rules, c.args.reservers.items, sum_by-records_of, left)
 
 pub returns-clause-asked : goal.returns-clause-asked
 returns-clause-asked c = λ all_here.
-    let l = known (goal.at.returns-clause-asked c).After-max in
-    search (rules, c.args.reservers.items, sum_by-records_of, length-records_of, left_is)
+    let l = known (goal.at.returns-clause-asked c).After-max-end in
+    let left = c.settle.ensures.settled ∙ l.after in
+    search (rules, c.args.reservers.items, sum_by-records_of, length-records_of, left)
 
 pub returns-clause-most : goal.returns-clause-most
 returns-clause-most c =
-    let l = known (goal.at.returns-clause-most c).After-max in
-    grind (arith, common_steps, left_is c l, c.args.reservers.items, c.args.self.count)
+    let l = known (goal.at.returns-clause-most c).After-max-end in
+    let left = c.settle.ensures.settled ∙ l.after in
+    grind (arith, common_steps, left, c.args.reservers.items, c.args.self.count)
 
 pub returns-clause-reached : goal.returns-clause-reached
 returns-clause-reached c =
-    let l = known (goal.at.returns-clause-reached c).After-max in
+    let l = known (goal.at.returns-clause-reached c).After-max-end in
+    let left = c.settle.ensures.settled ∙ l.after in
     all_owners (λ (r : Record). cursor c.settle.new.self.allocator ≤ℤ r.mark) c.args.reservers.items
-    (search (rules, c.args.reservers.items, left_is))
+    (search (rules, c.args.reservers.items, left))
 
 pub returns-clause-whole : goal.returns-clause-whole
 returns-clause-whole c = λ all_here.
-    let l = known (goal.at.returns-clause-whole c).After-max in
-    ap cursor (left_is c l) ∙ l.whole (length-records_of c.args.reservers.items ∙ all_here)
+    let l = known (goal.at.returns-clause-whole c).After-max-end in
+    let left = c.settle.ensures.settled ∙ l.after in
+    ap cursor left ∙ l.whole (length-records_of c.args.reservers.items ∙ all_here)
+
+-- what the reservers were given is the front of the pool
+all_reserved : (c : After-max-end) (l : Lost c.self.inside.entities.allocator c.args.self.start
+    c.args.self.count (records_of c.args.reservers.items)
+    (to_z w64 (of_z w64 c.end_phase-cursor.result.0)) (to_z w64 (of_z w64 c.max-end.result)))
+    → (taken : List Handle) → taken ≡ take l.asked c.args.self.start.pool
+    → All (λ o. All (Contains taken) (handles_given o.own)) c.args.reservers.items
+all_reserved c l taken front = rw front
+    (all_owners (λ (o : Record). All (Contains (take l.asked c.args.self.start.pool))
+    (handles_of (own_reservations o.entries))) c.args.reservers.items l.given)
 
 pub returns-clause-given : goal.returns-clause-given
 returns-clause-given c =
-    let l = known (goal.at.returns-clause-given c).After-max in
-    rw (left_is c l)
-    (all_owners (λ (r : Record). All (Contains (take l.asked c.args.self.start.pool))
-    (handles_of (own_reservations r.entries))) c.args.reservers.items l.given)
+    let at = (goal.at.returns-clause-given c).After-max-end in
+    let l = known at in
+    all_reserved at l _ (search (rules, l))

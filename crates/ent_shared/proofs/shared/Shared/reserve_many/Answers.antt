@@ -1,4 +1,4 @@
-use Rattle.std.proofs.Common.{rules, ◌-◌, ◌-ℤ◌, ◌≤ℤ◌, pos, sym, arith, to_z, of_z, w64, ◌++◌}
+use Rattle.std.proofs.Common.{rules, ◌-ℤ◌, ◌≤ℤ◌, pos, sym, arith, to_z, of_z, w64, ◌++◌}
 use Rattle.std.proofs.Common.{append-nil, ◌≡◌, ap, ◌∙◌}
 use Rattle.ent_alloc.specs.History.{handles_in}
 use Rattle.ent_shared.specs.Order.{handles_given}
