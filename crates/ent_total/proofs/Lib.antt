@@ -1,4 +1,5 @@
 pub mod OneHandle
+pub mod Recorded
 pub mod Replied
 pub mod Unused
 pub mod Walking

@@ -115,8 +115,8 @@ pub record IsClosed (opened : OpenWorld) (home : List Reserver) (after : World) 
 
 -- The phase ended with those of its reservers that are at home: the world is the one that was
 -- opened, and a front of the pool is reserved. It counts what these have requested, and of the
--- others no more than their credit. It has all that these were given. If all are at home, the
--- cursor is where their history leaves it.
+-- others no more than their credit. It has all that these were given. If all are at home, it counts
+-- what they have requested, and the cursor is where their history leaves it.
 pub record IsClosedLost (opened : OpenWorld) (home : List Reserver) (after : World) : Type 0 where
   pub phase : after.phase ≡ opened.phase
   pub entities : after.entities ≡ opened.entities
@@ -126,6 +126,8 @@ pub record IsClosedLost (opened : OpenWorld) (home : List Reserver) (after : Wor
   pub most : sum_by (λ (r : Reserver). r.own.left) home + after.allocator.asked
       ≤ opened.shared.count * credit
   pub reached : All (λ (r : Reserver). cursor after.allocator ≤ℤ r.own.mark) home
+  pub asked : length home ≡ opened.shared.count
+      → sum_by (λ (r : Reserver). requested_by r.own) home ≡ after.allocator.asked
   pub whole : length home ≡ opened.shared.count
       → cursor after.allocator
       ≡ cursor (after_history opened.shared.start (history_of (records_of home)))

@@ -1,10 +1,11 @@
 -- What contracts see of a phase and of its callers.
-use Rattle.std.specs.Prelude.{◌≡◌, ℕ, List, ◌++◌, map, Result, Ok, refl}
+use Rattle.std.specs.Prelude.{◌≡◌, ℕ, List, ◌++◌, length, map, Result, Ok, refl}
 use Rattle.std.specs.List.{All}
 use Rattle.std.specs.Coded.{Coded, code_by, coded×, coded_ℕ, coded_list}
 use Rattle.ent_handle.specs.Handle.{Handle}
 use Rattle.ent_shared.specs.declared.refused.Refused.{Refused}
 use Rattle.ent_shared.specs.Phase.{Shared, shared_code, Reserver, reserver_code}
+use Rattle.ent_shared.specs.Order.{handles_given}
 use Rattle.ent_shared.specs.Replies.{Reserves}
 
 -- the allocator that is shared, and all its reservers
@@ -43,11 +44,14 @@ pub record MakesReservation (before after : Caller) (n : ℕ)
   pub same : after ≡ record before { reserver = after.reserver }
   pub reserves : Reserves before.shared before.reserver after.reserver n returned
 
--- So many handles were reserved, and given to a sink behind those that it was given before.
+-- So many handles were reserved, and given to a sink behind those that it was given before. They are
+-- recorded behind those that the caller was given before.
 pub record GivesReply (before after : Caller) (n : ℕ) (old new : List Handle) : Type 0 where
   pub given : List Handle
   pub behind : new ≡ old ++ given
   pub reserves : MakesReservation before after n (Ok given)
+  pub many : length given ≡ n
+  pub recorded : handles_given after.reserver.own ≡ handles_given before.reserver.own ++ given
 
 -- each is stored as the tuple of its parts
 abbrev pub opening_code : Coded Opening

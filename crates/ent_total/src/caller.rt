@@ -122,8 +122,12 @@ impl<J: Numbering> Caller<J> {
             (MakesReservation self.old self.new n (Err why))) }
         ensures quota { IsErrOf result (Quota self.old.reserver.own.left)
             ↔ (self.old.reserver.own.left < n) }
+        ensures quota_left { IfErr result (λ why. IfQuota why
+            (λ said. said ≡ self.old.reserver.own.left)) }
         ensures unchanged { IfErr result (λ why. IfQuota why (λ _. self.new ≡ self.old)) }
         ensures unheard { OnErr result (S.given sink.new ≡ S.given sink.old) }
+        ensures unrecorded { OnErr result
+            (handles_given self.new.reserver.own ≡ handles_given self.old.reserver.own) }
     {
         let given = self.shared.reserve_many(&mut self.reserver, n)?;
         give_all(sink, given);

@@ -6,6 +6,7 @@ ghost use Rattle.ent_alloc.specs.Limits.{credit};
 ghost use Rattle.ent_alloc.specs.Sequential.{cursor, after_flush};
 ghost use Rattle.ent_alloc.specs.History.{IsLegal, after_history, given_in};
 ghost use Rattle.ent_alloc.specs.Sound.{IsLive};
+ghost use Rattle.ent_alloc.specs.Entities.{HasRowsOfLiving};
 ghost use Rattle.ent_shared.specs.Record.{requested_by};
 ghost use Rattle.ent_shared.specs.Phase.{IsOf, records_of, after_loss};
 ghost use Rattle.ent_shared.specs.Order.{reservations_of, history_of, handles_given, Respects};
@@ -41,6 +42,7 @@ impl<J: Numbering> Phase<J> {
         ensures after { IfOk result (λ entities. entities.allocator ≡ after_history
             self.shared.start (history_of (records_of (all_home self callers.items)))) }
         ensures rows { IfOk result (λ entities. entities.rows ≡ self.shared.rows) }
+        ensures rows_of_living { IfOk result HasRowsOfLiving }
 
         // Each reservation stands once, where its step came: the cursor falls with each.
         ensures falls { OnOk result (AllPairs (λ earlier later. later.high <ℤ earlier.high)
@@ -117,6 +119,7 @@ impl<J: Numbering> Phase<J> {
         ensures after { IfOk result (λ entities.
             entities.allocator ≡ after_loss self.shared.start entities.allocator.asked) }
         ensures rows { IfOk result (λ entities. entities.rows ≡ self.shared.rows) }
+        ensures rows_of_living { IfOk result HasRowsOfLiving }
 
         // It counts what the callers that are here have requested, and of the others no more than
         // their credit.

@@ -48,6 +48,7 @@ impl<J: Numbering> WorldPhase<J> {
         ensures how_many { IfErr result (λ u. AreMissing u.why
             → length (reservers_home self queues.items) + queues_missing u.why
             ≡ self.world.shared.count) }
+        ensures memory { IfErr result (λ u. u.why ≡ Memory → 0 < length queues.items) }
         ensures handed_back { IfErr result (λ u. u.why ≢ InUse
             → (u.phase ≡ self) × (u.queues.items ≡ queues.items)) }
         ensures at_home { IfErr result (λ u. u.why ≡ InUse
@@ -97,6 +98,7 @@ impl<J: Numbering> WorldPhase<J> {
             ↔ (AreIssuersOf self.number queues.items
             × (self.world.shared.count < length (reservers_home self queues.items))) }
         ensures no_missing { IfErr result (λ u. ¬ (AreMissing u.why)) }
+        ensures memory { IfErr result (λ u. u.why ≡ Memory → 0 < length queues.items) }
         ensures handed_back { IfErr result (λ u. u.why ≢ InUse
             → (u.phase ≡ self) × (u.queues.items ≡ queues.items)) }
         ensures at_home { IfErr result (λ u. u.why ≡ InUse

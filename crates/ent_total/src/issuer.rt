@@ -1,5 +1,6 @@
 ghost use Rattle.std.specs.Prelude.{◌≡◌, ◌↔◌, ◌++◌, ◌∷◌, [], length, IfOk, IfErr, IsErrOf, OnOk, OnErr, Ok};
 ghost use Rattle.std.specs.Prelude.{IsTrue};
+ghost use Rattle.ent_shared.specs.Order.{handles_given};
 ghost use Rattle.ent_queue.specs.Command.{Spawn, SpawnMany, Insert, Remove, Despawn};
 ghost use Rattle.ent_queue.specs.Reserving.{IsReturned, refused_by};
 
@@ -68,6 +69,12 @@ impl<J: Numbering> Issuer<J> {
             (Ok (handle ∷ []))) }
         ensures refusal { IfErr result
             (IsRefused self.old.world.shared self.old.reserver self.new.reserver 1) }
+
+        // What was given is recorded.
+        ensures recorded { IfOk result (λ handle. handles_given self.new.reserver.own
+            ≡ handles_given self.old.reserver.own ++ handle ∷ []) }
+        ensures unrecorded { OnErr result
+            (handles_given self.new.reserver.own ≡ handles_given self.old.reserver.own) }
     {
         let queue = self.take_queue(alloc);
         let shared = self.world.shared();
@@ -100,6 +107,12 @@ impl<J: Numbering> Issuer<J> {
             (Ok handles.items)) }
         ensures refusal { IfErr result
             (IsRefused self.old.world.shared self.old.reserver self.new.reserver n) }
+
+        // What was given is recorded.
+        ensures recorded { IfOk result (λ handles. handles_given self.new.reserver.own
+            ≡ handles_given self.old.reserver.own ++ handles.items) }
+        ensures unrecorded { OnErr result
+            (handles_given self.new.reserver.own ≡ handles_given self.old.reserver.own) }
     {
         let queue = self.take_queue(alloc);
         let shared = self.world.shared();

@@ -1,5 +1,6 @@
-ghost use Rattle.std.specs.Prelude.{◌≡◌, ◌<◌, ◌≤◌, ◌∷◌, [], ◌++◌, All, IfOk, IfErr, OnErr, IsTrue, length};
-ghost use Rattle.std.specs.Prelude.{IfSome, IfNone, OnSome, true};
+ghost use Rattle.std.specs.Prelude.{◌≡◌, ◌↔◌, ◌<◌, ◌≤◌, ◌∷◌, [], ◌++◌, All, IfOk, IfErr, OnErr};
+ghost use Rattle.std.specs.Prelude.{IsTrue, length};
+ghost use Rattle.std.specs.Prelude.{IfSome, IfNone, OnSome, Ok, None, true};
 ghost use Rattle.std.specs.FinSet as set;
 ghost use Rattle.std.specs.FinMap as map;
 ghost use Rattle.std.specs.Vec.{vec_capacity, vec_len};
@@ -114,20 +115,25 @@ impl<J: Numbering> Phase<J> {
     ///
     /// # Errors
     ///
-    /// `Memory` if the phase can't have one more owner. Nothing has changed then.
+    /// `Memory` if a reserver is at home, and the phase can't have one more owner. Nothing has
+    /// changed then.
     pub fn caller(&mut self) -> Result<Option<Caller<J>>, Memory>
         ensures given { IfOk result (λ found. IfSome found (λ c.
             (c.number ≡ self.old.number) × (c.shared ≡ self.old.shared)
             × (self.old ≡ record self.new { home = self.new.home ++ c.reserver ∷ [] }))) }
         ensures none { IfOk result (λ found. IfNone found
             ((self.old.home ≡ []) × (self.new ≡ self.old))) }
+        ensures none_home { (result ≡ Ok None) ↔ (self.old.home ≡ []) }
         ensures err { OnErr result (self.new ≡ self.old) }
     {
+        if self.home.is_empty() {
+            return Ok(None);
+        }
         let Ok(shared) = Arc::try_clone(&self.shared) else {
             return Err(Memory);
         };
         let Some(reserver) = self.home.pop() else {
-            return Ok(None);
+            unreachable!()
         };
         Ok(Some(Caller {
             shared,

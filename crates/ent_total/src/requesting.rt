@@ -1,6 +1,8 @@
 ghost use Rattle.std.specs.Prelude.{◌≡◌, ◌^◌, ◌<◌, ◌≤◌, ◌↔◌, [], ◌∷◌, IfOk, IsErrOf, IsErr, Ok};
 ghost use Rattle.std.specs.Prelude.{IfSome, IfNone};
-ghost use Rattle.ent_alloc.specs.Sequential.{reply_to, after_take};
+ghost use Rattle.ent_alloc.specs.Sequential.{cursor, reply_to, after_take};
+ghost use Rattle.ent_alloc.specs.Sound.{IsSound};
+ghost use Rattle.ent_alloc.specs.Entities.{HasRowsOfLiving};
 
 use ent_alloc::Entities;
 use ent_handle::Handle;
@@ -36,24 +38,30 @@ pub fn request(entities: &mut Entities) -> Result<Handle, RequestFault>
     ensures credit { IsErrOf result RequestFault.Credit
         ↔ (2 ^ 50 ≤ entities.old.allocator.asked) }
     ensures unchanged { IsErrOf result RequestFault.Credit → entities.new ≡ entities.old }
+    ensures rows { entities.new.rows ≡ entities.old.rows }
+    ensures rows_of_living { HasRowsOfLiving entities.new }
 {
+    let high = entities.cursor();
     if entities.asked() >= MOST {
         return Err(RequestFault::Credit);
     }
-    match request_one(entities) {
+    match request_one(entities, high) {
         Some(handle) => Ok(handle),
         None => Err(RequestFault::Space),
     }
 }
 
-/// Requests one handle.
-fn request_one(entities: &mut Entities) -> Option<Handle>
-    requires { entities.old.allocator.asked < 2 ^ 50 }
+/// Requests one handle. The cursor is at `high`.
+fn request_one(entities: &mut Entities, high: i64) -> Option<Handle>
+    requires credit { entities.old.allocator.asked < 2 ^ 50 }
+    requires cursor { high ≡ cursor entities.old.allocator }
+    requires sound { IsSound entities.old.allocator }
     ensures step { entities.new.allocator ≡ after_take entities.old.allocator 1 }
     ensures served { IfSome result (λ h. reply_to entities.old.allocator 1 ≡ Ok (h ∷ [])) }
     ensures refused { IfNone result (IsErr (reply_to entities.old.allocator 1)) }
+    ensures rows { entities.new.rows ≡ entities.old.rows }
+    ensures rows_of_living { HasRowsOfLiving entities.new }
 {
-    let high = entities.cursor();
     let _span = entities.lower(1);
     match entities.reply_one(high) {
         Ok(handle) => Some(handle),

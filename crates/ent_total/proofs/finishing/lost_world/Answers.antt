@@ -11,6 +11,7 @@ returns c =
       least = ensured.least;
       most = ensured.most;
       reached = ensured.reached;
+      asked = ensured.asked;
       whole = ensured.whole;
       given = record { given = ensured.given };
     }

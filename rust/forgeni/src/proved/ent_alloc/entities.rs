@@ -99,6 +99,7 @@ impl Entities {
         // What is true of every state, as that no slot has two handles among the living and those
         // to be given.
         // ensures sound { IsSound self.now.allocator }
+        // ensures rows_of_living { HasRowsOfLiving self.now }
     {
         self.slots.top() - self.asked() as i64
     }

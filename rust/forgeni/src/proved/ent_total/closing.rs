@@ -31,6 +31,7 @@ impl<J: Numbering> Phase<J> {
         // ensures after { IfOk result (λ entities. entities.allocator ≡ after_history
         //     self.shared.start (history_of (records_of (all_home self callers.items)))) }
         // ensures rows { IfOk result (λ entities. entities.rows ≡ self.shared.rows) }
+        // ensures rows_of_living { IfOk result HasRowsOfLiving }
 
         // Each reservation stands once, where its step came: the cursor falls with each.
         // ensures falls { OnOk result (AllPairs (λ earlier later. later.high <ℤ earlier.high)
@@ -108,6 +109,7 @@ impl<J: Numbering> Phase<J> {
         // ensures after { IfOk result (λ entities.
         //     entities.allocator ≡ after_loss self.shared.start entities.allocator.asked) }
         // ensures rows { IfOk result (λ entities. entities.rows ≡ self.shared.rows) }
+        // ensures rows_of_living { IfOk result HasRowsOfLiving }
 
         // It counts what the callers that are here have requested, and of the others no more than
         // their credit.

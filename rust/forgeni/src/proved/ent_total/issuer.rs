@@ -42,6 +42,12 @@ impl<J: Numbering> Issuer<J> {
         //     (Ok (handle ∷ []))) }
         // ensures refusal { IfErr result
         //     (IsRefused self.old.world.shared self.old.reserver self.new.reserver 1) }
+
+        // What was given is recorded.
+        // ensures recorded { IfOk result (λ handle. handles_given self.new.reserver.own
+        //     ≡ handles_given self.old.reserver.own ++ handle ∷ []) }
+        // ensures unrecorded { OnErr result
+        //     (handles_given self.new.reserver.own ≡ handles_given self.old.reserver.own) }
     {
         let queue = self.take_queue(alloc);
         let shared = self.world.shared();
@@ -75,6 +81,12 @@ impl<J: Numbering> Issuer<J> {
         //     (Ok handles.items)) }
         // ensures refusal { IfErr result
         //     (IsRefused self.old.world.shared self.old.reserver self.new.reserver n) }
+
+        // What was given is recorded.
+        // ensures recorded { IfOk result (λ handles. handles_given self.new.reserver.own
+        //     ≡ handles_given self.old.reserver.own ++ handles.items) }
+        // ensures unrecorded { OnErr result
+        //     (handles_given self.new.reserver.own ≡ handles_given self.old.reserver.own) }
     {
         let queue = self.take_queue(alloc);
         let shared = self.world.shared();

@@ -89,7 +89,8 @@ impl<J: Numbering> Phase<J> {
     ///
     /// # Errors
     ///
-    /// `Memory` if the phase can't have one more owner. Nothing has changed then.
+    /// `Memory` if a reserver is at home, and the phase can't have one more owner. Nothing has
+    /// changed then.
     #[inline]
     pub fn caller(&mut self) -> Result<Option<Caller<J>>, Memory>
         // ensures given { IfOk result (λ found. IfSome found (λ c.
@@ -97,13 +98,17 @@ impl<J: Numbering> Phase<J> {
         //     × (self.old ≡ record self.new { home = self.new.home ++ c.reserver ∷ [] }))) }
         // ensures none { IfOk result (λ found. IfNone found
         //     ((self.old.home ≡ []) × (self.new ≡ self.old))) }
+        // ensures none_home { (result ≡ Ok None) ↔ (self.old.home ≡ []) }
         // ensures err { OnErr result (self.new ≡ self.old) }
     {
+        if self.home.is_empty() {
+            return Ok(None);
+        }
         let Ok(shared) = Arc::try_clone(&self.shared) else {
             return Err(Memory);
         };
         let Some(reserver) = self.home.pop() else {
-            return Ok(None);
+            unreachable!()
         };
         Ok(Some(Caller {
             shared,

@@ -100,7 +100,8 @@ impl<J: Numbering> WorldPhase<J> {
     ///
     /// # Errors
     ///
-    /// `Memory` if the phase can't have one more owner. Nothing has changed then.
+    /// `Memory` if a reserver is at home, and the phase can't have one more owner. Nothing has
+    /// changed then.
     #[inline]
     pub fn issuer(&mut self) -> Result<Option<Issuer<J>>, Memory>
         // ensures given { IfOk result (λ found. IfSome found (λ i.
@@ -108,13 +109,17 @@ impl<J: Numbering> WorldPhase<J> {
         //     × (self.old ≡ record self.new { home = self.new.home ++ i.reserver ∷ [] }))) }
         // ensures none { IfOk result (λ found. IfNone found
         //     ((self.old.home ≡ []) × (self.new ≡ self.old))) }
+        // ensures none_home { (result ≡ Ok None) ↔ (self.old.home ≡ []) }
         // ensures err { OnErr result (self.new ≡ self.old) }
     {
+        if self.home.is_empty() {
+            return Ok(None);
+        }
         let Ok(world) = Arc::try_clone(&self.world) else {
             return Err(Memory);
         };
         let Some(mut reserver) = self.home.pop() else {
-            return Ok(None);
+            unreachable!()
         };
         let queue = Commands::new(self.alloc, world.shared(), &mut reserver).finish();
         Ok(Some(Issuer {
@@ -131,6 +136,7 @@ impl<J: Numbering> WorldPhase<J> {
     pub(super) fn take_home(&mut self, queues: Vec<Issued<J>>) -> Result<(), Vec<Issued<J>>>
         // requires own { AreIssuersOf self.old.number queues.items }
         // ensures ok { OnOk result (self.new ≡ with_home self.old queues.items) }
+        // ensures memory { OnErr result (0 < length queues.items) }
         // ensures err { IfErr result (λ back.
         //     (back.items ≡ queues.items) × (self.new ≡ self.old)) }
     {

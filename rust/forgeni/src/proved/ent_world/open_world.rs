@@ -114,7 +114,10 @@ impl OpenWorld {
         //     ≤ self.shared.count * credit }
         // ensures reached { All (λ r. cursor result.allocator ≤ℤ r.own.mark) reservers.items }
 
-        // If all are here, the cursor is where `close` leaves it.
+        // If all are here, it counts what they have requested, and the cursor is where `close`
+        // leaves it.
+        // ensures asked { length reservers.items ≡ self.shared.count
+        //     → sum_by (λ r. requested_by r.own) reservers.items ≡ result.allocator.asked }
         // ensures whole { length reservers.items ≡ self.shared.count → cursor result.allocator
         //     ≡ cursor (after_history self.shared.start (history_of (records_of reservers.items))) }
 

@@ -1,4 +1,5 @@
 use Rattle.std.proofs.Common.{rules}
+use Rattle.ent_total.proofs.Recorded.{recorded_one, unrecorded_one}
 use Rattle.ent_total.proofs.Replied.{given_one, refused_one}
 use Rattle.ent_total.proofs.issuer.Issuer.spawn.Goals as goal
 
@@ -18,4 +19,22 @@ returns-clause-refusal g c =
       refused_one c.spawn-spawned.new.self.shared.now
           c.resume-commands.result.reserver.now c.spawn-spawned.new.self.reserver.now
           c.spawn-spawned.result c.spawn-spawned.ensures.replies,
+    )
+
+pub returns-clause-recorded : goal.returns-clause-recorded
+returns-clause-recorded g c =
+    search (
+      rules,
+      recorded_one c.spawn-spawned.new.self.shared.now c.resume-commands.result.reserver.now
+          c.spawn-spawned.new.self.reserver.now c.spawn-spawned.result
+          c.spawn-spawned.ensures.replies,
+    )
+
+pub returns-clause-unrecorded : goal.returns-clause-unrecorded
+returns-clause-unrecorded g c =
+    search (
+      rules,
+      unrecorded_one c.spawn-spawned.new.self.shared.now c.resume-commands.result.reserver.now
+          c.spawn-spawned.new.self.reserver.now c.spawn-spawned.result
+          c.spawn-spawned.ensures.replies c.spawn-spawned.ensures.memory,
     )

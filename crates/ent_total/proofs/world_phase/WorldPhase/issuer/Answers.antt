@@ -4,8 +4,8 @@ use Rattle.ent_shared.specs.Phase.{IsOf}
 use Rattle.ent_total.proofs.world_phase.WorldPhase.issuer.Goals as goal
 
 -- those that are left after the pop came with the world, as all did before
-pub invariant_of-self-2 : goal.invariant_of-self-2
-invariant_of-self-2 g c =
+pub invariant_of-self : goal.invariant_of-self
+invariant_of-self g c =
     let before = c.self.invariant in
     let own = IsOf (arc_value c.self.inside.world).shared in
     (before.0, (All-pop own _ _ _ c.pop.ensures.items before.1).0)
