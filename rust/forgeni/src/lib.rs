@@ -193,6 +193,8 @@ mod system_commands;
 pub mod trace;
 #[cfg(feature = "std")]
 mod view;
+#[cfg(feature = "std")]
+mod waiting;
 mod world;
 
 pub use commands::{CommandQueue, Commands, SpawnError};

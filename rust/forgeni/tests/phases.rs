@@ -295,6 +295,61 @@ mod pools {
         assert_eq!(entities.reserved(), 2);
     }
 
+    /// Who waits takes whichever reserver comes free first, whatever numbers the threads have: one is
+    /// lent to a thread that waits for the others.
+    #[test]
+    fn the_first_that_comes_free() {
+        let (shared, reservers) = Entities::new().share(2).expect("shared");
+        let pool = Arc::new(Reservers::new(reservers).expect("memory"));
+        let (tell, told) = std::sync::mpsc::channel();
+        pool.with(|parent| {
+            let (second, is_lent) = (Arc::clone(&pool), Arc::new(Barrier::new(2)));
+            let lent = Arc::clone(&is_lent);
+            std::thread::spawn(move || {
+                second.with(|_| {
+                    lent.wait();
+                    std::thread::sleep(std::time::Duration::from_millis(100));
+                });
+            });
+            is_lent.wait();
+            // They all find both lent. Threads that follow each other have numbers that do so too.
+            for _ in 0..4 {
+                let (pool, tell) = (Arc::clone(&pool), tell.clone());
+                std::thread::spawn(move || {
+                    let given = pool.with(|one| one.reserve()).expect("a handle");
+                    tell.send(given).expect("the test waits");
+                });
+            }
+            for _ in 0..4 {
+                let given = told.recv_timeout(std::time::Duration::from_secs(20));
+                given.expect("it waits although a reserver is free");
+            }
+            parent.reserve().expect("a handle");
+        });
+        drop(shared);
+    }
+
+    /// Many wait for few, and all of them are woken.
+    #[test]
+    fn all_who_wait_are_woken() {
+        let (shared, reservers) = Entities::new().share(3).expect("shared");
+        let pool = Reservers::new(reservers).expect("memory");
+        std::thread::scope(|scope| {
+            for _ in 0..16 {
+                scope.spawn(|| {
+                    for _ in 0..50 {
+                        pool.with(|one| {
+                            one.reserve().expect("a handle");
+                            std::thread::yield_now();
+                        });
+                    }
+                });
+            }
+        });
+        let entities = shared.close(pool.into_inner()).expect("closed");
+        assert_eq!(entities.reserved(), 16 * 50);
+    }
+
     /// A task that panics gives its reserver back.
     #[test]
     fn a_task_that_panics() {
