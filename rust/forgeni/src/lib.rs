@@ -77,8 +77,8 @@
 //! # Worlds and frames
 //!
 //! A [`World`] has the allocator and what entities are made of, by numbered components of 64 bits. It
-//! knows when each entity was born, and reports what a frame did, whatever the number of its workers.
-//! `run_frame` runs systems on workers.
+//! knows when each entity was born, and reports what a frame did. `run_frame` runs systems on workers, and
+//! says what depends on their number.
 //! Each reads the world and issues commands, and the commands take effect in the order of the
 //! systems. Who has threads of its own uses [`World::open`], [`Commands`], [`OpenWorld::close`] and
 //! [`World::apply`].

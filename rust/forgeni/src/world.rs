@@ -26,6 +26,10 @@ use core::fmt;
 /// once ([`spawn`](Self::spawn), [`despawn`](Self::despawn)), and the components of a living one
 /// change by commands alone.
 ///
+/// Queues take effect in their order, whoever issued first. So births, components and faults are the same
+/// on any number of threads, if no request and no memory is refused and no handle decides what a system
+/// does (`run_frame` says when one does).
+///
 /// ```
 /// use forgeni::{ComponentId, World};
 ///
@@ -51,11 +55,14 @@ use core::fmt;
 /// It may go to another thread, and many threads may read it at once: it is `Send` and `Sync`.
 pub struct World {
     pub(crate) proved: NumberedWorld,
+    /// The birth of the entity that [`spawn`](Self::spawn) brought to life last.
+    spawned: Option<Birth>,
 }
 
 impl World {
-    pub(crate) fn of(proved: NumberedWorld) -> Self {
-        Self { proved }
+    /// A world that was away, with the birth of the last entity that was spawned in it.
+    pub(crate) fn of(proved: NumberedWorld, spawned: Option<Birth>) -> Self {
+        Self { proved, spawned }
     }
 
     /// A world without entities, with the greatest limits. It takes no memory.
@@ -67,10 +74,11 @@ impl World {
     /// A world without entities, with these limits. It takes no memory.
     #[must_use]
     pub fn with_limits(limits: Limits) -> Self {
-        Self::of(NumberedWorld {
+        let proved = NumberedWorld {
             world: ent_world::World::new(Global, limits.proved()),
             number: next_number(),
-        })
+        };
+        Self::of(proved, None)
     }
 
     /// A world without entities, with these limits, as [`with_limits`](Self::with_limits) makes it.
@@ -83,23 +91,47 @@ impl World {
     }
 
     /// Brings an entity to life at once, with these components. If one stands twice in the list,
-    /// its last value counts. Its birth names the phase, no system, and the ordinal 0, so all that
-    /// are spawned so between two flushes have the same one.
+    /// its last value counts. Its birth names the phase, no system, and as ordinal how many were
+    /// spawned so since the last flush. The ordinal stays at 2^32 - 1.
+    ///
+    /// ```
+    /// use forgeni::World;
+    ///
+    /// let mut world = World::new();
+    /// let cart = world.spawn(&[])?;
+    /// let horse = world.spawn(&[])?;
+    /// assert_eq!(world.birth(cart).unwrap().to_string(), "0.4294967295.0");
+    /// assert_eq!(world.birth(horse).unwrap().to_string(), "0.4294967295.1");
+    /// # Ok::<(), forgeni::AllocError>(())
+    /// ```
     ///
     /// # Errors
     ///
     /// `NeedsFlush`, `Space` or `Memory`, and then nothing has changed.
     #[inline]
     pub fn spawn(&mut self, components: &[(ComponentId, i64)]) -> Result<Handle, AllocError> {
-        let birth = Birth {
-            frame: self.phase(),
-            system: Birth::NO_SYSTEM,
-            ordinal: 0,
-        };
-        self.spawn_with_birth(birth, components)
+        let birth = self.next_birth();
+        let spawned = self.spawn_with_birth(birth, components)?;
+        self.spawned = Some(birth);
+        Ok(spawned)
     }
 
-    /// As [`spawn`](Self::spawn), with this birth, which may be any.
+    /// The birth of the entity that is spawned next.
+    #[inline]
+    fn next_birth(&self) -> Birth {
+        let frame = self.phase();
+        let ordinal = match self.spawned {
+            Some(last) if last.frame == frame => last.ordinal.saturating_add(1),
+            _ => 0,
+        };
+        Birth {
+            frame,
+            system: Birth::NO_SYSTEM,
+            ordinal,
+        }
+    }
+
+    /// As [`spawn`](Self::spawn), with this birth, which may be any, also that of another entity.
     ///
     /// # Errors
     ///
@@ -213,7 +245,8 @@ impl World {
 
     /// Brings to life what is reserved, without components: what the systems of a phase had
     /// spawned whose queues are not to take effect. The birth of each entity names the phase that
-    /// ends, no system, and the entity's number among those that are born.
+    /// ends, no system, and the entity's number among those that are born. So an entity that
+    /// [`spawn`](Self::spawn) made in that phase may have the same birth.
     /// [`apply`](Self::apply) brings to life too.
     ///
     /// # Errors
@@ -246,7 +279,7 @@ impl World {
     /// only if another thread takes it in between.
     #[doc = include_str!("proved/ent_total/world_opening.open.md")]
     pub fn open(self, count: usize) -> Result<(OpenWorld, Vec<Commands>), Unopened> {
-        OpenWorld::open(self.proved, count)
+        OpenWorld::open(self.proved, self.spawned, count)
     }
 
     /// The sync point: brings to life what is reserved, and then lets the queues take effect, one

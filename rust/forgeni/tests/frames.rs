@@ -246,6 +246,81 @@ fn refused_spawns_are_faults() {
     assert_eq!(faults, [FaultKind::Space { wanted: 3, left: 1 }]);
 }
 
+/// A frame of two systems that spawn one entity each. With two workers the second one is first to
+/// reserve.
+fn two_spawns(world: &mut World, workers: usize) -> Report {
+    let order = Barrier::new(workers);
+    let first = |_: View<'_>, commands: &mut SystemCommands<'_, '_>| {
+        order.wait();
+        let spawned = commands.spawn(&[]);
+        spawned.map_or_else(SpawnError::or_memory, |_| Ok(()))
+    };
+    let second = |_: View<'_>, commands: &mut SystemCommands<'_, '_>| {
+        let spawned = commands.spawn(&[]);
+        if workers == 2 {
+            order.wait();
+        }
+        spawned.map_or_else(SpawnError::or_memory, |_| Ok(()))
+    };
+    let systems: [&dyn System; 2] = [&first, &second];
+    run_frame(world, &systems, workers).expect("memory")
+}
+
+/// The text of each birth, in the order of births, with the value.
+fn births(world: &World) -> Vec<(String, Option<i64>)> {
+    let all = world.by_birth().expect("memory").into_iter();
+    let told = |one| {
+        (
+            world.birth(one).expect("alive").to_string(),
+            world.get(one, HP),
+        )
+    };
+    all.map(told).collect()
+}
+
+/// Where a request is refused, who is born depends on who asked first.
+#[test]
+fn refusals_depend_on_the_workers() {
+    for (workers, birth, late) in [(1, "0.0.0", 1), (2, "0.1.0", 0)] {
+        let mut world = World::with_limits(Limits::new(1, 1).expect("limits"));
+        let report = two_spawns(&mut world, workers);
+        assert_eq!(births(&world), [(birth.to_string(), None)]);
+        let faults: Vec<_> = report.faults().iter().map(|fault| fault.system).collect();
+        assert_eq!(faults, [late]);
+    }
+}
+
+/// Two entities that take the slots of two others, whose handles depend on the workers. Each has a birth of
+/// its own, if the world chooses it. Of two with one birth the handles decide who is first.
+#[test]
+fn births_between_frames() {
+    fn replace(world: &mut World, spawn: impl Fn(&mut World, i64) -> Handle) -> Vec<Option<i64>> {
+        let old = world.by_birth().expect("memory");
+        for (one, value) in old.into_iter().zip(1..) {
+            world.despawn(one).expect("alive");
+            spawn(world, value);
+        }
+        births(world).into_iter().map(|(_, value)| value).collect()
+    }
+    let own = |world: &mut World, value| world.spawn(&[(HP, value)]).expect("a handle");
+    let equal = |world: &mut World, value| {
+        let birth = Birth {
+            frame: 7,
+            system: 0,
+            ordinal: 0,
+        };
+        let spawned = world.spawn_with_birth(birth, &[(HP, value)]);
+        spawned.expect("a handle")
+    };
+    for workers in [1, 2] {
+        let mut world = World::new();
+        two_spawns(&mut world, workers);
+        assert_eq!(replace(&mut world, own), [Some(1), Some(2)]);
+        let by_handle = [[Some(1), Some(2)], [Some(2), Some(1)]][workers - 1];
+        assert_eq!(replace(&mut world, equal), by_handle);
+    }
+}
+
 /// As many systems run at once as there are workers.
 #[test]
 fn workers_overlap() {
