@@ -290,6 +290,45 @@ fn reserving_many() {
     });
 }
 
+/// A request that the pool or the quota can't serve is refused for that, and no list is asked for.
+#[test]
+fn reserving_too_many() {
+    let none = Refusal::All { after: 0 };
+    let left = 9;
+    let entities = Entities::with_limits(Limits::new(left, 1).expect("limits"));
+    let (shared, mut reservers) = entities.share(2).expect("shared");
+    let only = &mut reservers[0];
+    // Of less than the pool had, the list comes first. Nothing has changed then.
+    let (given, refused) = refusing(none, || only.reserve_many(left));
+    assert_eq!((given, refused), (Err(Refused::Memory), 1));
+    assert_eq!(only.quota_left(), 1 << 40);
+
+    let mut quota = only.quota_left();
+    for (wanted, left) in [(left + 1, left), (u32::MAX, 0), (left + 1, 0)] {
+        let (given, refused) = refusing(none, || only.reserve_many(wanted));
+        let space = Refused::Space { wanted, left };
+        assert_eq!((given, refused), (Err(space), 0));
+        quota -= u64::from(wanted);
+        assert_eq!(only.quota_left(), quota);
+    }
+    // Others count on what was in the pool too, and after a refused close.
+    let missing = shared.close(vec![]).expect_err("two are missing");
+    let other = &mut reservers[1];
+    let (given, refused) = refusing(none, || other.reserve_many(left + 1));
+    let wanted = left + 1;
+    assert_eq!(
+        (given, refused),
+        (Err(Refused::Space { wanted, left: 0 }), 0)
+    );
+    let kept = missing.shared.close(vec![reservers.pop().expect("two")]);
+    let mut back = kept.expect_err("one is missing").reservers;
+    let (given, refused) = refusing(none, || back[0].reserve_many(wanted));
+    assert_eq!(
+        (given, refused),
+        (Err(Refused::Space { wanted, left: 0 }), 0)
+    );
+}
+
 /// No close of a phase of an allocator takes memory, not even after one that was refused.
 #[test]
 fn closes_of_allocators_take_no_memory() {

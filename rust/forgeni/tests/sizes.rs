@@ -149,40 +149,21 @@ fn one_reservation_of_2_to_the_24() {
     assert_eq!((entities.len(), entities.total()), (count, count));
 }
 
-/// 2^31 handles are 16 GiB of list. Where there is no room for that, nothing is requested.
+/// 2^31 handles would be 16 GiB of list, which isn't asked for: there are fewer slots.
 #[test]
 #[cfg_attr(debug_assertions, ignore = "for optimised code")]
 fn one_reservation_of_2_to_the_31() {
-    let (wanted, slots) = (1 << 31, MANY);
-    let entities = Entities::with_limits(Limits::new(slots, 1).expect("limits"));
+    let (wanted, left) = (1 << 31, MANY);
+    let entities = Entities::with_limits(Limits::new(left, 1).expect("limits"));
     let (shared, mut reservers) = entities.share(1).expect("memory is ample");
-    let quota = reservers[0].quota_left();
-    let refused = reservers[0].reserve_many(wanted);
-    let left = match refused.expect_err("there are fewer slots") {
-        Refused::Memory => slots,
-        space => {
-            assert_eq!(
-                space,
-                Refused::Space {
-                    wanted,
-                    left: slots
-                }
-            );
-            0
-        }
-    };
-    assert_eq!(
-        quota - reservers[0].quota_left(),
-        if left > 0 { 0 } else { wanted.into() }
-    );
-    // The list's room is given back in either case, and the pool is shut by `Space` alone.
-    let given = reservers[0].reserve_many(left).expect("memory is ample");
-    assert_eq!(given.len(), left as usize);
+    let refused = Refused::Space { wanted, left };
+    assert_eq!(reservers[0].reserve_many(wanted), Err(refused));
+    assert_eq!(reservers[0].quota_left(), (1 << 40) - u64::from(wanted));
+    // The pool is shut.
+    let refused = Refused::Space { wanted: 1, left: 0 };
+    assert_eq!(reservers[0].reserve_many(1), Err(refused));
     let mut entities = shared.close(reservers).expect("all are there");
-    assert_eq!(
-        entities.flush().expect("memory is ample").len(),
-        left as usize
-    );
+    assert_eq!(entities.flush(), Ok(vec![]));
 }
 
 /// Births come in another order than handles.
