@@ -227,8 +227,8 @@ impl SpawnError {
     /// Only want of memory ends it:
     ///
     /// ```
-    /// # use forgeni::{OutOfMemory, SpawnError, SystemCommands};
-    /// fn launch(commands: &mut SystemCommands<'_, '_>) -> Result<(), OutOfMemory> {
+    /// # use forgeni::{Commands, OutOfMemory};
+    /// fn launch(commands: &mut Commands) -> Result<(), OutOfMemory> {
     ///     if let Err(refused) = commands.spawn(&[]) {
     ///         refused.or_memory()?;
     ///     }

@@ -6,6 +6,7 @@ mod common;
 mod worlds;
 
 mod errors;
+#[cfg(feature = "std")]
 mod frames;
 mod handle_map;
 mod handles;

@@ -2,7 +2,7 @@
 //! allocator is back at the end, with all that was reserved.
 
 use crate::common::{handle, seeds, small, Model, Numbers};
-use forgeni::{Entities, Handle, Lent, OtherPhase, Refused, ShareError};
+use forgeni::{Entities, Handle, OtherPhase, Refused, ShareError};
 use std::collections::HashSet;
 use std::mem;
 use std::panic::{catch_unwind, resume_unwind, AssertUnwindSafe};
@@ -210,16 +210,16 @@ fn random_phases() {
     });
 }
 
-fn all_of(reserver: &mut Lent<'_>, n: u32) -> Vec<Handle> {
-    reserver.reserve_many(n).expect("handles")
-}
-
 #[cfg(feature = "std")]
 mod pools {
     use super::*;
-    use forgeni::Reservers;
+    use forgeni::{Lent, Reservers};
     use std::sync::atomic::{AtomicUsize, Ordering};
     use std::sync::{Arc, Barrier};
+
+    fn all_of(reserver: &mut Lent<'_>, n: u32) -> Vec<Handle> {
+        reserver.reserve_many(n).expect("handles")
+    }
 
     /// More threads than reservers, each of which comes for a while. No handle is given twice.
     #[test]

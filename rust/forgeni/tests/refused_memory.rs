@@ -9,10 +9,10 @@ mod refusing;
 use common::handle;
 use forgeni::trace::{Call, CheckError, Checker, FreeReply, Log, Reservation};
 use forgeni::{
-    run_frame, AllocError, Birth, BornError, CommandQueue, Commands, ComponentId, Entities, Fault,
-    FinishError, FrameError, FreeError, GoOnError, Handle, HandleMap, InsertError, InsertionError,
-    Limits, OpenError, OpenWorld, OutOfMemory, Queues, Refused, Report, RequestManyError,
-    ShareError, SpawnError, State, Storage, SyncError, SystemCommands, View, World,
+    AllocError, Birth, BornError, CommandQueue, Commands, ComponentId, Entities, Fault,
+    FinishError, FreeError, GoOnError, Handle, HandleMap, InsertError, InsertionError, Limits,
+    OpenError, OpenWorld, OutOfMemory, Queues, Refused, Report, RequestManyError, ShareError,
+    SpawnError, State, Storage, SyncError, World,
 };
 use refusing::{refusing, Refusal};
 
@@ -768,118 +768,124 @@ fn a_flush_of_a_world() {
     });
 }
 
-type Systems = [fn(View<'_>, &mut SystemCommands<'_, '_>) -> Result<(), OutOfMemory>; 3];
+#[cfg(feature = "std")]
+mod frames {
+    use super::*;
+    use forgeni::{run_frame, FrameError, SystemCommands, View};
 
-fn launch(_: View<'_>, commands: &mut SystemCommands<'_, '_>) -> Result<(), OutOfMemory> {
-    commands
-        .spawn_many(4, &MANY)
-        .map_or_else(SpawnError::or_memory, |_| Ok(()))
-}
+    type Systems = [fn(View<'_>, &mut SystemCommands<'_, '_>) -> Result<(), OutOfMemory>; 3];
 
-fn change(view: View<'_>, commands: &mut SystemCommands<'_, '_>) -> Result<(), OutOfMemory> {
-    for one in view.with(HP)? {
-        commands.insert(one, &MANY[1..])?;
-        commands.remove(one, HP)?;
+    fn launch(_: View<'_>, commands: &mut SystemCommands<'_, '_>) -> Result<(), OutOfMemory> {
+        commands
+            .spawn_many(4, &MANY)
+            .map_or_else(SpawnError::or_memory, |_| Ok(()))
     }
-    Ok(())
-}
 
-/// Twice, so that there are faults.
-fn clear(view: View<'_>, commands: &mut SystemCommands<'_, '_>) -> Result<(), OutOfMemory> {
-    for one in view.by_birth()? {
-        commands.despawn(one)?;
-        commands.despawn(one)?;
+    fn change(view: View<'_>, commands: &mut SystemCommands<'_, '_>) -> Result<(), OutOfMemory> {
+        for one in view.with(HP)? {
+            commands.insert(one, &MANY[1..])?;
+            commands.remove(one, HP)?;
+        }
+        Ok(())
     }
-    Ok(())
-}
 
-const SYSTEMS: Systems = [launch, change, clear];
+    /// Twice, so that there are faults.
+    fn clear(view: View<'_>, commands: &mut SystemCommands<'_, '_>) -> Result<(), OutOfMemory> {
+        for one in view.by_birth()? {
+            commands.despawn(one)?;
+            commands.despawn(one)?;
+        }
+        Ok(())
+    }
 
-/// What a frame with ample memory makes of that world.
-fn after_a_frame() -> (Vec<Fault>, Vec<Told>) {
-    let mut world = two();
-    let report = run_frame(&mut world, &SYSTEMS, 1).expect("memory");
-    assert_eq!(
-        (report.born().len(), report.faults().len(), world.len()),
-        (4, 2, 4)
-    );
-    (report.faults().to_vec(), all(&world))
-}
+    const SYSTEMS: Systems = [launch, change, clear];
 
-/// The world is the one before, but for what the systems that ran had reserved.
-fn expect_lost(mut world: World) {
-    assert_eq!(all(&world), all(&two()));
-    world.flush().expect("memory");
-    assert!(world.len() == 2 || world.len() == 6, "{}", world.len());
-    let born = world.by_birth().expect("memory");
-    let bare = |one: &Handle| world.items(*one) == Some(vec![]);
-    assert_eq!(born.iter().filter(|one| bare(one)).count(), world.len() - 1);
-}
-
-#[test]
-fn frames() {
-    let wanted = after_a_frame();
-    let (mut before, mut lost, mut synced) = (0, 0, 0);
-    each_in_turn(|refusal| {
+    /// What a frame with ample memory makes of that world.
+    fn after_a_frame() -> (Vec<Fault>, Vec<Told>) {
         let mut world = two();
-        let (done, refused) = refusing(refusal, || run_frame(&mut world, &SYSTEMS, 1));
-        let faults = match done {
-            Ok(report) => report.faults().to_vec(),
-            Err(FrameError::Memory) => {
-                before += 1;
-                assert_eq!(all(&world), all(&two()));
-                assert!(!world.needs_flush());
-                let again = run_frame(&mut world, &SYSTEMS, 1);
-                again.expect("memory").faults().to_vec()
-            }
-            Err(FrameError::Lost) => {
-                lost += 1;
-                expect_lost(world);
-                return refused;
-            }
-            Err(FrameError::Sync(error)) => {
-                synced += 1;
-                ended(&mut world, Err(error))
-            }
-            Err(other) => panic!("{other}"),
-        };
-        assert_eq!((faults, all(&world)), wanted);
-        refused
-    });
-    assert!(
-        before > 0 && lost > 0 && synced > 0,
-        "{before}, {lost}, {synced}"
-    );
-}
-
-/// Memory is refused on the worker that runs the system, and nowhere else: starting threads takes
-/// memory that can't be refused.
-#[test]
-fn frames_on_threads() {
-    for workers in [1, 2, 3] {
-        in_turn(
-            |after| Refusal::All { after },
-            |refusal| {
-                let mut world = two();
-                let refused = std::sync::atomic::AtomicUsize::new(0);
-                let system = |view: View<'_>, commands: &mut SystemCommands<'_, '_>| {
-                    let (ran, times) = refusing(refusal, || {
-                        launch(view, commands)?;
-                        change(view, commands)
-                    });
-                    refused.store(times, std::sync::atomic::Ordering::Relaxed);
-                    ran
-                };
-                let ran = run_frame(&mut world, &[system], workers);
-                let refused = refused.into_inner();
-                match ran {
-                    Ok(report) => assert_eq!((report.born().len(), refused), (4, 0)),
-                    Err(FrameError::Lost) => expect_lost(world),
-                    Err(other) => panic!("{other}"),
-                }
-                refused
-            },
+        let report = run_frame(&mut world, &SYSTEMS, 1).expect("memory");
+        assert_eq!(
+            (report.born().len(), report.faults().len(), world.len()),
+            (4, 2, 4)
         );
+        (report.faults().to_vec(), all(&world))
+    }
+
+    /// The world is the one before, but for what the systems that ran had reserved.
+    fn expect_lost(mut world: World) {
+        assert_eq!(all(&world), all(&two()));
+        world.flush().expect("memory");
+        assert!(world.len() == 2 || world.len() == 6, "{}", world.len());
+        let born = world.by_birth().expect("memory");
+        let bare = |one: &Handle| world.items(*one) == Some(vec![]);
+        assert_eq!(born.iter().filter(|one| bare(one)).count(), world.len() - 1);
+    }
+
+    #[test]
+    fn refused_on_one_thread() {
+        let wanted = after_a_frame();
+        let (mut before, mut lost, mut synced) = (0, 0, 0);
+        each_in_turn(|refusal| {
+            let mut world = two();
+            let (done, refused) = refusing(refusal, || run_frame(&mut world, &SYSTEMS, 1));
+            let faults = match done {
+                Ok(report) => report.faults().to_vec(),
+                Err(FrameError::Memory) => {
+                    before += 1;
+                    assert_eq!(all(&world), all(&two()));
+                    assert!(!world.needs_flush());
+                    let again = run_frame(&mut world, &SYSTEMS, 1);
+                    again.expect("memory").faults().to_vec()
+                }
+                Err(FrameError::Lost) => {
+                    lost += 1;
+                    expect_lost(world);
+                    return refused;
+                }
+                Err(FrameError::Sync(error)) => {
+                    synced += 1;
+                    ended(&mut world, Err(error))
+                }
+                Err(other) => panic!("{other}"),
+            };
+            assert_eq!((faults, all(&world)), wanted);
+            refused
+        });
+        assert!(
+            before > 0 && lost > 0 && synced > 0,
+            "{before}, {lost}, {synced}"
+        );
+    }
+
+    /// Memory is refused on the worker that runs the system, and nowhere else: starting threads takes
+    /// memory that can't be refused.
+    #[test]
+    fn refused_on_a_worker() {
+        for workers in [1, 2, 3] {
+            in_turn(
+                |after| Refusal::All { after },
+                |refusal| {
+                    let mut world = two();
+                    let refused = std::sync::atomic::AtomicUsize::new(0);
+                    let system = |view: View<'_>, commands: &mut SystemCommands<'_, '_>| {
+                        let (ran, times) = refusing(refusal, || {
+                            launch(view, commands)?;
+                            change(view, commands)
+                        });
+                        refused.store(times, std::sync::atomic::Ordering::Relaxed);
+                        ran
+                    };
+                    let ran = run_frame(&mut world, &[system], workers);
+                    let refused = refused.into_inner();
+                    match ran {
+                        Ok(report) => assert_eq!((report.born().len(), refused), (4, 0)),
+                        Err(FrameError::Lost) => expect_lost(world),
+                        Err(other) => panic!("{other}"),
+                    }
+                    refused
+                },
+            );
+        }
     }
 }
 

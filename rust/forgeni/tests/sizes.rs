@@ -4,11 +4,9 @@
 //! These tests are for optimised code: `cargo test --release --test sizes`, as
 //! `examples/at_size.sh` runs them. Without optimisation they would take a minute.
 
-use forgeni::{run_frame, Birth, CommandQueue, Commands, ComponentId, Entities, Fault, FaultKind};
-use forgeni::{
-    FrameError, Freed, Handle, HandleMap, Limits, OutOfMemory, Queues, Refused, ShareError, State,
-};
-use forgeni::{OpenError, Storage, SystemCommands, View, World};
+use forgeni::{Birth, CommandQueue, Commands, ComponentId, Entities, Fault, FaultKind};
+use forgeni::{Freed, Handle, HandleMap, Limits, OpenError, Queues, Refused, ShareError, State};
+use forgeni::{Storage, World};
 
 /// How many there are of most things.
 const MANY: u32 = 70_001;
@@ -351,59 +349,65 @@ fn queues_of_a_phase() {
     }
 }
 
-fn launch(_: View<'_>, commands: &mut SystemCommands<'_, '_>) -> Result<(), OutOfMemory> {
-    let one = commands.spawn(&[(HP, 1)]);
-    one.map_or_else(|refused| refused.or_memory(), |_| Ok(()))
-}
+#[cfg(feature = "std")]
+mod frames {
+    use super::*;
+    use forgeni::{run_frame, FrameError, OutOfMemory, SystemCommands, View};
 
-/// As many systems as a frame may have, on one worker and on as many as it may have.
-#[test]
-#[cfg_attr(debug_assertions, ignore = "for optimised code")]
-fn systems_of_a_frame() {
-    type Launch = fn(View<'_>, &mut SystemCommands<'_, '_>) -> Result<(), OutOfMemory>;
-    let mut systems: Vec<Launch> = vec![launch; 65_536];
-    let mut world = World::new();
-    for (frame, workers) in [(0, 1), (1, 64)] {
-        let report = run_frame(&mut world, &systems, workers).expect("memory is ample");
-        assert_eq!((report.born().len(), report.faults().len()), (65_536, 0));
-        let all = world.by_birth().expect("memory is ample");
-        let births = all
-            .into_iter()
-            .skip(65_536 * frame)
-            .map(|one| world.birth(one));
-        let system = |system| Some(nth_birth(frame as u64, system, 0));
-        assert!(births.eq((0..65_536).map(system)));
+    fn launch(_: View<'_>, commands: &mut SystemCommands<'_, '_>) -> Result<(), OutOfMemory> {
+        let one = commands.spawn(&[(HP, 1)]);
+        one.map_or_else(|refused| refused.or_memory(), |_| Ok(()))
     }
-    let refused = run_frame(&mut world, &systems, 65).expect_err("too many workers");
-    assert!(matches!(refused, FrameError::Workers));
-    systems.push(launch);
-    let refused = run_frame(&mut world, &systems, 1).expect_err("too many systems");
-    assert!(matches!(refused, FrameError::Systems));
-    assert_eq!(world.len(), 2 * 65_536);
-}
 
-/// A frame whose one system spawns as many singly, and one whose systems list all of them.
-#[test]
-#[cfg_attr(debug_assertions, ignore = "for optimised code")]
-fn entities_of_a_frame() {
-    let spawn = |_: View<'_>, commands: &mut SystemCommands<'_, '_>| {
-        for _ in 0..MANY {
-            commands
-                .spawn(&[(HP, 0)])
-                .map_or_else(|why| why.or_memory(), |_| Ok(()))?;
+    /// As many systems as a frame may have, on one worker and on as many as it may have.
+    #[test]
+    #[cfg_attr(debug_assertions, ignore = "for optimised code")]
+    fn systems_of_a_frame() {
+        type Launch = fn(View<'_>, &mut SystemCommands<'_, '_>) -> Result<(), OutOfMemory>;
+        let mut systems: Vec<Launch> = vec![launch; 65_536];
+        let mut world = World::new();
+        for (frame, workers) in [(0, 1), (1, 64)] {
+            let report = run_frame(&mut world, &systems, workers).expect("memory is ample");
+            assert_eq!((report.born().len(), report.faults().len()), (65_536, 0));
+            let all = world.by_birth().expect("memory is ample");
+            let births = all
+                .into_iter()
+                .skip(65_536 * frame)
+                .map(|one| world.birth(one));
+            let system = |system| Some(nth_birth(frame as u64, system, 0));
+            assert!(births.eq((0..65_536).map(system)));
         }
-        Ok(())
-    };
-    let age = |view: View<'_>, commands: &mut SystemCommands<'_, '_>| {
-        let all = view.by_birth()?;
-        assert_eq!(all, view.with(HP)?);
-        all.into_iter()
-            .try_for_each(|one| commands.insert(one, &[(HP, 1)]))
-    };
-    let mut world = World::new();
-    let report = run_frame(&mut world, &[spawn], 1).expect("memory is ample");
-    let born = report.born();
-    assert_eq!(born.len(), MANY as usize);
-    run_frame(&mut world, &[age, age], 2).expect("memory is ample");
-    assert!(born.iter().all(|one| world.get(*one, HP) == Some(1)));
+        let refused = run_frame(&mut world, &systems, 65).expect_err("too many workers");
+        assert!(matches!(refused, FrameError::Workers));
+        systems.push(launch);
+        let refused = run_frame(&mut world, &systems, 1).expect_err("too many systems");
+        assert!(matches!(refused, FrameError::Systems));
+        assert_eq!(world.len(), 2 * 65_536);
+    }
+
+    /// A frame whose one system spawns as many singly, and one whose systems list all of them.
+    #[test]
+    #[cfg_attr(debug_assertions, ignore = "for optimised code")]
+    fn entities_of_a_frame() {
+        let spawn = |_: View<'_>, commands: &mut SystemCommands<'_, '_>| {
+            for _ in 0..MANY {
+                commands
+                    .spawn(&[(HP, 0)])
+                    .map_or_else(|why| why.or_memory(), |_| Ok(()))?;
+            }
+            Ok(())
+        };
+        let age = |view: View<'_>, commands: &mut SystemCommands<'_, '_>| {
+            let all = view.by_birth()?;
+            assert_eq!(all, view.with(HP)?);
+            all.into_iter()
+                .try_for_each(|one| commands.insert(one, &[(HP, 1)]))
+        };
+        let mut world = World::new();
+        let report = run_frame(&mut world, &[spawn], 1).expect("memory is ample");
+        let born = report.born();
+        assert_eq!(born.len(), MANY as usize);
+        run_frame(&mut world, &[age, age], 2).expect("memory is ample");
+        assert!(born.iter().all(|one| world.get(*one, HP) == Some(1)));
+    }
 }
