@@ -113,9 +113,9 @@
 //! - Memory runs out: an `Err`. Nothing has changed then, but where a sync point stopped
 //!   ([`Stopped`]) or a frame is lost.
 //!
-//! Nothing panics, but for a pool without reservers (`Reservers::with`) and a map that is indexed by a
-//! handle without a value. Where Rust has no form
-//! that can be refused memory, the process ends, as it does of `Vec` and `Arc`:
+//! Nothing panics, but for a pool without reservers (`Reservers::with`), a map that is indexed by a
+//! handle without a value, and what the caller's own code panics with, which is handed on. Where Rust
+//! has no form that can be refused memory, the process ends, as it does of `Vec` and `Arc`:
 //!
 //! - [`Storage::items`] and [`World::items`] make a list.
 //! - [`Entities::share`], [`Entities::phase`] and [`World::open`] make an `Arc`. They ask for as much memory before, and
