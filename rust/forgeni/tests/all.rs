@@ -13,6 +13,7 @@ mod handles;
 mod like_bevy;
 mod like_hecs;
 mod like_slotmap;
+mod limits;
 mod model;
 mod panics;
 mod phases;

@@ -376,6 +376,88 @@ fn systems_of_several_types() {
     assert_eq!(world.len(), 3);
 }
 
+/// A system is lost in whatever it lies.
+#[test]
+fn systems_that_lack_memory() {
+    fn lacks(_: View<'_>, _: &mut SystemCommands<'_, '_>) -> Result<(), OutOfMemory> {
+        Err(OutOfMemory)
+    }
+    let lost = |ran: Result<Report, FrameError>| {
+        assert!(matches!(ran, Err(FrameError::Lost)), "{ran:?}");
+    };
+    let mut world = World::new();
+    lost(run_frame(&mut world, &[lacks], 1));
+    let lent: &dyn System = &lacks;
+    lost(run_frame(&mut world, &[lent], 1));
+    let boxed: Box<dyn System> = Box::new(lacks);
+    lost(run_frame(&mut world, &[boxed], 1));
+    assert_eq!((world.phase(), world.len()), (0, 0));
+}
+
+/// Each command stands in its queue, also one that sets nothing or takes out what isn't there: the fault of
+/// one on an entity that is gone has its number.
+#[test]
+fn no_command_is_lost() {
+    let mut world = World::new();
+    let gone = world.spawn(&[]).expect("a handle");
+    let lives = world.spawn(&[(HP, 1), (AGE, 2)]).expect("a handle");
+    world.despawn(gone).expect("alive");
+    let system = |_: View<'_>, commands: &mut SystemCommands<'_, '_>| {
+        commands.insert(gone, &[])?;
+        commands.insert(gone, &[(HP, 1)])?;
+        commands.insert(lives, &[(HP, 7), (HP, 8)])?;
+        commands.remove(gone, HP)?;
+        commands.remove(lives, AGE)?;
+        commands.remove(lives, AGE)?;
+        commands.insert(lives, &[])?;
+        commands.despawn(gone)
+    };
+    let report = run_frame(&mut world, &[system], 1).expect("memory");
+    let faults = report.faults().iter().map(|fault| fault.command);
+    assert!(faults.eq([0, 1, 3, 7]));
+    let all = |fault: &forgeni::Fault| fault.kind == FaultKind::NotAlive(gone);
+    assert!(report.faults().iter().all(all));
+    assert_eq!(world.items(lives), Some(vec![(HP, 8)]));
+}
+
+/// A view lists those with a component, or all, by birth; it tells what each had as the frame began.
+#[test]
+fn what_a_view_tells() {
+    let mut world = World::new();
+    let birth = |ordinal| Birth {
+        frame: 0,
+        system: 0,
+        ordinal,
+    };
+    let spawn = |world: &mut World, ordinal, components: &[(ComponentId, i64)]| {
+        let spawned = world.spawn_with_birth(birth(ordinal), components);
+        spawned.expect("a handle")
+    };
+    let late = spawn(&mut world, 9, &[(HP, 1)]);
+    let bare = spawn(&mut world, 5, &[]);
+    let early = spawn(&mut world, 2, &[(AGE, 3), (HP, 4)]);
+    let gone = spawn(&mut world, 1, &[(HP, 1)]);
+    world.despawn(gone).expect("alive");
+    let system = |view: View<'_>, commands: &mut SystemCommands<'_, '_>| {
+        let spawned = commands.spawn(&[(HP, 1)]).expect("a handle");
+        commands.insert(late, &[(HP, 2)])?;
+        assert_eq!(view.with(HP), Ok(vec![early, late]));
+        assert_eq!(view.with(AGE), Ok(vec![early]));
+        assert_eq!(view.with(ComponentId(9)), Ok(vec![]));
+        assert_eq!(view.by_birth(), Ok(vec![early, bare, late]));
+        assert_eq!((view.get(late, HP), view.get(bare, HP)), (Some(1), None));
+        assert_eq!(view.birth(bare), Some(birth(5)));
+        assert_eq!(view.of_birth(birth(9)), Some(late));
+        assert_eq!(view.of_birth(birth(1)), None);
+        let lives = [late, bare, early, gone, spawned].map(|one| view.contains(one));
+        assert_eq!(lives, [true, true, true, false, false]);
+        assert_eq!(view.phase(), 0);
+        Ok(())
+    };
+    run_frame(&mut world, &[system], 1).expect("memory");
+    assert_eq!(world.get(late, HP), Some(2));
+}
+
 #[test]
 fn what_a_frame_wants() {
     let nothing = |_: View<'_>, _: &mut SystemCommands<'_, '_>| Ok(());

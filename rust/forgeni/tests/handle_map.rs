@@ -529,4 +529,40 @@ fn a_closure_that_panics() {
     assert!(map.values().eq(&[10, 12, 3, 4]));
     map.for_each_mut(|_, value| *value += 1);
     assert!(map.values().eq(&[11, 13, 4, 5]));
+
+    // The value at which it panics stays, as it was changed.
+    let ran = catch_unwind(AssertUnwindSafe(|| {
+        map.retain(|_, value| {
+            *value = 99;
+            resume_unwind(Box::new("stopped"))
+        })
+    }));
+    assert!(ran.is_err());
+    assert!(map.values().eq(&[99, 13, 4, 5]));
+}
+
+/// Each value is inserted in its turn, and one that is refused keeps none of the others away.
+#[test]
+fn extending() {
+    let pairs = [
+        (handle(3, 2), "a"),
+        (handle(3, 1), "refused"),
+        (handle(0, 1), "b"),
+        (Handle::PLACEHOLDER, "refused"),
+        (handle(0, 1), "c"),
+        (handle(3, 5), "d"),
+        (handle(1, 1), "e"),
+    ];
+    let wanted = [
+        (handle(0, 1), "c"),
+        (handle(1, 1), "e"),
+        (handle(3, 5), "d"),
+    ];
+    let collected: HandleMap<&str> = pairs.into_iter().collect();
+    let mut extended = HandleMap::new();
+    extended.extend(pairs);
+    for map in [collected, extended] {
+        assert_eq!(map.len(), 3);
+        assert!(map.into_iter().eq(wanted));
+    }
 }
