@@ -20,6 +20,7 @@ mod phases;
 mod recording;
 mod sharing;
 mod storage_model;
+mod texts;
 mod threads;
 mod trace;
 mod trace_model;

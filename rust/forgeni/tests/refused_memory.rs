@@ -12,7 +12,7 @@ use forgeni::{
     AllocError, Birth, BornError, CommandQueue, Commands, ComponentId, Entities, Fault,
     FinishError, FreeError, GoOnError, Handle, HandleMap, InsertError, InsertionError, Limits,
     OpenError, OpenWorld, OutOfMemory, Queues, Refused, Report, RequestManyError, ShareError,
-    SpawnError, State, Storage, SyncError, World,
+    SpawnError, State, Storage, SyncError, SyncErrorKind, World,
 };
 use refusing::{refusing, Refusal};
 
@@ -435,6 +435,29 @@ fn calls_of_a_checker() {
     });
 }
 
+/// A run that can't be copied is the last one, wherever the memory ran out.
+#[test]
+fn a_run_that_is_refused() {
+    each_block_in_turn(|refusal| {
+        let mut checker = Checker::new(Limits::GREATEST);
+        let run = [0, 1, 2].map(|caller| Reservation::new(caller, 1, handle(caller, 1)));
+        let (checked, refused) = refusing(refusal, || checker.run(&run));
+        if checked == Err(CheckError::Memory) {
+            assert!(refused > 0, "nothing was refused");
+            let calls = checker.calls();
+            assert_eq!(checker.len(0), checked);
+            assert_eq!(checker.run(&[]), checked);
+            assert_eq!(checker.run(&run), checked);
+            assert_eq!(checker.calls(), calls);
+            assert_eq!(checker.finish(), checked);
+        } else {
+            assert_eq!((checked, refused), (Ok(()), 0));
+            checker.finish().expect("it agrees");
+        }
+        refused
+    });
+}
+
 /// What a log was refused memory for isn't in it.
 #[test]
 fn calls_of_a_log() {
@@ -701,6 +724,91 @@ fn a_sync_point_goes_on_wherever_it_stopped() {
     assert!(stops.iter().any(|stop| stop.0 == 1), "{stops:?}");
 }
 
+/// The components that the first commands of three systems give to the world's second entity. Each number is
+/// new in the world, so each command may want memory.
+const GIVEN: [&[u8]; 3] = [&[20, 21, 22], &[], &[23, 24]];
+
+/// How many the fourth system spawns at once, after a command without effect.
+const SPAWNED: usize = 5;
+
+/// A world, and the queues of four systems.
+fn with_places() -> (World, Queues, Vec<Handle>) {
+    let (open, mut systems) = two().open(4).expect("opened");
+    for (system, given) in systems.iter_mut().zip(GIVEN) {
+        for id in given {
+            let command = system.insert(handle(1, 1), &[(ComponentId(*id), 1)]);
+            command.expect("memory");
+        }
+    }
+    systems[3]
+        .remove(handle(1, 1), ComponentId(99))
+        .expect("memory");
+    let bundle = (30..36).map(|id| (ComponentId(id), 1)).collect::<Vec<_>>();
+    let spawned = systems[3].spawn_many(SPAWNED as u32, &bundle);
+    let spawned = spawned.expect("memory");
+    let queues = systems.into_iter().map(Commands::finish).collect();
+    let (world, queues) = open.close(queues).expect("closed");
+    (world, queues, spawned)
+}
+
+/// Where a sync point stops, just the commands before that place have taken effect, and of a spawn of many
+/// just the first handles. It stops at each place that may want memory.
+#[test]
+fn the_place_of_a_stop() {
+    let mut places = Vec::new();
+    each_in_turn(|refusal| {
+        let (mut world, queues, spawned) = with_places();
+        let (done, refused) = refusing(refusal, || world.apply(queues));
+        let Err(SyncError::Stopped(stopped)) = done else {
+            return refused;
+        };
+        let place = (stopped.system, stopped.command, stopped.done);
+        let (system, command, done) = place;
+        places.push(place);
+        let before = GIVEN.iter().zip(0..).flat_map(|(given, of)| {
+            let taken = given.iter().enumerate();
+            taken.filter(move |(number, _)| (of, *number) < (system, command))
+        });
+        let wanted: Vec<_> = before.map(|(_, id)| (ComponentId(*id), 1)).collect();
+        assert_eq!(world.items(handle(1, 1)), Some(wanted), "{place:?}");
+        for (number, one) in spawned.iter().enumerate() {
+            let count = if number < done { 6 } else { 0 };
+            let items = world.items(*one).expect("it was born");
+            assert_eq!(items.len(), count, "{place:?}, {one}");
+        }
+        let kind = SyncErrorKind::Stopped { system, command };
+        let so_far = format!("{:?}", stopped.so_far);
+        let text = format!(
+            "Stopped {{ system: {system}, command: {command}, done: {done}, so_far: {so_far}, .. }}"
+        );
+        assert_eq!(format!("{stopped:?}"), text);
+        let error = SyncError::Stopped(stopped);
+        assert_eq!(error.kind(), kind);
+        assert_eq!(
+            error.to_string(),
+            format!("out of memory at command {command} of system {system}")
+        );
+        let (stopped, same) = error.into_parts();
+        let rest = stopped.expect_err("it stopped").go_on(&mut world);
+        assert_eq!((same, rest.expect("memory").faults()), (kind, &[][..]));
+        assert_eq!(world.len(), 2 + SPAWNED);
+        refused
+    });
+    for command in [
+        (0, 0, 0),
+        (0, 1, 0),
+        (0, 2, 0),
+        (2, 0, 0),
+        (2, 1, 0),
+        (3, 1, 0),
+    ] {
+        assert!(places.contains(&command), "{command:?} in {places:?}");
+    }
+    assert!(places.iter().any(|place| place.2 > 0), "{places:?}");
+    let at_spawn = |place: &(usize, usize, usize)| (place.0, place.1) == (3, 1);
+    assert!(places.iter().all(|place| place.2 == 0 || at_spawn(place)));
+}
+
 /// It has its lists, and lends them and gives them away without memory.
 #[test]
 fn a_report_takes_no_memory() {
@@ -824,7 +932,7 @@ mod frames {
     #[test]
     fn refused_on_one_thread() {
         let wanted = after_a_frame();
-        let (mut before, mut lost, mut synced) = (0, 0, 0);
+        let (mut before, mut lost, mut unapplied, mut stopped) = (0, 0, 0, 0);
         each_in_turn(|refusal| {
             let mut world = two();
             let (done, refused) = refusing(refusal, || run_frame(&mut world, &SYSTEMS, 1));
@@ -843,7 +951,10 @@ mod frames {
                     return refused;
                 }
                 Err(FrameError::Sync(error)) => {
-                    synced += 1;
+                    match error.kind() {
+                        SyncErrorKind::Memory => unapplied += 1,
+                        _ => stopped += 1,
+                    }
                     ended(&mut world, Err(error))
                 }
                 Err(other) => panic!("{other}"),
@@ -852,8 +963,8 @@ mod frames {
             refused
         });
         assert!(
-            before > 0 && lost > 0 && synced > 0,
-            "{before}, {lost}, {synced}"
+            before > 0 && lost > 0 && unapplied > 0 && stopped > 0,
+            "{before}, {lost}, {unapplied}, {stopped}"
         );
     }
 
