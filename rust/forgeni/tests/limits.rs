@@ -110,6 +110,14 @@ fn a_row_of_a_reserved_handle() {
     assert_eq!(entities.row(one), None);
     assert_eq!(entities.set_row(one, 6), Ok(()));
     assert_eq!(entities.row(one), Some(6));
+
+    // One of a slot that was made is nobody yet either.
+    let next = entities.free(one).expect("alive").next;
+    assert_eq!(entities.request().ok(), next);
+    let again = next.expect("a generation");
+    assert_eq!(entities.set_row(again, 7), Err(forgeni::Absent));
+    entities.flush().expect("memory");
+    assert_eq!((entities.row(again), entities.len()), (None, 1));
 }
 
 /// 2^26 handles at a time, of a pool of one.

@@ -4,6 +4,7 @@
 //! These tests are for optimised code: `cargo test --release --test sizes`, as
 //! `examples/at_size.sh` runs them. Without optimisation they would take a minute.
 
+use forgeni::trace::{Call, Checker, FreeReply, Recorder, Reservation};
 use forgeni::{Birth, CommandQueue, Commands, ComponentId, Entities, Fault, FaultKind};
 use forgeni::{Freed, Handle, HandleMap, Limits, OpenError, Queues, Refused, ShareError, State};
 use forgeni::{Storage, World};
@@ -81,6 +82,104 @@ fn values_by_handle() {
     assert!(map
         .into_iter()
         .all(|(one, value)| one.generation() == 2 && value == 7));
+}
+
+/// Room for as many slots as there may be asked for, and a value in a slot far behind all others.
+#[test]
+#[cfg_attr(debug_assertions, ignore = "for optimised code")]
+fn room_for_values() {
+    for slots in [100_001, 300_001, 1 << 22] {
+        let map = HandleMap::<u64>::with_capacity(slots).expect("memory is ample");
+        assert!(map.capacity() >= slots);
+        let mut map = HandleMap::<u64>::new();
+        map.reserve(slots).expect("memory is ample");
+        map.reserve(2 * slots).expect("memory is ample");
+        assert!(map.capacity() >= 2 * slots);
+        let mut map = HandleMap::new();
+        let last = handle(slots as u32 - 1, 1);
+        assert_eq!(map.insert(last, 7).expect("memory is ample"), None);
+        let mut clone = map.clone();
+        clone.extend((0..slots as u32).map(|index| (handle(index, 1), 8)));
+        assert_eq!((clone.len(), clone[last], map[last]), (slots, 8, 7));
+        assert_eq!(clone.into_iter().len(), slots);
+    }
+}
+
+/// A run with as many reservations, each of a caller of its own, and their flush.
+#[test]
+#[cfg_attr(debug_assertions, ignore = "for optimised code")]
+fn runs_of_a_trace() {
+    let run: Vec<Reservation> = (0..MANY)
+        .map(|caller| Reservation::new(MANY - caller, 1, handle(caller, 1)))
+        .collect();
+    let all: Vec<Handle> = (0..MANY).map(|index| handle(index, 1)).collect();
+    let mut checker = Checker::new(Limits::GREATEST);
+    checker.run(&run).expect("memory is ample");
+    checker.flush(&all[..]).expect("memory is ample");
+    checker.len(MANY).expect("it agrees");
+    // One reservation of as many.
+    let next: Vec<Handle> = (MANY..2 * MANY).map(|index| handle(index, 1)).collect();
+    let one = checker.reserve(0, MANY, &next[..]);
+    one.expect("memory is ample");
+    checker.flush(&next[..]).expect("memory is ample");
+    checker.finish().expect("it agrees");
+}
+
+/// As many calls, and differences after them, also of a flush of as many.
+#[test]
+#[cfg_attr(debug_assertions, ignore = "for optimised code")]
+fn lines_of_a_trace() {
+    let called = || {
+        let mut checker = Checker::new(Limits::GREATEST);
+        for index in 0..MANY {
+            checker.alloc(handle(index, 1)).expect("memory is ample");
+            checker.len(index + 1).expect("it agrees");
+        }
+        checker
+    };
+    let line = u64::from(2 * MANY + 1);
+    let text = format!("differs line {line}: len => 1, expected {MANY}");
+    let wrong = called().len(1).expect_err("there are more");
+    assert_eq!(wrong.to_string(), text);
+
+    let mut checker = called();
+    for index in 0..MANY {
+        let one = handle(index, 1);
+        let next = FreeReply::Next(handle(index, 2));
+        checker.free(one, next).expect("memory is ample");
+        checker.state(one, State::Gone).expect("it agrees");
+    }
+    let mut told: Vec<Handle> = (0..MANY).rev().map(|index| handle(index, 2)).collect();
+    for one in &told {
+        checker.reserve(3, 1, *one).expect("memory is ample");
+    }
+    // The slot that was freed first, so given last, comes to life first.
+    let wrong = checker.flush(&told[..]).expect_err("the other order");
+    let difference = wrong.difference().expect("a difference");
+    assert_eq!(difference.line, u64::from(5 * MANY + 1));
+    assert_eq!(difference.told, Call::Flush(told.clone().into()));
+    told.reverse();
+    assert_eq!(difference.expected, Call::Flush(told.into()));
+    let text = wrong.to_string();
+    assert!(
+        text.ends_with(&format!(" {}v2", MANY - 1)),
+        "{}",
+        text.len()
+    );
+}
+
+/// Logs of as many reservations.
+#[test]
+#[cfg_attr(debug_assertions, ignore = "for optimised code")]
+fn logs_of_a_trace() {
+    let mut recorder = Recorder::new(Limits::GREATEST, 2).expect("memory is ample");
+    for index in 0..2 * MANY {
+        let log = &mut recorder.logs()[index as usize % 2];
+        log.push(1, handle(index, 1)).expect("memory is ample");
+    }
+    recorder.len(0).expect("they agree");
+    assert_eq!(recorder.calls(), u64::from(2 * MANY) + 1);
+    recorder.finish().expect("they agree");
 }
 
 #[test]
@@ -259,7 +358,8 @@ fn entities_of_one_command() {
     }
 }
 
-/// A world that is filled and emptied without a phase.
+/// A world that is filled and emptied without a phase. The births number all of them, and of the slots the one
+/// that was freed last is first.
 #[test]
 #[cfg_attr(debug_assertions, ignore = "for optimised code")]
 fn entities_of_a_world() {
@@ -270,8 +370,16 @@ fn entities_of_a_world() {
         }
         let all = world.by_birth().expect("memory is ample");
         assert_eq!(all.len(), MANY as usize);
-        for (index, one) in all.into_iter().enumerate() {
-            assert_eq!(one, handle(index as u32, generation));
+        for (number, one) in (0..).zip(all) {
+            let index = if generation == 1 {
+                number
+            } else {
+                MANY - 1 - number
+            };
+            assert_eq!(one, handle(index, generation));
+            let ordinal = (generation - 1) * MANY + number;
+            let birth = nth_birth(0, Birth::NO_SYSTEM, ordinal);
+            assert_eq!(world.birth(one), Some(birth));
             world.despawn(one).expect("alive");
         }
         assert!(world.is_empty());
