@@ -43,7 +43,8 @@ impl Commands {
         Ok(Handle::of(self.proved.spawn(Global, &bundle)?))
     }
 
-    /// Reserves `count` handles at once, each of which is to have the components.
+    /// Reserves `count` handles at once, each of which is to have the components. The time is that of
+    /// their list, and as much of the queue.
     ///
     /// # Errors
     ///

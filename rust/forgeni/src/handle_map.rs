@@ -279,6 +279,10 @@ impl<T> HandleMap<T> {
     /// places.for_each_mut(|one, place| *place += speeds[one]);
     /// assert!(places.values().all(|place| *place == 1.5));
     /// ```
+    ///
+    /// # Panics
+    ///
+    /// A panic of `change` is handed on. All values stay, changed as far as `change` had changed them.
     #[inline]
     pub fn for_each_mut(&mut self, mut change: impl FnMut(Handle, &mut T)) {
         self.retain(|handle, value| {

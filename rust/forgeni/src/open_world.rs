@@ -139,7 +139,8 @@ impl OpenWorld {
 
     /// Ends the phase with the queues of all its systems. Their order here is the order in which
     /// they will take effect, and numbers their systems in births and faults. Nothing of the world
-    /// has changed but that handles are reserved.
+    /// has changed but that handles are reserved. The time is that of a look at each queue, however many
+    /// commands it has.
     ///
     /// # Errors
     ///

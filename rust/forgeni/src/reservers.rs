@@ -197,7 +197,7 @@ impl Drop for Wakes<'_> {
 }
 
 impl<R> Reservers<R> {
-    /// The reservers, in the order in which they came.
+    /// The reservers, in the order in which they came. Each is moved once.
     ///
     /// Where memory runs out for the list, it ends as `Vec` does.
     #[must_use]

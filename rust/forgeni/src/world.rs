@@ -284,7 +284,8 @@ impl World {
 
     /// The sync point: brings to life what is reserved, and then lets the queues take effect, one
     /// after the other, in their order. A command on an entity that is not alive at its turn has no
-    /// effect and is a fault of the report, and so is a refused spawn.
+    /// effect and is a fault of the report, and so is a refused spawn. The lists of the report are walked
+    /// once more, and take no memory for that.
     ///
     /// # Errors
     ///

@@ -789,8 +789,14 @@ fn the_place_of_a_stop() {
             format!("out of memory at command {command} of system {system}")
         );
         let (stopped, same) = error.into_parts();
-        let rest = stopped.expect_err("it stopped").go_on(&mut world);
-        assert_eq!((same, rest.expect("memory").faults()), (kind, &[][..]));
+        let stopped = stopped.expect_err("it stopped");
+        let elsewhere = stopped.go_on(&mut two()).expect_err("another world");
+        assert_eq!(elsewhere.to_string(), "the queues are of another world");
+        let (stopped, other) = elsewhere.into_parts();
+        assert_eq!((same, other), (kind, SyncErrorKind::OtherWorld));
+        assert_eq!((stopped.system, stopped.command, stopped.done), place);
+        let rest = stopped.go_on(&mut world).expect("memory");
+        assert_eq!(rest.faults(), []);
         assert_eq!(world.len(), 2 + SPAWNED);
         refused
     });
