@@ -28,31 +28,31 @@ type Ended = Result<(NumberedWorld, ent_total::Queues), ent_total::Unfinished<Nu
 pub struct OpenWorld {
     proved: Phase,
     /// As the [`World`] has it, to which it goes back.
-    spawned: Option<Birth>,
+    next: Birth,
 }
 
 impl OpenWorld {
     /// Opens the world, and gives out the commands of all its systems.
     pub(crate) fn open(
         world: NumberedWorld,
-        spawned: Option<Birth>,
+        next: Birth,
         count: usize,
     ) -> Result<(Self, Vec<Commands>), Unopened> {
         let mut all = Vec::new();
         if all.try_reserve_exact(count.min(SYSTEMS)).is_err() {
             return Err(Unopened {
-                world: World::of(world, spawned),
+                world: World::of(world, next),
                 error: OpenError::Memory,
             });
         }
         match ent_total::open(Global, world, count) {
             Ok(opening) => Self {
                 proved: opening.numbered(next_number()),
-                spawned,
+                next,
             }
             .give_all(all),
             Err(refused) => Err(Unopened {
-                world: World::of(refused.world, spawned),
+                world: World::of(refused.world, next),
                 error: refused.why.into(),
             }),
         }
@@ -80,7 +80,7 @@ impl OpenWorld {
     fn undo(self) -> Unopened {
         match self.proved.close_lost(List::new(Global)) {
             Ok((world, _)) => Unopened {
-                world: World::of(world, self.spawned),
+                world: World::of(world, self.next),
                 error: OpenError::Memory,
             },
             Err(_) => unreachable!("nobody else has a part of the phase"),
@@ -150,7 +150,7 @@ impl OpenWorld {
     /// [`close_lost`](Self::close_lost) does.
     #[doc = include_str!("proved/ent_total/finishing.close.md")]
     pub fn close(self, queues: Vec<CommandQueue>) -> Result<(World, Queues), Unfinished> {
-        Self::ended(self.proved.close(issued(queues)), self.spawned)
+        Self::ended(self.proved.close(issued(queues)), self.next)
     }
 
     /// Ends the phase although some systems are lost: their [`Commands`] or queues were dropped, as
@@ -169,14 +169,14 @@ impl OpenWorld {
     /// [`core::mem::forget`] exists for good.
     #[doc = include_str!("proved/ent_total/finishing.close_lost.md")]
     pub fn close_lost(self, queues: Vec<CommandQueue>) -> Result<(World, Queues), Unfinished> {
-        Self::ended(self.proved.close_lost(issued(queues)), self.spawned)
+        Self::ended(self.proved.close_lost(issued(queues)), self.next)
     }
 
     /// The world and its queues, or why the phase goes on.
-    fn ended(ended: Ended, spawned: Option<Birth>) -> Result<(World, Queues), Unfinished> {
+    fn ended(ended: Ended, next: Birth) -> Result<(World, Queues), Unfinished> {
         match ended {
-            Ok((world, queues)) => Ok((World::of(world, spawned), Queues::of(queues))),
-            Err(refused) => Err(Unfinished::of(refused, spawned)),
+            Ok((world, queues)) => Ok((World::of(world, next), Queues::of(queues))),
+            Err(refused) => Err(Unfinished::of(refused, next)),
         }
     }
 }
@@ -309,12 +309,12 @@ pub struct Unfinished {
 
 impl Unfinished {
     /// The phase goes on. The queues are handed back in the memory in which they came.
-    fn of(refused: ent_total::Unfinished<Numbers>, spawned: Option<Birth>) -> Self {
+    fn of(refused: ent_total::Unfinished<Numbers>, next: Birth) -> Self {
         let queues: Vec<Issued> = refused.queues.into();
         Self {
             open: OpenWorld {
                 proved: refused.phase,
-                spawned,
+                next,
             },
             queues: queues.into_iter().map(CommandQueue::of).collect(),
             error: refused.why.into(),

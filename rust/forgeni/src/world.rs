@@ -55,14 +55,14 @@ use core::fmt;
 /// It may go to another thread, and many threads may read it at once: it is `Send` and `Sync`.
 pub struct World {
     pub(crate) proved: NumberedWorld,
-    /// The birth of the entity that [`spawn`](Self::spawn) brought to life last.
-    spawned: Option<Birth>,
+    /// The birth of the entity that [`spawn`](Self::spawn) brings to life next, if no flush comes before.
+    next: Birth,
 }
 
 impl World {
-    /// A world that was away, with the birth of the last entity that was spawned in it.
-    pub(crate) fn of(proved: NumberedWorld, spawned: Option<Birth>) -> Self {
-        Self { proved, spawned }
+    /// A world that was away, with the birth that it gives next.
+    pub(crate) fn of(proved: NumberedWorld, next: Birth) -> Self {
+        Self { proved, next }
     }
 
     /// A world without entities, with the greatest limits. It takes no memory.
@@ -78,7 +78,7 @@ impl World {
             world: ent_world::World::new(Global, limits.proved()),
             number: next_number(),
         };
-        Self::of(proved, None)
+        Self::of(proved, first_birth(0))
     }
 
     /// A world without entities, with these limits, as [`with_limits`](Self::with_limits) makes it.
@@ -112,7 +112,8 @@ impl World {
     pub fn spawn(&mut self, components: &[(ComponentId, i64)]) -> Result<Handle, AllocError> {
         let birth = self.next_birth();
         let spawned = self.spawn_with_birth(birth, components)?;
-        self.spawned = Some(birth);
+        self.next.frame = birth.frame;
+        self.next.ordinal = birth.ordinal.saturating_add(1);
         Ok(spawned)
     }
 
@@ -120,14 +121,10 @@ impl World {
     #[inline]
     fn next_birth(&self) -> Birth {
         let frame = self.phase();
-        let ordinal = match self.spawned {
-            Some(last) if last.frame == frame => last.ordinal.saturating_add(1),
-            _ => 0,
-        };
-        Birth {
-            frame,
-            system: Birth::NO_SYSTEM,
-            ordinal,
+        if self.next.frame == frame {
+            self.next
+        } else {
+            first_birth(frame)
         }
     }
 
@@ -279,7 +276,7 @@ impl World {
     /// only if another thread takes it in between.
     #[doc = include_str!("proved/ent_total/world_opening.open.md")]
     pub fn open(self, count: usize) -> Result<(OpenWorld, Vec<Commands>), Unopened> {
-        OpenWorld::open(self.proved, self.spawned, count)
+        OpenWorld::open(self.proved, self.next, count)
     }
 
     /// The sync point: brings to life what is reserved, and then lets the queues take effect, one
@@ -296,6 +293,15 @@ impl World {
     #[doc = include_str!("proved/ent_total/applying.apply.md")]
     pub fn apply(&mut self, queues: Queues) -> Result<Report, SyncError> {
         Ok(Report::of(queues.apply(&mut self.proved)?))
+    }
+}
+
+/// The birth of the first entity that is spawned in a phase.
+fn first_birth(frame: u64) -> Birth {
+    Birth {
+        frame,
+        system: Birth::NO_SYSTEM,
+        ordinal: 0,
     }
 }
 
