@@ -1,6 +1,6 @@
 #!/usr/bin/env bash
-# The package in plain Rust: its tests, its docs and its lints, each example, which must print what its first comment says, the package
-# without the standard library, and the archive of it, which must build by itself in an empty folder.
+# The package in plain Rust: its tests, its docs and its lints, with the standard library and without it, each example, which must print
+# what its first comment says, and the archive of it, which must build by itself in an empty folder.
 set -eu
 cd "$(dirname "$0")/../rust/forgeni"
 if grep -rnw unsafe --include=*.rs .. | grep -v "forbid(unsafe_code)"; then
@@ -20,6 +20,7 @@ CARGO_PROFILE_RELEASE_OVERFLOW_CHECKS=true cargo test --offline --release --quie
 RUSTDOCFLAGS="-D warnings" cargo doc --offline --no-deps
 if cargo clippy --version >/dev/null 2>&1; then
     cargo clippy --offline --all-targets -- -D warnings
+    cargo clippy --offline --all-targets --no-default-features -- -D warnings
 fi
 for example in examples/*.rs; do
     name=$(basename "$example" .rs)
@@ -27,7 +28,7 @@ for example in examples/*.rs; do
         <(cargo run --quiet --offline --example "$name")
     echo "rust/forgeni: the example $name prints what its comment says"
 done
-cargo build --offline --no-default-features
+cargo test --offline --no-default-features
 empty=$(mktemp -d)
 trap 'rm -rf "$empty"' EXIT
 cargo package --offline --no-verify --allow-dirty --quiet --target-dir "$empty/packed"

@@ -27,6 +27,7 @@ thread_local! {
     static REFUSED: Cell<usize> = const { Cell::new(0) };
     static BLOCKS: Cell<isize> = const { Cell::new(0) };
     static BYTES: Cell<isize> = const { Cell::new(0) };
+    static ASKED: Cell<usize> = const { Cell::new(0) };
 }
 
 /// Does this while memory is refused so. Also returns how often it was refused.
@@ -44,6 +45,20 @@ pub fn held<T>(work: impl FnOnce() -> T) -> (T, isize) {
     let before = BYTES.get();
     let done = work();
     (done, BYTES.get() - before)
+}
+
+/// Does this, and returns how many bytes this thread asked for meanwhile, whether it gave them back or not. A
+/// block that grows is asked for anew.
+pub fn asked<T>(work: impl FnOnce() -> T) -> (T, usize) {
+    let before = ASKED.get();
+    let done = work();
+    (done, ASKED.get() - before)
+}
+
+/// A block has this many bytes more than before, and was asked for with so many.
+fn count(more: isize, asked: usize) {
+    BYTES.set(BYTES.get() + more);
+    ASKED.set(ASKED.get() + asked);
 }
 
 /// Sets the refusal back, also if the work panics.
@@ -82,14 +97,14 @@ unsafe impl GlobalAlloc for Refusing {
             return std::ptr::null_mut();
         }
         BLOCKS.set(BLOCKS.get() + 1);
-        BYTES.set(BYTES.get() + layout.size() as isize);
+        count(layout.size() as isize, layout.size());
         // SAFETY: as the caller of this.
         unsafe { System.alloc(layout) }
     }
 
     unsafe fn dealloc(&self, block: *mut u8, layout: Layout) {
         BLOCKS.set(BLOCKS.get() - 1);
-        BYTES.set(BYTES.get() - layout.size() as isize);
+        count(-(layout.size() as isize), 0);
         // SAFETY: as the caller of this.
         unsafe { System.dealloc(block, layout) }
     }
@@ -98,7 +113,7 @@ unsafe impl GlobalAlloc for Refusing {
         if is_refused() {
             return std::ptr::null_mut();
         }
-        BYTES.set(BYTES.get() + size as isize - layout.size() as isize);
+        count(size as isize - layout.size() as isize, size);
         // SAFETY: as the caller of this.
         unsafe { System.realloc(block, layout, size) }
     }

@@ -88,3 +88,18 @@ for entities in 1000 10000; do
     [ "$sweeps" -gt 0 ] || { echo "no sweep was seen, so nothing was counted"; exit 1; }
     at_most "sweeps of the index in $((20 * entities)) births among $entities entities" "$sweeps" 20
 done
+
+# A walk along the list would have a thousand times as many steps at each flush.
+for entities in 64 65536; do
+    counted "behind_$entities" "$entities" flushes_into_a_long_list --toggle-collect='counted::one_by_one*'
+done
+few=$(($(instructions behind_64) / 4096))
+many=$(($(instructions behind_65536) / 4096))
+at_most "instructions a flush into a list of 65,536 handles beside one of 64 ($few)" "$many" $((few + few / 2))
+
+for entities in 4096 65536; do
+    counted "lists_$entities" "$entities" lists_that_a_call_makes --toggle-collect='counted::lists_of_a_phase*'
+done
+few=$(($(instructions lists_4096) / 4096))
+many=$(($(instructions lists_65536) / 65536))
+at_most "instructions a handle in the lists of a phase, of 65,536 beside 4,096 ($few)" "$many" $((few + few / 10))

@@ -43,7 +43,8 @@ impl Commands {
         Ok(Handle::of(self.proved.spawn(Global, &bundle)?))
     }
 
-    /// Reserves `count` handles at once, each of which is to have the components.
+    /// Reserves `count` handles at once, each of which is to have the components. The time is that of
+    /// their list, and as much of the queue.
     ///
     /// # Errors
     ///
@@ -227,8 +228,8 @@ impl SpawnError {
     /// Only want of memory ends it:
     ///
     /// ```
-    /// # use forgeni::{OutOfMemory, SpawnError, SystemCommands};
-    /// fn launch(commands: &mut SystemCommands<'_, '_>) -> Result<(), OutOfMemory> {
+    /// # use forgeni::{Commands, OutOfMemory};
+    /// fn launch(commands: &mut Commands) -> Result<(), OutOfMemory> {
     ///     if let Err(refused) = commands.spawn(&[]) {
     ///         refused.or_memory()?;
     ///     }

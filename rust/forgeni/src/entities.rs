@@ -8,7 +8,7 @@ use crate::handle::Handle;
 use crate::kit::alloc::Global;
 use crate::kit::vec::Vec as List;
 use crate::limits::Limits;
-use crate::lists::{all_handles, proved_handles};
+use crate::lists::{all_handles, proved_room};
 use crate::proved::{ent_alloc, ent_total};
 use crate::sharing::{Reserver, Shared};
 use alloc::vec::Vec;
@@ -238,7 +238,7 @@ impl Entities {
     }
 
     /// Brings to life what was requested, and lists it: first the handles of new slots, then the
-    /// others.
+    /// others. The time is that of what comes to life.
     ///
     /// # Errors
     ///
@@ -250,9 +250,12 @@ impl Entities {
         Ok(all_handles(born))
     }
 
-    /// [`flush`](Self::flush), which appends the handles to this list. It takes no memory if the
-    /// list has room for them and no slot is new. So a list that is cleared and used again takes
-    /// none in the end.
+    /// [`flush`](Self::flush), which appends the handles to this list. The time is that of what is
+    /// appended, however long the list is.
+    ///
+    /// Into a list without handles it takes no memory if the list has room and no slot is new. So a
+    /// list that is cleared and used again takes none in the end. Of one that has handles already, what
+    /// comes to life is first listed apart.
     ///
     /// ```
     /// use forgeni::Entities;
@@ -273,10 +276,14 @@ impl Entities {
     ///
     /// # Errors
     ///
-    /// `OutOfMemory`, and then nothing has changed, and the list neither.
+    /// `OutOfMemory`, and then nothing has changed, and the list has the same handles.
     #[doc = include_str!("proved/ent_alloc/entities.flush.md")]
     pub fn flush_into(&mut self, born: &mut Vec<Handle>) -> Result<(), OutOfMemory> {
-        let mut list = proved_handles(mem::take(born));
+        if !born.is_empty() {
+            born.try_reserve(self.reserved() as usize)?;
+            return self.flush_with(|handle| born.push(handle));
+        }
+        let mut list = proved_room(mem::take(born));
         let flushed = self.proved.flush(&mut list);
         *born = all_handles(list);
         Ok(flushed?)

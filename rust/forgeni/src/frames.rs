@@ -25,10 +25,20 @@ use std::sync::{Mutex, PoisonError};
 /// the report of the sync point.
 ///
 /// A worker takes the next system that nobody has taken yet, until none is left. The commands of
-/// the systems take effect in the order of the systems, whatever the order in which they ended. So
-/// the births, the components and the faults don't depend on the number of workers; which handles a
-/// system was given may. If a thread can't be started, another one does its work. One worker
-/// starts no thread.
+/// the systems take effect in the order of the systems, whatever the order in which they ended. If a
+/// thread can't be started, another one does its work. One worker starts no thread.
+///
+/// # What depends on the workers
+///
+/// Which handles a system is given does. The births, the components and the faults don't, as long as
+///
+/// - no spawn is refused: if slots or a credit run out, who asks late is refused, and who is late depends
+///   on the workers;
+/// - no memory is refused;
+/// - no handle decides: no system compares handles or keeps them as values, and no two entities have
+///   one birth. [`View::by_birth`] and [`View::with`] list those of one birth by handle.
+///   [`World::spawn`] gives each entity a birth of its own. [`World::spawn_with_birth`] may not, and a
+///   [`World::flush`] after a lost frame begins with the births that `World::spawn` gave in that phase.
 ///
 /// ```
 /// use forgeni::{run_frame, ComponentId, OutOfMemory, SystemCommands, View, World};

@@ -23,6 +23,23 @@ use core::ops::{Index, IndexMut};
 /// It does not know which handles an allocator has given or freed. A value that nobody removes stays
 /// until a later occupant of its slot gets one, and can't be found by that one's handle.
 ///
+/// **A handle of another's making may ask for much memory**: of a save, or from a network. Its index says
+/// for how many slots the map gets room, and `200000000v1` is a well formed handle. A map that is given
+/// such handles has a [limit](Self::with_limit), above which it refuses them:
+///
+/// ```
+/// use forgeni::{Entities, Handle, HandleMap, InsertionError};
+///
+/// let mut entities = Entities::new();
+/// let cart = entities.alloc()?;
+/// let mut names = HandleMap::with_limit(entities.total());
+/// names.insert(cart, "cart")?;
+/// let saved: Handle = "200000000v1".parse()?;
+/// let refused = names.insert(saved, "ship").unwrap_err();
+/// assert_eq!(refused.into_parts(), ("ship", InsertionError::Limit));
+/// # Ok::<(), Box<dyn std::error::Error + Send + Sync>>(())
+/// ```
+///
 /// ```
 /// use forgeni::{Entities, HandleMap};
 ///
@@ -54,27 +71,57 @@ use core::ops::{Index, IndexMut};
 /// that is no greater than 4 bytes it is 8 bytes a slot, and of one with 8 bytes it is 16.
 pub struct HandleMap<T> {
     proved: handle_map::HandleMap<T>,
+    /// The first handle, in their order, that is refused.
+    end: Handle,
 }
 
 impl<T> HandleMap<T> {
-    /// A map without values. It takes no memory.
+    /// A map without values, and without a limit. It takes no memory.
     #[doc = include_str!("proved/ent_storage/handle_map.new.md")]
     #[must_use]
     pub const fn new() -> Self {
+        Self::with_limit(u32::MAX)
+    }
+
+    /// A map without values, which refuses the handles of slots at or above this limit. It takes no
+    /// memory. [`Entities::total`](crate::Entities::total) is a limit that fits an allocator as long as
+    /// it makes no new slots; [`set_limit`](Self::set_limit) sets another one.
+    #[must_use]
+    pub const fn with_limit(slots: u32) -> Self {
         Self {
             proved: handle_map::HandleMap::new(Global),
+            end: end_of(slots),
         }
     }
 
-    /// A map without values, with room for that many slots.
+    /// How many slots the map may have values for: 2^32 - 1, or the limit that was set.
+    #[inline]
+    #[must_use]
+    pub const fn limit(&self) -> u32 {
+        if self.end.to_bits() == Handle::PLACEHOLDER.to_bits() {
+            u32::MAX
+        } else {
+            self.end.index()
+        }
+    }
+
+    /// Sets the limit. The values that the map has stay, also those of slots at or above it.
+    #[inline]
+    pub fn set_limit(&mut self, slots: u32) {
+        self.end = end_of(slots);
+    }
+
+    /// A map without values and without a limit, with room for that many slots.
     ///
     /// # Errors
     ///
     /// `OutOfMemory` if there is not that much.
     #[doc = include_str!("proved/ent_storage/handle_map.with_capacity.md")]
     pub fn with_capacity(slots: usize) -> Result<Self, OutOfMemory> {
-        let proved = handle_map::HandleMap::with_capacity(Global, slots)?;
-        Ok(Self { proved })
+        Ok(Self {
+            proved: handle_map::HandleMap::with_capacity(Global, slots)?,
+            ..Self::new()
+        })
     }
 
     /// How many values there are. It takes constant time.
@@ -140,7 +187,7 @@ impl<T> HandleMap<T> {
     /// has one, that is dropped.
     ///
     /// It takes no memory if there is room for the slot ([`capacity`](Self::capacity)), and constant
-    /// time then.
+    /// time then. Else it takes memory and time for all slots up to that of the handle.
     ///
     /// ```
     /// use forgeni::{Handle, HandleMap, InsertionError};
@@ -159,11 +206,19 @@ impl<T> HandleMap<T> {
     ///
     /// # Errors
     ///
-    /// [`Uninserted`] has the value, and nothing has changed: `Later` if a later occupant of the slot
-    /// has a value, or `Memory`.
+    /// [`Uninserted`] has the value, and nothing has changed: `Limit` if the handle's slot is at or
+    /// above the [`limit`](Self::limit), or if it is [`Handle::PLACEHOLDER`], which no map takes;
+    /// `Later` if a later occupant of the slot has a value; `Memory`.
     #[doc = include_str!("proved/ent_storage/handle_map.insert.md")]
     #[inline]
     pub fn insert(&mut self, handle: Handle, value: T) -> Result<Option<T>, Uninserted<T>> {
+        // The first comparison, which the second one implies, costs less, and is all for most handles.
+        if handle.index() >= self.end.index() && handle >= self.end {
+            return Err(Uninserted {
+                value,
+                error: InsertionError::Limit,
+            });
+        }
         Ok(self.proved.insert(handle.proved(), value)?)
     }
 
@@ -202,8 +257,8 @@ impl<T> HandleMap<T> {
     ///
     /// # Panics
     ///
-    /// A panic of `keep` is handed on. The map has then what was kept, and all that it wasn't called
-    /// at.
+    /// A panic of `keep` is handed on. The map has then what was kept, all that `keep` wasn't called
+    /// at, and the value at which it panicked, changed as far as `keep` had changed it.
     #[doc = include_str!("proved/ent_storage/handle_map.retain.md")]
     #[inline]
     pub fn retain(&mut self, mut keep: impl FnMut(Handle, &mut T) -> bool) {
@@ -225,6 +280,10 @@ impl<T> HandleMap<T> {
     /// places.for_each_mut(|one, place| *place += speeds[one]);
     /// assert!(places.values().all(|place| *place == 1.5));
     /// ```
+    ///
+    /// # Panics
+    ///
+    /// A panic of `change` is handed on. All values stay, changed as far as `change` had changed them.
     #[inline]
     pub fn for_each_mut(&mut self, mut change: impl FnMut(Handle, &mut T)) {
         self.retain(|handle, value| {
@@ -255,6 +314,15 @@ impl<T> HandleMap<T> {
     }
 }
 
+/// The first handle that a map with this limit refuses. Without a limit it is the last one that there
+/// is, which is the placeholder.
+const fn end_of(slots: u32) -> Handle {
+    match Handle::new(slots, 1) {
+        Some(first) => first,
+        None => Handle::PLACEHOLDER,
+    }
+}
+
 /// Ends the process as `Vec` does: there is no memory for a value, and nobody to say it to.
 #[cold]
 fn out_of_memory<T>() -> ! {
@@ -273,7 +341,7 @@ impl<T: fmt::Debug> fmt::Debug for HandleMap<T> {
     }
 }
 
-/// Where memory runs out, it ends as that of `Vec` does.
+/// It has the same limit. Where memory runs out, it ends as that of `Vec` does.
 impl<T: Clone> Clone for HandleMap<T> {
     fn clone(&self) -> Self {
         let slots = self
@@ -282,11 +350,12 @@ impl<T: Clone> Clone for HandleMap<T> {
             .map_or(0, |(last, _)| last.index() as usize + 1);
         let mut clone = Self::with_capacity(slots).unwrap_or_else(|_| out_of_memory::<T>());
         clone.extend(self.iter().map(|(handle, value)| (handle, value.clone())));
+        clone.end = self.end;
         clone
     }
 }
 
-/// The same handles have equal values.
+/// The same handles have equal values. Limits aren't compared.
 impl<T: PartialEq> PartialEq for HandleMap<T> {
     fn eq(&self, other: &Self) -> bool {
         self.len() == other.len() && self.iter().eq(other)
@@ -329,15 +398,15 @@ fn no_value(handle: Handle) -> ! {
     panic!("{handle} has no value")
 }
 
-/// Inserts each value, in their order, as [`HandleMap::insert`] does. One that is refused, since a
-/// later occupant of its slot has a value, is dropped. Where memory runs out, it ends as that of
-/// `Vec` does.
+/// Inserts each value, in their order, as [`HandleMap::insert`] does. One that is refused is dropped: a
+/// later occupant of its slot has a value, or its handle is above the limit or the placeholder. Where
+/// memory runs out, it ends as that of `Vec` does.
 impl<T> Extend<(Handle, T)> for HandleMap<T> {
     fn extend<I: IntoIterator<Item = (Handle, T)>>(&mut self, values: I) {
         for (handle, value) in values {
             if let Err(refused) = self.insert(handle, value) {
                 match refused.error {
-                    InsertionError::Later => drop(refused),
+                    InsertionError::Limit | InsertionError::Later => drop(refused),
                     InsertionError::Memory => out_of_memory::<T>(),
                 }
             }
@@ -414,7 +483,8 @@ impl<'a, T> IntoIterator for &'a HandleMap<T> {
     }
 }
 
-/// Where memory runs out for the list of the handles, it ends as that of `Vec` does.
+/// The handles are listed first, by one look at each slot. Where memory runs out for their list, it ends as
+/// that of `Vec` does.
 impl<T> IntoIterator for HandleMap<T> {
     type Item = (Handle, T);
     type IntoIter = IntoIter<T>;
@@ -431,6 +501,9 @@ impl<T> IntoIterator for HandleMap<T> {
 /// Why [`HandleMap::insert`] inserted nothing. Nothing has changed.
 #[derive(Clone, Copy, Debug, PartialEq, Eq, Hash)]
 pub enum InsertionError {
+    /// The handle's slot is at or above the map's [limit](HandleMap::limit), or the handle is
+    /// [`Handle::PLACEHOLDER`].
+    Limit,
     /// A later occupant of the slot has a value.
     Later,
     /// Memory ran out.
@@ -440,6 +513,7 @@ pub enum InsertionError {
 impl fmt::Display for InsertionError {
     fn fmt(&self, out: &mut fmt::Formatter<'_>) -> fmt::Result {
         out.write_str(match self {
+            Self::Limit => "the handle is above the map's limit",
             Self::Later => "a later occupant of the slot has a value",
             Self::Memory => "out of memory",
         })

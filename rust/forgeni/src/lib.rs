@@ -77,8 +77,8 @@
 //! # Worlds and frames
 //!
 //! A [`World`] has the allocator and what entities are made of, by numbered components of 64 bits. It
-//! knows when each entity was born, and reports what a frame did, whatever the number of its workers.
-//! `run_frame` runs systems on workers.
+//! knows when each entity was born, and reports what a frame did. `run_frame` runs systems on workers, and
+//! says what depends on their number.
 //! Each reads the world and issues commands, and the commands take effect in the order of the
 //! systems. Who has threads of its own uses [`World::open`], [`Commands`], [`OpenWorld::close`] and
 //! [`World::apply`].
@@ -113,9 +113,9 @@
 //! - Memory runs out: an `Err`. Nothing has changed then, but where a sync point stopped
 //!   ([`Stopped`]) or a frame is lost.
 //!
-//! Nothing panics, but for a pool without reservers (`Reservers::with`) and a map that is indexed by a
-//! handle without a value. Where Rust has no form
-//! that can be refused memory, the process ends, as it does of `Vec` and `Arc`:
+//! Nothing panics, but for a pool without reservers (`Reservers::with`), a map that is indexed by a
+//! handle without a value, and what the caller's own code panics with, which is handed on. Where Rust
+//! has no form that can be refused memory, the process ends, as it does of `Vec` and `Arc`:
 //!
 //! - [`Storage::items`] and [`World::items`] make a list.
 //! - [`Entities::share`], [`Entities::phase`] and [`World::open`] make an `Arc`. They ask for as much memory before, and
@@ -193,6 +193,8 @@ mod system_commands;
 pub mod trace;
 #[cfg(feature = "std")]
 mod view;
+#[cfg(feature = "std")]
+mod waiting;
 mod world;
 
 pub use commands::{CommandQueue, Commands, SpawnError};

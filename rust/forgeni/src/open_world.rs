@@ -27,27 +27,35 @@ type Ended = Result<(NumberedWorld, ent_total::Queues), ent_total::Unfinished<Nu
 /// It may go to another thread, and so may the [`Commands`] of its systems.
 pub struct OpenWorld {
     proved: Phase,
+    /// As the [`World`] has it, to which it goes back.
+    next: Birth,
 }
 
 impl OpenWorld {
     /// Opens the world, and gives out the commands of all its systems.
     pub(crate) fn open(
         world: NumberedWorld,
+        next: Birth,
         count: usize,
     ) -> Result<(Self, Vec<Commands>), Unopened> {
         let mut all = Vec::new();
         if all.try_reserve_exact(count.min(SYSTEMS)).is_err() {
             return Err(Unopened {
-                world: World::of(world),
+                world: World::of(world, next),
                 error: OpenError::Memory,
             });
         }
-        let opening = ent_total::open(Global, world, count)?;
-        Self::of(opening.numbered(next_number())).give_all(all)
-    }
-
-    fn of(proved: Phase) -> Self {
-        Self { proved }
+        match ent_total::open(Global, world, count) {
+            Ok(opening) => Self {
+                proved: opening.numbered(next_number()),
+                next,
+            }
+            .give_all(all),
+            Err(refused) => Err(Unopened {
+                world: World::of(refused.world, next),
+                error: refused.why.into(),
+            }),
+        }
     }
 
     /// Gives out the commands of all systems, in the order of their numbers, into a list with room
@@ -59,7 +67,7 @@ impl OpenWorld {
                 Ok(None) => break,
                 Err(_) => {
                     drop(all);
-                    return Err(Self::undo(self.proved));
+                    return Err(self.undo());
                 }
             }
         }
@@ -69,10 +77,10 @@ impl OpenWorld {
     }
 
     /// Memory ran out on the way, and no system has begun: the world is as it was.
-    fn undo(phase: Phase) -> Unopened {
-        match phase.close_lost(List::new(Global)) {
+    fn undo(self) -> Unopened {
+        match self.proved.close_lost(List::new(Global)) {
             Ok((world, _)) => Unopened {
-                world: World::of(world),
+                world: World::of(world, self.next),
                 error: OpenError::Memory,
             },
             Err(_) => unreachable!("nobody else has a part of the phase"),
@@ -131,7 +139,8 @@ impl OpenWorld {
 
     /// Ends the phase with the queues of all its systems. Their order here is the order in which
     /// they will take effect, and numbers their systems in births and faults. Nothing of the world
-    /// has changed but that handles are reserved.
+    /// has changed but that handles are reserved. The time is that of a look at each queue, however many
+    /// commands it has.
     ///
     /// # Errors
     ///
@@ -141,7 +150,7 @@ impl OpenWorld {
     /// [`close_lost`](Self::close_lost) does.
     #[doc = include_str!("proved/ent_total/finishing.close.md")]
     pub fn close(self, queues: Vec<CommandQueue>) -> Result<(World, Queues), Unfinished> {
-        Self::ended(self.proved.close(issued(queues)))
+        Self::ended(self.proved.close(issued(queues)), self.next)
     }
 
     /// Ends the phase although some systems are lost: their [`Commands`] or queues were dropped, as
@@ -160,14 +169,14 @@ impl OpenWorld {
     /// [`core::mem::forget`] exists for good.
     #[doc = include_str!("proved/ent_total/finishing.close_lost.md")]
     pub fn close_lost(self, queues: Vec<CommandQueue>) -> Result<(World, Queues), Unfinished> {
-        Self::ended(self.proved.close_lost(issued(queues)))
+        Self::ended(self.proved.close_lost(issued(queues)), self.next)
     }
 
     /// The world and its queues, or why the phase goes on.
-    fn ended(ended: Ended) -> Result<(World, Queues), Unfinished> {
+    fn ended(ended: Ended, next: Birth) -> Result<(World, Queues), Unfinished> {
         match ended {
-            Ok((world, queues)) => Ok((World::of(world), Queues::of(queues))),
-            Err(refused) => Err(refused.into()),
+            Ok((world, queues)) => Ok((World::of(world, next), Queues::of(queues))),
+            Err(refused) => Err(Unfinished::of(refused, next)),
         }
     }
 }
@@ -245,15 +254,6 @@ impl fmt::Display for Unopened {
 
 impl Error for Unopened {}
 
-impl From<ent_total::Unopened> for Unopened {
-    fn from(refused: ent_total::Unopened) -> Self {
-        Self {
-            world: World::of(refused.world),
-            error: refused.why.into(),
-        }
-    }
-}
-
 /// Why a phase was not closed.
 #[derive(Clone, Copy, Debug, PartialEq, Eq, Hash)]
 pub enum FinishError {
@@ -308,6 +308,19 @@ pub struct Unfinished {
 }
 
 impl Unfinished {
+    /// The phase goes on. The queues are handed back in the memory in which they came.
+    fn of(refused: ent_total::Unfinished<Numbers>, next: Birth) -> Self {
+        let queues: Vec<Issued> = refused.queues.into();
+        Self {
+            open: OpenWorld {
+                proved: refused.phase,
+                next,
+            },
+            queues: queues.into_iter().map(CommandQueue::of).collect(),
+            error: refused.why.into(),
+        }
+    }
+
     /// The phase, the queues that are handed back, and why it was not closed.
     #[must_use]
     pub fn into_parts(self) -> (OpenWorld, Vec<CommandQueue>, FinishError) {
@@ -322,14 +335,3 @@ impl fmt::Display for Unfinished {
 }
 
 impl Error for Unfinished {}
-
-impl From<ent_total::Unfinished<Numbers>> for Unfinished {
-    fn from(refused: ent_total::Unfinished<Numbers>) -> Self {
-        let queues: Vec<Issued> = refused.queues.into();
-        Self {
-            open: OpenWorld::of(refused.phase),
-            queues: queues.into_iter().map(CommandQueue::of).collect(),
-            error: refused.why.into(),
-        }
-    }
-}

@@ -3,6 +3,7 @@
 use crate::errors::OutOfMemory;
 use crate::lent::Lent;
 use crate::sharing::Reserver;
+use crate::waiting::Waiting;
 use alloc::vec::Vec;
 use core::error::Error;
 use core::fmt;
@@ -56,15 +57,16 @@ use std::thread_local;
 ///
 /// Each reserver has a flag, one atomic word in a cache line of its own. A lending looks up a number
 /// of its thread, and takes the flag of the reserver with that number, or of the next one that is
-/// free. That is one atomic step for each flag that it looks at, and one to give it back. There is no
-/// lock of the pool. So a reservation makes three atomic steps instead of one, and two of them are of
-/// a word that only few threads touch. With as many reservers as threads that run, a thread mostly
-/// finds the first one free.
+/// free. That is one atomic step for each flag that it looks at, and to give it back one step, a fence,
+/// and a look at whether somebody waits. There is no lock of the pool. So a reservation makes three
+/// atomic steps instead of one, and two of them are of a word that only few threads touch. With as many
+/// reservers as threads that run, a thread mostly finds the first one free.
 ///
-/// If none was free when it looked, [`with`](Self::with) waits, as `Mutex` does, until the reserver
-/// with its number is. [`try_with`](Self::try_with) waits for nobody.
+/// If none was free when it looked, [`with`](Self::with) sleeps, and takes whichever comes free first.
+/// [`try_with`](Self::try_with) waits for nobody.
 pub struct Reservers<R = Reserver> {
     places: Vec<Place<R>>,
+    waiting: Waiting,
 }
 
 /// A reserver with its flag. Two of them share no line of a processor's cache.
@@ -125,7 +127,8 @@ impl<R: Lends> Reservers<R> {
             return Err(Unpooled { reservers, error });
         }
         places.extend(reservers.map(|reserver| Place(Mutex::new(reserver))));
-        Ok(Self { places })
+        let waiting = Waiting::new();
+        Ok(Self { places, waiting })
     }
 
     /// How many reservers it has.
@@ -134,18 +137,19 @@ impl<R: Lends> Reservers<R> {
         self.places.len()
     }
 
-    /// Lends a reserver to `run`, and returns what that returns. It waits only if none was free.
+    /// Lends a reserver to `run`, and returns what that returns. If none is free, it waits until one
+    /// is, whichever comes first.
     ///
-    /// A `with` within a `with` takes one reserver more. If it takes the last one twice, it waits for
-    /// itself for good, so there [`try_with`](Self::try_with) is the call to make.
+    /// A `with` within a `with` takes one reserver more. If threads have all of them and wait for one
+    /// more each, they wait for good, so there [`try_with`](Self::try_with) is the call to make.
     ///
     /// # Panics
     ///
     /// If the pool has no reservers. A panic of `run` is handed on, and the reserver is as good as
     /// before.
     pub fn with<T>(&self, run: impl FnOnce(&mut Lent<'_>) -> T) -> T {
-        let mut reserver = self.free().unwrap_or_else(|| self.awaited());
-        run(&mut reserver.lend())
+        let mut loan = self.free().unwrap_or_else(|| self.awaited());
+        run(&mut loan.reserver.lend())
     }
 
     /// Lends a reserver to `run`, and returns what that returns, or `None` at once if none was free.
@@ -154,27 +158,46 @@ impl<R: Lends> Reservers<R> {
     ///
     /// A panic of `run` is handed on, and the reserver is as good as before.
     pub fn try_with<T>(&self, run: impl FnOnce(&mut Lent<'_>) -> T) -> Option<T> {
-        let mut reserver = self.free()?;
-        Some(run(&mut reserver.lend()))
+        let mut loan = self.free()?;
+        Some(run(&mut loan.reserver.lend()))
     }
 
     /// The first reserver that is free, from that with the thread's number on.
-    fn free(&self) -> Option<MutexGuard<'_, R>> {
+    fn free(&self) -> Option<Loan<'_, R>> {
         let start = own_number() % self.places.len().max(1);
         let (before, from) = self.places.split_at(start);
-        from.iter().chain(before).find_map(Place::try_take)
+        let reserver = from.iter().chain(before).find_map(Place::try_take)?;
+        let _wakes = Wakes(&self.waiting);
+        Some(Loan { reserver, _wakes })
     }
 
-    /// The reserver with the thread's number, when it is free.
-    fn awaited(&self) -> MutexGuard<'_, R> {
-        let place = &self.places[own_number() % self.places.len()];
-        // A panic can't leave a reserver half done: none comes from a reservation.
-        place.0.lock().unwrap_or_else(PoisonError::into_inner)
+    /// The reserver that comes free first.
+    #[cold]
+    fn awaited(&self) -> Loan<'_, R> {
+        assert!(!self.places.is_empty(), "the pool has no reservers");
+        self.waiting.until(|| self.free())
+    }
+}
+
+/// A reserver that is lent, until this is dropped. Its flag is given back first, and then who waits is
+/// woken: that is the order of the fields.
+struct Loan<'a, R> {
+    reserver: MutexGuard<'a, R>,
+    _wakes: Wakes<'a>,
+}
+
+/// Wakes one of those who wait as it is dropped.
+struct Wakes<'a>(&'a Waiting);
+
+impl Drop for Wakes<'_> {
+    #[inline]
+    fn drop(&mut self) {
+        self.0.wake_one();
     }
 }
 
 impl<R> Reservers<R> {
-    /// The reservers, in the order in which they came.
+    /// The reservers, in the order in which they came. Each is moved once.
     ///
     /// Where memory runs out for the list, it ends as `Vec` does.
     #[must_use]
@@ -188,6 +211,7 @@ impl<R> Place<R> {
     fn try_take(&self) -> Option<MutexGuard<'_, R>> {
         match self.0.try_lock() {
             Ok(reserver) => Some(reserver),
+            // A panic can't leave a reserver half done: none comes from a reservation.
             Err(TryLockError::Poisoned(poisoned)) => Some(poisoned.into_inner()),
             Err(TryLockError::WouldBlock) => None,
         }

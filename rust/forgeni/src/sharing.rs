@@ -26,6 +26,8 @@ pub struct Shared {
     proved: Phase,
     /// Room for the callers on their way home, so that a close takes no memory.
     room: Vec<Caller>,
+    /// How many handles the pool had as the phase was opened. It has never more.
+    pool: u64,
 }
 
 impl Shared {
@@ -40,10 +42,12 @@ impl Shared {
                 error: ShareError::Memory,
             });
         };
+        let pool = u64::from(entities.top()) + u64::from(entities.room());
         let opening = ent_total::share(Global, entities, callers)?;
         let shared = Self {
             proved: opening.numbered(next_number()),
             room,
+            pool,
         };
         shared.give_all(reservers)
     }
@@ -139,7 +143,8 @@ impl Shared {
     /// `OutOfMemory` if the phase can't count one more owner, and then nothing has changed.
     #[doc = include_str!("proved/ent_total/phase.caller.md")]
     pub fn reserver(&mut self) -> Result<Option<Reserver>, OutOfMemory> {
-        Ok(self.proved.caller()?.map(Reserver::of))
+        let caller = self.proved.caller()?;
+        Ok(caller.map(|proved| Reserver::of(proved, self.pool)))
     }
 
     /// Ends the phase with all its reservers. The allocator is as if their reservations had been
@@ -191,18 +196,23 @@ impl Shared {
                 error: CloseError::OtherPhase,
             });
         }
-        let mut callers = self.room;
+        let (mut callers, pool) = (self.room, self.pool);
         callers.extend(reservers.drain(..).map(|one| one.proved));
         match close(self.proved, callers.into()) {
             Ok(entities) => Ok(Entities::of(entities)),
-            Err(refused) => Err(Self::unclosed(refused, reservers)),
+            Err(refused) => Err(Self::unclosed(refused, reservers, pool)),
         }
     }
 
     /// The phase goes on, and the reservers are handed back in the list in which they came.
-    fn unclosed(refused: ent_total::Unclosed<Numbers>, mut reservers: Vec<Reserver>) -> Unclosed {
+    fn unclosed(
+        refused: ent_total::Unclosed<Numbers>,
+        mut reservers: Vec<Reserver>,
+        pool: u64,
+    ) -> Unclosed {
         let mut room: Vec<Caller> = refused.callers.into();
-        reservers.extend(room.drain(..).map(Reserver::of));
+        let handed_back = room.drain(..).map(|proved| Reserver::of(proved, pool));
+        reservers.extend(handed_back);
         // The room is gone with those that are at home now. Where there is none, the next close asks
         // again.
         let _ = room.try_reserve_exact(refused.phase.count());
@@ -210,6 +220,7 @@ impl Shared {
             shared: Self {
                 proved: refused.phase,
                 room,
+                pool,
             },
             reservers,
             error: refused.why.into(),
@@ -256,11 +267,13 @@ impl ent_total::Sink for Listing<'_> {
 #[repr(align(128))]
 pub struct Reserver {
     proved: Caller,
+    /// How many handles the pool had as the phase was opened.
+    pool: u64,
 }
 
 impl Reserver {
-    pub(crate) fn of(proved: Caller) -> Self {
-        Self { proved }
+    fn of(proved: Caller, pool: u64) -> Self {
+        Self { proved, pool }
     }
 
     /// Reserves one handle, by one atomic step. It takes no memory.
@@ -281,9 +294,13 @@ impl Reserver {
     ///
     /// # Errors
     ///
-    /// `Space` if the pool has fewer than `n` handles, which is taken from the quota too, and the
-    /// pool gives no more until the next flush. `Quota` if `n` is above what is left of it, and
-    /// `Memory` if there is none for the list: then nothing has changed.
+    /// `Quota` if `n` is above what is left of it, and then nothing has changed. `Space` if the pool
+    /// has fewer than `n` handles, which is taken from the quota too, and the pool gives no more until
+    /// the next flush. `Memory` if there is none for the list, and then nothing has changed.
+    ///
+    /// The list is asked for before the atomic step, which tells what the pool has. So a request that
+    /// others leave too little for may be `Memory`. One for more than the pool had as the phase was
+    /// opened asks for no memory, and is `Space`.
     #[doc = include_str!("proved/ent_total/caller.reserve_many.md")]
     #[inline]
     pub fn reserve_many(&mut self, n: u32) -> Result<Vec<Handle>, Refused> {
@@ -301,10 +318,16 @@ impl Reserver {
     #[doc = include_str!("proved/ent_total/caller.reserve_many.md")]
     #[inline]
     pub fn reserve_into(&mut self, handles: &mut Vec<Handle>, n: u32) -> Result<(), Refused> {
-        if handles.try_reserve(n as usize).is_err() {
+        if self.may_give(n) && handles.try_reserve(n as usize).is_err() {
             return Err(Refused::Memory);
         }
         Ok(self.proved.reserve_many(&mut Listing(handles), n)?)
+    }
+
+    /// Whether a request for `n` may be served. If not, nothing is listed.
+    #[inline]
+    fn may_give(&self, n: u32) -> bool {
+        u64::from(n) <= self.pool.min(self.quota_left())
     }
 
     /// Each later reservation of this one comes after everything that the other one has reserved or

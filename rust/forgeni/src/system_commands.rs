@@ -37,7 +37,8 @@ impl<'a, 'w> SystemCommands<'a, 'w> {
         Ok(Handle::of(self.proved.spawn(&bundle)?))
     }
 
-    /// Reserves `count` handles at once, each of which is to have the components.
+    /// Reserves `count` handles at once, each of which is to have the components. The time is that of
+    /// their list, and as much of the queue.
     ///
     /// # Errors
     ///

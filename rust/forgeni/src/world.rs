@@ -26,6 +26,10 @@ use core::fmt;
 /// once ([`spawn`](Self::spawn), [`despawn`](Self::despawn)), and the components of a living one
 /// change by commands alone.
 ///
+/// Queues take effect in their order, whoever issued first. So births, components and faults are the same
+/// on any number of threads, if no request and no memory is refused and no handle decides what a system
+/// does (`run_frame` says when one does).
+///
 /// ```
 /// use forgeni::{ComponentId, World};
 ///
@@ -51,11 +55,14 @@ use core::fmt;
 /// It may go to another thread, and many threads may read it at once: it is `Send` and `Sync`.
 pub struct World {
     pub(crate) proved: NumberedWorld,
+    /// The birth of the entity that [`spawn`](Self::spawn) brings to life next, if no flush comes before.
+    next: Birth,
 }
 
 impl World {
-    pub(crate) fn of(proved: NumberedWorld) -> Self {
-        Self { proved }
+    /// A world that was away, with the birth that it gives next.
+    pub(crate) fn of(proved: NumberedWorld, next: Birth) -> Self {
+        Self { proved, next }
     }
 
     /// A world without entities, with the greatest limits. It takes no memory.
@@ -67,10 +74,11 @@ impl World {
     /// A world without entities, with these limits. It takes no memory.
     #[must_use]
     pub fn with_limits(limits: Limits) -> Self {
-        Self::of(NumberedWorld {
+        let proved = NumberedWorld {
             world: ent_world::World::new(Global, limits.proved()),
             number: next_number(),
-        })
+        };
+        Self::of(proved, first_birth(0))
     }
 
     /// A world without entities, with these limits, as [`with_limits`](Self::with_limits) makes it.
@@ -83,23 +91,44 @@ impl World {
     }
 
     /// Brings an entity to life at once, with these components. If one stands twice in the list,
-    /// its last value counts. Its birth names the phase, no system, and the ordinal 0, so all that
-    /// are spawned so between two flushes have the same one.
+    /// its last value counts. Its birth names the phase, no system, and as ordinal how many were
+    /// spawned so since the last flush. The ordinal stays at 2^32 - 1.
+    ///
+    /// ```
+    /// use forgeni::World;
+    ///
+    /// let mut world = World::new();
+    /// let cart = world.spawn(&[])?;
+    /// let horse = world.spawn(&[])?;
+    /// assert_eq!(world.birth(cart).unwrap().to_string(), "0.4294967295.0");
+    /// assert_eq!(world.birth(horse).unwrap().to_string(), "0.4294967295.1");
+    /// # Ok::<(), forgeni::AllocError>(())
+    /// ```
     ///
     /// # Errors
     ///
     /// `NeedsFlush`, `Space` or `Memory`, and then nothing has changed.
     #[inline]
     pub fn spawn(&mut self, components: &[(ComponentId, i64)]) -> Result<Handle, AllocError> {
-        let birth = Birth {
-            frame: self.phase(),
-            system: Birth::NO_SYSTEM,
-            ordinal: 0,
-        };
-        self.spawn_with_birth(birth, components)
+        let birth = self.next_birth();
+        let spawned = self.spawn_with_birth(birth, components)?;
+        self.next.frame = birth.frame;
+        self.next.ordinal = birth.ordinal.saturating_add(1);
+        Ok(spawned)
     }
 
-    /// As [`spawn`](Self::spawn), with this birth, which may be any.
+    /// The birth of the entity that is spawned next.
+    #[inline]
+    fn next_birth(&self) -> Birth {
+        let frame = self.phase();
+        if self.next.frame == frame {
+            self.next
+        } else {
+            first_birth(frame)
+        }
+    }
+
+    /// As [`spawn`](Self::spawn), with this birth, which may be any, also that of another entity.
     ///
     /// # Errors
     ///
@@ -213,7 +242,8 @@ impl World {
 
     /// Brings to life what is reserved, without components: what the systems of a phase had
     /// spawned whose queues are not to take effect. The birth of each entity names the phase that
-    /// ends, no system, and the entity's number among those that are born.
+    /// ends, no system, and the entity's number among those that are born. So an entity that
+    /// [`spawn`](Self::spawn) made in that phase may have the same birth.
     /// [`apply`](Self::apply) brings to life too.
     ///
     /// # Errors
@@ -246,12 +276,13 @@ impl World {
     /// only if another thread takes it in between.
     #[doc = include_str!("proved/ent_total/world_opening.open.md")]
     pub fn open(self, count: usize) -> Result<(OpenWorld, Vec<Commands>), Unopened> {
-        OpenWorld::open(self.proved, count)
+        OpenWorld::open(self.proved, self.next, count)
     }
 
     /// The sync point: brings to life what is reserved, and then lets the queues take effect, one
     /// after the other, in their order. A command on an entity that is not alive at its turn has no
-    /// effect and is a fault of the report, and so is a refused spawn.
+    /// effect and is a fault of the report, and so is a refused spawn. The lists of the report are walked
+    /// once more, and take no memory for that.
     ///
     /// # Errors
     ///
@@ -262,6 +293,15 @@ impl World {
     #[doc = include_str!("proved/ent_total/applying.apply.md")]
     pub fn apply(&mut self, queues: Queues) -> Result<Report, SyncError> {
         Ok(Report::of(queues.apply(&mut self.proved)?))
+    }
+}
+
+/// The birth of the first entity that is spawned in a phase.
+fn first_birth(frame: u64) -> Birth {
+    Birth {
+        frame,
+        system: Birth::NO_SYSTEM,
+        ordinal: 0,
     }
 }
 

@@ -6,18 +6,21 @@ mod common;
 mod worlds;
 
 mod errors;
+#[cfg(feature = "std")]
 mod frames;
 mod handle_map;
 mod handles;
 mod like_bevy;
 mod like_hecs;
 mod like_slotmap;
+mod limits;
 mod model;
 mod panics;
 mod phases;
 mod recording;
 mod sharing;
 mod storage_model;
+mod texts;
 mod threads;
 mod trace;
 mod trace_model;

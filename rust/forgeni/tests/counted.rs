@@ -1,8 +1,8 @@
-//! Births in a storage, for counts of instructions and of calls. `examples/counted_runs.sh` runs each
-//! of these tests at several sizes under callgrind, and compares. The variable `FORGENI_ENTITIES`
-//! says how many entities there are.
+//! Births in a storage and lists of handles, for counts of instructions and of calls.
+//! `examples/counted_runs.sh` runs each of these tests at several sizes under callgrind, and compares. The
+//! variable `FORGENI_ENTITIES` says how many entities there are.
 
-use forgeni::{Birth, Handle, Storage};
+use forgeni::{Birth, Commands, Entities, Handle, Storage, World};
 
 const BIRTH: Birth = Birth {
     frame: 0,
@@ -71,4 +71,45 @@ fn births_that_fill_the_index() {
     }
     assert_eq!(storage.len(), entities as usize);
     assert!((last - entities..last).all(|slot| storage.contains(handle(slot, 1))));
+}
+
+/// One handle is requested and brought to life at a time, behind all that the list has. Here the
+/// instructions are counted.
+#[inline(never)]
+fn one_by_one(entities: &mut Entities, born: &mut Vec<Handle>, count: u32) {
+    for _ in 0..count {
+        entities.request().expect("a handle");
+        entities.flush_into(born).expect("memory is ample");
+    }
+}
+
+/// 4,096 flushes into a list that has so many handles before.
+#[test]
+fn flushes_into_a_long_list() {
+    let mut entities = Entities::new();
+    let mut born = entities.alloc_many(self::entities()).expect("memory");
+    let before = born.len();
+    born.reserve(4_096);
+    one_by_one(&mut entities, &mut born, 4_096);
+    assert_eq!(born.len(), before + 4_096);
+    assert!(entities.iter().eq(born));
+}
+
+/// Each list of a phase and its sync point has so many handles. Here the instructions are counted.
+#[inline(never)]
+fn lists_of_a_phase(world: World, count: u32) -> World {
+    let (open, mut systems) = world.open(1).expect("memory");
+    let given = systems[0].spawn_many(count, &[]).expect("memory is ample");
+    let queues = systems.into_iter().map(Commands::finish).collect();
+    let (mut world, queues) = open.close(queues).expect("closed");
+    let report = world.apply(queues).expect("memory is ample");
+    assert_eq!(report.born(), given);
+    world
+}
+
+/// What is listed once costs as much a handle in a long list as in a short one.
+#[test]
+fn lists_that_a_call_makes() {
+    let count = entities();
+    assert_eq!(lists_of_a_phase(World::new(), count).len(), count as usize);
 }

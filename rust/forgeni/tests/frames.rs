@@ -246,6 +246,81 @@ fn refused_spawns_are_faults() {
     assert_eq!(faults, [FaultKind::Space { wanted: 3, left: 1 }]);
 }
 
+/// A frame of two systems that spawn one entity each. With two workers the second one is first to
+/// reserve.
+fn two_spawns(world: &mut World, workers: usize) -> Report {
+    let order = Barrier::new(workers);
+    let first = |_: View<'_>, commands: &mut SystemCommands<'_, '_>| {
+        order.wait();
+        let spawned = commands.spawn(&[]);
+        spawned.map_or_else(SpawnError::or_memory, |_| Ok(()))
+    };
+    let second = |_: View<'_>, commands: &mut SystemCommands<'_, '_>| {
+        let spawned = commands.spawn(&[]);
+        if workers == 2 {
+            order.wait();
+        }
+        spawned.map_or_else(SpawnError::or_memory, |_| Ok(()))
+    };
+    let systems: [&dyn System; 2] = [&first, &second];
+    run_frame(world, &systems, workers).expect("memory")
+}
+
+/// The text of each birth, in the order of births, with the value.
+fn births(world: &World) -> Vec<(String, Option<i64>)> {
+    let all = world.by_birth().expect("memory").into_iter();
+    let told = |one| {
+        (
+            world.birth(one).expect("alive").to_string(),
+            world.get(one, HP),
+        )
+    };
+    all.map(told).collect()
+}
+
+/// Where a request is refused, who is born depends on who asked first.
+#[test]
+fn refusals_depend_on_the_workers() {
+    for (workers, birth, late) in [(1, "0.0.0", 1), (2, "0.1.0", 0)] {
+        let mut world = World::with_limits(Limits::new(1, 1).expect("limits"));
+        let report = two_spawns(&mut world, workers);
+        assert_eq!(births(&world), [(birth.to_string(), None)]);
+        let faults: Vec<_> = report.faults().iter().map(|fault| fault.system).collect();
+        assert_eq!(faults, [late]);
+    }
+}
+
+/// Two entities that take the slots of two others, whose handles depend on the workers. Each has a birth of
+/// its own, if the world chooses it. Of two with one birth the handles decide who is first.
+#[test]
+fn births_between_frames() {
+    fn replace(world: &mut World, spawn: impl Fn(&mut World, i64) -> Handle) -> Vec<Option<i64>> {
+        let old = world.by_birth().expect("memory");
+        for (one, value) in old.into_iter().zip(1..) {
+            world.despawn(one).expect("alive");
+            spawn(world, value);
+        }
+        births(world).into_iter().map(|(_, value)| value).collect()
+    }
+    let own = |world: &mut World, value| world.spawn(&[(HP, value)]).expect("a handle");
+    let equal = |world: &mut World, value| {
+        let birth = Birth {
+            frame: 7,
+            system: 0,
+            ordinal: 0,
+        };
+        let spawned = world.spawn_with_birth(birth, &[(HP, value)]);
+        spawned.expect("a handle")
+    };
+    for workers in [1, 2] {
+        let mut world = World::new();
+        two_spawns(&mut world, workers);
+        assert_eq!(replace(&mut world, own), [Some(1), Some(2)]);
+        let by_handle = [[Some(1), Some(2)], [Some(2), Some(1)]][workers - 1];
+        assert_eq!(replace(&mut world, equal), by_handle);
+    }
+}
+
 /// As many systems run at once as there are workers.
 #[test]
 fn workers_overlap() {
@@ -299,6 +374,88 @@ fn systems_of_several_types() {
     // A list of one type needs neither.
     run_frame(&mut world, &[launch], 1).expect("memory");
     assert_eq!(world.len(), 3);
+}
+
+/// A system is lost in whatever it lies.
+#[test]
+fn systems_that_lack_memory() {
+    fn lacks(_: View<'_>, _: &mut SystemCommands<'_, '_>) -> Result<(), OutOfMemory> {
+        Err(OutOfMemory)
+    }
+    let lost = |ran: Result<Report, FrameError>| {
+        assert!(matches!(ran, Err(FrameError::Lost)), "{ran:?}");
+    };
+    let mut world = World::new();
+    lost(run_frame(&mut world, &[lacks], 1));
+    let lent: &dyn System = &lacks;
+    lost(run_frame(&mut world, &[lent], 1));
+    let boxed: Box<dyn System> = Box::new(lacks);
+    lost(run_frame(&mut world, &[boxed], 1));
+    assert_eq!((world.phase(), world.len()), (0, 0));
+}
+
+/// Each command stands in its queue, also one that sets nothing or takes out what isn't there: the fault of
+/// one on an entity that is gone has its number.
+#[test]
+fn no_command_is_lost() {
+    let mut world = World::new();
+    let gone = world.spawn(&[]).expect("a handle");
+    let lives = world.spawn(&[(HP, 1), (AGE, 2)]).expect("a handle");
+    world.despawn(gone).expect("alive");
+    let system = |_: View<'_>, commands: &mut SystemCommands<'_, '_>| {
+        commands.insert(gone, &[])?;
+        commands.insert(gone, &[(HP, 1)])?;
+        commands.insert(lives, &[(HP, 7), (HP, 8)])?;
+        commands.remove(gone, HP)?;
+        commands.remove(lives, AGE)?;
+        commands.remove(lives, AGE)?;
+        commands.insert(lives, &[])?;
+        commands.despawn(gone)
+    };
+    let report = run_frame(&mut world, &[system], 1).expect("memory");
+    let faults = report.faults().iter().map(|fault| fault.command);
+    assert!(faults.eq([0, 1, 3, 7]));
+    let all = |fault: &forgeni::Fault| fault.kind == FaultKind::NotAlive(gone);
+    assert!(report.faults().iter().all(all));
+    assert_eq!(world.items(lives), Some(vec![(HP, 8)]));
+}
+
+/// A view lists those with a component, or all, by birth; it tells what each had as the frame began.
+#[test]
+fn what_a_view_tells() {
+    let mut world = World::new();
+    let birth = |ordinal| Birth {
+        frame: 0,
+        system: 0,
+        ordinal,
+    };
+    let spawn = |world: &mut World, ordinal, components: &[(ComponentId, i64)]| {
+        let spawned = world.spawn_with_birth(birth(ordinal), components);
+        spawned.expect("a handle")
+    };
+    let late = spawn(&mut world, 9, &[(HP, 1)]);
+    let bare = spawn(&mut world, 5, &[]);
+    let early = spawn(&mut world, 2, &[(AGE, 3), (HP, 4)]);
+    let gone = spawn(&mut world, 1, &[(HP, 1)]);
+    world.despawn(gone).expect("alive");
+    let system = |view: View<'_>, commands: &mut SystemCommands<'_, '_>| {
+        let spawned = commands.spawn(&[(HP, 1)]).expect("a handle");
+        commands.insert(late, &[(HP, 2)])?;
+        assert_eq!(view.with(HP), Ok(vec![early, late]));
+        assert_eq!(view.with(AGE), Ok(vec![early]));
+        assert_eq!(view.with(ComponentId(9)), Ok(vec![]));
+        assert_eq!(view.by_birth(), Ok(vec![early, bare, late]));
+        assert_eq!((view.get(late, HP), view.get(bare, HP)), (Some(1), None));
+        assert_eq!(view.birth(bare), Some(birth(5)));
+        assert_eq!(view.of_birth(birth(9)), Some(late));
+        assert_eq!(view.of_birth(birth(1)), None);
+        let lives = [late, bare, early, gone, spawned].map(|one| view.contains(one));
+        assert_eq!(lives, [true, true, true, false, false]);
+        assert_eq!(view.phase(), 0);
+        Ok(())
+    };
+    run_frame(&mut world, &[system], 1).expect("memory");
+    assert_eq!(world.get(late, HP), Some(2));
 }
 
 #[test]

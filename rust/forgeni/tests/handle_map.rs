@@ -338,6 +338,58 @@ fn capacity_and_room() {
     assert_eq!(map.capacity(), room);
 }
 
+/// No map takes the placeholder, and one with a limit takes no handle of a slot at or above it. Memory is
+/// asked for by neither.
+#[test]
+fn limits() {
+    let refused = |map: &mut HandleMap<u8>, one| {
+        let room = map.capacity();
+        let refused = map.insert(one, 7).expect_err("above the limit");
+        assert_eq!(refused.into_parts(), (7, InsertionError::Limit));
+        assert_eq!(map.capacity(), room);
+    };
+    let mut map = HandleMap::new();
+    refused(&mut map, Handle::PLACEHOLDER);
+    assert_eq!((map.len(), map.limit()), (0, u32::MAX));
+
+    for limit in [0, 1, 5, u32::MAX - 1] {
+        let mut map = HandleMap::with_limit(limit);
+        assert_eq!((map.limit(), map.capacity()), (limit, 0));
+        refused(&mut map, handle(limit, 1));
+        refused(&mut map, handle(limit.max(u32::MAX - 2), (1 << 31) - 1));
+        refused(&mut map, Handle::PLACEHOLDER);
+        if (1..10).contains(&limit) {
+            let last = handle(limit - 1, (1 << 31) - 1);
+            assert_eq!(map.insert(last, 1).expect("below the limit"), None);
+        }
+    }
+    assert_eq!(HandleMap::<u8>::with_limit(u32::MAX).limit(), u32::MAX);
+
+    // What is there stays, and is found, changed and taken out.
+    let mut map: HandleMap<u8> = (0..4).map(|index| (handle(index, 2), 1)).collect();
+    map.set_limit(2);
+    assert_eq!((map.limit(), map.len(), map[handle(3, 2)]), (2, 4, 1));
+    refused(&mut map, handle(3, 2));
+    refused(&mut map, handle(2, 3));
+    assert_eq!(map.insert(handle(1, 2), 5).expect("below"), Some(1));
+    assert_eq!(map.remove(handle(3, 2)), Some(1));
+    // It goes with a clone, and is no part of equality. What it refuses isn't extended by.
+    let mut clone = map.clone();
+    refused(&mut clone, handle(2, 2));
+    clone.set_limit(9);
+    assert_eq!((clone == map, clone.limit(), map.limit()), (true, 9, 2));
+    clone.extend([
+        (handle(9, 1), 3),
+        (handle(8, 1), 4),
+        (Handle::PLACEHOLDER, 5),
+    ]);
+    assert!(clone.keys().skip(3).eq([handle(8, 1)]));
+    assert_eq!(
+        InsertionError::Limit.to_string(),
+        "the handle is above the map's limit"
+    );
+}
+
 #[test]
 fn indexing() {
     let mut map: HandleMap<Vec<u32>> = [(handle(1, 1), vec![1])].into_iter().collect();
@@ -477,4 +529,40 @@ fn a_closure_that_panics() {
     assert!(map.values().eq(&[10, 12, 3, 4]));
     map.for_each_mut(|_, value| *value += 1);
     assert!(map.values().eq(&[11, 13, 4, 5]));
+
+    // The value at which it panics stays, as it was changed.
+    let ran = catch_unwind(AssertUnwindSafe(|| {
+        map.retain(|_, value| {
+            *value = 99;
+            resume_unwind(Box::new("stopped"))
+        })
+    }));
+    assert!(ran.is_err());
+    assert!(map.values().eq(&[99, 13, 4, 5]));
+}
+
+/// Each value is inserted in its turn, and one that is refused keeps none of the others away.
+#[test]
+fn extending() {
+    let pairs = [
+        (handle(3, 2), "a"),
+        (handle(3, 1), "refused"),
+        (handle(0, 1), "b"),
+        (Handle::PLACEHOLDER, "refused"),
+        (handle(0, 1), "c"),
+        (handle(3, 5), "d"),
+        (handle(1, 1), "e"),
+    ];
+    let wanted = [
+        (handle(0, 1), "c"),
+        (handle(1, 1), "e"),
+        (handle(3, 5), "d"),
+    ];
+    let collected: HandleMap<&str> = pairs.into_iter().collect();
+    let mut extended = HandleMap::new();
+    extended.extend(pairs);
+    for map in [collected, extended] {
+        assert_eq!(map.len(), 3);
+        assert!(map.into_iter().eq(wanted));
+    }
 }

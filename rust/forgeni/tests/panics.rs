@@ -2,54 +2,12 @@
 //! it found half done is a state that the package speaks of, with nothing lost.
 
 use crate::common::{handle, small};
-use forgeni::{
-    run_frame, Birth, Commands, ComponentId, Entities, FinishError, FrameError, OutOfMemory,
-    System, SystemCommands, View, World,
-};
+use forgeni::{Commands, ComponentId, Entities, FinishError, World};
 use std::fmt::{self, Write};
-use std::panic::{catch_unwind, panic_any, resume_unwind, AssertUnwindSafe};
+use std::panic::{catch_unwind, resume_unwind, AssertUnwindSafe};
 use std::thread;
 
 const HP: ComponentId = ComponentId(0);
-
-/// What a system does.
-#[derive(Clone, Copy)]
-enum Does {
-    /// Spawns that many, all at once.
-    Spawn(u32),
-    /// Spawns that many, and then panics with the number.
-    SpawnAndPanic(u32, u32),
-    /// Despawns all.
-    Despawn,
-    /// Says that memory ran out.
-    Memory,
-}
-
-impl System for Does {
-    fn run(
-        &self,
-        view: View<'_>,
-        commands: &mut SystemCommands<'_, '_>,
-    ) -> Result<(), OutOfMemory> {
-        match *self {
-            Does::Spawn(count) => {
-                commands.spawn_many(count, &[(HP, 1)]).expect("handles");
-            }
-            Does::SpawnAndPanic(count, number) => {
-                commands.spawn_many(count, &[(HP, 1)]).expect("handles");
-                // It makes no noise.
-                resume_unwind(Box::new(number));
-            }
-            Does::Despawn => {
-                for one in view.by_birth()? {
-                    commands.despawn(one)?;
-                }
-            }
-            Does::Memory => return Err(OutOfMemory),
-        }
-        Ok(())
-    }
-}
 
 /// A world with one entity.
 fn one() -> World {
@@ -58,144 +16,190 @@ fn one() -> World {
     world
 }
 
-/// The number with which a frame of these systems panics.
-fn panic_of(world: &mut World, systems: &[Does], workers: usize) -> u32 {
-    let ran = catch_unwind(AssertUnwindSafe(|| run_frame(world, systems, workers)));
-    let panic = ran.expect_err("a panic is handed on");
-    *panic.downcast::<u32>().expect("the number")
-}
+#[cfg(feature = "std")]
+mod frames {
+    use super::*;
+    use forgeni::{run_frame, Birth, FrameError, OutOfMemory, System, SystemCommands, View};
+    use std::panic::panic_any;
 
-const WORKERS: [usize; 5] = [1, 2, 3, 16, 64];
-
-#[test]
-fn a_system_that_panics_leaves_the_world() {
-    for workers in WORKERS {
-        let mut world = one();
-        let systems = [Does::Despawn, Does::SpawnAndPanic(3, 9)];
-        assert_eq!(panic_of(&mut world, &systems, workers), 9);
-
-        // No command was applied, and what was reserved is known.
-        assert_eq!((world.len(), world.phase()), (1, 0));
-        assert_eq!(world.get(handle(0, 1), HP), Some(7));
-        assert!(world.needs_flush());
-        let refused = run_frame(&mut world, &systems, workers).expect_err("not flushed");
-        assert!(matches!(refused, FrameError::NeedsFlush), "{refused}");
-        world.flush().expect("memory");
-        assert_eq!((world.len(), world.phase()), (4, 1));
-        for ordinal in 0..3 {
-            let born = Birth {
-                frame: 0,
-                system: Birth::NO_SYSTEM,
-                ordinal,
-            };
-            let entity = handle(1 + ordinal, 1);
-            assert_eq!(world.birth(entity), Some(born));
-            assert_eq!(world.items(entity), Some(vec![]));
-        }
-
-        // The next frame is as any.
-        let systems = [Does::Despawn, Does::Spawn(2)];
-        let report = run_frame(&mut world, &systems, workers).expect("memory");
-        assert_eq!((report.born().len(), report.faults().len()), (2, 0));
-        assert_eq!((world.len(), world.phase()), (2, 2));
+    /// What a system does.
+    #[derive(Clone, Copy)]
+    enum Does {
+        /// Spawns that many, all at once.
+        Spawn(u32),
+        /// Spawns that many, and then panics with the number.
+        SpawnAndPanic(u32, u32),
+        /// Despawns all.
+        Despawn,
+        /// Says that memory ran out.
+        Memory,
     }
-}
 
-/// Without a reservation the world is flushed as before.
-#[test]
-fn a_panic_before_any_command() {
-    for workers in WORKERS {
-        let mut world = one();
-        assert_eq!(
-            panic_of(&mut world, &[Does::SpawnAndPanic(0, 1)], workers),
-            1
-        );
-        assert_eq!((world.len(), world.phase()), (1, 0));
-        world.flush().expect("memory");
-        assert_eq!(
-            world.despawn(handle(0, 1)).expect("alive").next,
-            Some(handle(0, 2))
-        );
-    }
-}
-
-/// Several systems panic. The panic of the first one in their order is handed on.
-#[test]
-fn the_first_panic_is_handed_on() {
-    for workers in WORKERS {
-        for _ in 0..50 {
-            let mut world = one();
-            let mut systems = vec![Does::Spawn(1); 100];
-            for number in [7, 8, 40, 99] {
-                systems[number] = Does::SpawnAndPanic(1, number as u32);
+    impl System for Does {
+        fn run(
+            &self,
+            view: View<'_>,
+            commands: &mut SystemCommands<'_, '_>,
+        ) -> Result<(), OutOfMemory> {
+            match *self {
+                Does::Spawn(count) => {
+                    commands.spawn_many(count, &[(HP, 1)]).expect("handles");
+                }
+                Does::SpawnAndPanic(count, number) => {
+                    commands.spawn_many(count, &[(HP, 1)]).expect("handles");
+                    // It makes no noise.
+                    resume_unwind(Box::new(number));
+                }
+                Does::Despawn => {
+                    for one in view.by_birth()? {
+                        commands.despawn(one)?;
+                    }
+                }
+                Does::Memory => return Err(OutOfMemory),
             }
-            assert_eq!(panic_of(&mut world, &systems, workers), 7);
-            world.flush().expect("memory");
-            // All up to the seventh ran, and of the others those that were taken.
-            assert!((9..=101).contains(&world.len()), "{}", world.len());
+            Ok(())
         }
     }
-}
 
-#[test]
-fn a_panic_beside_want_of_memory() {
-    for workers in WORKERS {
+    /// The number with which a frame of these systems panics.
+    fn panic_of(world: &mut World, systems: &[Does], workers: usize) -> u32 {
+        let ran = catch_unwind(AssertUnwindSafe(|| run_frame(world, systems, workers)));
+        let panic = ran.expect_err("a panic is handed on");
+        *panic.downcast::<u32>().expect("the number")
+    }
+
+    const WORKERS: [usize; 5] = [1, 2, 3, 16, 64];
+
+    #[test]
+    fn a_system_that_panics_leaves_the_world() {
+        for workers in WORKERS {
+            let mut world = one();
+            let systems = [Does::Despawn, Does::SpawnAndPanic(3, 9)];
+            assert_eq!(panic_of(&mut world, &systems, workers), 9);
+
+            // No command was applied, and what was reserved is known.
+            assert_eq!((world.len(), world.phase()), (1, 0));
+            assert_eq!(world.get(handle(0, 1), HP), Some(7));
+            assert!(world.needs_flush());
+            let refused = run_frame(&mut world, &systems, workers).expect_err("not flushed");
+            assert!(matches!(refused, FrameError::NeedsFlush), "{refused}");
+            world.flush().expect("memory");
+            assert_eq!((world.len(), world.phase()), (4, 1));
+            for ordinal in 0..3 {
+                let born = Birth {
+                    frame: 0,
+                    system: Birth::NO_SYSTEM,
+                    ordinal,
+                };
+                let entity = handle(1 + ordinal, 1);
+                assert_eq!(world.birth(entity), Some(born));
+                assert_eq!(world.items(entity), Some(vec![]));
+            }
+
+            // The next frame is as any.
+            let systems = [Does::Despawn, Does::Spawn(2)];
+            let report = run_frame(&mut world, &systems, workers).expect("memory");
+            assert_eq!((report.born().len(), report.faults().len()), (2, 0));
+            assert_eq!((world.len(), world.phase()), (2, 2));
+        }
+    }
+
+    /// Without a reservation the world is flushed as before.
+    #[test]
+    fn a_panic_before_any_command() {
+        for workers in WORKERS {
+            let mut world = one();
+            assert_eq!(
+                panic_of(&mut world, &[Does::SpawnAndPanic(0, 1)], workers),
+                1
+            );
+            assert_eq!((world.len(), world.phase()), (1, 0));
+            world.flush().expect("memory");
+            assert_eq!(
+                world.despawn(handle(0, 1)).expect("alive").next,
+                Some(handle(0, 2))
+            );
+        }
+    }
+
+    /// Several systems panic. The panic of the first one in their order is handed on.
+    #[test]
+    fn the_first_panic_is_handed_on() {
+        for workers in WORKERS {
+            for _ in 0..50 {
+                let mut world = one();
+                let mut systems = vec![Does::Spawn(1); 100];
+                for number in [7, 8, 40, 99] {
+                    systems[number] = Does::SpawnAndPanic(1, number as u32);
+                }
+                assert_eq!(panic_of(&mut world, &systems, workers), 7);
+                world.flush().expect("memory");
+                // All up to the seventh ran, and of the others those that were taken.
+                assert!((9..=101).contains(&world.len()), "{}", world.len());
+            }
+        }
+    }
+
+    #[test]
+    fn a_panic_beside_want_of_memory() {
+        for workers in WORKERS {
+            let mut world = one();
+            let systems = [Does::SpawnAndPanic(1, 5), Does::Memory];
+            assert_eq!(panic_of(&mut world, &systems, workers), 5);
+            world.flush().expect("memory");
+            assert_eq!(world.len(), 2);
+
+            let systems = [Does::Spawn(2), Does::Memory];
+            let refused = run_frame(&mut world, &systems, workers).expect_err("memory");
+            assert!(matches!(refused, FrameError::Lost), "{refused}");
+            world.flush().expect("memory");
+            assert_eq!(world.len(), 4);
+        }
+    }
+
+    /// The frame is dropped while its thread unwinds, and the world with it.
+    #[test]
+    fn a_world_that_unwinds_with_its_frame() {
+        let thread = thread::spawn(|| {
+            let mut world = one();
+            let _ = run_frame(&mut world, &[Does::SpawnAndPanic(4, 3)], 2);
+        });
+        let panic = thread.join().expect_err("it panics");
+        assert_eq!(panic.downcast_ref(), Some(&3_u32));
+    }
+
+    /// A value whose drop panics too. It is dropped by who catches the panic, not by the frame.
+    struct Loud;
+
+    impl Drop for Loud {
+        fn drop(&mut self) {
+            if !thread::panicking() {
+                resume_unwind(Box::new("dropped"));
+            }
+        }
+    }
+
+    #[test]
+    fn a_panic_whose_value_panics() {
         let mut world = one();
-        let systems = [Does::SpawnAndPanic(1, 5), Does::Memory];
-        assert_eq!(panic_of(&mut world, &systems, workers), 5);
+        let system = |_: View<'_>, commands: &mut SystemCommands<'_, '_>| {
+            commands.spawn(&[]).expect("a handle");
+            panic_any(Loud)
+        };
+        let ran = catch_unwind(AssertUnwindSafe(|| run_frame(&mut world, &[system], 1)));
+        let loud = ran.expect_err("a panic is handed on");
+        assert!(loud.is::<Loud>());
+        assert!(catch_unwind(AssertUnwindSafe(|| drop(loud))).is_err());
         world.flush().expect("memory");
         assert_eq!(world.len(), 2);
 
-        let systems = [Does::Spawn(2), Does::Memory];
-        let refused = run_frame(&mut world, &systems, workers).expect_err("memory");
-        assert!(matches!(refused, FrameError::Lost), "{refused}");
+        // With two of them the second one is dropped, and that panics.
+        let ran = catch_unwind(AssertUnwindSafe(|| run_frame(&mut world, &[system; 2], 2)));
+        let panic = ran.expect_err("a panic is handed on");
+        std::mem::forget(panic);
         world.flush().expect("memory");
-        assert_eq!(world.len(), 4);
+        assert!((3..=4).contains(&world.len()));
     }
-}
-
-/// The frame is dropped while its thread unwinds, and the world with it.
-#[test]
-fn a_world_that_unwinds_with_its_frame() {
-    let thread = thread::spawn(|| {
-        let mut world = one();
-        let _ = run_frame(&mut world, &[Does::SpawnAndPanic(4, 3)], 2);
-    });
-    let panic = thread.join().expect_err("it panics");
-    assert_eq!(panic.downcast_ref(), Some(&3_u32));
-}
-
-/// A value whose drop panics too. It is dropped by who catches the panic, not by the frame.
-struct Loud;
-
-impl Drop for Loud {
-    fn drop(&mut self) {
-        if !thread::panicking() {
-            resume_unwind(Box::new("dropped"));
-        }
-    }
-}
-
-#[test]
-fn a_panic_whose_value_panics() {
-    let mut world = one();
-    let system = |_: View<'_>, commands: &mut SystemCommands<'_, '_>| {
-        commands.spawn(&[]).expect("a handle");
-        panic_any(Loud)
-    };
-    let ran = catch_unwind(AssertUnwindSafe(|| run_frame(&mut world, &[system], 1)));
-    let loud = ran.expect_err("a panic is handed on");
-    assert!(loud.is::<Loud>());
-    assert!(catch_unwind(AssertUnwindSafe(|| drop(loud))).is_err());
-    world.flush().expect("memory");
-    assert_eq!(world.len(), 2);
-
-    // With two of them the second one is dropped, and that panics.
-    let ran = catch_unwind(AssertUnwindSafe(|| run_frame(&mut world, &[system; 2], 2)));
-    let panic = ran.expect_err("a panic is handed on");
-    std::mem::forget(panic);
-    world.flush().expect("memory");
-    assert!((3..=4).contains(&world.len()));
 }
 
 /// Systems on threads of the program's own: one panics in the middle of its commands, and its queue

@@ -2,7 +2,7 @@
 //! allocator is back at the end, with all that was reserved.
 
 use crate::common::{handle, seeds, small, Model, Numbers};
-use forgeni::{Entities, Handle, Lent, OtherPhase, Refused, ShareError};
+use forgeni::{Entities, Handle, OtherPhase, Refused, ShareError};
 use std::collections::HashSet;
 use std::mem;
 use std::panic::{catch_unwind, resume_unwind, AssertUnwindSafe};
@@ -210,16 +210,34 @@ fn random_phases() {
     });
 }
 
-fn all_of(reserver: &mut Lent<'_>, n: u32) -> Vec<Handle> {
-    reserver.reserve_many(n).expect("handles")
+/// A lent reserver appends to a list, and leaves it as it was if it is refused.
+#[test]
+fn a_list_is_appended_to() {
+    let mut entities = small(4, 1);
+    let phase = entities.phase(1, |_, reservers| {
+        let mut list = vec![handle(9, 9)];
+        reservers[0].reserve_into(&mut list, 2).expect("two");
+        reservers[0].reserve_into(&mut list, 1).expect("one");
+        let wanted = [handle(9, 9), handle(0, 1), handle(1, 1), handle(2, 1)];
+        assert_eq!(list, wanted);
+        let refused = Refused::Space { wanted: 2, left: 1 };
+        assert_eq!(reservers[0].reserve_into(&mut list, 2), Err(refused));
+        assert_eq!(list, wanted);
+    });
+    phase.expect("shared");
+    assert_eq!(entities.reserved(), 3);
 }
 
 #[cfg(feature = "std")]
 mod pools {
     use super::*;
-    use forgeni::Reservers;
+    use forgeni::{Lent, Reservers};
     use std::sync::atomic::{AtomicUsize, Ordering};
     use std::sync::{Arc, Barrier};
+
+    fn all_of(reserver: &mut Lent<'_>, n: u32) -> Vec<Handle> {
+        reserver.reserve_many(n).expect("handles")
+    }
 
     /// More threads than reservers, each of which comes for a while. No handle is given twice.
     #[test]
@@ -295,6 +313,131 @@ mod pools {
         assert_eq!(entities.reserved(), 2);
     }
 
+    /// Who waits takes whichever reserver comes free first, whatever numbers the threads have: one is
+    /// lent to a thread that waits for the others.
+    #[test]
+    fn the_first_that_comes_free() {
+        let (shared, reservers) = Entities::new().share(2).expect("shared");
+        let pool = Arc::new(Reservers::new(reservers).expect("memory"));
+        let (tell, told) = std::sync::mpsc::channel();
+        pool.with(|parent| {
+            let (second, is_lent) = (Arc::clone(&pool), Arc::new(Barrier::new(2)));
+            let lent = Arc::clone(&is_lent);
+            std::thread::spawn(move || {
+                second.with(|_| {
+                    lent.wait();
+                    std::thread::sleep(std::time::Duration::from_millis(100));
+                });
+            });
+            is_lent.wait();
+            // They all find both lent. Threads that follow each other have numbers that do so too.
+            for _ in 0..4 {
+                let (pool, tell) = (Arc::clone(&pool), tell.clone());
+                std::thread::spawn(move || {
+                    let given = pool.with(|one| one.reserve()).expect("a handle");
+                    tell.send(given).expect("the test waits");
+                });
+            }
+            for _ in 0..4 {
+                let given = told.recv_timeout(std::time::Duration::from_secs(20));
+                given.expect("it waits although a reserver is free");
+            }
+            parent.reserve().expect("a handle");
+        });
+        drop(shared);
+    }
+
+    /// Many wait for few, and all of them are woken.
+    #[test]
+    fn all_who_wait_are_woken() {
+        let (shared, reservers) = Entities::new().share(3).expect("shared");
+        let pool = Reservers::new(reservers).expect("memory");
+        std::thread::scope(|scope| {
+            for _ in 0..16 {
+                scope.spawn(|| {
+                    for _ in 0..50 {
+                        pool.with(|one| {
+                            one.reserve().expect("a handle");
+                            std::thread::yield_now();
+                        });
+                    }
+                });
+            }
+        });
+        let entities = shared.close(pool.into_inner()).expect("closed");
+        assert_eq!(entities.reserved(), 16 * 50);
+    }
+
+    /// Threads of any number find each reserver.
+    #[test]
+    fn threads_of_high_numbers() {
+        let (shared, reservers) = Entities::new().share(3).expect("shared");
+        let pool = Reservers::new(reservers).expect("memory");
+        for _ in 0..600 {
+            let given = std::thread::scope(|scope| {
+                let task = scope.spawn(|| pool.with(|one| one.reserve()));
+                task.join().expect("no panic")
+            });
+            given.expect("a handle");
+        }
+        // One after the other has the next number, so each reserver had its turn.
+        let reservers = pool.into_inner();
+        assert_eq!(reservers.len(), 3);
+        assert!(reservers.iter().all(|one| one.quota_left() < 1 << 40));
+        assert_eq!(shared.close(reservers).expect("closed").reserved(), 600);
+    }
+
+    /// After a panic in each of them, all are lent again, each once, and come back in their order.
+    #[test]
+    fn all_are_lent_after_panics() {
+        let (shared, reservers) = Entities::new().share(3).expect("shared");
+        let pool = Reservers::new(reservers).expect("memory");
+        let ran = catch_unwind(AssertUnwindSafe(|| {
+            pool.with(|_| pool.with(|_| pool.with(|_| resume_unwind(Box::new("stopped")))))
+        }));
+        let ran: Result<(), _> = ran;
+        assert!(ran.is_err());
+        let lent = pool.try_with(|one| {
+            let two = pool.try_with(|two| {
+                let three = pool.try_with(|three| three.number());
+                (two.number(), three)
+            });
+            (one.number(), two)
+        });
+        let (one, Some((two, Some(three)))) = lent.expect("free") else {
+            panic!("not all are free");
+        };
+        let numbers: HashSet<usize> = [one, two, three].into_iter().collect();
+        assert_eq!(numbers.len(), 3);
+        // Who waits is woken by one that panics.
+        let all = Barrier::new(3);
+        std::thread::scope(|scope| {
+            for _ in 0..2 {
+                scope.spawn(|| {
+                    let ran = catch_unwind(AssertUnwindSafe(|| {
+                        pool.with(|_| {
+                            all.wait();
+                            std::thread::sleep(std::time::Duration::from_millis(20));
+                            resume_unwind(Box::new("stopped"))
+                        })
+                    }));
+                    let ran: Result<(), _> = ran;
+                    assert!(ran.is_err());
+                });
+            }
+            pool.with(|one| {
+                all.wait();
+                let given = scope.spawn(|| pool.with(|one| one.reserve()));
+                assert!(given.join().expect("no panic").is_ok());
+                one.reserve().expect("a handle");
+            });
+        });
+        let reservers = pool.into_inner();
+        let numbers: Vec<usize> = reservers.iter().map(|one| one.number()).collect();
+        assert_eq!(numbers, [0, 1, 2]);
+        assert!(shared.close(reservers).is_ok());
+    }
+
     /// A task that panics gives its reserver back.
     #[test]
     fn a_task_that_panics() {
@@ -351,6 +494,7 @@ mod pools {
     fn a_pool_of_none() {
         let pool: Reservers = Reservers::new([]).expect("it takes no memory");
         assert_eq!((pool.count(), pool.try_with(|_| ())), (0, None));
-        assert!(catch_unwind(AssertUnwindSafe(|| pool.with(|_| ()))).is_err());
+        let panic = catch_unwind(AssertUnwindSafe(|| pool.with(|_| ()))).expect_err("none");
+        assert_eq!(panic.downcast_ref(), Some(&"the pool has no reservers"));
     }
 }

@@ -9,10 +9,10 @@ mod refusing;
 use common::handle;
 use forgeni::trace::{Call, CheckError, Checker, FreeReply, Log, Reservation};
 use forgeni::{
-    run_frame, AllocError, Birth, BornError, CommandQueue, Commands, ComponentId, Entities, Fault,
-    FinishError, FrameError, FreeError, GoOnError, Handle, HandleMap, InsertError, InsertionError,
-    Limits, OpenError, OpenWorld, OutOfMemory, Queues, Refused, Report, RequestManyError,
-    ShareError, SpawnError, State, Storage, SyncError, SystemCommands, View, World,
+    AllocError, Birth, BornError, CommandQueue, Commands, ComponentId, Entities, Fault,
+    FinishError, FreeError, GoOnError, Handle, HandleMap, InsertError, InsertionError, Limits,
+    OpenError, OpenWorld, OutOfMemory, Queues, Refused, Report, RequestManyError, ShareError,
+    SpawnError, State, Storage, SyncError, SyncErrorKind, World,
 };
 use refusing::{refusing, Refusal};
 
@@ -290,6 +290,45 @@ fn reserving_many() {
     });
 }
 
+/// A request that the pool or the quota can't serve is refused for that, and no list is asked for.
+#[test]
+fn reserving_too_many() {
+    let none = Refusal::All { after: 0 };
+    let left = 9;
+    let entities = Entities::with_limits(Limits::new(left, 1).expect("limits"));
+    let (shared, mut reservers) = entities.share(2).expect("shared");
+    let only = &mut reservers[0];
+    // Of less than the pool had, the list comes first. Nothing has changed then.
+    let (given, refused) = refusing(none, || only.reserve_many(left));
+    assert_eq!((given, refused), (Err(Refused::Memory), 1));
+    assert_eq!(only.quota_left(), 1 << 40);
+
+    let mut quota = only.quota_left();
+    for (wanted, left) in [(left + 1, left), (u32::MAX, 0), (left + 1, 0)] {
+        let (given, refused) = refusing(none, || only.reserve_many(wanted));
+        let space = Refused::Space { wanted, left };
+        assert_eq!((given, refused), (Err(space), 0));
+        quota -= u64::from(wanted);
+        assert_eq!(only.quota_left(), quota);
+    }
+    // Others count on what was in the pool too, and after a refused close.
+    let missing = shared.close(vec![]).expect_err("two are missing");
+    let other = &mut reservers[1];
+    let (given, refused) = refusing(none, || other.reserve_many(left + 1));
+    let wanted = left + 1;
+    assert_eq!(
+        (given, refused),
+        (Err(Refused::Space { wanted, left: 0 }), 0)
+    );
+    let kept = missing.shared.close(vec![reservers.pop().expect("two")]);
+    let mut back = kept.expect_err("one is missing").reservers;
+    let (given, refused) = refusing(none, || back[0].reserve_many(wanted));
+    assert_eq!(
+        (given, refused),
+        (Err(Refused::Space { wanted, left: 0 }), 0)
+    );
+}
+
 /// No close of a phase of an allocator takes memory, not even after one that was refused.
 #[test]
 fn closes_of_allocators_take_no_memory() {
@@ -388,6 +427,29 @@ fn calls_of_a_checker() {
             assert!(refused > 0, "nothing was refused");
             assert_eq!(checker.len(32), checked);
             assert_eq!(checker.run(&run), checked);
+        } else {
+            assert_eq!((checked, refused), (Ok(()), 0));
+            checker.finish().expect("it agrees");
+        }
+        refused
+    });
+}
+
+/// A run that can't be copied is the last one, wherever the memory ran out.
+#[test]
+fn a_run_that_is_refused() {
+    each_block_in_turn(|refusal| {
+        let mut checker = Checker::new(Limits::GREATEST);
+        let run = [0, 1, 2].map(|caller| Reservation::new(caller, 1, handle(caller, 1)));
+        let (checked, refused) = refusing(refusal, || checker.run(&run));
+        if checked == Err(CheckError::Memory) {
+            assert!(refused > 0, "nothing was refused");
+            let calls = checker.calls();
+            assert_eq!(checker.len(0), checked);
+            assert_eq!(checker.run(&[]), checked);
+            assert_eq!(checker.run(&run), checked);
+            assert_eq!(checker.calls(), calls);
+            assert_eq!(checker.finish(), checked);
         } else {
             assert_eq!((checked, refused), (Ok(()), 0));
             checker.finish().expect("it agrees");
@@ -662,6 +724,97 @@ fn a_sync_point_goes_on_wherever_it_stopped() {
     assert!(stops.iter().any(|stop| stop.0 == 1), "{stops:?}");
 }
 
+/// The components that the first commands of three systems give to the world's second entity. Each number is
+/// new in the world, so each command may want memory.
+const GIVEN: [&[u8]; 3] = [&[20, 21, 22], &[], &[23, 24]];
+
+/// How many the fourth system spawns at once, after a command without effect.
+const SPAWNED: usize = 5;
+
+/// A world, and the queues of four systems.
+fn with_places() -> (World, Queues, Vec<Handle>) {
+    let (open, mut systems) = two().open(4).expect("opened");
+    for (system, given) in systems.iter_mut().zip(GIVEN) {
+        for id in given {
+            let command = system.insert(handle(1, 1), &[(ComponentId(*id), 1)]);
+            command.expect("memory");
+        }
+    }
+    systems[3]
+        .remove(handle(1, 1), ComponentId(99))
+        .expect("memory");
+    let bundle = (30..36).map(|id| (ComponentId(id), 1)).collect::<Vec<_>>();
+    let spawned = systems[3].spawn_many(SPAWNED as u32, &bundle);
+    let spawned = spawned.expect("memory");
+    let queues = systems.into_iter().map(Commands::finish).collect();
+    let (world, queues) = open.close(queues).expect("closed");
+    (world, queues, spawned)
+}
+
+/// Where a sync point stops, just the commands before that place have taken effect, and of a spawn of many
+/// just the first handles. It stops at each place that may want memory.
+#[test]
+fn the_place_of_a_stop() {
+    let mut places = Vec::new();
+    each_in_turn(|refusal| {
+        let (mut world, queues, spawned) = with_places();
+        let (done, refused) = refusing(refusal, || world.apply(queues));
+        let Err(SyncError::Stopped(stopped)) = done else {
+            return refused;
+        };
+        let place = (stopped.system, stopped.command, stopped.done);
+        let (system, command, done) = place;
+        places.push(place);
+        let before = GIVEN.iter().zip(0..).flat_map(|(given, of)| {
+            let taken = given.iter().enumerate();
+            taken.filter(move |(number, _)| (of, *number) < (system, command))
+        });
+        let wanted: Vec<_> = before.map(|(_, id)| (ComponentId(*id), 1)).collect();
+        assert_eq!(world.items(handle(1, 1)), Some(wanted), "{place:?}");
+        for (number, one) in spawned.iter().enumerate() {
+            let count = if number < done { 6 } else { 0 };
+            let items = world.items(*one).expect("it was born");
+            assert_eq!(items.len(), count, "{place:?}, {one}");
+        }
+        let kind = SyncErrorKind::Stopped { system, command };
+        let so_far = format!("{:?}", stopped.so_far);
+        let text = format!(
+            "Stopped {{ system: {system}, command: {command}, done: {done}, so_far: {so_far}, .. }}"
+        );
+        assert_eq!(format!("{stopped:?}"), text);
+        let error = SyncError::Stopped(stopped);
+        assert_eq!(error.kind(), kind);
+        assert_eq!(
+            error.to_string(),
+            format!("out of memory at command {command} of system {system}")
+        );
+        let (stopped, same) = error.into_parts();
+        let stopped = stopped.expect_err("it stopped");
+        let elsewhere = stopped.go_on(&mut two()).expect_err("another world");
+        assert_eq!(elsewhere.to_string(), "the queues are of another world");
+        let (stopped, other) = elsewhere.into_parts();
+        assert_eq!((same, other), (kind, SyncErrorKind::OtherWorld));
+        assert_eq!((stopped.system, stopped.command, stopped.done), place);
+        let rest = stopped.go_on(&mut world).expect("memory");
+        assert_eq!(rest.faults(), []);
+        assert_eq!(world.len(), 2 + SPAWNED);
+        refused
+    });
+    for command in [
+        (0, 0, 0),
+        (0, 1, 0),
+        (0, 2, 0),
+        (2, 0, 0),
+        (2, 1, 0),
+        (3, 1, 0),
+    ] {
+        assert!(places.contains(&command), "{command:?} in {places:?}");
+    }
+    assert!(places.iter().any(|place| place.2 > 0), "{places:?}");
+    let at_spawn = |place: &(usize, usize, usize)| (place.0, place.1) == (3, 1);
+    assert!(places.iter().all(|place| place.2 == 0 || at_spawn(place)));
+}
+
 /// It has its lists, and lends them and gives them away without memory.
 #[test]
 fn a_report_takes_no_memory() {
@@ -729,118 +882,127 @@ fn a_flush_of_a_world() {
     });
 }
 
-type Systems = [fn(View<'_>, &mut SystemCommands<'_, '_>) -> Result<(), OutOfMemory>; 3];
+#[cfg(feature = "std")]
+mod frames {
+    use super::*;
+    use forgeni::{run_frame, FrameError, SystemCommands, View};
 
-fn launch(_: View<'_>, commands: &mut SystemCommands<'_, '_>) -> Result<(), OutOfMemory> {
-    commands
-        .spawn_many(4, &MANY)
-        .map_or_else(SpawnError::or_memory, |_| Ok(()))
-}
+    type Systems = [fn(View<'_>, &mut SystemCommands<'_, '_>) -> Result<(), OutOfMemory>; 3];
 
-fn change(view: View<'_>, commands: &mut SystemCommands<'_, '_>) -> Result<(), OutOfMemory> {
-    for one in view.with(HP)? {
-        commands.insert(one, &MANY[1..])?;
-        commands.remove(one, HP)?;
+    fn launch(_: View<'_>, commands: &mut SystemCommands<'_, '_>) -> Result<(), OutOfMemory> {
+        commands
+            .spawn_many(4, &MANY)
+            .map_or_else(SpawnError::or_memory, |_| Ok(()))
     }
-    Ok(())
-}
 
-/// Twice, so that there are faults.
-fn clear(view: View<'_>, commands: &mut SystemCommands<'_, '_>) -> Result<(), OutOfMemory> {
-    for one in view.by_birth()? {
-        commands.despawn(one)?;
-        commands.despawn(one)?;
+    fn change(view: View<'_>, commands: &mut SystemCommands<'_, '_>) -> Result<(), OutOfMemory> {
+        for one in view.with(HP)? {
+            commands.insert(one, &MANY[1..])?;
+            commands.remove(one, HP)?;
+        }
+        Ok(())
     }
-    Ok(())
-}
 
-const SYSTEMS: Systems = [launch, change, clear];
+    /// Twice, so that there are faults.
+    fn clear(view: View<'_>, commands: &mut SystemCommands<'_, '_>) -> Result<(), OutOfMemory> {
+        for one in view.by_birth()? {
+            commands.despawn(one)?;
+            commands.despawn(one)?;
+        }
+        Ok(())
+    }
 
-/// What a frame with ample memory makes of that world.
-fn after_a_frame() -> (Vec<Fault>, Vec<Told>) {
-    let mut world = two();
-    let report = run_frame(&mut world, &SYSTEMS, 1).expect("memory");
-    assert_eq!(
-        (report.born().len(), report.faults().len(), world.len()),
-        (4, 2, 4)
-    );
-    (report.faults().to_vec(), all(&world))
-}
+    const SYSTEMS: Systems = [launch, change, clear];
 
-/// The world is the one before, but for what the systems that ran had reserved.
-fn expect_lost(mut world: World) {
-    assert_eq!(all(&world), all(&two()));
-    world.flush().expect("memory");
-    assert!(world.len() == 2 || world.len() == 6, "{}", world.len());
-    let born = world.by_birth().expect("memory");
-    let bare = |one: &Handle| world.items(*one) == Some(vec![]);
-    assert_eq!(born.iter().filter(|one| bare(one)).count(), world.len() - 1);
-}
-
-#[test]
-fn frames() {
-    let wanted = after_a_frame();
-    let (mut before, mut lost, mut synced) = (0, 0, 0);
-    each_in_turn(|refusal| {
+    /// What a frame with ample memory makes of that world.
+    fn after_a_frame() -> (Vec<Fault>, Vec<Told>) {
         let mut world = two();
-        let (done, refused) = refusing(refusal, || run_frame(&mut world, &SYSTEMS, 1));
-        let faults = match done {
-            Ok(report) => report.faults().to_vec(),
-            Err(FrameError::Memory) => {
-                before += 1;
-                assert_eq!(all(&world), all(&two()));
-                assert!(!world.needs_flush());
-                let again = run_frame(&mut world, &SYSTEMS, 1);
-                again.expect("memory").faults().to_vec()
-            }
-            Err(FrameError::Lost) => {
-                lost += 1;
-                expect_lost(world);
-                return refused;
-            }
-            Err(FrameError::Sync(error)) => {
-                synced += 1;
-                ended(&mut world, Err(error))
-            }
-            Err(other) => panic!("{other}"),
-        };
-        assert_eq!((faults, all(&world)), wanted);
-        refused
-    });
-    assert!(
-        before > 0 && lost > 0 && synced > 0,
-        "{before}, {lost}, {synced}"
-    );
-}
-
-/// Memory is refused on the worker that runs the system, and nowhere else: starting threads takes
-/// memory that can't be refused.
-#[test]
-fn frames_on_threads() {
-    for workers in [1, 2, 3] {
-        in_turn(
-            |after| Refusal::All { after },
-            |refusal| {
-                let mut world = two();
-                let refused = std::sync::atomic::AtomicUsize::new(0);
-                let system = |view: View<'_>, commands: &mut SystemCommands<'_, '_>| {
-                    let (ran, times) = refusing(refusal, || {
-                        launch(view, commands)?;
-                        change(view, commands)
-                    });
-                    refused.store(times, std::sync::atomic::Ordering::Relaxed);
-                    ran
-                };
-                let ran = run_frame(&mut world, &[system], workers);
-                let refused = refused.into_inner();
-                match ran {
-                    Ok(report) => assert_eq!((report.born().len(), refused), (4, 0)),
-                    Err(FrameError::Lost) => expect_lost(world),
-                    Err(other) => panic!("{other}"),
-                }
-                refused
-            },
+        let report = run_frame(&mut world, &SYSTEMS, 1).expect("memory");
+        assert_eq!(
+            (report.born().len(), report.faults().len(), world.len()),
+            (4, 2, 4)
         );
+        (report.faults().to_vec(), all(&world))
+    }
+
+    /// The world is the one before, but for what the systems that ran had reserved.
+    fn expect_lost(mut world: World) {
+        assert_eq!(all(&world), all(&two()));
+        world.flush().expect("memory");
+        assert!(world.len() == 2 || world.len() == 6, "{}", world.len());
+        let born = world.by_birth().expect("memory");
+        let bare = |one: &Handle| world.items(*one) == Some(vec![]);
+        assert_eq!(born.iter().filter(|one| bare(one)).count(), world.len() - 1);
+    }
+
+    #[test]
+    fn refused_on_one_thread() {
+        let wanted = after_a_frame();
+        let (mut before, mut lost, mut unapplied, mut stopped) = (0, 0, 0, 0);
+        each_in_turn(|refusal| {
+            let mut world = two();
+            let (done, refused) = refusing(refusal, || run_frame(&mut world, &SYSTEMS, 1));
+            let faults = match done {
+                Ok(report) => report.faults().to_vec(),
+                Err(FrameError::Memory) => {
+                    before += 1;
+                    assert_eq!(all(&world), all(&two()));
+                    assert!(!world.needs_flush());
+                    let again = run_frame(&mut world, &SYSTEMS, 1);
+                    again.expect("memory").faults().to_vec()
+                }
+                Err(FrameError::Lost) => {
+                    lost += 1;
+                    expect_lost(world);
+                    return refused;
+                }
+                Err(FrameError::Sync(error)) => {
+                    match error.kind() {
+                        SyncErrorKind::Memory => unapplied += 1,
+                        _ => stopped += 1,
+                    }
+                    ended(&mut world, Err(error))
+                }
+                Err(other) => panic!("{other}"),
+            };
+            assert_eq!((faults, all(&world)), wanted);
+            refused
+        });
+        assert!(
+            before > 0 && lost > 0 && unapplied > 0 && stopped > 0,
+            "{before}, {lost}, {unapplied}, {stopped}"
+        );
+    }
+
+    /// Memory is refused on the worker that runs the system, and nowhere else: starting threads takes
+    /// memory that can't be refused.
+    #[test]
+    fn refused_on_a_worker() {
+        for workers in [1, 2, 3] {
+            in_turn(
+                |after| Refusal::All { after },
+                |refusal| {
+                    let mut world = two();
+                    let refused = std::sync::atomic::AtomicUsize::new(0);
+                    let system = |view: View<'_>, commands: &mut SystemCommands<'_, '_>| {
+                        let (ran, times) = refusing(refusal, || {
+                            launch(view, commands)?;
+                            change(view, commands)
+                        });
+                        refused.store(times, std::sync::atomic::Ordering::Relaxed);
+                        ran
+                    };
+                    let ran = run_frame(&mut world, &[system], workers);
+                    let refused = refused.into_inner();
+                    match ran {
+                        Ok(report) => assert_eq!((report.born().len(), refused), (4, 0)),
+                        Err(FrameError::Lost) => expect_lost(world),
+                        Err(other) => panic!("{other}"),
+                    }
+                    refused
+                },
+            );
+        }
     }
 }
 

@@ -318,6 +318,58 @@ fn an_allocator_moves() {
     assert_eq!(entities.alloc(), Ok(handle(1, 2)));
 }
 
+fn numbers(reservers: &[Reserver]) -> Vec<usize> {
+    reservers.iter().map(Reserver::number).collect()
+}
+
+/// They come, and come back, in the order in which they were.
+#[test]
+fn reservers_keep_their_order() {
+    let (shared, mut reservers) = share(Entities::new(), 5);
+    assert_eq!(numbers(&reservers), [0, 1, 2, 3, 4]);
+    let last = reservers.pop().expect("five");
+    reservers.swap(0, 2);
+    let refused = shared.close(reservers).expect_err("one is missing");
+    assert_eq!(refused.error, CloseError::Missing { count: 1 });
+    assert_eq!(numbers(&refused.reservers), [2, 1, 0, 3]);
+
+    let (other, mut foreign) = share(Entities::new(), 1);
+    let mut reservers = refused.reservers;
+    reservers.append(&mut foreign);
+    let refused = refused.shared.close(reservers).expect_err("one is foreign");
+    assert_eq!(refused.error, CloseError::OtherPhase);
+    assert_eq!(numbers(&refused.reservers), [2, 1, 0, 3, 0]);
+    assert!(refused.reservers[4].is_of(&other));
+
+    // Those at home are given again, and the last one that came comes first.
+    let mut reservers = refused.reservers;
+    let foreign = reservers.pop().expect("five");
+    let refused = refused.shared.close_lost(reservers).expect_err("in use");
+    assert_eq!(refused.error, CloseError::InUse);
+    assert_eq!((refused.reservers.len(), refused.shared.at_home()), (0, 4));
+    drop(foreign);
+    let closed = refused.shared.close(vec![last]).expect("all are there");
+    assert_eq!(closed.reserved(), 0);
+}
+
+/// No two of 70,000 phases have one number: none takes a reserver of another for its own.
+#[test]
+fn phases_without_end() {
+    let first: Vec<_> = (0..100).map(|_| share(Entities::new(), 1)).collect();
+    for _ in 0..70_000 {
+        let (shared, reservers) = share(Entities::new(), 1);
+        for (old, foreign) in &first {
+            assert!(!foreign[0].is_of(&shared) && !reservers[0].is_of(old));
+        }
+        assert!(shared.close(reservers).is_ok());
+    }
+    let (shared, mut reservers) = share(Entities::new(), 1);
+    for (_, mut foreign) in first {
+        assert_eq!(reservers[0].meet(&mut foreign[0]), Err(OtherPhase));
+    }
+    assert!(shared.close(reservers).is_ok());
+}
+
 #[test]
 fn what_they_print() {
     let (shared, reservers) = share(small(3, 1), 1);

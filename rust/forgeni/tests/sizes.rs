@@ -4,11 +4,10 @@
 //! These tests are for optimised code: `cargo test --release --test sizes`, as
 //! `examples/at_size.sh` runs them. Without optimisation they would take a minute.
 
-use forgeni::{run_frame, Birth, CommandQueue, Commands, ComponentId, Entities, Fault, FaultKind};
-use forgeni::{
-    FrameError, Freed, Handle, HandleMap, Limits, OutOfMemory, Queues, Refused, ShareError, State,
-};
-use forgeni::{OpenError, Storage, SystemCommands, View, World};
+use forgeni::trace::{Call, Checker, FreeReply, Recorder, Reservation};
+use forgeni::{Birth, CommandQueue, Commands, ComponentId, Entities, Fault, FaultKind};
+use forgeni::{Freed, Handle, HandleMap, Limits, OpenError, Queues, Refused, ShareError, State};
+use forgeni::{Storage, World};
 
 /// How many there are of most things.
 const MANY: u32 = 70_001;
@@ -85,6 +84,104 @@ fn values_by_handle() {
         .all(|(one, value)| one.generation() == 2 && value == 7));
 }
 
+/// Room for as many slots as there may be asked for, and a value in a slot far behind all others.
+#[test]
+#[cfg_attr(debug_assertions, ignore = "for optimised code")]
+fn room_for_values() {
+    for slots in [100_001, 300_001, 1 << 22] {
+        let map = HandleMap::<u64>::with_capacity(slots).expect("memory is ample");
+        assert!(map.capacity() >= slots);
+        let mut map = HandleMap::<u64>::new();
+        map.reserve(slots).expect("memory is ample");
+        map.reserve(2 * slots).expect("memory is ample");
+        assert!(map.capacity() >= 2 * slots);
+        let mut map = HandleMap::new();
+        let last = handle(slots as u32 - 1, 1);
+        assert_eq!(map.insert(last, 7).expect("memory is ample"), None);
+        let mut clone = map.clone();
+        clone.extend((0..slots as u32).map(|index| (handle(index, 1), 8)));
+        assert_eq!((clone.len(), clone[last], map[last]), (slots, 8, 7));
+        assert_eq!(clone.into_iter().len(), slots);
+    }
+}
+
+/// A run with as many reservations, each of a caller of its own, and their flush.
+#[test]
+#[cfg_attr(debug_assertions, ignore = "for optimised code")]
+fn runs_of_a_trace() {
+    let run: Vec<Reservation> = (0..MANY)
+        .map(|caller| Reservation::new(MANY - caller, 1, handle(caller, 1)))
+        .collect();
+    let all: Vec<Handle> = (0..MANY).map(|index| handle(index, 1)).collect();
+    let mut checker = Checker::new(Limits::GREATEST);
+    checker.run(&run).expect("memory is ample");
+    checker.flush(&all[..]).expect("memory is ample");
+    checker.len(MANY).expect("it agrees");
+    // One reservation of as many.
+    let next: Vec<Handle> = (MANY..2 * MANY).map(|index| handle(index, 1)).collect();
+    let one = checker.reserve(0, MANY, &next[..]);
+    one.expect("memory is ample");
+    checker.flush(&next[..]).expect("memory is ample");
+    checker.finish().expect("it agrees");
+}
+
+/// As many calls, and differences after them, also of a flush of as many.
+#[test]
+#[cfg_attr(debug_assertions, ignore = "for optimised code")]
+fn lines_of_a_trace() {
+    let called = || {
+        let mut checker = Checker::new(Limits::GREATEST);
+        for index in 0..MANY {
+            checker.alloc(handle(index, 1)).expect("memory is ample");
+            checker.len(index + 1).expect("it agrees");
+        }
+        checker
+    };
+    let line = u64::from(2 * MANY + 1);
+    let text = format!("differs line {line}: len => 1, expected {MANY}");
+    let wrong = called().len(1).expect_err("there are more");
+    assert_eq!(wrong.to_string(), text);
+
+    let mut checker = called();
+    for index in 0..MANY {
+        let one = handle(index, 1);
+        let next = FreeReply::Next(handle(index, 2));
+        checker.free(one, next).expect("memory is ample");
+        checker.state(one, State::Gone).expect("it agrees");
+    }
+    let mut told: Vec<Handle> = (0..MANY).rev().map(|index| handle(index, 2)).collect();
+    for one in &told {
+        checker.reserve(3, 1, *one).expect("memory is ample");
+    }
+    // The slot that was freed first, so given last, comes to life first.
+    let wrong = checker.flush(&told[..]).expect_err("the other order");
+    let difference = wrong.difference().expect("a difference");
+    assert_eq!(difference.line, u64::from(5 * MANY + 1));
+    assert_eq!(difference.told, Call::Flush(told.clone().into()));
+    told.reverse();
+    assert_eq!(difference.expected, Call::Flush(told.into()));
+    let text = wrong.to_string();
+    assert!(
+        text.ends_with(&format!(" {}v2", MANY - 1)),
+        "{}",
+        text.len()
+    );
+}
+
+/// Logs of as many reservations.
+#[test]
+#[cfg_attr(debug_assertions, ignore = "for optimised code")]
+fn logs_of_a_trace() {
+    let mut recorder = Recorder::new(Limits::GREATEST, 2).expect("memory is ample");
+    for index in 0..2 * MANY {
+        let log = &mut recorder.logs()[index as usize % 2];
+        log.push(1, handle(index, 1)).expect("memory is ample");
+    }
+    recorder.len(0).expect("they agree");
+    assert_eq!(recorder.calls(), u64::from(2 * MANY) + 1);
+    recorder.finish().expect("they agree");
+}
+
 #[test]
 #[cfg_attr(debug_assertions, ignore = "for optimised code")]
 fn generations_and_retired_slots() {
@@ -149,40 +246,21 @@ fn one_reservation_of_2_to_the_24() {
     assert_eq!((entities.len(), entities.total()), (count, count));
 }
 
-/// 2^31 handles are 16 GiB of list. Where there is no room for that, nothing is requested.
+/// 2^31 handles would be 16 GiB of list, which isn't asked for: there are fewer slots.
 #[test]
 #[cfg_attr(debug_assertions, ignore = "for optimised code")]
 fn one_reservation_of_2_to_the_31() {
-    let (wanted, slots) = (1 << 31, MANY);
-    let entities = Entities::with_limits(Limits::new(slots, 1).expect("limits"));
+    let (wanted, left) = (1 << 31, MANY);
+    let entities = Entities::with_limits(Limits::new(left, 1).expect("limits"));
     let (shared, mut reservers) = entities.share(1).expect("memory is ample");
-    let quota = reservers[0].quota_left();
-    let refused = reservers[0].reserve_many(wanted);
-    let left = match refused.expect_err("there are fewer slots") {
-        Refused::Memory => slots,
-        space => {
-            assert_eq!(
-                space,
-                Refused::Space {
-                    wanted,
-                    left: slots
-                }
-            );
-            0
-        }
-    };
-    assert_eq!(
-        quota - reservers[0].quota_left(),
-        if left > 0 { 0 } else { wanted.into() }
-    );
-    // The list's room is given back in either case, and the pool is shut by `Space` alone.
-    let given = reservers[0].reserve_many(left).expect("memory is ample");
-    assert_eq!(given.len(), left as usize);
+    let refused = Refused::Space { wanted, left };
+    assert_eq!(reservers[0].reserve_many(wanted), Err(refused));
+    assert_eq!(reservers[0].quota_left(), (1 << 40) - u64::from(wanted));
+    // The pool is shut.
+    let refused = Refused::Space { wanted: 1, left: 0 };
+    assert_eq!(reservers[0].reserve_many(1), Err(refused));
     let mut entities = shared.close(reservers).expect("all are there");
-    assert_eq!(
-        entities.flush().expect("memory is ample").len(),
-        left as usize
-    );
+    assert_eq!(entities.flush(), Ok(vec![]));
 }
 
 /// Births come in another order than handles.
@@ -280,7 +358,8 @@ fn entities_of_one_command() {
     }
 }
 
-/// A world that is filled and emptied without a phase.
+/// A world that is filled and emptied without a phase. The births number all of them, and of the slots the one
+/// that was freed last is first.
 #[test]
 #[cfg_attr(debug_assertions, ignore = "for optimised code")]
 fn entities_of_a_world() {
@@ -291,8 +370,16 @@ fn entities_of_a_world() {
         }
         let all = world.by_birth().expect("memory is ample");
         assert_eq!(all.len(), MANY as usize);
-        for (index, one) in all.into_iter().enumerate() {
-            assert_eq!(one, handle(index as u32, generation));
+        for (number, one) in (0..).zip(all) {
+            let index = if generation == 1 {
+                number
+            } else {
+                MANY - 1 - number
+            };
+            assert_eq!(one, handle(index, generation));
+            let ordinal = (generation - 1) * MANY + number;
+            let birth = nth_birth(0, Birth::NO_SYSTEM, ordinal);
+            assert_eq!(world.birth(one), Some(birth));
             world.despawn(one).expect("alive");
         }
         assert!(world.is_empty());
@@ -370,59 +457,65 @@ fn queues_of_a_phase() {
     }
 }
 
-fn launch(_: View<'_>, commands: &mut SystemCommands<'_, '_>) -> Result<(), OutOfMemory> {
-    let one = commands.spawn(&[(HP, 1)]);
-    one.map_or_else(|refused| refused.or_memory(), |_| Ok(()))
-}
+#[cfg(feature = "std")]
+mod frames {
+    use super::*;
+    use forgeni::{run_frame, FrameError, OutOfMemory, SystemCommands, View};
 
-/// As many systems as a frame may have, on one worker and on as many as it may have.
-#[test]
-#[cfg_attr(debug_assertions, ignore = "for optimised code")]
-fn systems_of_a_frame() {
-    type Launch = fn(View<'_>, &mut SystemCommands<'_, '_>) -> Result<(), OutOfMemory>;
-    let mut systems: Vec<Launch> = vec![launch; 65_536];
-    let mut world = World::new();
-    for (frame, workers) in [(0, 1), (1, 64)] {
-        let report = run_frame(&mut world, &systems, workers).expect("memory is ample");
-        assert_eq!((report.born().len(), report.faults().len()), (65_536, 0));
-        let all = world.by_birth().expect("memory is ample");
-        let births = all
-            .into_iter()
-            .skip(65_536 * frame)
-            .map(|one| world.birth(one));
-        let system = |system| Some(nth_birth(frame as u64, system, 0));
-        assert!(births.eq((0..65_536).map(system)));
+    fn launch(_: View<'_>, commands: &mut SystemCommands<'_, '_>) -> Result<(), OutOfMemory> {
+        let one = commands.spawn(&[(HP, 1)]);
+        one.map_or_else(|refused| refused.or_memory(), |_| Ok(()))
     }
-    let refused = run_frame(&mut world, &systems, 65).expect_err("too many workers");
-    assert!(matches!(refused, FrameError::Workers));
-    systems.push(launch);
-    let refused = run_frame(&mut world, &systems, 1).expect_err("too many systems");
-    assert!(matches!(refused, FrameError::Systems));
-    assert_eq!(world.len(), 2 * 65_536);
-}
 
-/// A frame whose one system spawns as many singly, and one whose systems list all of them.
-#[test]
-#[cfg_attr(debug_assertions, ignore = "for optimised code")]
-fn entities_of_a_frame() {
-    let spawn = |_: View<'_>, commands: &mut SystemCommands<'_, '_>| {
-        for _ in 0..MANY {
-            commands
-                .spawn(&[(HP, 0)])
-                .map_or_else(|why| why.or_memory(), |_| Ok(()))?;
+    /// As many systems as a frame may have, on one worker and on as many as it may have.
+    #[test]
+    #[cfg_attr(debug_assertions, ignore = "for optimised code")]
+    fn systems_of_a_frame() {
+        type Launch = fn(View<'_>, &mut SystemCommands<'_, '_>) -> Result<(), OutOfMemory>;
+        let mut systems: Vec<Launch> = vec![launch; 65_536];
+        let mut world = World::new();
+        for (frame, workers) in [(0, 1), (1, 64)] {
+            let report = run_frame(&mut world, &systems, workers).expect("memory is ample");
+            assert_eq!((report.born().len(), report.faults().len()), (65_536, 0));
+            let all = world.by_birth().expect("memory is ample");
+            let births = all
+                .into_iter()
+                .skip(65_536 * frame)
+                .map(|one| world.birth(one));
+            let system = |system| Some(nth_birth(frame as u64, system, 0));
+            assert!(births.eq((0..65_536).map(system)));
         }
-        Ok(())
-    };
-    let age = |view: View<'_>, commands: &mut SystemCommands<'_, '_>| {
-        let all = view.by_birth()?;
-        assert_eq!(all, view.with(HP)?);
-        all.into_iter()
-            .try_for_each(|one| commands.insert(one, &[(HP, 1)]))
-    };
-    let mut world = World::new();
-    let report = run_frame(&mut world, &[spawn], 1).expect("memory is ample");
-    let born = report.born();
-    assert_eq!(born.len(), MANY as usize);
-    run_frame(&mut world, &[age, age], 2).expect("memory is ample");
-    assert!(born.iter().all(|one| world.get(*one, HP) == Some(1)));
+        let refused = run_frame(&mut world, &systems, 65).expect_err("too many workers");
+        assert!(matches!(refused, FrameError::Workers));
+        systems.push(launch);
+        let refused = run_frame(&mut world, &systems, 1).expect_err("too many systems");
+        assert!(matches!(refused, FrameError::Systems));
+        assert_eq!(world.len(), 2 * 65_536);
+    }
+
+    /// A frame whose one system spawns as many singly, and one whose systems list all of them.
+    #[test]
+    #[cfg_attr(debug_assertions, ignore = "for optimised code")]
+    fn entities_of_a_frame() {
+        let spawn = |_: View<'_>, commands: &mut SystemCommands<'_, '_>| {
+            for _ in 0..MANY {
+                commands
+                    .spawn(&[(HP, 0)])
+                    .map_or_else(|why| why.or_memory(), |_| Ok(()))?;
+            }
+            Ok(())
+        };
+        let age = |view: View<'_>, commands: &mut SystemCommands<'_, '_>| {
+            let all = view.by_birth()?;
+            assert_eq!(all, view.with(HP)?);
+            all.into_iter()
+                .try_for_each(|one| commands.insert(one, &[(HP, 1)]))
+        };
+        let mut world = World::new();
+        let report = run_frame(&mut world, &[spawn], 1).expect("memory is ample");
+        let born = report.born();
+        assert_eq!(born.len(), MANY as usize);
+        run_frame(&mut world, &[age, age], 2).expect("memory is ample");
+        assert!(born.iter().all(|one| world.get(*one, HP) == Some(1)));
+    }
 }

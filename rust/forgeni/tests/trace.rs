@@ -361,6 +361,55 @@ fn logs_are_joined_at_the_next_other_call() {
     );
 }
 
+/// Each call of a recorder first joins what the logs have: the answers are those after it.
+#[test]
+fn each_call_joins_the_logs() {
+    let one = handle(0, 1);
+    let joined = |call: fn(&mut Recorder, Handle) -> Result<(), CheckError>| {
+        let mut recorder = Recorder::new(limits(9, 9), 2).expect("memory");
+        recorder.alloc(one).expect("it agrees");
+        recorder.logs()[1].push(1, handle(1, 1)).expect("memory");
+        call(&mut recorder, one).expect("it agrees");
+        assert!(recorder.logs()[1].reservations().is_empty());
+        assert_eq!(recorder.calls(), 3);
+        recorder.finish().expect("it agrees");
+    };
+    joined(|recorder, _| recorder.alloc(AllocReply::NeedsFlush));
+    joined(|recorder, one| recorder.free(one, FreeReply::NeedsFlush));
+    joined(|recorder, _| recorder.state(handle(1, 1), State::Reserved));
+    joined(|recorder, _| recorder.len(1));
+    joined(|recorder, _| recorder.flush([handle(1, 1)]));
+}
+
+/// A refusal that doesn't say what was left isn't one that says there was none.
+#[test]
+fn space_without_a_number() {
+    let mut checker = Checker::new(limits(2, 1));
+    checker
+        .reserve(0, 3, ReserveReply::Space)
+        .expect("it agrees");
+    checker.flush([]).expect("it agrees");
+    let wrong = Reservation::new(0, 3, ReserveReply::SpaceLeft(0));
+    expect_text(
+        checker.run(&[wrong]),
+        "differs line 3: reserve 0 3 => space left 0, expected space left 2",
+    );
+    // As it was told, so it is handed back.
+    let mut checker = Checker::new(limits(2, 1));
+    let told = Reservation::new(0, 1, ReserveReply::Space);
+    let wrong = checker
+        .run(std::slice::from_ref(&told))
+        .expect_err("one is left");
+    let difference = wrong.difference().expect("a difference");
+    assert_eq!(difference.told, Call::Reserve(told));
+    let expected = Reservation::new(0, 1, handle(0, 1));
+    assert_eq!(difference.expected, Call::Reserve(expected));
+    assert_eq!(
+        (&difference.front[..], difference.cursor),
+        (&handles("0v1 1v1")[..], 0)
+    );
+}
+
 #[test]
 fn the_package_agrees_with_itself() {
     let mut recorder = Recorder::new(Limits::GREATEST, 4).expect("memory");

@@ -41,6 +41,42 @@ fn entities_come_and_go() {
 }
 
 /// The commands of the first queue take effect first, whichever system reserved first.
+/// What is spawned between two flushes is numbered on. Neither a refusal nor a phase without a flush begins
+/// anew.
+#[test]
+fn spawned_between_two_flushes() {
+    fn spawned(world: &mut World) -> String {
+        let one = world.spawn(&[]).expect("a handle");
+        world.birth(one).expect("alive").to_string()
+    }
+    let mut world = small(6, 2);
+    assert_eq!(spawned(&mut world), "0.4294967295.0");
+    assert_eq!(spawned(&mut world), "0.4294967295.1");
+    world.despawn(handle(1, 1)).expect("alive");
+
+    let (mut world, _) = world.open(0).expect_err("no systems").into_parts();
+    assert_eq!(spawned(&mut world), "0.4294967295.2");
+
+    let (open, systems) = world.open(1).expect("opened");
+    let (open, _, _) = open.close(vec![]).expect_err("missing").into_parts();
+    let queues = systems.into_iter().map(Commands::finish).collect();
+    let (mut world, _) = open.close(queues).expect("closed");
+    assert_eq!(spawned(&mut world), "0.4294967295.3");
+
+    let (open, systems) = world.open(1).expect("opened");
+    drop(systems);
+    let (mut world, _) = open.close_lost(vec![]).expect("nobody is there");
+    assert_eq!(spawned(&mut world), "0.4294967295.4");
+    let birth = world.birth(handle(0, 1)).expect("alive");
+    world.spawn_with_birth(birth, &[]).expect("a handle");
+    assert_eq!(spawned(&mut world), "0.4294967295.5");
+    assert_eq!(world.spawn(&[]), Err(AllocError::Space));
+
+    world.flush().expect("memory");
+    world.despawn(handle(0, 1)).expect("alive");
+    assert_eq!(spawned(&mut world), "1.4294967295.0");
+}
+
 #[test]
 fn queues_take_effect_in_their_order() {
     let mut world = World::new();

@@ -34,9 +34,10 @@ fn call(world: &mut World, model: &mut WorldModel, numbers: &mut Numbers, place:
         let birth = Birth {
             frame: model.phase,
             system: u32::MAX,
-            ordinal: 0,
+            ordinal: model.spawned,
         };
         let wanted = model.spawn(birth, &components).ok_or(AllocError::Space);
+        model.spawned += u32::from(wanted.is_ok());
         assert_eq!(world.spawn(&components), wanted, "{place}: spawn");
     } else {
         let any = any_handle(numbers, model);

@@ -68,6 +68,8 @@ pub struct WorldModel {
     pub generations: u32,
     pub made: u32,
     pub phase: u64,
+    /// How many were spawned by the world itself in this phase.
+    pub spawned: u32,
     pub live: BTreeMap<Handle, (Birth, Components)>,
     /// What each slot that waits gives next, the one that was freed last at the end.
     pub waiting: Vec<Handle>,
@@ -80,6 +82,7 @@ impl WorldModel {
             generations,
             made: 0,
             phase: 0,
+            spawned: 0,
             live: BTreeMap::new(),
             waiting: vec![],
         }
@@ -139,6 +142,7 @@ impl WorldModel {
             }
         }
         self.phase += 1;
+        self.spawned = 0;
         born
     }
 

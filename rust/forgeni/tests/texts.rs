@@ -1,0 +1,434 @@
+//! What each public type is as a text: all errors, and what is printed to look into a value.
+
+use crate::common::{handle, small};
+use forgeni::trace::{AllocReply, Call, CheckError, Checker, Difference, FlushReply, FreeReply};
+use forgeni::trace::{Log, Recorder, Reservation, ReserveReply};
+use forgeni::{
+    Absent, AllocError, Birth, BornError, CloseError, Commands, ComponentId, Entities, Fault,
+    FaultKind, FinishError, FreeError, Freed, Handle, HandleMap, InsertError, InsertionError,
+    Limits, OpenError, OtherPhase, OutOfMemory, ParseHandleError, Refused, RequestError,
+    RequestManyError, ShareError, SpawnError, State, Storage, SyncError, SyncErrorKind,
+    Unallocated, World,
+};
+use std::fmt::{Debug, Display};
+
+const SPACE: (u32, u32) = (5, 3);
+
+#[track_caller]
+fn displays<'a>(cases: impl IntoIterator<Item = (&'a dyn Display, &'a str)>) {
+    for (shown, text) in cases {
+        assert_eq!(shown.to_string(), text);
+    }
+}
+
+#[track_caller]
+fn debugs<'a>(cases: impl IntoIterator<Item = (&'a dyn Debug, &'a str)>) {
+    for (shown, text) in cases {
+        assert_eq!(format!("{shown:?}"), text);
+    }
+}
+
+const MEMORY: &str = "out of memory";
+const NEEDS_FLUSH: &str = "a flush is needed first";
+const ABSENT: &str = "no such entity";
+const WANTED: &str = "5 wanted and 3 left";
+
+#[test]
+fn errors_of_an_allocator() {
+    let (wanted, left) = SPACE;
+    displays([
+        (&AllocError::NeedsFlush as &dyn Display, NEEDS_FLUSH),
+        (&AllocError::Space, "no slot is free"),
+        (&AllocError::Memory, MEMORY),
+        (&FreeError::NeedsFlush, NEEDS_FLUSH),
+        (&FreeError::NotAlive, "the entity is not alive"),
+        (&FreeError::Memory, MEMORY),
+        (&RequestError::Space, "no handle is left"),
+        (
+            &RequestError::Credit,
+            "no more may be requested before a flush",
+        ),
+        (&RequestManyError::Space { wanted, left }, WANTED),
+        (&RequestManyError::Memory, MEMORY),
+        (&OutOfMemory, MEMORY),
+        (&Refused::Space { wanted, left }, WANTED),
+        (&Refused::Quota { left: 7 }, "the quota left is 7"),
+        (&Refused::Memory, MEMORY),
+        (&ShareError::NeedsFlush, NEEDS_FLUSH),
+        (
+            &ShareError::Count,
+            "an allocator is shared among 1 to 1,024 callers",
+        ),
+        (&ShareError::Memory, MEMORY),
+        (&OtherPhase, "the reserver is of another phase"),
+        (&CloseError::OtherPhase, "a reserver is of another phase"),
+        (&CloseError::Missing { count: 2 }, "missing reservers: 2"),
+        (&CloseError::InUse, "a reserver is still in use"),
+        (
+            &ParseHandleError::Shape,
+            "not of the form of a handle, as 0v1",
+        ),
+        (&ParseHandleError::Range, "no handle has these numbers"),
+    ]);
+    let handles = vec![handle(0, 1)];
+    let error = AllocError::Memory;
+    let refused = Unallocated { handles, error };
+    displays([(&refused as &dyn Display, MEMORY)]);
+    debugs([(
+        &refused as &dyn Debug,
+        "Unallocated { handles: [0v1], error: Memory }",
+    )]);
+}
+
+#[test]
+fn errors_of_components_and_worlds() {
+    let (wanted, left) = SPACE;
+    displays([
+        (
+            &BornError::Present as &dyn Display,
+            "the entity is there already",
+        ),
+        (&BornError::Memory, MEMORY),
+        (&InsertError::Absent, ABSENT),
+        (&InsertError::Memory, MEMORY),
+        (&Absent, ABSENT),
+        (
+            &InsertionError::Limit,
+            "the handle is above the map's limit",
+        ),
+        (
+            &InsertionError::Later,
+            "a later occupant of the slot has a value",
+        ),
+        (&InsertionError::Memory, MEMORY),
+        (&SpawnError::Space { wanted, left }, WANTED),
+        (&SpawnError::Credit { left: 7 }, "the credit left is 7"),
+        (&SpawnError::Memory, MEMORY),
+        (&OpenError::NeedsFlush, NEEDS_FLUSH),
+        (&OpenError::Count, "a phase has 1 to 1,024 systems"),
+        (&OpenError::Memory, MEMORY),
+        (&FinishError::OtherPhase, "a queue is of another phase"),
+        (&FinishError::Missing { count: 2 }, "missing queues: 2"),
+        (&FinishError::InUse, "a system is still in use"),
+        (&FinishError::Memory, MEMORY),
+        (
+            &SyncErrorKind::OtherWorld,
+            "the queues are of another world",
+        ),
+        (&SyncErrorKind::NeedsFlush, NEEDS_FLUSH),
+        (&SyncErrorKind::Memory, MEMORY),
+        (
+            &SyncErrorKind::Stopped {
+                system: 3,
+                command: 4,
+            },
+            "out of memory at command 4 of system 3",
+        ),
+    ]);
+    let mut map = HandleMap::from_iter([(handle(0, 2), 1)]);
+    let refused = map.insert(handle(0, 1), 2).expect_err("later");
+    displays([(
+        &refused as &dyn Display,
+        "a later occupant of the slot has a value",
+    )]);
+    debugs([(&refused as &dyn Debug, "Uninserted { error: Later, .. }")]);
+}
+
+/// An error that hands something back says what the plain error says.
+#[test]
+fn errors_with_parts() {
+    let unshared = Entities::new().share(0).expect_err("no callers");
+    let (shared, _reservers) = Entities::new().share(2).expect("shared");
+    let unclosed = shared.close(vec![]).expect_err("missing");
+    let unopened = World::new().open(0).expect_err("no systems");
+    let (open, systems) = World::new().open(1).expect("opened");
+    let unfinished = open.close(vec![]).expect_err("missing");
+    displays([
+        (
+            &unshared as &dyn Display,
+            "an allocator is shared among 1 to 1,024 callers",
+        ),
+        (&unclosed, "missing reservers: 2"),
+        (&unopened, "a phase has 1 to 1,024 systems"),
+        (&unfinished, "missing queues: 1"),
+    ]);
+    debugs([
+        (
+            &unshared as &dyn Debug,
+            "Unshared { entities: Entities { len: 0, total: 0, waiting: 0, retired: 0, reserved: 0, .. }, \
+             error: Count }",
+        ),
+        (
+            &unclosed,
+            "Unclosed { shared: Shared { count: 2, at_home: 0, .. }, reservers: [], \
+             error: Missing { count: 2 } }",
+        ),
+        (&unopened, "Unopened { world: World { len: 0, phase: 0, .. }, error: Count }"),
+        (
+            &unfinished,
+            "Unfinished { open: OpenWorld { count: 1, at_home: 0, .. }, queues: [], \
+             error: Missing { count: 1 } }",
+        ),
+    ]);
+    let queues = systems.into_iter().map(Commands::finish).collect();
+    let (_, queues) = unfinished.open.close(queues).expect("closed");
+    let unapplied = World::new().apply(queues).expect_err("another world");
+    displays([(
+        &unapplied as &dyn Display,
+        "the queues are of another world",
+    )]);
+    debugs([(&unapplied as &dyn Debug, "OtherWorld(Queues { .. })")]);
+    let (left, _) = unapplied.into_parts();
+    let refused = SyncError::Memory(left.expect("nothing was done"));
+    displays([(&refused as &dyn Display, MEMORY)]);
+    debugs([(&refused as &dyn Debug, "Memory(Queues { .. })")]);
+}
+
+#[test]
+fn values_of_an_allocator() {
+    let mut entities = small(9, 1);
+    entities.alloc_many(4).expect("handles");
+    entities.free(handle(2, 1)).expect("alive");
+    entities.request_many(2).expect("handles");
+    debugs([
+        (
+            &entities as &dyn Debug,
+            "Entities { len: 3, total: 4, waiting: 0, retired: 1, reserved: 2, .. }",
+        ),
+        (&entities.iter(), "Living { len: 3, .. }"),
+        (
+            &Limits::new(3, 2),
+            "Some(Limits { slots: 3, generations: 2 })",
+        ),
+        (
+            &[State::Alive, State::Reserved, State::Gone],
+            "[Alive, Reserved, Gone]",
+        ),
+        (
+            &Freed {
+                next: Some(handle(0, 2)),
+            },
+            "Freed { next: Some(0v2) }",
+        ),
+        (&Handle::PLACEHOLDER, "4294967294v2147483647"),
+    ]);
+    let (shared, mut reservers) = small(9, 1).share(2).expect("shared");
+    reservers[1].reserve_many(3).expect("handles");
+    let text = "Reserver { number: 1, quota_left: 1099511627773, .. }";
+    debugs([
+        (&shared as &dyn Debug, "Shared { count: 2, at_home: 0, .. }"),
+        (&reservers[1], text),
+    ]);
+    let phase = Entities::new().phase(2, |_, lent| {
+        lent[1].reserve_many(3).expect("handles");
+        debugs([(&lent[1] as &dyn Debug, text)]);
+    });
+    phase.expect("shared");
+}
+
+#[test]
+fn values_of_worlds() {
+    const HP: ComponentId = ComponentId(2);
+    let birth = Birth {
+        frame: 2,
+        system: 0,
+        ordinal: 1,
+    };
+    let mut storage = Storage::new();
+    storage.born(handle(0, 1), birth).expect("memory");
+    let fault = Fault {
+        system: 1,
+        command: 2,
+        kind: FaultKind::NotAlive(handle(3, 4)),
+    };
+    debugs([
+        (&storage as &dyn Debug, "Storage { len: 1, .. }"),
+        (&HP, "ComponentId(2)"),
+        (&birth, "Birth { frame: 2, system: 0, ordinal: 1 }"),
+        (
+            &fault,
+            "Fault { system: 1, command: 2, kind: NotAlive(3v4) }",
+        ),
+        (
+            &FaultKind::Space { wanted: 5, left: 3 },
+            "Space { wanted: 5, left: 3 }",
+        ),
+        (&FaultKind::Credit { left: 7 }, "Credit { left: 7 }"),
+        (&HandleMap::from_iter([(handle(1, 2), 'a')]), "{1v2: 'a'}"),
+    ]);
+    displays([(&birth as &dyn Display, "2.0.1")]);
+
+    let mut world = World::new();
+    world.spawn(&[]).expect("a handle");
+    world.flush().expect("memory");
+    debugs([(&world as &dyn Debug, "World { len: 1, phase: 1, .. }")]);
+    let (open, mut systems) = world.open(2).expect("opened");
+    systems[1].spawn(&[]).expect("a handle");
+    systems[1].despawn(handle(7, 1)).expect("memory");
+    debugs([
+        (
+            &open as &dyn Debug,
+            "OpenWorld { count: 2, at_home: 0, .. }",
+        ),
+        (&systems[1], "Commands { number: 1, .. }"),
+    ]);
+    let queues: Vec<_> = systems.into_iter().map(Commands::finish).collect();
+    debugs([(&queues[1] as &dyn Debug, "CommandQueue { number: 1, .. }")]);
+    let (mut world, queues) = open.close(queues).expect("closed");
+    let report = world.apply(queues).expect("memory");
+    debugs([(
+        &report as &dyn Debug,
+        "Report { born: [1v1], faults: [Fault { system: 1, command: 1, kind: NotAlive(7v1) }] }",
+    )]);
+}
+
+/// Handles of a trace.
+fn two() -> Vec<Handle> {
+    vec![handle(0, 1), handle(1, 2)]
+}
+
+#[test]
+fn lines_of_a_trace() {
+    let one = handle(3, 4);
+    let reserve = |reply: ReserveReply| Call::Reserve(Reservation::new(6, 2, reply));
+    displays([
+        (
+            &Call::Alloc(AllocReply::Handle(one)) as &dyn Display,
+            "alloc => 3v4",
+        ),
+        (&Call::Alloc(AllocReply::Space), "alloc => space"),
+        (&Call::Alloc(AllocReply::NeedsFlush), "alloc => needs flush"),
+        (&Call::Alloc(AllocReply::Untold), "alloc"),
+        (&Call::Free(one, FreeReply::Freed), "free 3v4 => freed"),
+        (
+            &Call::Free(one, FreeReply::Next(handle(3, 5))),
+            "free 3v4 => freed next 3v5",
+        ),
+        (
+            &Call::Free(one, FreeReply::Retired),
+            "free 3v4 => freed retired",
+        ),
+        (
+            &Call::Free(one, FreeReply::NotAlive),
+            "free 3v4 => not alive",
+        ),
+        (
+            &Call::Free(one, FreeReply::NeedsFlush),
+            "free 3v4 => needs flush",
+        ),
+        (&Call::Free(one, FreeReply::Untold), "free 3v4"),
+        (
+            &Call::Flush(FlushReply::Born(two())),
+            "flush => born 0v1 1v2",
+        ),
+        (&Call::Flush(FlushReply::Born(vec![])), "flush => born"),
+        (&Call::Flush(FlushReply::Count(7)), "flush => born (7)"),
+        (&Call::Flush(FlushReply::Untold), "flush"),
+        (
+            &reserve(ReserveReply::Handles(two())),
+            "reserve 6 2 => 0v1 1v2",
+        ),
+        (&reserve(ReserveReply::Handles(vec![])), "reserve 6 2 =>"),
+        (&reserve(ReserveReply::Space), "reserve 6 2 => space"),
+        (
+            &reserve(ReserveReply::SpaceLeft(0)),
+            "reserve 6 2 => space left 0",
+        ),
+        (&Call::State(one, State::Alive), "state 3v4 => alive"),
+        (&Call::State(one, State::Reserved), "state 3v4 => reserved"),
+        (&Call::State(one, State::Gone), "state 3v4 => gone"),
+        (&Call::Len(5), "len => 5"),
+    ]);
+}
+
+#[test]
+fn values_of_traces() {
+    let difference = Difference {
+        line: 4,
+        told: Call::Len(2),
+        expected: Call::Len(3),
+        front: two(),
+        cursor: -1,
+    };
+    let text = "differs line 4: len => 2, expected 3";
+    let debug =
+        "Difference { line: 4, told: Len(2), expected: Len(3), front: [0v1, 1v2], cursor: -1 }";
+    let error = CheckError::Differs(difference.clone());
+    displays([
+        (&difference as &dyn Display, text),
+        (&error, text),
+        (
+            &CheckError::TooMany,
+            "more than 2^50 handles were requested before a flush",
+        ),
+        (&CheckError::Memory, MEMORY),
+    ]);
+    let mut checker = Checker::new(Limits::GREATEST);
+    checker.len(0).expect("it agrees");
+    let mut recorder = Recorder::new(Limits::GREATEST, 3).expect("memory");
+    recorder.len(0).expect("it agrees");
+    let mut log = Log::new(6);
+    log.push(1, handle(0, 1)).expect("memory");
+    debugs([
+        (&difference as &dyn Debug, debug),
+        (&error, &format!("Differs({debug})")),
+        (&checker, "Checker { calls: 1, .. }"),
+        (&recorder, "Recorder { calls: 1, logs: 3 }"),
+        (
+            &log,
+            "Log { caller: 6, reservations: [Reservation { caller: 6, requested: 1, reply: Handles([0v1]) }] }",
+        ),
+    ]);
+}
+
+#[cfg(feature = "std")]
+mod frames {
+    use super::*;
+    use forgeni::{run_frame, FrameError, Reservers, SystemCommands, View};
+
+    #[test]
+    fn errors_of_a_frame() {
+        let (mut world, queues) = {
+            let (open, systems) = World::new().open(1).expect("opened");
+            let queues = systems.into_iter().map(Commands::finish).collect();
+            open.close(queues).expect("closed")
+        };
+        displays([
+            (&FrameError::NeedsFlush as &dyn Display, NEEDS_FLUSH),
+            (&FrameError::Workers, "a frame has 1 to 64 workers"),
+            (&FrameError::Systems, "a frame has at most 65,536 systems"),
+            (&FrameError::Memory, "out of memory before any system ran"),
+            (&FrameError::Lost, "out of memory while the systems ran"),
+            (
+                &FrameError::Sync(SyncError::Memory(queues)),
+                "the sync point stopped: out of memory",
+            ),
+        ]);
+        world.spawn(&[]).expect("a handle");
+        world.flush().expect("memory");
+        let system = |view: View<'_>, commands: &mut SystemCommands<'_, '_>| {
+            debugs([
+                (&view as &dyn Debug, "View { phase: 1, .. }"),
+                (commands, "SystemCommands { .. }"),
+            ]);
+            Ok(())
+        };
+        run_frame(&mut world, &[system], 1).expect("memory");
+    }
+
+    #[test]
+    fn values_of_pools() {
+        let (_shared, mut reservers) = Entities::new().share(2).expect("shared");
+        let pool = Reservers::new(&mut reservers).expect("memory");
+        debugs([(&pool as &dyn Debug, "Reservers { count: 2, .. }")]);
+        let unpooled = forgeni::Unpooled {
+            reservers: [1, 2],
+            error: OutOfMemory,
+        };
+        displays([(&unpooled as &dyn Display, MEMORY)]);
+        debugs([(
+            &unpooled as &dyn Debug,
+            "Unpooled { error: OutOfMemory, .. }",
+        )]);
+    }
+}
