@@ -690,7 +690,7 @@ def main():
     if found:
         sys.exit("\n".join(found))
     print(f"two erasers agree on {len(made)} files, {sum(len(it) for _, it in made.values())} tokens")
-    print("; ".join(f"{it.strip('()')} {count}" for it, count in sorted(counts.items())))
+    print("; ".join(f"{it} {count}" for it, count in sorted(counts.items())))
     mutate(made, results, given.mutate, given.seed) if given.mutate else None
 
 
