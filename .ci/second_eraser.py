@@ -33,7 +33,7 @@ TABLE = {
     "formatter": (5, "the kit's `Formatter<W>` writes to a `W`, Rust's to a `dyn Write`; each use is `write_str` or `write!`"),
     "visibility": (217, "`pub(crate)` would open a module to the whole package; too narrow a word fails to compile"),
     "inline": (590, "a hint to the compiler, on each function with a body and without a hint of its own"),
-    "alignment": (1, "`Handle` is compared as one word; nothing reads its layout"),
+    "alignment": (1, "`Handle` is aligned as the word that the package turns it into; no source reads a layout"),
     "const": (6, "what makes an allocator without memory may be called in a constant: CONSTANT lists them"),
 }
 
@@ -689,8 +689,9 @@ def main():
     found += [f"TABLE: {it}: {count} times" for it, count in sorted(classes.items()) if count != TABLE.get(it, (0,))[0]]
     if found:
         sys.exit("\n".join(found))
-    print(f"two erasers agree on {len(made)} files, {sum(len(it) for _, it in made.values())} tokens")
-    print("; ".join(f"{it} {count}" for it, count in sorted(counts.items())))
+    ghost = ", ".join(f"{counts[it]} {it.strip('()')}" for it in sorted(counts) if it[0] == "(")
+    print(f"two erasers agree on {len(made)} files, {sum(len(it) for _, it in made.values())} tokens, without {ghost}; what differs:")
+    print("\n".join(f"{count:5} {it}: {why}" for it, (count, why) in TABLE.items()))
     mutate(made, results, given.mutate, given.seed) if given.mutate else None
 
 
