@@ -8,10 +8,12 @@ use crate::proved::ent_replay::trace::reply::{AllocReply, FlushReply, FreeReply,
 use crate::proved::ent_alloc::State;
 use crate::proved::ent_handle::{Handle, Memory};
 use crate::kit::itoa::Buffer;
+use crate::kit::alloc::Global;
 
 #[inline]
 fn append(out: &mut Vec<u8>, text: &[u8]) -> Result<(), Memory>
-    // ensures { OnOk result (out.new.items ≡ out.old.items ++ text.now) }
+    // ensures ok { OnOk result (out.new.items ≡ out.old.items ++ text.now) }
+    // ensures err { OnErr result (out.new.items ≡ out.old.items) }
 {
     Ok(out.extend_from_slice(text)?)
 }
@@ -43,9 +45,20 @@ fn append_handle(out: &mut Vec<u8>, handle: Handle) -> Result<(), Memory>
 ///
 /// # Errors
 ///
-/// `Memory`: there is no memory for the texts. What was appended isn't said then.
+/// `Memory`: memory ran out. `out` is as it was.
 #[inline]
-pub fn append_handles(out: &mut Vec<u8>, handles: &[Handle]) -> Result<(), Memory>
+pub fn append_handles(alloc: Global, out: &mut Vec<u8>, handles: &[Handle]) -> Result<(), Memory>
+    // ensures ok { OnOk result (out.new.items
+    //     ≡ out.old.items ++ spaced (map handle_text handles.now)) }
+    // ensures err { OnErr result (out.new.items ≡ out.old.items) }
+{
+    let mut text = Vec::new(alloc);
+    put_handles(&mut text, handles)?;
+    append(out, &text)
+}
+
+#[inline]
+fn put_handles(out: &mut Vec<u8>, handles: &[Handle]) -> Result<(), Memory>
     // ensures ok { OnOk result (out.new.items
     //     ≡ out.old.items ++ spaced (map handle_text handles.now)) }
 {
@@ -88,7 +101,7 @@ fn write_flush(out: &mut Vec<u8>, reply: &FlushReply) -> Result<(), Memory>
 {
     append(out, b" born")?;
     match reply {
-        FlushReply::Born(handles) => append_handles(out, handles.as_slice()),
+        FlushReply::Born(handles) => put_handles(out, handles.as_slice()),
         FlushReply::Count(count) => {
             append(out, b" (")?;
             append(out, Buffer::new().format(*count).as_bytes())?;
@@ -102,7 +115,7 @@ fn write_reserved(out: &mut Vec<u8>, reply: &ReserveReply) -> Result<(), Memory>
     // ensures { OnOk result (out.new.items ≡ out.old.items ++ spaced (reserve_words reply.now)) }
 {
     match reply {
-        ReserveReply::Handles(handles) => append_handles(out, handles.as_slice()),
+        ReserveReply::Handles(handles) => put_handles(out, handles.as_slice()),
         ReserveReply::Space => append(out, b" space"),
         ReserveReply::SpaceLeft(left) => {
             append(out, b" space left")?;
@@ -139,9 +152,19 @@ fn write_reserve(out: &mut Vec<u8>, reservation: &Reservation) -> Result<(), Mem
 ///
 /// # Errors
 ///
-/// `Memory`: there is no memory for the words. What was appended isn't said then.
+/// `Memory`: memory ran out. `out` is as it was.
 #[inline]
-pub fn append_answer(out: &mut Vec<u8>, line: &Line) -> Result<(), Memory>
+pub fn append_answer(alloc: Global, out: &mut Vec<u8>, line: &Line) -> Result<(), Memory>
+    // ensures ok { OnOk result (out.new.items ≡ out.old.items ++ spaced (answer_words line.now)) }
+    // ensures err { OnErr result (out.new.items ≡ out.old.items) }
+{
+    let mut text = Vec::new(alloc);
+    put_answer(&mut text, line)?;
+    append(out, &text)
+}
+
+#[inline]
+fn put_answer(out: &mut Vec<u8>, line: &Line) -> Result<(), Memory>
     // ensures ok { OnOk result (out.new.items ≡ out.old.items ++ spaced (answer_words line.now)) }
 {
     match line {
@@ -160,9 +183,19 @@ pub fn append_answer(out: &mut Vec<u8>, line: &Line) -> Result<(), Memory>
 ///
 /// # Errors
 ///
-/// `Memory`: there is no memory for the text. What was appended isn't said then.
+/// `Memory`: memory ran out. `out` is as it was.
 #[inline]
-pub fn write_line(out: &mut Vec<u8>, line: &Line) -> Result<(), Memory>
+pub fn write_line(alloc: Global, out: &mut Vec<u8>, line: &Line) -> Result<(), Memory>
+    // ensures ok { OnOk result (out.new.items ≡ out.old.items ++ line_text line.now) }
+    // ensures err { OnErr result (out.new.items ≡ out.old.items) }
+{
+    let mut text = Vec::new(alloc);
+    put_line(&mut text, line)?;
+    append(out, &text)
+}
+
+#[inline]
+fn put_line(out: &mut Vec<u8>, line: &Line) -> Result<(), Memory>
     // ensures ok { OnOk result (out.new.items ≡ out.old.items ++ line_text line.now) }
 {
     match line {
