@@ -104,10 +104,10 @@ last_pushed xs y =
 
 -- the system that stopped is the last one
 pub left_last : {S : Type 0} (leave : S → View → List Command → Type 0) (systems : List S)
-    (view : View) (before : List SystemQueue) (issued : Vec SystemQueue Global) (last : SystemQueue)
-    → issued.items ≡ before ++ last ∷ [] → SystemMayIssue leave systems view last.system last.queue
+    (view : View) (before issued : List SystemQueue) (last : SystemQueue) → issued
+    ≡ before ++ last ∷ [] → SystemMayIssue leave systems view last.system last.queue
     → WasRefused leave systems view issued
-left_last leave systems view before issued last pushed left = inl
+left_last leave systems view before issued last pushed left =
     (last, search (rules, last_pushed), left)
 
 pub inside_more : {S : Type 0} (systems : List S) (issued next : List SystemQueue) (i : SystemQueue)
