@@ -1,15 +1,13 @@
 -- Queues put at the numbers of their systems: each stands there if no system has two.
 use Rattle.std.proofs.lemmas.Grind.{common_steps}
-use Rattle.std.proofs.Common.{rules, append_assoc, subst, sym, ◌≡◌, ℕ, ◌+◌, ◌<◌, ◌≤◌, List, [], ◌∷◌}
-use Rattle.std.proofs.Common.{◌++◌, length, map, get_or, refl, ap, ◌∙◌, arith, Option, Some, None, cond}
+use Rattle.std.proofs.Common.{rules, append_assoc, ◌≡◌, ℕ, ◌+◌, ◌<◌, ◌≤◌, List, [], ◌∷◌}
+use Rattle.std.proofs.Common.{◌++◌, length, map, get_or, refl, ap, ◌∙◌, arith, Option, Some, cond}
 use Rattle.std.proofs.Common.{eq-eqb, suc}
 use Rattle.std.specs.Prelude.{slice_set, ◌==◌}
-use Rattle.std.specs.List.{All, Any, sum_by}
+use Rattle.std.specs.List.{All, sum_by}
 use Rattle.std.proofs.lemmas.List.Elements.{All-nil, All-cons, All-rest}
 use Rattle.std.proofs.lemmas.List.Sums.{sum_by-cons}
 use Rattle.std.proofs.lemmas.List.{get_or-set_same, get_or-set_other, length-set, map-append}
-use Rattle.std.proofs.lemmas.List.{length-append}
-use Rattle.std.proofs.Math.Seq.{get_or-append_seam}
 use Rattle.ent_queue.specs.Command.{Command}
 use Rattle.ent_runner.specs.declared.worker.SystemQueue.{SystemQueue}
 use Rattle.ent_runner.specs.Collecting.{queues_put}
@@ -85,20 +83,3 @@ collected_on rest new q before after all front push same = (
   search (rules, map-append, append_assoc),
   ap length front ∙ omega arith,
 )
-
-abbrev none : Option (List Command)
-none = None
-
--- one that is not there
-pub one_lacks : (before rest new all : List (Option (List Command))) → rest ≡ None ∷ new
-    → before ++ rest ≡ all → Any (λ (queue : Option (List Command)). queue ≡ None) all
-one_lacks before rest new all front same =
-    let long = length-append before rest in
-    let here = get_or-append_seam before none new none in (
-      length before,
-      none,
-      omega (arith, long, ap length same, ap length front),
-      subst (λ xs. get_or xs (length before) none ≡ none) (ap (λ xs. before ++ xs) (sym front) ∙ same)
-          here,
-      refl,
-    )

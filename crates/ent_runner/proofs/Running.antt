@@ -1,6 +1,6 @@
 -- A worker runs one system after the other.
 use Rattle.std.proofs.Common.{rules, ◌≡◌, ℕ, ◌<◌, List, [], ◌∷◌, ◌++◌, length, ap, ◌∙◌, subst, inl}
-use Rattle.std.proofs.Common.{inr, arith, get_or, Vec, Global, slice_get, Some, ◌-◌}
+use Rattle.std.proofs.Common.{inr, arith, get_or, slice_get, Some, ◌-◌}
 use Rattle.std.proofs.lemmas.Grind.{common_steps}
 use Rattle.std.specs.Prelude.{Result, Ok, Err, OnOk, OnErr}
 use Rattle.std.proofs.lemmas.Option.{get_or_from_slice_get, slice_get-get_or}

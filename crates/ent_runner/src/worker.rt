@@ -1,5 +1,5 @@
 //! Workers: each claims systems, one after the other, runs them, and keeps their queues.
-ghost use Rattle.std.specs.Prelude.{◌≡◌, ◌+◌, ◌<◌, ◌≤◌, ◌^◌, [], length, OnOk, OnErr, true};
+ghost use Rattle.std.specs.Prelude.{◌≡◌, ◌+◌, ◌<◌, length, OnOk, OnErr};
 ghost use Rattle.std.specs.Prelude.{All};
 ghost use Rattle.ent_shared.specs.Phase.{IsOf};
 ghost use Rattle.ent_queue.specs.Reserving.{Gains};

@@ -1,5 +1,5 @@
 use Rattle.std.proofs.Common.{arith}
-use Rattle.ent_runner.proofs.BySystem.{collected_on, one_lacks}
+use Rattle.ent_runner.proofs.BySystem.{collected_on}
 use Rattle.ent_runner.proofs.collecting.collect.Goals as goal
 
 pub loop-queue-preserved : goal.loop-queue-preserved
