@@ -181,7 +181,8 @@ def other_answer(line, lines, rng):
         for other in (f"{index + 1}v{generation}", f"{max(index - 1, 0)}v{generation}", f"{index}v{generation + 1}", f"{index + 3}v1"):
             ways.append(" ".join(said[:at] + [other] + said[at + 1 :]))
     if call == "reserve":
-        ways += ["space", f"space left {rng.randint(0, 4)}", " ".join(said[1:]), " ".join(said[::-1])]
+        ways += ["space", f"space left {rng.randint(0, 4)}"]
+        ways += [" ".join(said[1:]), " ".join(said[::-1])] if handles else []
         ways += [it.partition("=>")[2].strip() for it in lines if it.startswith("reserve")]
     if call == "len":
         ways += [str(int(answer) + 1)]

@@ -1,11 +1,11 @@
 -- Queues put at the numbers of their systems: each stands there if no system has two.
 use Rattle.std.proofs.lemmas.Grind.{common_steps}
-use Rattle.std.proofs.Common.{rules, subst, append_assoc, ◌≡◌, ℕ, ◌+◌, ◌<◌, ◌≤◌, List, [], ◌∷◌}
+use Rattle.std.proofs.Common.{rules, append_assoc, ◌≡◌, ℕ, ◌+◌, ◌<◌, ◌≤◌, List, [], ◌∷◌}
 use Rattle.std.proofs.Common.{◌++◌, length, map, get_or, refl, ap, ◌∙◌, arith, Option, Some, cond}
 use Rattle.std.proofs.Common.{eq-eqb, suc}
-use Rattle.std.specs.Prelude.{slice_set, ◌==◌, IsSome}
+use Rattle.std.specs.Prelude.{slice_set, ◌==◌}
 use Rattle.std.specs.List.{All, sum_by}
-use Rattle.std.proofs.lemmas.List.Elements.{All-nil, All-cons, All-tail, All-rest}
+use Rattle.std.proofs.lemmas.List.Elements.{All-nil, All-cons, All-rest}
 use Rattle.std.proofs.lemmas.List.Sums.{sum_by-cons}
 use Rattle.std.proofs.lemmas.List.{get_or-set_same, get_or-set_other, length-set, map-append}
 use Rattle.ent_queue.specs.Command.{Command}
@@ -34,7 +34,7 @@ put_both [] ys by_system = refl
 put_both (i ∷ xs) ys by_system = put_both xs ys (slice_set by_system i.system (Some i.queue))
 
 -- what is not named stays
-put_other : (n : ℕ) (d : Option (List Command)) (issued : List SystemQueue)
+pub put_other : (n : ℕ) (d : Option (List Command)) (issued : List SystemQueue)
     (by_system : List (Option (List Command))) → times n issued ≡ 0
     → get_or (queues_put issued by_system) n d ≡ get_or by_system n d
 put_other n d [] by_system none = refl
@@ -77,10 +77,9 @@ put_on rest new i by_system next all front set inside same = (
 -- one more queue is moved out
 pub collected_on : (rest new : List (Option (List Command))) (q : List Command)
     (before after : List (List Command)) (all : List (Option (List Command))) → rest ≡ Some q ∷ new
-    → after ≡ before ++ q ∷ [] → map Some before ++ rest ≡ all → All IsSome rest
-    → (map Some after ++ new ≡ all) × All IsSome new × (length rest ≡ length new + 1)
-collected_on rest new q before after all front push same full = (
+    → after ≡ before ++ q ∷ [] → map Some before ++ rest ≡ all
+    → (map Some after ++ new ≡ all) × (length rest ≡ length new + 1)
+collected_on rest new q before after all front push same = (
   search (rules, map-append, append_assoc),
-  All-tail IsSome (Some q) new (subst (All IsSome) front full),
   ap length front ∙ omega arith,
 )

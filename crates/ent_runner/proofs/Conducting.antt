@@ -7,7 +7,9 @@ use Rattle.std.specs.Prelude.{slice_get, replicate, IsSome, IfSome, IfNone, Any}
 use Rattle.std.specs.List.{All, flat_map, range_with_len}
 use Rattle.std.specs.List.Sorted.{IsPermutation}
 use Rattle.std.proofs.lemmas.Option.{slice_get_within, get_or_from_slice_get, slice_get-get_or}
+use Rattle.std.proofs.lemmas.Option.{none-some}
 use Rattle.std.proofs.lemmas.List.{length-map, length-append, get_or-map, take-append-le, take_all}
+use Rattle.std.proofs.lemmas.List.{length-replicate}
 use Rattle.std.proofs.lemmas.List.Folds.{flat_map-map}
 use Rattle.std.proofs.lemmas.List.Sorted.{All-permutation, IsPermutation-reverse}
 use Rattle.std.proofs.lemmas.List.Sorted.{length_permutation}
@@ -22,17 +24,20 @@ use Rattle.ent_shared.specs.Order.{reservations_of, history_of, Respects}
 use Rattle.ent_queue.specs.Command.{Command}
 use Rattle.ent_queue.specs.Reserving.{Gains}
 use Rattle.ent_world.specs.OpenWorld.{OpenWorld, View, world_at_start}
-use Rattle.ent_runner.specs.Claims.{Claims, Claimer, HaveEnded, AreFirst, IsClaimerOf}
+use Rattle.ent_runner.specs.Claims.{Claims, Claimer, AreFirst, IsClaimerOf}
 use Rattle.ent_runner.specs.declared.worker.SystemQueue.{SystemQueue}
 use Rattle.ent_runner.specs.declared.worker.Worker.{Worker}
 use Rattle.ent_runner.specs.Frame.{IsFrame, IsBrokenOff, view_of}
 use Rattle.ent_runner.specs.Worker.{HasWorked, HaveWorked, HaveRunFirst, HasClaimed, IsUnused}
 use Rattle.ent_runner.specs.Worker.{IsRoomForOne, IsNewWorker, systems_of, commands_issued}
-use Rattle.ent_runner.specs.Worker.{all_records}
+use Rattle.ent_runner.specs.Worker.{all_records, IsLostFor}
 use Rattle.ent_runner.specs.Collecting.{queues_put}
 use Rattle.ent_runner.proofs.Lists.{of_mapped, each_of_all, mapped_at, same_flat, map_map_is}
+use Rattle.ent_runner.proofs.Lists.{get_mapped}
+use Rattle.std.proofs.lemmas.Bool.{cases_lt}
+use Rattle.std.proofs.Common.{inl, inr, ⊎_elim, ◌⊎◌, ◌≤◌}
 use Rattle.ent_runner.proofs.BySystem.{length_put}
-use Rattle.ent_runner.proofs.Framed.{Did, frame_is, broken_off, full}
+use Rattle.ent_runner.proofs.Framed.{Did, LastStopped, frame_is, broken_off, full, left_out}
 
 -- a slice of the same length that was written back
 pub written_back : {X : Type 0} (n : ℕ) (old new : List X) → n ≡ length old → length new
@@ -84,8 +89,9 @@ module _ {S : Type 0} (may leave : S → View → List Command → Type 0) (syst
 
   -- a worker that has stopped has run a system
   pub some_systems : (team : List Worker) → HaveWorked may leave systems world claims team
-      → Any (λ (w : Worker). w.stopped ≡ true) team → 0 < length systems
-  some_systems team done (k, w, within, at, stopped) =
+      → claims.numbers ≡ length systems → IsLostFor claims.numbers team → 0 < length systems
+  some_systems team done numbers (inr less) = omega (arith, numbers)
+  some_systems team done numbers (inl (k, w, within, at, stopped)) =
       let has = done.each k w (slice_get-get_or team k w within ∙ ap Some at) in
       let some = has.some stopped in
       let first = has.inside 0 (record { system = 0; queue = [] }) some in
@@ -142,17 +148,41 @@ module _ {S : Type 0} (may leave : S → View → List Command → Type 0) (syst
           record { gains = ran.gains; each = ran.each; claims = ran.claims }))
           (rw systems_flat (rw numbers at once)) (rw mine_flat (rw numbers at by_system))
 
-      pub is_broken_off : HaveRunFirst claims.numbers team → IsBrokenOff may leave systems
-          world.shared.count (world_at_start world) (history_of (all_records team))
-      is_broken_off first =
+      -- why there are no queues
+      why : (first : HaveRunFirst claims.numbers team) → IsLostFor claims.numbers team
+          → LastStopped leave systems (view_of (world_at_start world)) (map issued_by team)
+          ⊎ (first.count < length systems)
+      why first (inl (k, w, within, at, stopped)) =
+          let there = slice_get-get_or team k w within ∙ ap Some at in inl (
+            k,
+            w.issued.items,
+            get_mapped issued_by team k w there,
+            (done.each k w there).refused stopped,
+          )
+      why first (inr less) =
+          let whole = length_permutation _ _ first.once in
+          let long = length-range_with_len 0 first.count in
+          inr (omega (arith, whole, long, less, numbers))
+
+      pub is_broken_off : HaveRunFirst claims.numbers team → IsLostFor claims.numbers team
+          → IsBrokenOff may leave systems world.shared.count (world_at_start world)
+          (history_of (all_records team))
+      is_broken_off first lost =
           broken_off may systems (world_at_start world) _ (all_records team) (map issued_by team)
           (length-map team _ ∙ done.count) (length-map team issued_by ∙ done.count) legal respects
           leave first.count (omega (arith, first.within)) (λ less. first.some (omega arith))
+          (why first lost)
+          (λ less. All-map (λ (mine : List SystemQueue). 0 < length mine) issued_by team
+          (first.busy (omega (arith, numbers))))
           (did _ (λ k w at. let ran = (done.each k w at).ran_some in
           record { gains = ran.gains; each = ran.each; claims = ran.claims }))
           (λ k mine at. let there = mapped_at issued_by team k mine at in
           rw there.2 at (done.each k there.0 there.1).ran_some.ended)
           (rw systems_flat first.once)
+
+-- what holds, holds of what there is
+pub if_some : {X P : Type 0} (o : Option X) → P → IfSome o (λ _. P)
+if_some it p = search rules
 
 -- what follows if there is none, follows if there is none
 pub none_weaker : {X P Q : Type 0} (o : Option X) → (P → Q) → IfNone o P → IfNone o Q
@@ -172,41 +202,30 @@ module _ (shared : Shared) (claims : Claims) (team : List Worker)
       ≡ flat_map (λ (c : Claimer). c.own.claims) (map (λ (w : Worker). w.claimer) team)
   ran_claims = search (rules, same_flat, flat_map-map)
 
-  module _ (going : All (λ (w : Worker). w.stopped ≡ false) team)
-      (once : HaveEnded (map (λ (w : Worker). w.claimer) team)
-      → IsPermutation (flat_map (λ (c : Claimer). c.own.claims)
-      (map (λ (w : Worker). w.claimer) team)) (range_with_len 0 claims.numbers))
-    where
-      ended : HaveEnded (map (λ (w : Worker). w.claimer) team)
-      ended = All-map (λ (c : Claimer). c.own.ended ≡ true) (λ (w : Worker). w.claimer) team
-          (λ k d within. (each k d within).ended (going k d within))
+-- A worker ran a system, if some are left: else it had found none left.
+busy_one : (shared : Shared) (claims : Claims) (w : Worker) → HasClaimed shared claims w
+    → (claimers : List Claimer) (k : ℕ) → slice_get claimers k ≡ Some w.claimer
+    → (first : AreFirst claims.numbers claimers) → (stopped : Bool) → w.stopped ≡ stopped
+    → first.count < claims.numbers → 0 < length w.issued.items
+busy_one shared claims w has claimers k at first true is less = has.some is
+busy_one shared claims w has claimers k at first false is less = ⊎_elim
+    (λ (ended : w.claimer.own.ended ≡ true). let all = first.whole k w.claimer at ended in
+    absurd (omega (arith, all, less))) (λ some. some.0) (has.ended is)
 
-      once_each : IsPermutation (flat_map (λ (w : Worker). systems_of w.issued.items) team)
-          (range_with_len 0 claims.numbers)
-      once_each = rw ran_claims (once ended)
+busy_all : (shared : Shared) (claims : Claims) (team : List Worker) → All (HasClaimed shared claims)
+    team → (claimers : List Claimer) → claimers ≡ map (λ (w : Worker). w.claimer) team
+    → (first : AreFirst claims.numbers claimers) → first.count < claims.numbers
+    → All (λ (w : Worker). 0 < length w.issued.items) team
+busy_all shared claims team each claimers theirs first less k d within =
+    let w = get_or team k d in
+    let at = get_mapped (λ (w : Worker). w.claimer) team k w (slice_get-get_or team k d within) in
+    busy_one shared claims w (each k d within) claimers k (rw theirs at) first w.stopped refl less
 
--- the same of what was seen and handed in
-pub once_closed : (shared : Shared) (claims : Claims) (team : List Worker)
-    → All (HasClaimed shared claims) team → (seen : List Worker) → seen ≡ team
-    → All (λ (w : Worker). w.stopped ≡ false) seen → (claimers : List Claimer) → claimers
-    ≡ map (λ (w : Worker). w.claimer) team
-    → (HaveEnded claimers → IsPermutation (flat_map (λ (c : Claimer). c.own.claims) claimers)
-    (range_with_len 0 claims.numbers))
-    → IsPermutation (flat_map (λ (w : Worker). systems_of w.issued.items) team)
-    (range_with_len 0 claims.numbers)
-once_closed shared claims team each seen same going claimers theirs once =
-    once_each shared claims team each (rw same at going) (λ ended. rw theirs at (once (rw theirs ended)))
-
--- Some system ran, if there are any: the first worker ran one before it stopped, or found none
--- left.
+-- So some ran, if there are any.
 some_by : (shared : Shared) (claims : Claims) (w : Worker) (team : List Worker) → HasClaimed shared
     claims w → (claimers : List Claimer) → claimers ≡ map (λ (v : Worker). v.claimer) (w ∷ team)
-    → (first : AreFirst claims.numbers claimers) → (stopped : Bool) → w.stopped ≡ stopped
-    → 0 < claims.numbers → 0 < first.count
-some_by shared claims w team has claimers theirs first false is less =
-    let all : first.count ≡ claims.numbers = first.whole 0 w.claimer (rw theirs) (has.ended is) in
-    omega (arith, all, less)
-some_by shared claims w team has claimers theirs first true is less =
+    → (first : AreFirst claims.numbers claimers) → 0 < length w.issued.items → 0 < first.count
+some_by shared claims w team has claimers theirs first some =
     let whole = length_permutation _ _ first.once in
     let long = length-range_with_len 0 first.count in
     search (rules, length-map, length-append)
@@ -216,8 +235,12 @@ some_ran : (shared : Shared) (claims : Claims) (team : List Worker) → All (Has
     ≡ map (λ (w : Worker). w.claimer) team → (first : AreFirst claims.numbers claimers)
     → 0 < claims.numbers → 0 < first.count
 some_ran shared claims [] each many claimers theirs first less = absurd (omega arith)
-some_ran shared claims (w ∷ team) each many claimers theirs first less = some_by shared claims w
-    team (All-head (HasClaimed shared claims) w team each) claimers theirs first w.stopped refl less
+some_ran shared claims (w ∷ team) each many claimers theirs first less = ⊎_elim
+    (λ (left : first.count < claims.numbers). some_by shared claims w team
+    (All-head (HasClaimed shared claims) w team each) claimers theirs first
+    (All-head (λ (w : Worker). 0 < length w.issued.items) w team
+    (busy_all shared claims (w ∷ team) each claimers theirs first left)))
+    (λ (all : claims.numbers ≤ first.count). omega (arith, less)) (cases_lt first.count claims.numbers)
 
 pub first_closed : (shared : Shared) (claims : Claims) (team : List Worker)
     → All (HasClaimed shared claims) team → (claimers : List Claimer) → claimers
@@ -228,16 +251,88 @@ first_closed shared claims team each claimers theirs many first = record {
   within = first.within;
   some = some_ran shared claims team each many claimers theirs first;
   once = rw (ran_claims shared claims team each, sym theirs) first.once;
+  busy = busy_all shared claims team each claimers theirs first;
 }
 
+abbrev no_queue : Option (List Command)
+no_queue = None
+
+-- the queues of all workers, each at the number of its system
+abbrev by_system : ℕ → List Worker → List (Option (List Command))
+by_system numbers team = queues_put (flat_map (λ (w : Worker). w.issued.items) team)
+    (replicate numbers None)
+
 -- each system has a queue
-pub all_full : (claims : Claims) (team : List Worker)
+all_full : (numbers : ℕ) (team : List Worker)
     → IsPermutation (flat_map (λ (w : Worker). systems_of w.issued.items) team)
-    (range_with_len 0 claims.numbers)
-    → All IsSome (queues_put (flat_map (λ (w : Worker). w.issued.items) team)
-    (replicate claims.numbers None))
-all_full claims team once = subst (λ is. All IsSome (queues_put is (replicate claims.numbers None)))
+    (range_with_len 0 numbers) → All IsSome (by_system numbers team)
+all_full numbers team once = subst (λ is. All IsSome (queues_put is (replicate numbers None)))
     (flat_map-map (λ mine. mine) issued_by team) (search (rules, full, flat_map-map))
+
+module _ (numbers : ℕ) (team : List Worker) (first : HaveRunFirst numbers team) where
+  -- if each has one, all ran
+  all_ran : (queues : List (List Command)) → map Some queues ≡ by_system numbers team → first.count
+      ≡ numbers
+  all_ran queues each = ⊎_elim
+      (λ (less : first.count < numbers).
+      let once : IsPermutation (flat_map systems_of (map issued_by team))
+      (range_with_len 0 first.count) = rw (flat_map-map systems_of issued_by team) first.once in
+      let none = left_out first.count (map issued_by team) once numbers first.count (Some [])
+      (omega arith) less in
+      let lacks : get_or (by_system numbers team) first.count (Some []) ≡ no_queue =
+      subst (λ is. get_or (queues_put is (replicate numbers None)) first.count (Some []) ≡ no_queue)
+      (flat_map-map (λ mine. mine) issued_by team) none in
+      let long = length-map queues Some in
+      let put = length_put (flat_map (λ (w : Worker). w.issued.items) team)
+      (replicate numbers None) in
+      let many = length-replicate numbers no_queue in
+      let some = get_or-map Some queues first.count [] (Some [])
+      (omega (arith, long, put, many, ap length each, less)) in
+      absurd (none-some _ (sym lacks
+      ∙ (ap (λ all. get_or all first.count (Some [])) (sym each) ∙ some))))
+      (λ (all : numbers ≤ first.count). omega (arith, first.within))
+      (cases_lt first.count numbers)
+
+  once_each : (queues : List (List Command)) → map Some queues ≡ by_system numbers team
+      → IsPermutation (flat_map (λ (w : Worker). systems_of w.issued.items) team)
+      (range_with_len 0 numbers)
+  once_each queues each = rw (sym (all_ran queues each)) first.once
+
+  -- if one lacks it, some are left
+  some_left : Any (λ (queue : Option (List Command)). queue ≡ None) (by_system numbers team)
+      → length (flat_map (λ (w : Worker). systems_of w.issued.items) team) < numbers
+  some_left (k, queue, within, at, none) =
+      let whole = length_permutation _ _ first.once in
+      let long = length-range_with_len 0 first.count in
+      ⊎_elim (λ (less : first.count < numbers). omega (arith, whole, long, less))
+      (λ (all : numbers ≤ first.count).
+      let same : first.count ≡ numbers = omega (arith, first.within) in
+      let has = all_full numbers team (rw same at first.once) k queue within in
+      let gone : IsSome no_queue = subst IsSome (at ∙ none) has in
+      absurd (cc)) (cases_lt first.count numbers)
+
+-- what comes of these queues, by system, where they are collected
+module _ (numbers : ℕ) (team : List Worker) (first : HaveRunFirst numbers team)
+    (was : List (Option (List Command))) (same : was ≡ by_system numbers team) where
+  pub queues_of : (got : Option (Vec (List Command) Global))
+      → IfSome got (λ queues. map Some queues.items ≡ was)
+      → IfSome got (λ queues. map Some queues.items
+      ≡ queues_put (flat_map (λ (w : Worker). w.issued.items) team) (replicate numbers None))
+  queues_of None all = tt
+  queues_of (Some queues) all = all ∙ same
+
+  pub once_of : (got : Option (Vec (List Command) Global))
+      → IfSome got (λ queues. map Some queues.items ≡ was)
+      → IfSome got (λ _. IsPermutation (flat_map (λ (w : Worker). systems_of w.issued.items) team)
+      (range_with_len 0 numbers))
+  once_of None all = tt
+  once_of (Some queues) all = once_each numbers team first queues.items (all ∙ same)
+
+  pub lost_of : (got : Option (Vec (List Command) Global))
+      → IfNone got (Any (λ (queue : Option (List Command)). queue ≡ None) was)
+      → IfNone got (IsLostFor numbers team)
+  lost_of None lacks = inr (some_left numbers team first (rw same at lacks))
+  lost_of (Some queues) lacks = tt
 
 -- the queues by system after all were put in, as they are written back
 pub queues_back : (count n : ℕ) (issued : List SystemQueue)

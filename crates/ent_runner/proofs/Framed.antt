@@ -1,12 +1,13 @@
 -- What the workers did, their histories and the queues in the order of their systems are a frame.
 use Rattle.std.proofs.Common.{rules, ◌≡◌, ℕ, suc, ◌<◌, List, [], ◌∷◌, length, map, get_or, refl, ap}
 use Rattle.std.proofs.Common.{sym, ◌∙◌, arith, subst, Option, Some, None, inl, inr, Result, ne_eqb}
+use Rattle.std.proofs.Common.{◌⊎◌, ⊎_elim, ◌-◌}
 use Rattle.std.specs.Prelude.{◌≤◌, slice_get, replicate, IsSome, unwrap_or}
 use Rattle.std.specs.List.{All, AllPairs, sum_by, flat_map, range_with_len}
 use Rattle.std.specs.List.Sorted.{IsPermutation}
 use Rattle.std.proofs.lemmas.Bool.{cases_eq}
 use Rattle.std.proofs.lemmas.Option.{slice_get_within, slice_get-get_or}
-use Rattle.std.proofs.lemmas.List.{length-replicate, get_or-map, length-map}
+use Rattle.std.proofs.lemmas.List.{length-replicate, get_or-map, length-map, get_or-replicate}
 use Rattle.std.proofs.lemmas.List.Folds.{flat_map-map}
 use Rattle.std.proofs.lemmas.List.Elements.{All-head, All-tail, All-map}
 use Rattle.std.proofs.lemmas.List.Sums.{sum_by-cons}
@@ -28,12 +29,13 @@ use Rattle.ent_world.specs.OpenWorld.{View}
 use Rattle.ent_runner.specs.declared.worker.SystemQueue.{SystemQueue}
 use Rattle.ent_runner.specs.Frame.{IsFrame, IsBrokenOff, IsWork, SystemMayIssue}
 use Rattle.ent_runner.specs.Frame.{SystemMayHaveIssued, view_of, queue_at, commands_of, requests_by}
-use Rattle.ent_runner.specs.Worker.{systems_of, commands_issued}
+use Rattle.ent_runner.specs.Worker.{systems_of, commands_issued, WasRefused}
 use Rattle.ent_runner.specs.Collecting.{queues_put}
-use Rattle.ent_runner.proofs.BySystem.{is_of, times, all_put, length_put}
+use Rattle.ent_runner.proofs.BySystem.{is_of, times, all_put, length_put, put_other}
 use Rattle.ent_runner.proofs.Lists.{each_of_all, all_flat, flat_all, same_flat, map_flat}
 use Rattle.ent_runner.proofs.Lists.{filter_map_is, map_map_is, sum_map, mapped_at, at_within}
 use Rattle.ent_runner.proofs.Lists.{is_number, once_in_range, some_in_range, all_below, of_mapped}
+use Rattle.ent_runner.proofs.Lists.{above_range, get_mapped}
 
 own_mapped : (rs : List Reservation) → own_reservations (map Own rs) ≡ rs
 own_mapped [] = refl
@@ -103,6 +105,13 @@ module _ (count : ℕ) (work : List (List SystemQueue))
         each_of_all (λ (i : SystemQueue). get_or (queues_put all (replicate count none))
             i.system d ≡ Some i.queue) all there.0 i (stand d) there.2,
       )
+
+  -- one that did not run has none
+  pub left_out : (numbers n : ℕ) (d : Option (List Command)) → count ≤ n → n < numbers
+      → get_or (queues_put (flat_map (λ mine. mine) work) (replicate numbers None)) n d ≡ None
+  left_out numbers n d past less =
+      put_other n d all (replicate numbers None) (counts n ∙ above_range n 0 count (omega (arith, past)))
+      ∙ get_or-replicate numbers n None d less
 
 module _ (P : SystemQueue → Type 0) (before : World) where
   -- what the worker of this number did
@@ -213,6 +222,12 @@ module _ (P : SystemQueue → Type 0) (before : World) where
                 i queue_is there.2),
           )
 
+-- the last system of one of these workers stopped
+abbrev pub LastStopped : {S : Type 0} → (S → View → List Command → Type 0) → List S → View
+    → List (List SystemQueue) → Type 0
+LastStopped leave systems view work = (k : ℕ) × (mine : List SystemQueue)
+    × (slice_get work k ≡ Some mine) × WasRefused leave systems view mine
+
 -- what holds of each element that others follow, and of what it is mapped to
 pairs_mapped : {X Y : Type 0} (P : X → Type 0) (Q : Y → Type 0) (f : X → Y) (xs : List X)
     → All (λ x. P x → Q (f x)) xs → AllPairs (λ x later. P x) xs
@@ -264,6 +279,8 @@ module _ {S : Type 0} (may : S → View → List Command → Type 0) (systems : 
           Left i = SystemMayHaveIssued may leave systems (view_of before) i.system i.queue
 
           pub broken_off : (total : ℕ) → total ≤ length systems → (0 < length systems → 0 < total)
+              → LastStopped leave systems (view_of before) work ⊎ (total < length systems)
+              → (total < length systems → All (λ (mine : List SystemQueue). 0 < length mine) work)
               → ((k : ℕ) (r : Record) (mine : List SystemQueue) → slice_get records k ≡ Some r
               → slice_get work k ≡ Some mine → Did Left before k r mine)
               → ((k : ℕ) (mine : List SystemQueue) → slice_get work k ≡ Some mine
@@ -271,7 +288,7 @@ module _ {S : Type 0} (may : S → View → List Command → Type 0) (systems : 
               i.system i.queue) mine)
               → IsPermutation (flat_map systems_of work) (range_with_len 0 total)
               → IsBrokenOff may leave systems workers before (history_of records)
-          broken_off total few some each ended once =
+          broken_off total few some why busy each ended once =
               let by_system = queues_put (flat_map (λ mine. mine) work) (replicate total None) in
               let queues : List (List Command) = map (λ o. unwrap_or o []) by_system in
               let same = unwrapped [] by_system (full total work once) in
@@ -300,4 +317,25 @@ module _ {S : Type 0} (may : S → View → List Command → Type 0) (systems : 
                     subst (AllPairs (λ (m later : ℕ). Q m)) there.2
                     (pairs_mapped May Q (λ (i : SystemQueue). i.system) there.0
                     (λ i d within m. rw (own i d within) m) (ended k there.0 there.1));
+                why = ⊎_elim (λ (s : LastStopped leave systems (view_of before) work).
+                    let issued = s.1 in
+                    let last = s.3.0 in
+                    let own = own_queues Left before _ _ _ work queues count teams each once
+                    respects same s.0 issued s.2 in
+                    inl (
+                      s.0,
+                      systems_of issued,
+                      last.system,
+                      get_mapped systems_of work s.0 issued s.2,
+                      rw (length-map issued (λ (i : SystemQueue). i.system))
+                          (get_mapped (λ (i : SystemQueue). i.system) issued (length issued - 1) last
+                          s.3.1),
+                      rw (each_of_all (λ (i : SystemQueue). queue_at queues i.system ≡ i.queue) issued
+                          (length issued - 1) last own s.3.1) s.3.2,
+                    )) inr why;
+                busy = λ less. All-map (λ (mine : List ℕ). 0 < length mine) systems_of work
+                    (λ k d within.
+                    let some = busy less k d within in
+                    let long = length-map (get_or work k d) (λ (i : SystemQueue). i.system) in
+                    omega (arith, some, long));
               }

@@ -1,7 +1,7 @@
 -- Lists of lists, and the numbers of a range.
 use Rattle.std.proofs.Common.{rules, ◌≡◌, ◌≢◌, ℕ, zero, suc, ◌+◌, ◌<◌, ◌≤◌, List, [], ◌∷◌, ◌++◌}
 use Rattle.std.proofs.Common.{length, map, refl, ap, arith, subst, Some, Bool, cond, ◌⊎◌, eq-eqb}
-use Rattle.std.proofs.Common.{ne_eqb, reverse}
+use Rattle.std.proofs.Common.{ne_eqb, reverse, ◌∙◌}
 use Rattle.std.proofs.lemmas.Grind.{common_steps}
 use Rattle.std.specs.Prelude.{◌==◌, filter, slice_get}
 use Rattle.std.specs.List.{All, sum_by, flat_map, range_with_len}
@@ -10,6 +10,8 @@ use Rattle.std.proofs.lemmas.List.Elements.{All-nil, All-cons, All-head, All-tai
 use Rattle.std.proofs.lemmas.List.Sums.{sum_by-cons}
 use Rattle.ent_alloc.proofs.ListLaws.{All-left, All-right}
 use Rattle.std.proofs.lemmas.Option.{slice_get-get_or, get_or_from_slice_get, slice_get_within}
+use Rattle.std.proofs.lemmas.Option.{slice_get-map}
+use Rattle.std.specs.Option.{option_map}
 use Rattle.std.proofs.lemmas.List.{get_or-map, length-map}
 
 -- what holds of each element at its index holds of all
@@ -71,6 +73,10 @@ mapped_at f [] k y at = absurd (cc)
 mapped_at f (x ∷ xs) zero y at = (x, refl, cc)
 mapped_at f (x ∷ xs) (suc k) y at = mapped_at f xs k y at
 
+pub get_mapped : {X Y : Type 0} (f : X → Y) (xs : List X) (k : ℕ) (x : X) → slice_get xs k
+    ≡ Some x → slice_get (map f xs) k ≡ Some (f x)
+get_mapped f xs k x at = slice_get-map f xs k ∙ ap (option_map f) at
+
 pub at_within : {X : Type 0} (xs : List X) (k : ℕ) → k < length xs → (x : X)
     × (slice_get xs k ≡ Some x)
 at_within [] k within = absurd (omega arith)
@@ -91,6 +97,12 @@ pub below_range : (n a many : ℕ) → n < a → sum_by (is_number n) (range_wit
 below_range n a zero less = refl
 below_range n a (suc many) less =
     search (rules, sum_by-cons, number_away, below_range n (a + 1) many (omega arith))
+
+pub above_range : (n a many : ℕ) → a + many ≤ n
+    → sum_by (is_number n) (range_with_len a many) ≡ 0
+above_range n a zero past = refl
+above_range n a (suc many) past =
+    search (rules, sum_by-cons, number_away, above_range n (a + 1) many (omega arith))
 
 -- the first number of a range is this one, and no later one is, or it is another
 range_step : (n a many : ℕ) → ((a ≡ n) × (sum_by (is_number n) (range_with_len a (suc many)) ≡ 1))

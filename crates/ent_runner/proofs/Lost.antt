@@ -1,6 +1,6 @@
 -- What a frame leaves if no queue was applied.
 use Rattle.std.proofs.Common.{rules, ◌≡◌, ℕ, Option, Vec, Global, List, drop, ap, ◌∙◌, subst}
-use Rattle.std.specs.Prelude.{IfSome}
+use Rattle.std.specs.Prelude.{IfSome, IfNone, None}
 use Rattle.std.proofs.Math.ListN.{drop_of_length-le}
 use Rattle.ent_alloc.specs.Sequential.{Allocator, available}
 use Rattle.ent_alloc.specs.Sound.{IsSound}
@@ -39,8 +39,8 @@ abbrev pub ClosedAgain : {S : Type 0} → (S → View → List Command → Type 
     → (S → View → List Command → Type 0) → List S → OpenWorld → World
     → Option (Vec (List Command) Global) → Type 0
 ClosedAgain may leave systems world after got =
-    (history : List Call) × IsBrokenOff may leave systems world.shared.count (world_at_start world)
-    history × (after ≡ reserved_by history (world_at_start world))
+    (history : List Call) × IfNone got (IsBrokenOff may leave systems world.shared.count
+    (world_at_start world) history) × (after ≡ reserved_by history (world_at_start world))
     × IfSome got (λ q. IsFrame may systems world.shared.count (world_at_start world) q.items
     history)
 
@@ -55,7 +55,7 @@ module _ {S : Type 0} (may leave : S → View → List Command → Type 0) (syst
     lost_again sound flushed = is_lost before after closed.0
         (subst IsSound (ap (λ (w : World). w.allocator) same) sound) flushed changed
 
-    pub broken_again : (workers : ℕ) → world.shared.count ≡ workers → (history : List Call)
-        × IsBrokenOff may leave systems workers before history
+    pub broken_again : (workers : ℕ) → world.shared.count ≡ workers → got ≡ None
+        → (history : List Call) × IsBrokenOff may leave systems workers before history
         × (after ≡ reserved_by history before)
-    broken_again workers count = (closed.0, search rules, changed)
+    broken_again workers count none = (closed.0, search rules, changed)

@@ -1,6 +1,6 @@
 -- A worker runs one system after the other.
 use Rattle.std.proofs.Common.{rules, ◌≡◌, ℕ, ◌<◌, List, [], ◌∷◌, ◌++◌, length, ap, ◌∙◌, subst, inl}
-use Rattle.std.proofs.Common.{inr, arith, get_or, Vec, Global, slice_get, Some, ◌-◌}
+use Rattle.std.proofs.Common.{inr, arith, get_or, slice_get, Some, ◌-◌}
 use Rattle.std.proofs.lemmas.Grind.{common_steps}
 use Rattle.std.specs.Prelude.{Result, Ok, Err, OnOk, OnErr}
 use Rattle.std.proofs.lemmas.Option.{get_or_from_slice_get, slice_get-get_or}
@@ -104,10 +104,10 @@ last_pushed xs y =
 
 -- the system that stopped is the last one
 pub left_last : {S : Type 0} (leave : S → View → List Command → Type 0) (systems : List S)
-    (view : View) (before : List SystemQueue) (issued : Vec SystemQueue Global) (last : SystemQueue)
-    → issued.items ≡ before ++ last ∷ [] → SystemMayIssue leave systems view last.system last.queue
+    (view : View) (before issued : List SystemQueue) (last : SystemQueue) → issued
+    ≡ before ++ last ∷ [] → SystemMayIssue leave systems view last.system last.queue
     → WasRefused leave systems view issued
-left_last leave systems view before issued last pushed left = inl
+left_last leave systems view before issued last pushed left =
     (last, search (rules, last_pushed), left)
 
 pub inside_more : {S : Type 0} (systems : List S) (issued next : List SystemQueue) (i : SystemQueue)

@@ -2,7 +2,7 @@
 -- point applies the queues in the order of the systems.
 use Rattle.std.specs.Prelude.{◌≡◌, ℕ, ◌<◌, ◌≤◌, ◌==◌, List, [], length, map, filter}
 use Rattle.std.specs.Prelude.{Result, Ok, Err}
-use Rattle.std.specs.Prelude.{slice_get, slice_index_or, Some, ◌⊎◌}
+use Rattle.std.specs.Prelude.{slice_get, slice_index_or, Some, ◌⊎◌, ◌-◌}
 use Rattle.std.specs.List.{All, AllPairs, flat_map, range_with_len}
 use Rattle.std.specs.List.Sorted.{IsPermutation}
 use Rattle.ent_handle.specs.Handle.{Handle}
@@ -83,6 +83,14 @@ abbrev pub SystemMayHaveIssued : {S : Type 0} → (S → View → List Command �
 SystemMayHaveIssued may leave systems view n queue =
     SystemMayIssue may systems view n queue ⊎ SystemMayIssue leave systems view n queue
 
+-- Memory was refused to the system that one of these workers ran last, which left its queue so.
+abbrev pub HasStopped : {S : Type 0} → (S → View → List Command → Type 0) → List S → View
+    → List (List Command) → List (List ℕ) → Type 0
+HasStopped leave systems view queues ran =
+    (worker : ℕ) × (mine : List ℕ) × (last : ℕ) × (slice_get ran worker ≡ Some mine)
+    × (slice_get mine (length mine - 1) ≡ Some last)
+    × SystemMayIssue leave systems view last (queue_at queues last)
+
 -- A frame that was broken off: that many workers ran some of the systems, and stopped. The history
 -- has what these systems asked for, and nothing else.
 pub record IsBrokenOff {S : Type 0} (may leave : S → View → List Command → Type 0)
@@ -108,6 +116,10 @@ pub record IsBrokenOff {S : Type 0} (may leave : S → View → List Command →
   pub ended : (worker : ℕ) (mine : List ℕ) → slice_get ran worker ≡ Some mine
       → AllPairs (λ earlier later. SystemMayIssue may systems (view_of before) earlier
       (queue_at queues earlier)) mine
+  -- Why it was broken off: a system stopped, or some are left that no worker has room for. Then each
+  -- worker has run one at least, for whose queue it had room from the beginning.
+  pub why : HasStopped leave systems (view_of before) queues ran ⊎ (count < length systems)
+  pub busy : count < length systems → All (λ mine. 0 < length mine) ran
 
 -- The sync of the queues stands up to that handle of that command of that system, and no further.
 pub record IsHalf (queues : List (List Command)) (before : World) (system command done : ℕ)

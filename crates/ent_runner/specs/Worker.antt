@@ -3,7 +3,7 @@ use Rattle.std.specs.Prelude.{◌≡◌, ◌<◌, ◌≤◌, ℕ, List, [], leng
 use Rattle.std.specs.Prelude.{false}
 use Rattle.std.specs.Prelude.{◌-◌, ◌⊎◌, vec_len, vec_capacity, slice_get, slice_index_or}
 use Rattle.std.proofs.Common.{Vec, Global}
-use Rattle.std.specs.List.{All, AllPairs, flat_map, range_with_len}
+use Rattle.std.specs.List.{All, AllPairs, Any, flat_map, range_with_len}
 use Rattle.std.specs.List.Sorted.{IsPermutation}
 use Rattle.ent_shared.specs.declared.record.Record.{Record}
 use Rattle.ent_shared.specs.Phase.{Shared, IsOf}
@@ -49,14 +49,18 @@ pub record HasRunSome {S : Type 0} (may leave : S → View → List Command → 
   pub ended : AllPairs (λ (i later : SystemQueue). SystemMayIssue may systems view i.system i.queue)
       issued
 
--- Memory was refused to the last of these systems, which left its queue so, or there is no room for
--- one queue more.
+-- Memory was refused to the last of these systems, which left its queue so.
 abbrev pub WasRefused : {S : Type 0} → (S → View → List Command → Type 0) → List S → View
-    → Vec SystemQueue Global → Type 0
+    → List SystemQueue → Type 0
 WasRefused leave systems view issued =
-    ((last : SystemQueue) × (slice_get issued.items (length issued.items - 1) ≡ Some last)
-    × SystemMayIssue leave systems view last.system last.queue)
-    ⊎ (vec_capacity issued ≤ vec_len issued)
+    (last : SystemQueue) × (slice_get issued (length issued - 1) ≡ Some last)
+    × SystemMayIssue leave systems view last.system last.queue
+
+-- Why a worker claims no more though no system of it stopped: it found none left, or it has run
+-- some, and there is no room for one queue more.
+abbrev pub IsThrough : Worker → Type 0
+IsThrough w = (w.claimer.own.ended ≡ true)
+    ⊎ ((0 < length w.issued.items) × (vec_capacity w.issued ≤ vec_len w.issued))
 
 -- It has claimed nothing yet.
 abbrev pub IsUnused : Claimer → Type 0
@@ -72,8 +76,8 @@ pub record IsNewWorker (w : Worker) : Type 0 where
   pub unused : IsUnused w.claimer
   pub issued : IsRoomForOne w.issued
 
--- It has run all that it claimed, until none was left, or it has stopped after one of them. Its
--- reserver began with this record.
+-- It has run all that it claimed, until none was left or there was no room for one more, or the
+-- last of them stopped. Its reserver began with this record.
 pub record HasWorked {S : Type 0} (may leave : S → View → List Command → Type 0)
     (shared : Shared) (claims : Claims) (systems : List S) (view : View) (before : Record)
     (w : Worker) : Type 0 where
@@ -84,9 +88,9 @@ pub record HasWorked {S : Type 0} (may leave : S → View → List Command → T
       w.issued.items
   pub ran : w.stopped ≡ false → HasRun may systems view before w.reserver.own
       w.claimer.own.claims w.issued.items
-  pub ended : w.stopped ≡ false → w.claimer.own.ended ≡ true
+  pub ended : w.stopped ≡ false → IsThrough w
   pub some : w.stopped ≡ true → 0 < length w.issued.items
-  pub refused : w.stopped ≡ true → WasRefused leave systems view w.issued
+  pub refused : w.stopped ≡ true → WasRefused leave systems view w.issued.items
 
 -- These workers can begin: there is at least one, and each has claimed and issued nothing yet.
 pub record AreReady (shared : Shared) (claims : Claims) (team : List Worker) : Type 0 where
@@ -109,7 +113,7 @@ pub record HasClaimed (shared : Shared) (claims : Claims) (w : Worker) : Type 0 
   pub claimer : IsClaimerOf claims w.claimer
   pub inside : All (λ (i : SystemQueue). i.system < claims.numbers) w.issued.items
   pub ran : systems_of w.issued.items ≡ w.claimer.own.claims
-  pub ended : w.stopped ≡ false → w.claimer.own.ended ≡ true
+  pub ended : w.stopped ≡ false → IsThrough w
   pub some : w.stopped ≡ true → 0 < length w.issued.items
 
 -- Each of these workers has worked; the reserver of each began as it was opened.
@@ -120,13 +124,20 @@ pub record HaveWorked {S : Type 0} (may leave : S → View → List Command → 
       → HasWorked may leave world.shared claims systems (view_of (world_at_start world))
       (opened world.shared.start k) w
 
--- Together these workers ran the first systems, each once, and at least one if there are any.
+-- Together these workers ran the first systems, each once, and at least one if there are any. If
+-- some are left, each worker ran one at least.
 pub record HaveRunFirst (numbers : ℕ) (team : List Worker) : Type 0 where
   pub count : ℕ
   pub within : count ≤ numbers
   pub some : 0 < numbers → 0 < count
   pub once : IsPermutation (flat_map (λ (w : Worker). systems_of w.issued.items) team)
       (range_with_len 0 count)
+  pub busy : count < numbers → All (λ (w : Worker). 0 < length w.issued.items) team
+
+-- Why no queues come of it: a system of one of the workers has stopped, or some systems are left.
+abbrev pub IsLostFor : ℕ → List Worker → Type 0
+IsLostFor numbers team = Any (λ (w : Worker). w.stopped ≡ true) team
+    ⊎ (length (flat_map (λ (w : Worker). systems_of w.issued.items) team) < numbers)
 
 -- There is room for what that many workers hand back of that many systems.
 pub record HasReturns (systems workers : ℕ) (room : Returned) : Type 0 where

@@ -1,6 +1,6 @@
 //! The queues that workers hand back are put at the numbers of their systems.
-ghost use Rattle.std.specs.Prelude.{◌≡◌, ◌<◌, ◌≤◌, length, map, All, Some, IsSome, List, Option};
-ghost use Rattle.std.specs.Prelude.{[], vec_capacity, slice_set};
+ghost use Rattle.std.specs.Prelude.{◌≡◌, ◌<◌, ◌≤◌, length, map, All, Any, Some, None, List, Option};
+ghost use Rattle.std.specs.Prelude.{[], vec_capacity, slice_set, IfSome, IfNone};
 ghost use Rattle.ent_queue.specs.Command.{Command};
 ghost use Rattle.ent_runner.specs.Collecting.{queues_put};
 
@@ -25,15 +25,19 @@ fn put(issued: SystemQueue, by_system: &mut [Option<CommandQueue>])
     by_system[system] = Some(queue);
 }
 
-/// Moves the queues into one list, system by system. There is room for them.
-pub(crate) fn collect(by_system: Vec<Option<CommandQueue>>, queues: &mut Vec<CommandQueue>)
-    requires empty { queues.old.items ≡ [] }
-    requires room { length by_system.items ≤ vec_capacity queues.old }
-    requires full { All IsSome by_system.items }
-    ensures { map Some queues.new.items ≡ by_system.items }
+/// Moves the queues into this list, system by system, which has room for them. Returns `None` if a
+/// system has no queue, so it didn't run.
+pub(crate) fn collect(
+    by_system: Vec<Option<CommandQueue>>,
+    mut queues: Vec<CommandQueue>,
+) -> Option<Vec<CommandQueue>>
+    requires empty { queues.items ≡ [] }
+    requires room { length by_system.items ≤ vec_capacity queues }
+    ensures all { IfSome result (λ queues. map Some queues.items ≡ by_system.items) }
+    ensures lacking { IfNone result (Any (λ queue. queue ≡ None) by_system.items) }
 {
-    for one in by_system {
-        let Some(queue) = one else { unreachable!() };
-        queues.push_reserved(queue);
+    for queue in by_system {
+        queues.push_reserved(queue?);
     }
+    Some(queues)
 }

@@ -2,7 +2,7 @@
 //! queues.
 ghost use Rattle.std.specs.Prelude.{◌≡◌, ◌≢◌, ◌<◌, ◌≤◌, ◌^◌, length, map, All, List, IfOk, IfSome};
 ghost use Rattle.std.specs.Prelude.{IsErrOf, OnOk, IsPermutation, Some, None, false, flat_map};
-ghost use Rattle.std.specs.Prelude.{replicate, IfNone, Any, true};
+ghost use Rattle.std.specs.Prelude.{replicate, IfNone};
 ghost use Rattle.std.specs.List.{range_with_len};
 ghost use Rattle.ent_alloc.specs.History.{Call, IsLegal};
 ghost use Rattle.ent_shared.specs.Order.{history_of, reservations_of, Respects};
@@ -16,7 +16,7 @@ ghost use Rattle.ent_world.specs.Memory.{TakesMemoryAt};
 ghost use Rattle.ent_world.specs.Sync.{IsStop};
 ghost use Rattle.ent_runner.specs.Collecting.{queues_put};
 ghost use Rattle.ent_runner.specs.Worker.{IsRoomFor, HasReturns, HasClaimed, HaveWorked};
-ghost use Rattle.ent_runner.specs.Worker.{IsNewWorker, HaveRunFirst, systems_of, all_records};
+ghost use Rattle.ent_runner.specs.Worker.{IsNewWorker, HaveRunFirst, IsLostFor, systems_of, all_records};
 
 use crate::claims::Claims;
 use crate::collecting::collect;
@@ -46,9 +46,9 @@ use std::thread::Threads;
 /// # Errors
 ///
 /// - [`FrameFault::Memory`] if memory was refused before any system ran. The world is as it was.
-/// - [`FrameFault::Lost`] if memory was refused later, or a system returned so. No command was
-///   applied. What the systems that ran had reserved stays reserved, and nothing else is:
-///   [`World::flush`] brings it to life.
+/// - [`FrameFault::Lost`] if a system returned `Memory`, or if systems are left and no worker has
+///   memory for the queue of another one. No command was applied. What the systems that ran had
+///   reserved stays reserved, and nothing else is: [`World::flush`] brings it to life.
 /// - [`FrameFault::Sync`] if all systems ran and the sync point stopped for want of memory. The
 ///   fault has the queues. If it stopped before any entity was born ([`SyncFault::FlushMemory`]),
 ///   [`World::apply`] does the sync point. If it stopped at a command, [`World::apply_from`] goes
@@ -80,7 +80,7 @@ where
         × (world.new ≡ reserved_by history world.old) }
     ensures still { IsErrOf result FrameFault.Lost → IsLost world.old world.new }
 
-    // Only a worker that has run a system, or the system, is refused memory so late.
+    // Only a system is refused memory so late, or workers that have run one.
     ensures lost_some { IsErrOf result FrameFault.Lost → 0 < length systems.now }
 
     ensures stopped { IfSyncStopped result (λ fault queues.
@@ -122,8 +122,8 @@ where
     }
 }
 
-/// Runs the systems on the open world and closes it. There are no queues if a worker has stopped
-/// for want of memory, and only then; so there are some systems then. What is known of a frame that was broken off holds of a whole one too.
+/// Runs the systems on the open world and closes it. There are no queues if the frame was broken off,
+/// and only then; so there are some systems then.
 fn run_open<R, S, G>(
     rt: &R,
     alloc: Global,
@@ -144,9 +144,8 @@ where
     requires unused { records_of reservers.items
         ≡ opened_records opened.shared.start 0 opened.shared.count }
     ensures closed { (history : List Call)
-        × IsBrokenOff S.may_issue S.may_leave systems.now opened.shared.count
-        (world_at_start opened)
-        history
+        × IfNone result.1 (IsBrokenOff S.may_issue S.may_leave systems.now opened.shared.count
+        (world_at_start opened) history)
         × (result.0 ≡ reserved_by history (world_at_start opened))
         × IfSome result.1 (λ queues. IsFrame S.may_issue systems.now opened.shared.count
         (world_at_start opened) queues.items history) }
@@ -199,8 +198,8 @@ where
     run_all(rt, &stage, workers);
 }
 
-/// Closes the world, and collects the queues unless a worker has stopped for want of memory.
-/// There are none only if one has.
+/// Closes the world, and collects the queues, unless a system has stopped for want of memory or
+/// some are left.
 fn finish(
     opened: OpenWorld,
     claims: Claims,
@@ -219,7 +218,7 @@ fn finish(
         All (Respects (reservations_of records)) records }
     ensures first { HaveRunFirst claims.numbers workers.items }
     ensures going { IfSome result.1 (λ _. All (λ w. w.stopped ≡ false) workers.items) }
-    ensures lost { IfNone result.1 (Any (λ w. w.stopped ≡ true) workers.items) }
+    ensures lost { IfNone result.1 (IsLostFor claims.numbers workers.items) }
     ensures once { IfSome result.1 (λ _. IsPermutation
         (flat_map (λ w. systems_of w.issued.items) workers.items)
         (range_with_len 0 claims.numbers)) }
@@ -232,7 +231,7 @@ fn finish(
         mut reservers,
         mut claimers,
         mut by_system,
-        mut queues,
+        queues,
     } = returned;
     disband(workers, &mut reservers, &mut claimers, &mut by_system);
     claims.close(claimers);
@@ -240,6 +239,5 @@ fn finish(
     if stopped {
         return (world, None);
     }
-    collect(by_system, &mut queues);
-    (world, Some(queues))
+    (world, collect(by_system, queues))
 }

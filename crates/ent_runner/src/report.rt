@@ -17,9 +17,9 @@ pub enum FrameFault {
     /// Memory was refused before any system ran. The world is as it was.
     #[error("out of memory before any system ran")]
     Memory,
-    /// The frame was refused memory after its first system began, or a system returned `Memory`. No
-    /// command was applied. The handles that the systems reserved stay reserved, and no others: the
-    /// next flush brings them to life, without components.
+    /// A system returned `Memory`, or systems are left and no worker has memory for the queue of
+    /// another one. No command was applied. The handles that the systems reserved stay reserved, and
+    /// no others: the next flush brings them to life, without components.
     #[error("out of memory while the systems ran")]
     Lost,
     /// All systems ran, and the sync point stopped.

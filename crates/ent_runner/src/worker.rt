@@ -1,12 +1,12 @@
 //! Workers: each claims systems, one after the other, runs them, and keeps their queues.
-ghost use Rattle.std.specs.Prelude.{◌≡◌, ◌+◌, ◌<◌, ◌≤◌, ◌^◌, [], length, OnOk, OnErr, true};
+ghost use Rattle.std.specs.Prelude.{◌≡◌, ◌+◌, ◌<◌, length, OnOk, OnErr};
 ghost use Rattle.std.specs.Prelude.{All};
 ghost use Rattle.ent_shared.specs.Phase.{IsOf};
 ghost use Rattle.ent_queue.specs.Reserving.{Gains};
 ghost use Rattle.ent_runner.specs.Claims.{IsClaimerOf};
 ghost use Rattle.ent_runner.specs.Frame.{SystemMayIssue};
 ghost use Rattle.ent_runner.specs.Worker.{HasRun, HasRunSome, IsNewWorker, HasWorked, AreReady};
-ghost use Rattle.ent_runner.specs.Worker.{HaveAllWorked, WasRefused};
+ghost use Rattle.ent_runner.specs.Worker.{HaveAllWorked, WasRefused, IsThrough};
 ghost use denote.Param.Send.{IsSync};
 
 use crate::claimer::Claimer;
@@ -46,7 +46,7 @@ pub(crate) struct Worker {
     /// The queues of the systems that it ran, in the order of the claims. If a system stopped,
     /// its queue is the last one.
     pub(crate) issued: Vec<SystemQueue>,
-    /// Memory was refused to it or to its last system, so it has claimed no more.
+    /// Memory was refused to its last system, so it has claimed no more.
     pub(crate) stopped: bool,
 }
 
@@ -71,7 +71,7 @@ impl<S: System, G: Gate> Stage<'_, S, G> {
 
 impl Worker {
     /// Runs the systems that it claims, until none is left. It claims one only if there is room
-    /// for its queue, which there is for the first one.
+    /// for its queue, which there is for the first one: without it the others run what is left.
     fn work<S: System, G: Gate>(&mut self, stage: &Stage<'_, S, G>) -> Result<(), Memory>
         requires systems { stage.now.claims.now.numbers ≡ length stage.now.systems.now }
         requires reserver { IsOf stage.now.shared.now self.old.reserver }
@@ -86,22 +86,24 @@ impl Worker {
         ensures ran { OnOk result (HasRun S.may_issue stage.now.systems.now stage.now.view
             self.old.reserver.own self.new.reserver.own self.new.claimer.own.claims
             self.new.issued.items) }
-        ensures ended { OnOk result (self.new.claimer.own.ended ≡ true) }
+        ensures ended { OnOk result (IsThrough self.new) }
         ensures some { OnErr result (0 < length self.new.issued.items) }
         ensures refused { OnErr result (WasRefused S.may_leave stage.now.systems.now stage.now.view
-            self.new.issued) }
+            self.new.issued.items) }
         ensures stopped { self.new.stopped ≡ self.old.stopped }
     {
         while let Some(system) = stage.claims.next(&mut self.claimer) {
             let (queue, ran) = stage.issue(system, &mut self.reserver);
             self.issued.push_reserved(SystemQueue { system, queue });
             ran?;
-            self.issued.reserve(1)?;
+            if self.issued.reserve(1).is_err() {
+                return Ok(());
+            }
         }
         Ok(())
     }
 
-    /// Works, and remembers if memory was refused.
+    /// Works, and remembers if its last system stopped.
     fn run<S: System, G: Gate>(&mut self, stage: &Stage<'_, S, G>)
         requires systems { stage.now.claims.now.numbers ≡ length stage.now.systems.now }
         requires reserver { IsOf stage.now.shared.now self.old.reserver }

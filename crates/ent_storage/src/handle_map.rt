@@ -64,14 +64,15 @@ impl<T> HandleMap<T> {
         }
     }
 
-    /// A map without values, with room for that many slots.
+    /// A map without values, with room for just that many slots. It takes no memory for none.
     ///
     /// # Errors
     ///
     /// `Memory` if there is not that much.
     pub fn with_capacity(alloc: Global, slots: usize) -> Result<Self, Memory>
         ensures empty { IfOk result (λ m. m.values ≡ map.empty) }
-        ensures room { IfOk result (λ m. slots ≤ m.room) }
+        ensures room { IfOk result (λ m. m.room ≡ slots) }
+        ensures memory { OnErr result (0 < slots) }
     {
         Ok(HandleMap {
             slots: Vec::with_capacity(alloc, slots)?,

@@ -21,20 +21,20 @@ at_left xs rest k x left =
     let lt : k < length xs = next_below xs rest k x left in
     search (rules, drop_more xs k x lt, slice_get-get_or xs k x lt, lt)
 
--- there are components to be given
-some_items : (w : World) (items : Bundle) (h : Handle) → 0 < length items
+-- there are several components to be read
+several_items : (w : World) (items : Bundle) (h : Handle) → 1 < length items
     → insert_takes_memory w items h ≡ true
-some_items w items h some = search (rules, nat_tests)
+several_items w items h several = search (rules, nat_tests)
 
 at_takes_memory : (w : World) (items : Bundle) (hs : List Handle) (k : ℕ) → k < length hs
-    → 0 < length items → one_takes_memory w items (slice_get hs k) ≡ true
+    → 1 < length items → one_takes_memory w items (slice_get hs k) ≡ true
 at_takes_memory w items [] k lt some = absurd (omega arith)
-at_takes_memory w items (h ∷ hs) zero lt some = some_items w items h some
+at_takes_memory w items (h ∷ hs) zero lt some = several_items w items h some
 at_takes_memory w items (h ∷ hs) (suc k) lt some = at_takes_memory w items hs k (omega arith) some
 
 -- to the first of the handles that are left
 pub stop_takes_memory : (w : World) (items : Bundle) (hs : List Handle) (k : ℕ) → (hs ≡ [] → ⊥)
-    → k < max 1 (length hs) → 0 < length items → one_takes_memory w items (slice_get hs k) ≡ true
+    → k < max 1 (length hs) → 1 < length items → one_takes_memory w items (slice_get hs k) ≡ true
 stop_takes_memory w items hs k some_handle lt some = grind (arith, common_steps, at_takes_memory)
 
 -- to the next of them

@@ -4,6 +4,7 @@ pub mod Effects
 pub mod Sync
 pub mod Rest
 pub mod Memory
+pub mod Read
 pub mod Entering
 pub mod Rows
 pub mod BirthsAlone

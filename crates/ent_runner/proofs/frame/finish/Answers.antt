@@ -1,5 +1,4 @@
-use Rattle.std.proofs.Common.{rules, ◌≡◌, ◌∙◌, ap, subst, arith, All, true}
-use Rattle.std.proofs.lemmas.Grind.{common_steps}
+use Rattle.std.proofs.Common.{rules, ◌≡◌, ◌∙◌, ap, subst, All, true, false, inl}
 use Rattle.std.specs.Prelude.{flat_map, Any}
 use Rattle.ent_shared.specs.Phase.{records_of}
 use Rattle.ent_shared.specs.Order.{history_of, reservations_of, Respects}
@@ -8,8 +7,8 @@ use Rattle.ent_runner.specs.declared.worker.Worker.{Worker}
 use Rattle.ent_world.specs.OpenWorld.{world_at_start}
 use Rattle.ent_runner.specs.Frame.{reserved_by}
 use Rattle.ent_runner.specs.Worker.{all_records, HaveRunFirst}
-use Rattle.ent_runner.proofs.Conducting.{reservers_own, claimers_own, once_closed, first_closed}
-use Rattle.ent_runner.proofs.Conducting.{all_full, queues_back, records_are}
+use Rattle.ent_runner.proofs.Conducting.{reservers_own, claimers_own, first_closed, queues_back}
+use Rattle.ent_runner.proofs.Conducting.{queues_of, once_of, lost_of, records_are, if_some}
 use Rattle.ent_runner.proofs.frame.finish.Goals.{After-close-world}
 use Rattle.ent_runner.proofs.frame.finish.Goals as goal
 
@@ -42,23 +41,34 @@ respects c = search (rules, records_is)
 first : (c : After-close-world) → HaveRunFirst c.args.claims.numbers c.args.workers.items
 first c = search (rules, first_closed)
 
-pub collect-requires-clause-full : goal.collect-requires-clause-full
-collect-requires-clause-full c =
-    let d = c.disband.ensures in
-    let start = c.args.returned.by_system in
-    rw (queues_back _ _ (flat_map (λ (w : Worker). w.issued.items) c.args.workers.items) _ _
-    c.requires.room.by_system_empty start.ok.0 (rw c.deref_mut.ensures.value at d.by_system))
-    (all_full c.args.claims c.args.workers.items (once_closed c.args.opened.shared _ _
-    c.requires.each _ c.deref.ensures.value
-    (c.some_stopped-stopped.ensures.going c.if-stopped.false) _ d.claimers c.close.ensures.once))
-
-pub returns-clause-once : goal.returns-clause-once
-returns-clause-once c = once_closed c.args.opened.shared _ _ c.requires.each _ c.deref.ensures.value
-    (c.some_stopped-stopped.ensures.going c.if-stopped.false) _ c.disband.ensures.claimers
-    c.close.ensures.once
+pub returns-clause-going : goal.returns-clause-going
+returns-clause-going c = if_some c.collect.result (subst
+    (All (λ (w : Worker). w.stopped ≡ false)) c.deref.ensures.value
+    (c.some_stopped-stopped.ensures.going c.if-stopped.false))
 
 pub returns-clause-queues : goal.returns-clause-queues
-returns-clause-queues c = grind (arith, common_steps)
+returns-clause-queues c = queues_of c.args.claims.numbers c.args.workers.items
+    (first (goal.at.returns-clause-queues c).After-close-world) _
+    (queues_back _ _ (flat_map (λ (w : Worker). w.issued.items) c.args.workers.items) _ _
+    c.requires.room.by_system_empty c.args.returned.by_system.ok.0
+    (rw c.deref_mut.ensures.value at c.disband.ensures.by_system)) c.collect.result
+    c.collect.ensures.all
+
+pub returns-clause-once : goal.returns-clause-once
+returns-clause-once c = once_of c.args.claims.numbers c.args.workers.items
+    (first (goal.at.returns-clause-once c).After-close-world) _
+    (queues_back _ _ (flat_map (λ (w : Worker). w.issued.items) c.args.workers.items) _ _
+    c.requires.room.by_system_empty c.args.returned.by_system.ok.0
+    (rw c.deref_mut.ensures.value at c.disband.ensures.by_system)) c.collect.result
+    c.collect.ensures.all
+
+pub returns-clause-lost : goal.returns-clause-lost
+returns-clause-lost c = lost_of c.args.claims.numbers c.args.workers.items
+    (first (goal.at.returns-clause-lost c).After-close-world) _
+    (queues_back _ _ (flat_map (λ (w : Worker). w.issued.items) c.args.workers.items) _ _
+    c.requires.room.by_system_empty c.args.returned.by_system.ok.0
+    (rw c.deref_mut.ensures.value at c.disband.ensures.by_system)) c.collect.result
+    c.collect.ensures.lacking
 
 pub returns-then-stopped-clause-world : goal.returns-then-stopped-clause-world
 returns-then-stopped-clause-world c = search (rules, closed)
@@ -85,5 +95,5 @@ pub returns-clause-first : goal.returns-clause-first
 returns-clause-first c = first (goal.at.returns-clause-first c).After-close-world
 
 pub returns-then-stopped-clause-lost : goal.returns-then-stopped-clause-lost
-returns-then-stopped-clause-lost c = subst (Any (λ (w : Worker). w.stopped ≡ true))
-    c.deref.ensures.value (c.some_stopped-stopped.ensures.some c.if-stopped.true)
+returns-then-stopped-clause-lost c = inl (subst (Any (λ (w : Worker). w.stopped ≡ true))
+    c.deref.ensures.value (c.some_stopped-stopped.ensures.some c.if-stopped.true))

@@ -21,7 +21,8 @@ pub returns-clause-closed : goal.returns-clause-closed
 returns-clause-closed g c =
     let f = c.finish.ensures in (
       history_of (all_records c.work.new.workers.items),
-      is_broken_off _ _ _ _ _ _ c.work.ensures c.requires.room.numbers f.legal f.respects f.first,
+      none_weaker _ (is_broken_off _ _ _ _ _ _ c.work.ensures c.requires.room.numbers f.legal
+          f.respects f.first) f.lost,
       f.world,
       framed _ g.S.System.may_leave _ _ _ _ c.work.ensures c.requires.room.numbers _ f.legal
           f.respects f.going f.once f.queues,

@@ -32,9 +32,9 @@ use crate::kit::thread::Threads;
 /// # Errors
 ///
 /// - [`FrameFault::Memory`] if memory was refused before any system ran. The world is as it was.
-/// - [`FrameFault::Lost`] if memory was refused later, or a system returned so. No command was
-///   applied. What the systems that ran had reserved stays reserved, and nothing else is:
-///   [`World::flush`] brings it to life.
+/// - [`FrameFault::Lost`] if a system returned `Memory`, or if systems are left and no worker has
+///   memory for the queue of another one. No command was applied. What the systems that ran had
+///   reserved stays reserved, and nothing else is: [`World::flush`] brings it to life.
 /// - [`FrameFault::Sync`] if all systems ran and the sync point stopped for want of memory. The
 ///   fault has the queues. If it stopped before any entity was born ([`SyncFault::FlushMemory`]),
 ///   [`World::apply`] does the sync point. If it stopped at a command, [`World::apply_from`] goes
@@ -67,7 +67,7 @@ where
     //     × (world.new ≡ reserved_by history world.old) }
     // ensures still { IsErrOf result FrameFault.Lost → IsLost world.old world.new }
 
-    // Only a worker that has run a system, or the system, is refused memory so late.
+    // Only a system is refused memory so late, or workers that have run one.
     // ensures lost_some { IsErrOf result FrameFault.Lost → 0 < length systems.now }
 
     // ensures stopped { IfSyncStopped result (λ fault queues.
@@ -109,8 +109,8 @@ where
     }
 }
 
-/// Runs the systems on the open world and closes it. There are no queues if a worker has stopped
-/// for want of memory, and only then; so there are some systems then. What is known of a frame that was broken off holds of a whole one too.
+/// Runs the systems on the open world and closes it. There are no queues if the frame was broken off,
+/// and only then; so there are some systems then.
 #[inline]
 fn run_open<R, S, G>(
     rt: &R,
@@ -132,9 +132,8 @@ where
     // requires unused { records_of reservers.items
     //     ≡ opened_records opened.shared.start 0 opened.shared.count }
     // ensures closed { (history : List Call)
-    //     × IsBrokenOff S.may_issue S.may_leave systems.now opened.shared.count
-    //     (world_at_start opened)
-    //     history
+    //     × IfNone result.1 (IsBrokenOff S.may_issue S.may_leave systems.now opened.shared.count
+    //     (world_at_start opened) history)
     //     × (result.0 ≡ reserved_by history (world_at_start opened))
     //     × IfSome result.1 (λ queues. IsFrame S.may_issue systems.now opened.shared.count
     //     (world_at_start opened) queues.items history) }
@@ -188,8 +187,8 @@ where
     run_all(rt, &stage, workers);
 }
 
-/// Closes the world, and collects the queues unless a worker has stopped for want of memory.
-/// There are none only if one has.
+/// Closes the world, and collects the queues, unless a system has stopped for want of memory or
+/// some are left.
 #[inline]
 fn finish(
     opened: OpenWorld,
@@ -209,7 +208,7 @@ fn finish(
     //     All (Respects (reservations_of records)) records }
     // ensures first { HaveRunFirst claims.numbers workers.items }
     // ensures going { IfSome result.1 (λ _. All (λ w. w.stopped ≡ false) workers.items) }
-    // ensures lost { IfNone result.1 (Any (λ w. w.stopped ≡ true) workers.items) }
+    // ensures lost { IfNone result.1 (IsLostFor claims.numbers workers.items) }
     // ensures once { IfSome result.1 (λ _. IsPermutation
     //     (flat_map (λ w. systems_of w.issued.items) workers.items)
     //     (range_with_len 0 claims.numbers)) }
@@ -222,7 +221,7 @@ fn finish(
         mut reservers,
         mut claimers,
         mut by_system,
-        mut queues,
+        queues,
     } = returned;
     disband(workers, &mut reservers, &mut claimers, &mut by_system);
     claims.close(claimers);
@@ -230,6 +229,5 @@ fn finish(
     if stopped {
         return (world, None);
     }
-    collect(by_system, &mut queues);
-    (world, Some(queues))
+    (world, collect(by_system, queues))
 }

@@ -18,9 +18,9 @@ pub struct FrameReport {
 pub enum FrameFault {
     /// Memory was refused before any system ran. The world is as it was.
     Memory,
-    /// The frame was refused memory after its first system began, or a system returned `Memory`. No
-    /// command was applied. The handles that the systems reserved stay reserved, and no others: the
-    /// next flush brings them to life, without components.
+    /// A system returned `Memory`, or systems are left and no worker has memory for the queue of
+    /// another one. No command was applied. The handles that the systems reserved stay reserved, and
+    /// no others: the next flush brings them to life, without components.
     Lost,
     /// All systems ran, and the sync point stopped.
     Sync {

@@ -37,7 +37,7 @@ pub(super) struct Worker {
     /// The queues of the systems that it ran, in the order of the claims. If a system stopped,
     /// its queue is the last one.
     pub(super) issued: Vec<SystemQueue>,
-    /// Memory was refused to it or to its last system, so it has claimed no more.
+    /// Memory was refused to its last system, so it has claimed no more.
     pub(super) stopped: bool,
 }
 
@@ -63,7 +63,7 @@ impl<S: System, G: Gate> Stage<'_, S, G> {
 
 impl Worker {
     /// Runs the systems that it claims, until none is left. It claims one only if there is room
-    /// for its queue, which there is for the first one.
+    /// for its queue, which there is for the first one: without it the others run what is left.
     #[inline]
     fn work<S: System, G: Gate>(&mut self, stage: &Stage<'_, S, G>) -> Result<(), Memory>
         // requires systems { stage.now.claims.now.numbers ≡ length stage.now.systems.now }
@@ -79,22 +79,24 @@ impl Worker {
         // ensures ran { OnOk result (HasRun S.may_issue stage.now.systems.now stage.now.view
         //     self.old.reserver.own self.new.reserver.own self.new.claimer.own.claims
         //     self.new.issued.items) }
-        // ensures ended { OnOk result (self.new.claimer.own.ended ≡ true) }
+        // ensures ended { OnOk result (IsThrough self.new) }
         // ensures some { OnErr result (0 < length self.new.issued.items) }
         // ensures refused { OnErr result (WasRefused S.may_leave stage.now.systems.now stage.now.view
-        //     self.new.issued) }
+        //     self.new.issued.items) }
         // ensures stopped { self.new.stopped ≡ self.old.stopped }
     {
         while let Some(system) = stage.claims.next(&mut self.claimer) {
             let (queue, ran) = stage.issue(system, &mut self.reserver);
             self.issued.push_reserved(SystemQueue { system, queue });
             ran?;
-            self.issued.reserve(1)?;
+            if self.issued.reserve(1).is_err() {
+                return Ok(());
+            }
         }
         Ok(())
     }
 
-    /// Works, and remembers if memory was refused.
+    /// Works, and remembers if its last system stopped.
     #[inline]
     fn run<S: System, G: Gate>(&mut self, stage: &Stage<'_, S, G>)
         // requires systems { stage.now.claims.now.numbers ≡ length stage.now.systems.now }

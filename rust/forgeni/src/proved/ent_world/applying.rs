@@ -32,13 +32,26 @@ impl Applying {
         }
     }
 
-    /// Reads the components of a bundle, instead of what was read before. After an `Err` there
-    /// are none.
-    #[inline]
-    fn read(&mut self, bundle: BundleRef<'_>) -> Result<(), Memory>
+    /// Reads the components of a bundle, instead of what was read before. A bundle of one component,
+    /// the most frequent one, needs no list.
+    #[inline(always)]
+    fn read(&mut self, bundle: &BundleRef<'_>) -> Result<(), Memory>
         // ensures faults { self.new.faults.items ≡ self.old.faults.items }
-        // ensures ok { OnOk result (self.new.items.items ≡ bundle.entry) }
-        // ensures memory { OnErr result (0 < length bundle.entry) }
+        // ensures ok { OnOk result (IsRead bundle.now self.new.items.items) }
+        // ensures memory { OnErr result (1 < length bundle.now) }
+    {
+        match bundle.len() {
+            1 => Ok(()),
+            _ => self.read_list(bundle),
+        }
+    }
+
+    /// Reads the components of a bundle into the list. After an `Err` it is empty.
+    #[inline]
+    fn read_list(&mut self, bundle: &BundleRef<'_>) -> Result<(), Memory>
+        // ensures faults { self.new.faults.items ≡ self.old.faults.items }
+        // ensures ok { OnOk result (self.new.items.items ≡ bundle.now) }
+        // ensures memory { OnErr result (0 < length bundle.now) }
     {
         self.items.clear();
         self.items.reserve(bundle.len())?;
@@ -231,7 +244,7 @@ impl World {
         if handles.is_empty() {
             return Ok(());
         }
-        if applying.read(bundle).is_err() {
+        if applying.read(&bundle).is_err() {
             return Err(from);
         }
         let mut left = handles.iter();
@@ -242,7 +255,10 @@ impl World {
             if done < from.done {
                 continue;
             }
-            if self.insert_items(from.at, handle, applying).is_err() {
+            if self
+                .insert_read(from.at, handle, &bundle, applying)
+                .is_err()
+            {
                 return Err(Stop { at: from.at, done });
             }
         }
@@ -250,7 +266,7 @@ impl World {
     }
 
     /// Gives the entity the components of the bundle, instead of those that it has under the same
-    /// numbers. A bundle of one component, the most frequent one, needs no list.
+    /// numbers.
     #[inline(always)]
     fn insert_bundle(
         &mut self,
@@ -268,13 +284,36 @@ impl World {
         //     ≡ applied self.old applying.old.faults.items) }
         // ensures memory { OnErr result (insert_takes_memory self.new bundle.entry handle ≡ true) }
     {
+        applying.read(&bundle)?;
+        self.insert_read(at, handle, &bundle, applying)
+    }
+
+    /// The same of a bundle that was read last.
+    #[inline(always)]
+    fn insert_read(
+        &mut self,
+        at: At,
+        handle: Handle,
+        bundle: &BundleRef<'_>,
+        applying: &mut Applying,
+    ) -> Result<(), Memory>
+        // requires flushed { self.old.allocator.asked ≡ 0 }
+        // requires read { IsRead bundle.now applying.old.items.items }
+        // ensures flushed { self.new.allocator.asked ≡ 0 }
+        // ensures items { applying.new.items.items ≡ applying.old.items.items }
+        // ensures ok { OnOk result (applied self.new applying.new.faults.items
+        //     ≡ on_entity at.system at.command (after_insert bundle.now) handle
+        //     (applied self.old applying.old.faults.items)) }
+        // ensures err { OnErr result (applied self.new applying.new.faults.items
+        //     ≡ applied self.old applying.old.faults.items) }
+        // ensures memory { OnErr result (insert_takes_memory self.new bundle.now handle ≡ true) }
+    {
         if bundle.len() == 1 {
             let Some(only) = bundle.iter().next() else {
                 unreachable!()
             };
             return self.insert_only(at, handle, only, applying);
         }
-        applying.read(bundle)?;
         self.insert_items(at, handle, applying)
     }
 
@@ -289,11 +328,13 @@ impl World {
     ) -> Result<(), Memory>
         // requires { self.old.allocator.asked ≡ 0 }
         // ensures flushed { self.new.allocator.asked ≡ 0 }
+        // ensures items { applying.new.items.items ≡ applying.old.items.items }
         // ensures ok { OnOk result (applied self.new applying.new.faults.items
         //     ≡ on_entity at.system at.command (after_insert (item ∷ [])) handle
         //     (applied self.old applying.old.faults.items)) }
         // ensures err { OnErr result (applied self.new applying.new.faults.items
         //     ≡ applied self.old applying.old.faults.items) }
+        // ensures memory { OnErr result (insert_takes_memory self.new (item ∷ []) handle ≡ true) }
     {
         let Some(place) = place_of(&self.entities, handle) else {
             return applying.add_fault(at, FaultKind::NotAlive(handle));
