@@ -94,8 +94,8 @@ def take(case, mark, text):
     """Adds one line to its case."""
     case.marks += 1
     kind = mark[1:]
-    if mark == "$":
-        case.words.append(text.split())
+    if mark[0] == "$":
+        case.words.append(os.fsdecode(unescaped(text)).split() if kind else text.split())
     elif mark == "~":
         case.around = text.encode()
     elif mark == "=":
@@ -132,12 +132,12 @@ def cases_of(crate, file):
             case = None
             continue
         mark, _, text = line.partition(" ")
-        if not re.fullmatch(r"[$~=]|[<>!](\\|\*[,_]?)?|<[<^|]|>>", mark):
+        if not re.fullmatch(r"\$\\?|[~=]|[<>!](\\|\*[,_]?)?|<[<^|]|>>", mark):
             sys.exit(f"{file}:{number}: {mark} is no mark of a case")
         if case is None:
             case = Case(crate, file, number, around=around)
             case.settings = 0
-        case.settings += mark in "$~"
+        case.settings += mark[0] in "$~"
         take(case, mark, text)
     return cases
 
@@ -182,7 +182,7 @@ def faults_of(case, program):
         fault = fault_of(case, program, words, given)
         if fault:
             on = f" on {shown(given)}" if case.is_cut else ""
-            faults.append(f"{case.file}:{case.line}: {program.name} {' '.join(words)}{on} {fault}")
+            faults.append(f"{case.file}:{case.line}: {program.name} {shown(' '.join(words))}{on} {fault}")
     return faults, len(runs)
 
 

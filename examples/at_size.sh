@@ -1,16 +1,17 @@
 #!/bin/sh
 # Runs above 70,000 of each thing that grows, or as many as the formats allow: that memory which is there is not refused, and that nothing
 # is cut or mixed up at some size. No contract says the first. The tests `sizes` and `room` of the package make such runs of the allocator,
-# its phases, storages, worlds and frames. The program then runs scripts and a schedule, and must print what is computed here of their
-# numbers alone. It needs `cargo` and `python3` on the path, and the program as `.ci/run` or `prove.sh` built it. If it wasn't built, `rt`,
-# which then proves it first.
+# its phases, storages, worlds and frames. The test `sizes` of `crates/ent_tests` does so of a map by handle. The programs then run scripts,
+# a schedule and traces, and must print what is computed here of their numbers alone. It needs `cargo` and `python3` on the path, and the
+# programs as `.ci/run` or `prove.sh` built them. If one wasn't built, `rt`, which then proves it first.
 set -eu
 here=$(cd "$(dirname "$0")" && pwd)
 out=$(mktemp -d)
 trap 'rm -rf "$out"' EXIT
 
-program=$here/../crates/spawnrun/out/spawnrun
-[ -x "$program" ] || (cd "$here/../crates/spawnrun" && rt run >"$out/built" 2>&1)
+for name in spawnrun tracecheck; do
+    [ -x "$here/../crates/$name/out/$name" ] || (cd "$here/../crates/$name" && rt run >"$out/built" 2>&1)
+done
 
 # tested WORDS..: tests of the package. All that is named has to be there and to pass.
 tested() {
@@ -101,25 +102,76 @@ new = ["%dv1" % slot for slot in range(count, 2 * count)]
 write("schedule.out", ["%dv1" % slot for slot in range(count)]
       + ["freed %dv1 next %dv2" % (slot, slot) for slot in range(count)]
       + ["open", "cursor %d" % -count, " ".join(old + new), "born " + " ".join(new + old)])
+
+
+def trace(name, lines, text):
+    """A trace, and what is said of it. A difference is shown with the state before it."""
+    write(name + ".in", lines)
+    write(name + ".out", text)
+
+
+def shown(handles, cursor):
+    return "pool %s .., cursor %d" % (" ".join(handles[:8]), cursor)
+
+
+# The same in a trace: lines above number 140,000, and one of a million bytes, for the reservation and for the flush.
+made = (["alloc => %dv1" % slot for slot in range(count)]
+        + ["free %dv1 => freed next %dv2" % (slot, slot) for slot in range(count)])
+bulk = "reserve 1 %d => " % (2 * count) + " ".join(old + new)
+trace("listed", made + [bulk, "flush => born " + " ".join(new + old), "len => %d" % (2 * count)],
+      ["agrees: %d lines, %d handles given" % (2 * count + 3, 3 * count)])
+
+# Single reservations of two callers in one run, each in the order of its caller, and a flush of all of them. The last freed slot is given
+# first: those of even number to the caller whose log comes last.
+given = old[::-1] + new
+single = ["reserve %d 1 => %s" % (caller, handle) for caller, first in ((7, 1), (9, 0)) for handle in given[first::2]]
+trace("single", made + single + ["flush => born " + " ".join(new + old)],
+      ["agrees: %d lines, %d handles given" % (4 * count + 1, 3 * count)])
+
+# A difference in a line above number 1,000 and above 100,000, of an exclusive call, of a flush and of a reservation.
+for last in (1500, 2 * count):
+    lines = ["alloc => %dv1" % slot for slot in range(last)]
+    pool = ["%dv1" % slot for slot in range(last, last + 8)]
+    trace("alloc_%d" % last, lines + ["alloc => 7v7"],
+          ["differs line %d: alloc => 7v7, expected %dv1" % (last + 1, last), shown(pool, 0)])
+    trace("reserve_%d" % last, lines + ["reserve 1 1 => 7v7", "flush"],
+          ["differs line %d: reserve 1 1 => 7v7, expected %dv1" % (last + 1, last), shown(pool, 0)])
+    trace("flush_%d" % last, lines + ["reserve 1 1 => %s" % pool[0], "flush => born"],
+          ["differs line %d: flush => born, expected born %s" % (last + 2, pool[0]), shown(pool[1:] + ["%dv1" % (last + 8)], -1)])
+    trace("refused_%d" % last, lines + ["reserve 1"], ["refused line %d count" % (last + 1)])
+
+# A difference with two lists of 140,002 handles.
+trace("long", made + [bulk, "flush => born " + " ".join(old + new)],
+      ["differs line %d: flush => born %s, expected born %s" % (2 * count + 2, " ".join(old + new), " ".join(new + old)),
+       shown(["%dv1" % slot for slot in range(2 * count, 2 * count + 8)], -count)])
 END
 
-# prints CASE WORDS..: the program must print what was computed.
+# prints PROGRAM STATUS CASE WORDS..: the program must print what was computed, and end so.
 prints() {
-    name=$1
-    shift
+    program=$1 wanted=$2 name=$3
+    shift 3
     status=0
-    timeout 30 "$program" "$@" <"$out/$name.in" >"$out/printed" 2>"$out/said" || status=$?
-    if [ "$status" = 0 ] && cmp "$out/printed" "$out/$name.out"; then
-        echo "spawnrun $* on $name: $(wc -l <"$out/printed") lines, as computed"
+    timeout 30 "$here/../crates/$program/out/$program" "$@" <"$out/$name.in" >"$out/printed" 2>"$out/said" || status=$?
+    if [ "$status" = "$wanted" ] && cmp "$out/printed" "$out/$name.out"; then
+        echo "$program $* on $name: $(wc -l <"$out/printed") lines, as computed"
     else
-        echo "spawnrun $* on $name: wrong, status $status, $(head -c 200 "$out/said")"
+        echo "$program $* on $name: wrong, status $status, $(head -c 200 "$out/said")"
         exit 1
     fi
 }
 
 for workers in 1 64; do
     for name in systems names faults entities births components; do
-        prints "$name" run --workers "$workers"
+        prints spawnrun 0 "$name" run --workers "$workers"
     done
 done
-prints schedule replay
+prints spawnrun 0 schedule replay
+
+for name in listed single; do
+    prints tracecheck 0 "$name"
+done
+for name in alloc_1500 alloc_140002 reserve_1500 reserve_140002 flush_1500 flush_140002 long; do
+    prints tracecheck 1 "$name"
+done
+prints tracecheck 2 refused_1500
+prints tracecheck 2 refused_140002

@@ -21,6 +21,8 @@ mod frames;
 #[cfg(test)]
 mod handle_memory;
 #[cfg(test)]
+mod handle_texts;
+#[cfg(test)]
 mod making;
 #[cfg(test)]
 mod map_memory;
@@ -35,7 +37,11 @@ mod replay_memory;
 #[cfg(test)]
 mod reserving;
 #[cfg(test)]
+mod schedules;
+#[cfg(test)]
 mod scripts;
+#[cfg(test)]
+mod sizes;
 #[cfg(test)]
 mod spawned;
 #[cfg(test)]

@@ -1,5 +1,6 @@
 -- What the tests of an input found, and where.
-use Rattle.std.specs.Prelude.{◌≡◌, ℕ, ◌-◌, ◌⊎◌, List, [], ◌++◌, codes, slice_index_or, MatchOption}
+use Rattle.std.specs.Prelude.{◌≡◌, ℕ, ◌-◌, ◌<◌, ◌≤◌, ◌⊎◌, List, [], ◌++◌, length, codes}
+use Rattle.std.specs.Prelude.{slice_index_or, MatchOption}
 use Rattle.std.specs.Fmt.{decimal}
 use Rattle.std.specs.List.{flat_map}
 use Rattle.ent_replay.specs.ScheduleText.{lines_of}
@@ -43,6 +44,12 @@ pub record TellsOfValue (text : List ℕ) (e : ReadFault) (found : List ℕ) : T
   pub shows : ShowsValue text e shown
   pub is : found ≡ codes "; found " ++ shown ++ position_text e
 
--- that, or only where it stands: if there was no memory for the value, or if the text is long
-abbrev pub TellsOfScript : List ℕ → ReadFault → List ℕ → Type 0
-TellsOfScript text e found = TellsOfValue text e found ⊎ (found ≡ position_text e)
+-- that there was no memory to show it, and where it stands
+abbrev pub unshown_text : ReadFault → List ℕ
+unshown_text e = codes "; found what there was no memory to show" ++ position_text e
+
+-- Of a text of more than 65,536 bytes it is only said where the test failed. Of a shorter one it is
+-- said what stands there, or that there was no memory to show that.
+pub record TellsOfScript (text : List ℕ) (e : ReadFault) (found : List ℕ) : Type 0 where
+  pub long : 65536 < length text → found ≡ position_text e
+  pub short : length text ≤ 65536 → TellsOfValue text e found ⊎ (found ≡ unshown_text e)

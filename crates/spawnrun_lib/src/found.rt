@@ -7,10 +7,9 @@ use std::fmt::InlineText;
 
 /// What a test found, and where: one line without its line feed, which follows what the test wants.
 ///
-/// It begins with `; found `, and ends with where that stands. If the value of a script was not
-/// looked for, since there was no memory or the script has more than 65,536 bytes, it only says
-/// where, as ` at frame 0 (counted from 0)`; outside of a frame it is then empty. It takes no
-/// memory itself.
+/// It begins with `; found `, and ends with where that stands. Of a script of more than 65,536 bytes
+/// it only says where, as ` at frame 0 (counted from 0)`; outside of a frame it is then empty. It
+/// takes no memory itself.
 pub(crate) type Found = InlineText<256>;
 
 /// Appends a text, for which there is room.

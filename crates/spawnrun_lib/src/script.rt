@@ -1,5 +1,5 @@
-ghost use Rattle.std.specs.Prelude.{◌≡◌, ◌≢◌, ◌+◌, ◌<◌, ◌≤◌, ◌++◌, ℕ, List, length, codes};
-ghost use Rattle.std.specs.Prelude.{IfSome, OnSome, option_map};
+ghost use Rattle.std.specs.Prelude.{◌≡◌, ◌+◌, ◌<◌, ◌≤◌, ◌++◌, ℕ, List, length, codes};
+ghost use Rattle.std.specs.Prelude.{IfSome, option_map};
 ghost use Rattle.std.specs.Fmt.{decimal};
 ghost use Rattle.std.specs.Fmt.InlineText.{inline_text};
 ghost use Rattle.spawnrun_lib.specs.Found.{position_text, ShowsValue, TellsOfScript};
@@ -26,31 +26,29 @@ const LONGEST: usize = 65_536;
 /// It is printable ASCII, whatever the text has. A value of more than 60 characters is cut, and ends
 /// in three dots.
 ///
-/// The text is read as JSON once more, so this is for a text that is refused. If there is no memory
-/// for that, or the text is longer than 65,536 bytes, where it stands is all that is said.
+/// The text is read as JSON once more, so this is for a text that is refused. Of a text of more than
+/// 65,536 bytes it only says where. If memory runs out, it says so in place of the value.
 pub(crate) fn script_found(alloc: Global, text: &[u8], fault: ReadFault) -> Found
     ensures found { TellsOfScript text.now fault (inline_text result) }
     ensures long { 65536 < length text.now → inline_text result ≡ position_text fault }
     ensures printable { ArePrintable (inline_text result) }
 {
+    if text.len() > LONGEST {
+        return with_position(Found::new(), fault);
+    }
+    let found = with(Found::new(), "; found ");
     match shown(alloc, text, fault) {
-        Some(shown) => {
-            let found = with(Found::new(), "; found ");
-            with_position(with(found, shown.as_str()), fault)
-        }
-        None => with_position(Found::new(), fault),
+        Some(shown) => with_position(with(found, shown.as_str()), fault),
+        None => with_position(with(found, "what there was no memory to show"), fault),
     }
 }
 
-// The front of the value that failed the test, or of the words of the reader of JSON.
+// The front of the value that failed the test, or of the words of the reader of JSON, if there is
+// memory for that.
 fn shown(alloc: Global, text: &[u8], fault: ReadFault) -> Option<Shown>
     ensures shows { IfSome result (λ shown. ShowsValue text.now fault (inline_text shown)) }
-    ensures short { OnSome result ((length text.now ≤ 65536) × (fault ≢ ReadFault.Memory)) }
     ensures printable { IfSome result (λ shown. ArePrintable (inline_text shown)) }
 {
-    if fault == ReadFault::Memory || text.len() > LONGEST {
-        return None;
-    }
     match Value::from_slice(alloc, text) {
         Ok(script) => part(&script, fault).shown(alloc),
         Err(error) if !error.is_memory() => Some(words_shown(error)),

@@ -1,5 +1,5 @@
 use ent_alloc::Limits;
-use spawnrun_lib::{Show, Task, command_line};
+use spawnrun_lib::{LineFault, Show, Task, command_line};
 use std::alloc::Global;
 use std::process::Abort;
 
@@ -50,5 +50,18 @@ fn a_run_has_workers_and_shows(rt: HostRuntime) {
             show: *show,
         };
         assert!(rt; task(&rt, rt.alloc(), words) == run);
+    }
+}
+
+const REFUSED: &[&[&str]] = &[
+    &[],
+    &["replay", "--slots", "0"],
+    &["run", "--workers", "65"],
+];
+
+#[test]
+fn words_that_ask_for_no_task(rt: HostRuntime) {
+    for words in REFUSED {
+        assert!(rt; matches!(command_line(rt.alloc(), words), Err(LineFault::Line(_))));
     }
 }

@@ -1,52 +1,16 @@
-//! The text and the bits of handles, their order and their hash.
+//! How handles are printed, their order and their hash, and decimals.
 
-use crate::kit::alloc::Global;
-use crate::kit::vec::Vec;
 use crate::proved::ent_handle::{read_decimal, Handle, TextFault};
 use std::collections::HashMap;
 
-const READ: &[(&[u8], u64)] = &[
-    (b"0v1", 4294967296),
-    (b"1v1", 4294967297),
-    (b"4294967294v2147483647", 9223372036854775806),
-];
-
-const REFUSED: &[(&[u8], TextFault)] = &[
-    (b"00v1", TextFault::Shape),
-    (b"0v", TextFault::Shape),
-    (b"v1", TextFault::Shape),
-    (b"0V1", TextFault::Shape),
-    (b"", TextFault::Shape),
-    (b"0v1v1", TextFault::Shape),
-    (b"99999999999999999999vx", TextFault::Shape),
-    (b"0v0", TextFault::Range),
-    (b"4294967295v1", TextFault::Range),
-    (b"0v2147483648", TextFault::Range),
-];
-
-/// What `write_text` appends to nothing.
-fn written(handle: Handle) -> Vec<u8> {
-    let mut text = Vec::new(Global);
-    handle.write_text(&mut text).expect("memory for a text");
-    text
-}
-
 #[test]
-fn texts_and_bits() {
-    for (text, bits) in READ {
-        let handle = Handle::from_bits(*bits).expect("a handle");
-        assert_eq!(Handle::read_text(text), Ok(handle));
-        assert_eq!(handle.to_bits(), *bits);
-        assert_eq!(written(handle).as_slice(), *text);
-        assert_eq!(handle.to_string().as_bytes(), *text);
-    }
-    assert!(Handle::from_bits(0).is_none() && Handle::from_bits(8589934591).is_none());
-}
-
-#[test]
-fn refused_texts() {
-    for (text, fault) in REFUSED {
-        assert_eq!(Handle::read_text(text), Err(*fault));
+fn printed() {
+    for (bits, text) in [
+        (4294967296, "0v1"),
+        (9223372036854775806, "4294967294v2147483647"),
+    ] {
+        let handle = Handle::from_bits(bits).expect("a handle");
+        assert_eq!(handle.to_string(), text);
     }
 }
 
