@@ -2,9 +2,10 @@
 # Runs the programs with each of their allocations refused in turn: schedules, scripts on one worker and on eight, with a bundle that takes
 # memory and with many births as targets, a script that is refused, and traces that agree, differ or are none. Each run must end as an
 # undisturbed one does (the program may do without that piece of memory), or with status 3, `memory` on standard error and nothing else. Then
-# it runs each test of refused memory in the same way, and the files `*_refused.txt` of `crates/cases_and_examples`: they must pass, whichever allocation
-# is refused. And it counts what tests of things that take no memory ask for. It needs `cc` on the path, and the programs, the tests and the
-# cases as `.ci/run` built them. If a program wasn't built, `rt`, which then proves it first; what else wasn't built is left out.
+# it runs each test of refused memory in the same way, and the files `*_refused.txt` of `crates/cases_and_examples`: they must pass, whichever
+# allocation is refused, and each of their lines must be made in one of these runs at least. And it counts what tests of things that take no
+# memory ask for. It needs `cc` on the path, and the programs, the tests and the cases as `.ci/run` built them. If a program wasn't built,
+# `rt`, which then proves it first; what else wasn't built is left out.
 set -eu
 here=$(cd "$(dirname "$0")" && pwd)
 top=$(cd "$here/.." && pwd)
@@ -122,6 +123,21 @@ each "$room/differs" --slots 9 --generations 2
 each "$room/refused_line"
 each "$room/agrees" --slots 0
 
+# note_left_out: which lines the run of a file of cases has left out, as it says.
+note_left_out() {
+    while IFS= read -r line; do
+        case $line in *'left out:'*) echo "${line#*left out:}" ;; esac
+    done <"$room/printed" >>"$room/left_out"
+}
+
+# never_made FILE: the lines that all runs of this file have left out. A run tells them by their numbers among the lines with a condition.
+never_made() {
+    awk '{ for (i = 1; i <= NF; i++) count[$i]++ } END { for (line in count) if (count[line] == NR) print line }' "$room/left_out" |
+        while read -r number; do
+            grep -E '^(at|unborn|lost|lost_of|kept)( [0-9 ]*)?: ' "$1" | sed -n "${number}p"
+        done
+}
+
 # passes WHAT WORDS..: every allocation of these words in turn. They must end with 0.
 passes() {
     what=$1
@@ -136,6 +152,7 @@ passes() {
             beyond=$((beyond + 1))
         elif [ "$status" = 0 ]; then
             beyond=0 passed=$((passed + 1))
+            note_left_out
         else
             cat "$room/printed"
             echo "$what: allocation $allocation: wrong, status $status"
@@ -155,13 +172,20 @@ tested() {
     done
 }
 
-# answered: the files of calls that take whichever allocation is refused.
+# answered: the files of calls that take whichever allocation is refused. Which worker of two takes a system isn't the same in each run, so
+# there are up to ten rounds until each line was made.
 answered() {
     cases=$top/crates/cases_and_examples/out/cases_and_examples
     [ -x "$cases" ] || { echo "the cases are not built, .ci/run builds them"; return; }
     cd "$top/crates/cases_and_examples/data"
     for file in *_refused.txt; do
-        passes "$file" "$cases" "$file"
+        : >"$room/left_out"
+        for round in 1 2 3 4 5 6 7 8 9 10; do
+            passes "$file" "$cases" "$file"
+            never=$(never_made "$file")
+            [ -n "$never" ] || break
+        done
+        [ -z "$never" ] || { echo "$file: these lines were never made"; echo "$never"; exit 1; }
     done
 }
 

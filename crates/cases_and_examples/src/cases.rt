@@ -1,17 +1,20 @@
 //! Files of calls, each with what it has to return.
 //!
-//! Memory that is refused once is asked for again, so a run whose file allows it ends as one to which
-//! none is refused.
+//! What the driver itself needs is asked for again if it is refused once. Of the calls just those are
+//! made again whose file awaits it (`refusals`).
 
 mod allocating;
 mod call;
 mod case;
+mod conditions;
+mod ended;
 mod filling;
 mod frames;
 mod layer;
 mod numbers;
 mod phase;
 mod queues;
+mod refusals;
 mod sharing;
 mod storing;
 mod synced;

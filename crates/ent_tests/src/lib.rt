@@ -27,6 +27,8 @@ mod making;
 #[cfg(test)]
 mod map_memory;
 #[cfg(test)]
+mod map_sizes;
+#[cfg(test)]
 mod meeting;
 #[cfg(test)]
 mod phase;

@@ -82,6 +82,30 @@ impl Allocating {
             _ => self.tell(call, out),
         }
     }
+
+    /// Writes what can be told of the state.
+    pub fn write_state(&self, out: &mut Out) {
+        match (&self.entities, &self.sharing) {
+            (Some(entities), _) => write_state(entities, out),
+            (None, Some(sharing)) => sharing.write_state(out),
+            (None, None) => out.word("no allocator"),
+        }
+    }
+}
+
+/// The numbers, and the living handles with their rows.
+fn write_state(entities: &Entities, out: &mut Out) {
+    for name in &["len", "total", "room", "top", "retired", "reserved"] {
+        out.word(" ");
+        out.value(number_of(entities, name));
+    }
+    out.next(&entities.cursor());
+    out.next(&entities.asked());
+    for handle in entities.iter() {
+        out.next(&handle);
+        out.word("=");
+        out.value(entities.row(handle));
+    }
 }
 
 fn change(entities: &mut Entities, alloc: Global, call: &Call<'_>, out: &mut Out) {
@@ -122,11 +146,13 @@ fn reserve(entities: &mut Entities, n: u32, out: &mut Out) {
     }
 }
 
-/// Flushes into this list.
+/// Flushes into this list, which is as it was if there is no memory.
 fn flush(entities: &mut Entities, mut list: Vec<Handle>, out: &mut Out) {
+    let (len, first) = (list.len(), list.first().copied());
     match entities.flush(&mut list) {
         Ok(()) => out.handles(&list),
-        Err(fault) => out.show(&fault),
+        Err(fault) if list.len() == len && list.first().copied() == first => out.show(&fault),
+        Err(_) => out.word("the list has changed"),
     }
 }
 

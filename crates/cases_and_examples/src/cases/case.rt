@@ -1,16 +1,14 @@
 //! A file of calls, each with what it has to return.
 
-use crate::cases::call::Call;
+use crate::cases::conditions::{Conditions, when_of};
 use crate::cases::filling::{Round, fill};
 use crate::cases::layer::Layer;
 use crate::cases::numbers::Numbers;
+use crate::cases::refusals::Refusals;
 use crate::cases::writing::Out;
 use anyhow::Result;
 use std::alloc::{AllocError, Global};
 use std::thread::Threads;
-
-/// What a call answers if memory was refused to it.
-const REFUSED: &str = "out of memory";
 
 /// How far a file has been run.
 #[derive(Drop)]
@@ -22,7 +20,9 @@ pub struct Case<'a> {
     wanted: Out,
     /// What it returned.
     found: Out,
-    /// How many calls were made.
+    conditions: Conditions,
+    refusals: Refusals,
+    /// How many calls were made. One that was made again is one.
     calls: u64,
     /// How many of them did not return what the file says.
     differ: u64,
@@ -38,6 +38,8 @@ impl<'a> Case<'a> {
             call: Out::with_room(alloc)?,
             wanted: Out::with_room(alloc)?,
             found: Out::with_room(alloc)?,
+            conditions: Conditions::new(alloc)?,
+            refusals: Refusals::of(alloc, name)?,
             calls: 0,
             differ: 0,
             differences: Out::new(alloc),
@@ -55,6 +57,7 @@ impl<'a> Case<'a> {
                 None => self.run_lines(rt, layer, part, 0),
             }
         }
+        self.end(layer);
     }
 
     /// Prints how it went, and tells how many calls did not return what the file says.
@@ -62,6 +65,10 @@ impl<'a> Case<'a> {
         let (name, differences) = (self.name, self.differences.text.as_str());
         let (calls, differ) = (self.calls, self.differ);
         println!(rt; "{differences}{name}: {calls} calls, {differ} differ")?;
+        if self.refusals.are_awaited {
+            let (again, left_out) = (self.refusals.count, self.conditions.left_out.text.as_str());
+            println!(rt; "{name}: {again} made again, left out:{left_out}")?;
+        }
         Ok(differ)
     }
 
@@ -110,14 +117,34 @@ impl<'a> Case<'a> {
         fill(&mut self.wanted, wanted.trim(), round);
     }
 
-    /// Makes the call that is written, and compares.
+    /// Makes the call that is written, unless its condition doesn't hold, and compares.
     fn make<R: Threads + Sync>(&mut self, rt: &R, layer: &mut Layer) {
-        self.calls = self.calls.saturating_add(1);
-        if let Some(call) = call_now(self.alloc, layer, self.call.text.as_str()) {
-            let wanted = self.wanted.text.as_str();
-            make_at_last(rt, self.alloc, layer, call, wanted, &mut self.found);
+        if when_of(self.call.text.as_str()).is_none() && layer.take_untold() {
+            return self.note_untold();
+        }
+        if let Some(call) = self.conditions.call_now(layer, self.call.text.as_str()) {
+            self.calls = self.calls.saturating_add(1);
+            self.refusals
+                .make(rt, self.alloc, layer, call, &mut self.found);
             self.compare();
         }
+    }
+
+    /// A file ends when all is told.
+    fn end(&mut self, layer: &mut Layer) {
+        if layer.take_untold() {
+            self.call.clear();
+            self.call.word("the end");
+            self.note_untold();
+        }
+    }
+
+    /// Before this call no line told how a sync point or a frame was disturbed.
+    fn note_untold(&mut self) {
+        self.found.clear();
+        self.found.word(" no line tells what was disturbed before");
+        self.differ = self.differ.saturating_add(1);
+        self.note_difference();
     }
 
     fn compare(&mut self) {
@@ -130,7 +157,9 @@ impl<'a> Case<'a> {
     /// Whether the call returned what the file says. What memory was refused to can't be compared.
     fn is_met(&self) -> bool {
         let is_cut = self.call.is_cut || self.wanted.is_cut || self.found.is_cut;
-        !is_cut && self.found.text.trim() == self.wanted.text.as_str()
+        !is_cut
+            && !self.conditions.left_out.is_cut
+            && self.found.text.trim() == self.wanted.text.as_str()
     }
 
     fn note_difference(&mut self) {
@@ -151,52 +180,6 @@ fn rounds_in(part: &str) -> Option<(&str, &str)> {
         Some(rounds) => Some(("", rounds)),
         None => part.split_once("\nfor n in "),
     }
-}
-
-/// Makes a call. One that memory was refused to has changed nothing, so it is made once more.
-fn make_at_last<R: Threads + Sync>(
-    rt: &R,
-    alloc: Global,
-    layer: &mut Layer,
-    line: &str,
-    wanted: &str,
-    out: &mut Out,
-) {
-    make(rt, alloc, layer, line, out);
-    if out.text.as_str() == REFUSED && wanted != REFUSED {
-        make(rt, alloc, layer, line, out);
-    }
-}
-
-fn make<R: Threads + Sync>(rt: &R, alloc: Global, layer: &mut Layer, line: &str, out: &mut Out) {
-    out.clear();
-    let call = Call::read(alloc, line);
-    if call.is_cut {
-        out.word(REFUSED);
-    } else {
-        layer.answer(rt, &call, out);
-    }
-}
-
-/// The call of the line. That of `at 0 2 1: CALL` is made only if a sync point stopped there; and so
-/// with the other words of `when_of`.
-fn call_now<'a>(alloc: Global, layer: &mut Layer, line: &'a str) -> Option<&'a str> {
-    let Some((when, call)) = when_of(line) else {
-        return Some(line);
-    };
-    if layer.holds(&Call::read(alloc, when)) {
-        return Some(call);
-    }
-    None
-}
-
-/// The condition before the call.
-fn when_of(line: &str) -> Option<(&str, &str)> {
-    let (when, call) = line.split_once(": ")?;
-    if when.starts_with("at ") || when.starts_with("lost") || when == "kept" {
-        return Some((when, call));
-    }
-    None
 }
 
 /// The numbers of the rounds of this line alone, and what stands there: `for m in 0..3: CALL`.

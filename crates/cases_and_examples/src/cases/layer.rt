@@ -36,10 +36,27 @@ impl Layer {
         }
     }
 
-    /// Whether that is how the last sync point or frame went.
+    /// Writes what can be told of the state, so that who compares sees whether that call changed it.
+    pub fn write_state(&self, call: &Call<'_>, out: &mut Out) {
+        match self {
+            Layer::Alloc(layer) => layer.write_state(out),
+            Layer::Storage(layer) => layer.write_state(call, out),
+            Layer::World(layer) => layer.write_state(out),
+        }
+    }
+
+    /// Whether the last sync point or frame that might be disturbed ended so.
     pub fn holds(&mut self, when: &Call<'_>) -> bool {
         match self {
             Layer::World(layer) => layer.holds(when),
+            _ => false,
+        }
+    }
+
+    /// Whether it was disturbed, and no line has told how. It is said once.
+    pub fn take_untold(&mut self) -> bool {
+        match self {
+            Layer::World(layer) => layer.take_untold(),
             _ => false,
         }
     }

@@ -56,6 +56,13 @@ impl Phase {
         self.open.view()
     }
 
+    /// Writes the credit that is left to each system.
+    pub fn write_state(&self, out: &mut Out) {
+        for reserver in &self.reservers {
+            out.next(&reserver.left());
+        }
+    }
+
     /// A call of that system.
     pub fn answer(
         &mut self,

@@ -78,6 +78,14 @@ impl Sharing {
         }
     }
 
+    /// Writes the credit that is left to each reserver.
+    pub fn write_state(&self, out: &mut Out) {
+        out.show(&self.shared.count());
+        for reserver in &self.reservers {
+            out.next(&reserver.left());
+        }
+    }
+
     /// Drops the last reserver.
     fn lose(&mut self, out: &mut Out) {
         match self.reservers.pop() {

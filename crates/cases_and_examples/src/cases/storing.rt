@@ -40,6 +40,31 @@ impl Storing {
             },
         }
     }
+
+    /// Writes all entities, and the spare room.
+    pub fn write_state(&self, call: &Call<'_>, out: &mut Out) {
+        write_entities(&self.storage, out);
+        let spare = self.storage.spare();
+        if call.name == "reserve" {
+            // If it is refused, there may be more room than before, but less than it was asked for.
+            out.next(&(spare >= call.number() as usize));
+        } else {
+            out.next(&spare);
+        }
+    }
+}
+
+/// Each entity with its birth and its components.
+fn write_entities(storage: &Storage, out: &mut Out) {
+    let Ok(handles) = storage.by_birth() else {
+        return out.word("out of memory");
+    };
+    for handle in &handles {
+        out.next(handle);
+        out.word(" ");
+        out.birth(storage.birth(*handle));
+        out.entity(storage.items(*handle));
+    }
 }
 
 /// How much more there is now, or less.

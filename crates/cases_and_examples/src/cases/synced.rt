@@ -1,16 +1,13 @@
-//! How a sync point went.
+//! What a sync point reported.
 
+use crate::cases::ended::Ended;
 use ent_world::{SyncFault, SyncReport};
 use std::alloc::Global;
 
-/// What the last sync point reported, and where it stopped.
+/// What the last sync point reported, also if it stopped.
 #[derive(Drop)]
 pub struct Synced {
     pub report: SyncReport,
-    /// Where it stopped: a system, a command and how many handles of it are done.
-    pub stop: Option<(usize, usize, usize)>,
-    /// A line has told that place.
-    pub is_told: bool,
 }
 
 impl Synced {
@@ -21,17 +18,16 @@ impl Synced {
                 born: Vec::new(alloc),
                 faults: Vec::new(alloc),
             },
-            stop: None,
-            is_told: false,
         }
     }
 
-    /// Keeps the report, also that of a sync point which stopped at a command.
-    pub fn keep(&mut self, applied: Result<SyncReport, SyncFault>) -> &'static str {
-        self.stop = None;
-        self.is_told = false;
+    /// Keeps the report of a sync point.
+    pub fn keep(&mut self, applied: Result<SyncReport, SyncFault>) -> Ended {
         match applied {
-            Ok(report) => self.report = report,
+            Ok(report) => {
+                self.report = report;
+                Ended::Done
+            }
             Err(
                 SyncFault::Memory {
                     system,
@@ -40,17 +36,15 @@ impl Synced {
                     so_far,
                 },
             ) => {
-                self.stop = Some((system, command, done));
                 self.report = so_far;
+                Ended::Stopped(system, command, done)
             }
-            Err(SyncFault::FlushMemory) => return "out of memory",
+            Err(SyncFault::FlushMemory) => Ended::Refused("out of memory"),
         }
-        "done"
     }
 
     /// Nobody more is born, and there may be more faults.
     pub fn keep_rest(&mut self, rest: &SyncReport) -> &'static str {
-        self.stop = None;
         if !rest.born.is_empty() {
             return "more are born";
         }
@@ -58,12 +52,5 @@ impl Synced {
             Ok(()) => "done",
             Err(_) => "out of memory",
         }
-    }
-
-    /// Whether it stopped there.
-    pub fn is_at(&mut self, [system, command, done]: [u32; 3]) -> bool {
-        let is_here = self.stop == Some((system as usize, command as usize, done as usize));
-        self.is_told = self.is_told || is_here;
-        is_here
     }
 }

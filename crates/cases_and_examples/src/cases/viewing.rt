@@ -31,6 +31,15 @@ fn look_at_all(world: &World, call: &Call<'_>, out: &mut Out) {
     }
 }
 
+/// All entities, and the numbers.
+pub fn write_state(world: &World, out: &mut Out) {
+    write_entities(world, true, out);
+    out.next(&world.len());
+    out.next(&world.retired());
+    out.next(&world.phase());
+    out.next(&world.needs_flush());
+}
+
 /// Each entity with its birth, its handle if that is wanted, and its components.
 fn write_entities(world: &World, has_handles: bool, out: &mut Out) {
     let Ok(handles) = world.by_birth() else {

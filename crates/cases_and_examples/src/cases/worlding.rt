@@ -1,11 +1,12 @@
 //! Calls of a world, of its phases, and of the queues that are issued in them.
 
 use crate::cases::call::Call;
+use crate::cases::ended::{Ended, Tried};
 use crate::cases::frames::Listed;
 use crate::cases::phase::Phase;
 use crate::cases::queues::{stops_at, write_queue};
 use crate::cases::synced::Synced;
-use crate::cases::viewing::{look, view};
+use crate::cases::viewing::{look, view, write_state};
 use crate::cases::writing::Out;
 use ent_alloc::Limits;
 use ent_handle::Memory;
@@ -14,9 +15,6 @@ use ent_runner::{FrameFault, FrameReport, NoGate, run_frame};
 use ent_world::{SyncFault, SyncReport, World};
 use std::alloc::Global;
 use std::thread::Threads;
-
-/// What a frame answers whose systems were refused memory.
-const LOST: &str = "out of memory while the systems ran";
 
 /// A world, as calls change it.
 #[derive(Drop)]
@@ -28,10 +26,10 @@ pub struct Worlding {
     queues: Vec<CommandQueue>,
     /// The systems of the next frame.
     systems: Vec<Listed>,
-    /// How the last sync point went.
     synced: Synced,
-    /// The last frame that might be lost was.
-    is_lost: bool,
+    tried: Tried,
+    /// That of the calls `bundle` and `put`.
+    bundle: Bundle,
     alloc: Global,
 }
 
@@ -43,7 +41,8 @@ impl Worlding {
             queues: Vec::new(alloc),
             systems: Vec::new(alloc),
             synced: Synced::new(alloc),
-            is_lost: false,
+            tried: Tried::new(Ended::Done),
+            bundle: Bundle::new(alloc),
             alloc,
         }
     }
@@ -56,17 +55,18 @@ impl Worlding {
         self.phase = None;
         self.queues.clear();
         self.systems.clear();
+        self.tried = Tried::new(Ended::Done);
         self.world = Some(World::new(self.alloc, limits));
         "done"
     }
 
     fn open(&mut self, reservers: usize) -> &'static str {
-        self.queues.clear();
         let Some(world) = self.world.take() else {
             return "a phase is open";
         };
         match Phase::open(world, reservers) {
             Ok(phase) => {
+                self.queues.clear();
                 self.phase = Some(phase);
                 "done"
             }
@@ -97,22 +97,22 @@ impl Worlding {
         }
     }
 
-    fn apply(&mut self) -> &'static str {
+    fn apply(&mut self) -> Ended {
         let Some(world) = &mut self.world else {
-            return "a phase is open";
+            return Ended::Refused("a phase is open");
         };
         if self.queues.len() > 65_536 {
-            return "too many queues";
+            return Ended::Refused("too many queues");
         }
         let applied = world.apply(&self.queues);
         self.synced.keep(applied)
     }
 
     /// Goes on with the queues at that handle of that command of that system.
-    fn apply_from(&mut self, [system, command, done]: [u32; 3]) -> &'static str {
+    fn apply_from(&mut self, [system, command, done]: [u32; 3]) -> Ended {
         match self.applied_from(system as usize, command as usize, done as usize) {
             Some(applied) => self.synced.keep(applied),
-            None => "no such command",
+            None => Ended::Refused("no such command"),
         }
     }
 
@@ -132,24 +132,16 @@ impl Worlding {
         Some(world.apply_from(&self.queues, system, command, done))
     }
 
-    /// Whether there is a world in which so many live.
-    fn lives(&self, count: usize) -> bool {
-        match &self.world {
-            Some(world) => world.len() == count,
-            None => false,
-        }
-    }
-
-    /// Goes on where the sync point stopped, if it did. A line has told that place before.
+    /// Goes on where the sync point stopped, if it did.
     fn go_on(&mut self) -> &'static str {
-        let Some((system, command, done)) = self.synced.stop else {
+        let Ended::Stopped(system, command, done) = self.tried.ended else {
             return "done";
         };
-        if !self.synced.is_told {
-            return "it stopped at no place that is told";
-        }
         match self.applied_from(system, command, done) {
-            Some(Ok(rest)) => self.synced.keep_rest(&rest),
+            Some(Ok(rest)) => {
+                self.tried.ended = Ended::Done;
+                self.synced.keep_rest(&rest)
+            }
             Some(Err(_)) => "out of memory",
             None => "no such command",
         }
@@ -177,8 +169,12 @@ impl Worlding {
     fn sync(&mut self, call: &Call<'_>, out: &mut Out) {
         match call.name {
             "flush" => out.word(self.flush()),
-            "apply" => out.word(self.apply()),
-            "apply_from" => out.word(self.apply_from(call.numbers)),
+            "apply" => self.apply().write(out),
+            "try_apply" => {
+                let ended = self.apply();
+                self.keep_tried(ended, out);
+            }
+            "apply_from" => self.apply_from(call.numbers).write(out),
             "go_on" => out.word(self.go_on()),
             _ => self.tell(call, out),
         }
@@ -191,7 +187,11 @@ impl Worlding {
             "born_len" => out.show(&self.synced.report.born.len()),
             "queues_len" => out.show(&self.queues.len()),
             "faults" => out.faults(&self.synced.report.faults),
-            "bundle" => write_put(self.alloc, call, out),
+            "bundle" => {
+                self.bundle = Bundle::new(self.alloc);
+                put_all(&mut self.bundle, call, out);
+            }
+            "put" => put_all(&mut self.bundle, call, out),
             "bundle_of" => write_list(self.alloc, call, out),
             "queue" | "queue_len" | "bytes" => self.tell_queue(call, out),
             _ => self.tell_world(call, out),
@@ -231,51 +231,68 @@ impl Worlding {
         }
     }
 
-    /// A frame that is done also if it was lost.
-    fn try_frame<R: Threads + Sync>(&mut self, rt: &R, workers: u32) -> &'static str {
-        let answer = self.frame(rt, workers);
-        self.is_lost = answer == LOST;
-        if self.is_lost { "done" } else { answer }
-    }
-
     /// A frame of the systems that were listed.
-    fn frame<R: Threads + Sync>(&mut self, rt: &R, workers: u32) -> &'static str {
+    fn frame<R: Threads + Sync>(&mut self, rt: &R, workers: u32) -> Ended {
         let Some(world) = &mut self.world else {
-            return "a phase is open";
+            return Ended::Refused("a phase is open");
         };
         if world.needs_flush() || self.systems.len() > 65_536 || workers < 1 || workers > 64 {
-            return "refused";
+            return Ended::Refused("refused");
         }
         let workers = workers as usize;
         match run_frame(rt, self.alloc, world, &self.systems, workers, &NoGate) {
             Ok(FrameReport { queues, sync }) => self.keep(queues, Ok(sync)),
-            Err(FrameFault::Memory) => "out of memory",
-            Err(FrameFault::Lost) => LOST,
+            Err(FrameFault::Memory) => Ended::Refused("out of memory"),
+            Err(FrameFault::Lost) => Ended::Lost,
             Err(FrameFault::Sync { fault, queues }) => self.keep(queues, Err(fault)),
         }
     }
 
-    /// Keeps what a frame left. If no entity was born at its sync point, the queues are applied.
-    fn keep(
-        &mut self,
-        queues: Vec<CommandQueue>,
-        synced: Result<SyncReport, SyncFault>,
-    ) -> &'static str {
+    /// Keeps what a frame left.
+    fn keep(&mut self, queues: Vec<CommandQueue>, synced: Result<SyncReport, SyncFault>) -> Ended {
         self.queues = queues;
         match synced {
-            Err(SyncFault::FlushMemory) => self.apply(),
+            Err(SyncFault::FlushMemory) => Ended::Unborn,
             synced => self.synced.keep(synced),
         }
     }
 
-    /// Whether that is how the last sync point or frame went.
-    pub fn holds(&mut self, when: &Call<'_>) -> bool {
-        match when.name {
-            "at" => self.synced.is_at(when.numbers),
-            "lost" => self.is_lost,
-            "lost_of" => self.is_lost && self.lives(when.number() as usize),
-            _ => !self.is_lost,
+    /// A sync point or a frame that is done also if it was disturbed. Then a line has to tell how.
+    fn keep_tried(&mut self, ended: Ended, out: &mut Out) {
+        match ended {
+            Ended::Refused(why) => out.word(why),
+            _ => {
+                self.tried = Tried::new(ended);
+                out.word("done");
+            }
         }
+    }
+
+    /// Whether the last of these ended so.
+    pub fn holds(&mut self, when: &Call<'_>) -> bool {
+        let living = match &self.world {
+            Some(world) => world.len(),
+            None => 0,
+        };
+        self.tried.holds(when, living)
+    }
+
+    pub fn take_untold(&mut self) -> bool {
+        self.tried.take_untold()
+    }
+
+    /// Writes what can be told of the state.
+    pub fn write_state(&self, out: &mut Out) {
+        match (&self.world, &self.phase) {
+            (Some(world), _) => write_state(world, out),
+            (None, Some(phase)) => phase.write_state(out),
+            (None, None) => out.word("no world"),
+        }
+        for queue in &self.queues {
+            out.word(" ");
+            write_queue(queue, out);
+        }
+        out.bundle(self.bundle.items());
     }
 
     /// Makes the call, and writes what it returned.
@@ -284,8 +301,11 @@ impl Worlding {
             return self.in_phase(system, call, out);
         }
         match call.name {
-            "frame" => out.word(self.frame(rt, call.number())),
-            "try_frame" => out.word(self.try_frame(rt, call.number())),
+            "frame" => self.frame(rt, call.number()).write(out),
+            "try_frame" => {
+                let ended = self.frame(rt, call.number());
+                self.keep_tried(ended, out);
+            }
             "system" => out.word(self.add_system(call.line)),
             "no_systems" => {
                 self.systems.clear();
@@ -325,13 +345,11 @@ fn write_list(alloc: Global, call: &Call<'_>, out: &mut Out) {
     }
 }
 
-/// The bundle into which the components were put one by one.
-fn write_put(alloc: Global, call: &Call<'_>, out: &mut Out) {
-    let mut bundle = Bundle::new(alloc);
+/// Puts the components one by one, and writes the bundle.
+fn put_all(bundle: &mut Bundle, call: &Call<'_>, out: &mut Out) {
     for (id, value) in &call.items {
-        // A refused put leaves the bundle as it was, so the next one goes on with it.
-        if bundle.put(*id, *value).is_err() && bundle.put(*id, *value).is_err() {
-            out.word("out of memory");
+        if bundle.put(*id, *value).is_err() {
+            return out.word("out of memory");
         }
     }
     out.bundle(bundle.items());

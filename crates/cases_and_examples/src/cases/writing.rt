@@ -53,6 +53,12 @@ impl Out {
         }
     }
 
+    /// The value after a space.
+    pub fn next<T: Display>(&mut self, value: &T) {
+        self.word(" ");
+        self.show(value);
+    }
+
     pub fn value<T: Display + Drop>(&mut self, value: Option<T>) {
         match value {
             Some(value) => self.show(&value),

@@ -1,0 +1,106 @@
+//! How a sync point or a frame ended, and whether a line tells it.
+
+use crate::cases::call::Call;
+use crate::cases::writing::Out;
+
+/// How a sync point or a frame ended.
+#[derive(Clone, Copy)]
+pub enum Ended {
+    Done,
+    /// It did nothing, for this reason.
+    Refused(&'static str),
+    /// It stopped for want of memory: at a system, a command, and how many handles of that are done.
+    Stopped(usize, usize, usize),
+    /// The frame was lost: no command of its systems was applied.
+    Lost,
+    /// The frame's systems ran, and none of those that they spawned was born.
+    Unborn,
+}
+
+impl Ended {
+    pub fn write(self, out: &mut Out) {
+        match self {
+            Ended::Done => out.word("done"),
+            Ended::Refused(why) => out.word(why),
+            Ended::Stopped(system, command, done) => write_stop([system, command, done], out),
+            Ended::Lost => out.word("out of memory while the systems ran"),
+            Ended::Unborn => out.word("out of memory before a birth"),
+        }
+    }
+
+    fn is_lost(self) -> bool {
+        match self {
+            Ended::Lost => true,
+            _ => false,
+        }
+    }
+
+    fn is_unborn(self) -> bool {
+        match self {
+            Ended::Unborn => true,
+            _ => false,
+        }
+    }
+
+    /// Whether it stopped there.
+    fn is_at(self, place: [u32; 3]) -> bool {
+        match self {
+            Ended::Stopped(system, command, done) => {
+                system == place[0] as usize
+                    && command == place[1] as usize
+                    && done == place[2] as usize
+            }
+            _ => false,
+        }
+    }
+}
+
+fn write_stop(place: [usize; 3], out: &mut Out) {
+    out.word("stopped at");
+    for number in place {
+        out.word(" ");
+        out.show(&number);
+    }
+}
+
+/// How the last sync point or frame ended that might be disturbed.
+#[derive(Clone, Copy)]
+pub struct Tried {
+    pub ended: Ended,
+    /// It was disturbed, and no line has told how.
+    is_untold: bool,
+}
+
+impl Tried {
+    pub fn new(ended: Ended) -> Self {
+        let is_untold = match ended {
+            Ended::Done => false,
+            _ => true,
+        };
+        Tried { ended, is_untold }
+    }
+
+    /// Whether it ended as the condition says, where so many live now.
+    pub fn holds(&mut self, when: &Call<'_>, living: usize) -> bool {
+        match when.name {
+            "at" => self.is_told(self.ended.is_at(when.numbers)),
+            "unborn" => self.is_told(self.ended.is_unborn()),
+            "lost_of" => { self.is_told(self.ended.is_lost() && living == when.number() as usize) }
+            "lost" => self.ended.is_lost(),
+            _ => !self.ended.is_lost(),
+        }
+    }
+
+    /// Notes a line that tells it, if it does.
+    fn is_told(&mut self, tells: bool) -> bool {
+        self.is_untold = self.is_untold && !tells;
+        tells
+    }
+
+    /// Whether no line has told it. Who asks is told so once.
+    pub fn take_untold(&mut self) -> bool {
+        let is_untold = self.is_untold;
+        self.is_untold = false;
+        is_untold
+    }
+}

@@ -1,0 +1,102 @@
+//! Calls to which memory may be refused.
+
+use crate::cases::call::Call;
+use crate::cases::layer::Layer;
+use crate::cases::writing::Out;
+use std::alloc::{AllocError, Global};
+use std::thread::Threads;
+
+/// What a call answers if memory was refused to it.
+const REFUSED: &str = "out of memory";
+
+/// Which calls of a file were refused memory.
+///
+/// In a file whose name ends with `refused` such a call is made again, if it has changed nothing. In
+/// all others its answer stands, as any other answer does.
+#[derive(Drop)]
+pub struct Refusals {
+    pub are_awaited: bool,
+    /// How many calls were made again.
+    pub count: u64,
+    /// What is told of the state before a call, and after its refusal.
+    before: Out,
+    after: Out,
+}
+
+impl Refusals {
+    /// Those of a file of this name.
+    pub fn of(alloc: Global, name: &str) -> Result<Self, AllocError> {
+        Ok(Refusals {
+            are_awaited: name.ends_with("refused.txt"),
+            count: 0,
+            before: Out::with_room(alloc)?,
+            after: Out::with_room(alloc)?,
+        })
+    }
+
+    /// Makes the call of a line, and writes what it returned.
+    pub fn make<R: Threads + Sync>(
+        &mut self,
+        rt: &R,
+        alloc: Global,
+        layer: &mut Layer,
+        line: &str,
+        out: &mut Out,
+    ) {
+        let call = Call::read(alloc, line);
+        if !self.are_awaited {
+            return answer(rt, layer, &call, out);
+        }
+        write_state(layer, &call, &mut self.before);
+        answer(rt, layer, &call, out);
+        if out.text.as_str() == REFUSED {
+            self.count = self.count.saturating_add(1);
+            self.make_again(rt, alloc, layer, line, out);
+        }
+    }
+
+    /// Makes a call again that was refused, if it has changed nothing.
+    fn make_again<R: Threads + Sync>(
+        &mut self,
+        rt: &R,
+        alloc: Global,
+        layer: &mut Layer,
+        line: &str,
+        out: &mut Out,
+    ) {
+        let call = Call::read(alloc, line);
+        write_state(layer, &call, &mut self.after);
+        if self.is_as_before() {
+            answer(rt, layer, &call, out);
+        } else {
+            out.word(", and the state is now ");
+            out.word(self.after.text.as_str());
+            out.word(", and was ");
+            out.word(self.before.text.as_str());
+        }
+    }
+
+    fn is_as_before(&self) -> bool {
+        let is_cut = self.before.is_cut || self.after.is_cut;
+        !is_cut && self.before.text.as_str() == self.after.text.as_str()
+    }
+}
+
+fn answer<R: Threads + Sync>(rt: &R, layer: &mut Layer, call: &Call<'_>, out: &mut Out) {
+    out.clear();
+    if call.is_cut {
+        out.word(REFUSED);
+    } else {
+        layer.answer(rt, call, out);
+    }
+}
+
+/// Writes what is told of the state. If memory for it is refused, it is written again.
+fn write_state(layer: &Layer, call: &Call<'_>, out: &mut Out) {
+    out.clear();
+    layer.write_state(call, out);
+    if out.text.contains(REFUSED) {
+        out.clear();
+        layer.write_state(call, out);
+    }
+}
