@@ -43,8 +43,6 @@ mod schedules;
 #[cfg(test)]
 mod scripts;
 #[cfg(test)]
-mod sizes;
-#[cfg(test)]
 mod spawned;
 #[cfg(test)]
 mod workers;
