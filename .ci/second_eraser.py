@@ -20,19 +20,19 @@ LINTS = "#![allow(dead_code, unused_imports, unused_variables, clippy::all)]"
 
 # What differs between a source without its ghost words and its result: each class, how often it is made today, and why it keeps the meaning.
 TABLE = {
-    "derive(Drop)": (72, "in the kit a type may be dropped only if it says so, in Rust each may; no type here has a destructor"),
+    "derive(Drop)": (74, "in the kit a type may be dropped only if it says so, in Rust each may; no type here has a destructor"),
     "derive(Error)": (15, "written out as the next class"),
     "messages": (15, "`impl Display` writes the texts of `#[error(..)]`, and `impl Error` is empty, as the kit's derive has it"),
     "bound Drop": (8, "as derive(Drop), for a type parameter"),
-    "crate path": (217, "a crate is a module of the package: `crate::x` is `crate::proved::NAME::x`"),
-    "sister path": (167, "as crate path, for the crates that a crate uses"),
-    "stand-in path": (72, "the kit's own `Vec`, words, maps and threads are the package's `kit`, by PATHS"),
+    "crate path": (225, "a crate is a module of the package: `crate::x` is `crate::proved::NAME::x`"),
+    "sister path": (170, "as crate path, for the crates that a crate uses"),
+    "stand-in path": (74, "the kit's own `Vec`, words, maps and threads are the package's `kit`, by PATHS"),
     "core path": (20, "the kit's std and Rust's have the same there, by PATHS"),
-    "import": (59, "`Vec`, `prove_eq!` and the trait of `collect_in` need no import in the kit"),
+    "import": (58, "`Vec`, `prove_eq!` and the trait of `collect_in` need no import in the kit"),
     "collect_in": (2, "Rust's `Iterator` has a `collect` without an allocator"),
     "formatter": (5, "the kit's `Formatter<W>` writes to a `W`, Rust's to a `dyn Write`; each use is `write_str` or `write!`"),
     "visibility": (217, "`pub(crate)` would open a module to the whole package; too narrow a word fails to compile"),
-    "inline": (590, "a hint to the compiler, on each function with a body and without a hint of its own"),
+    "inline": (601, "a hint to the compiler, on each function with a body and without a hint of its own"),
     "alignment": (1, "`Handle` is aligned as the word that the package turns it into; no source reads a layout"),
     "const": (6, "what makes an allocator without memory may be called in a constant: CONSTANT lists them"),
 }
@@ -62,7 +62,7 @@ ASSOCIATED = set(
 METHODS = set(
     "all as_bytes as_chunks as_slice binary_search binary_search_by_key capacity cast_signed cast_unsigned checked_add checked_sub clear "
     "close_with cmp collect contains copied count enumerate extend_from_slice fetch_add fetch_sub filter format free get get_mut insert into "
-    "into_badge into_seat is_ascii_digit is_empty is_err is_none_or is_some iter join_seat len load_new_seat map map_err max min next ok "
+    "into_badge into_seat is_ascii_digit is_empty is_err is_none is_none_or is_some iter join_seat len load_new_seat map map_err max min next ok "
     "ok_or parse pop position push push_reserved remove reserve resize retain saturating_add saturating_mul saturating_sub size_hint "
     "sort_by_cached_key sort_by_key sort_unstable split_at split_at_mut split_first split_first_chunk split_seat swap_remove take then "
     "to_le_bytes truncate unwrap unwrap_or word write_str".split()

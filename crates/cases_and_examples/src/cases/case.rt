@@ -97,7 +97,7 @@ impl<'a> Case<'a> {
         }
         let (numbers, line) = own_rounds_of(line).unwrap_or((Numbers::ONCE, line));
         for round in 0..numbers.count {
-            self.write(
+            self.fill_in(
                 line,
                 Round {
                     n,
@@ -109,7 +109,7 @@ impl<'a> Case<'a> {
     }
 
     /// Writes the call of a line, and what it has to return.
-    fn write(&mut self, line: &str, round: Round) {
+    fn fill_in(&mut self, line: &str, round: Round) {
         let (call, wanted) = line.split_once("=>").unwrap_or((line, "an answer"));
         self.call.clear();
         fill(&mut self.call, call.trim(), round);

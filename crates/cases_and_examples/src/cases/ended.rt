@@ -18,7 +18,7 @@ pub enum Ended {
 }
 
 impl Ended {
-    pub fn write(self, out: &mut Out) {
+    pub fn show(self, out: &mut Out) {
         match self {
             Ended::Done => out.word("done"),
             Ended::Refused(why) => out.word(why),

@@ -169,12 +169,12 @@ impl Worlding {
     fn sync(&mut self, call: &Call<'_>, out: &mut Out) {
         match call.name {
             "flush" => out.word(self.flush()),
-            "apply" => self.apply().write(out),
+            "apply" => self.apply().show(out),
             "try_apply" => {
                 let ended = self.apply();
                 self.keep_tried(ended, out);
             }
-            "apply_from" => self.apply_from(call.numbers).write(out),
+            "apply_from" => self.apply_from(call.numbers).show(out),
             "go_on" => out.word(self.go_on()),
             _ => self.tell(call, out),
         }
@@ -301,7 +301,7 @@ impl Worlding {
             return self.in_phase(system, call, out);
         }
         match call.name {
-            "frame" => self.frame(rt, call.number()).write(out),
+            "frame" => self.frame(rt, call.number()).show(out),
             "try_frame" => {
                 let ended = self.frame(rt, call.number());
                 self.keep_tried(ended, out);
