@@ -79,4 +79,4 @@ IsFirstAt-head (p ∷ rest) some = record {
 pub record Trying (seen : finite.FinMap nat_cmp ℕ) (rest : List Placed) (index tries : ℕ)
     : Type 0 where
   pub seen_are : AreSeen seen rest index
-  pub few : tries < 16
+  pub few : tries < 64

@@ -12,7 +12,7 @@ use ent_handle::Memory;
 use std::alloc::Global;
 
 /// How many reservations are tried.
-const TRIES: u32 = 16;
+const TRIES: u32 = 64;
 
 /// How many positions may be requested between two flushes.
 const MOST: i64 = 1 << 50;
@@ -26,7 +26,7 @@ struct Turn {
 
 /// The index of the reservation that is named if none of these fits at this position: the first one
 /// that is its caller's next one, and is the only one whose answer is wrong. If there is none among the
-/// first 16 callers, it is the first of the list.
+/// first 64 callers, it is the first of the list.
 pub(super) fn suspect(
     alloc: Global,
     entities: &Entities,
@@ -36,6 +36,7 @@ pub(super) fn suspect(
     requires { rest.now ≢ [] }
     ensures { IfOk result (λ index. IsFirstAt rest.now index) }
 {
+    let order = turns(alloc, entities, rest)?;
     let mut seen = ByCaller::new(alloc);
     let mut tries = 0;
     for (index, one) in rest.iter().enumerate() {
@@ -43,7 +44,8 @@ pub(super) fn suspect(
         if seen.get(caller).is_some() {
             continue;
         }
-        if mends(alloc, entities, at, rest, index)? {
+        let next = at.saturating_sub(i64::from(one.reservation.requested));
+        if others_fit(alloc, entities, next, rest, &order, index)? {
             return Ok(index);
         }
         tries += 1;
@@ -55,39 +57,27 @@ pub(super) fn suspect(
     Ok(0)
 }
 
-/// Whether all others fit, in the order of the handles that they were given, if this one is answered as
-/// the allocator answers.
-fn mends(
-    alloc: Global,
-    entities: &Entities,
-    at: i64,
-    rest: &[Placed],
-    named: usize,
-) -> Result<bool, Memory> {
-    let mut others = Vec::with_capacity(alloc, rest.len())?;
-    let mut next = at;
+/// The reservations in the order of the handles that they were given.
+fn turns(alloc: Global, entities: &Entities, rest: &[Placed]) -> Result<Vec<Turn>, Memory> {
+    let mut order = Vec::with_capacity(alloc, rest.len())?;
     for (index, one) in rest.iter().enumerate() {
         let reservation = &one.reservation;
-        if index == named {
-            next = next.saturating_sub(i64::from(reservation.requested));
-        } else if reservation.requested > 0 {
-            let key = own_key(entities, reservation.requested, &reservation.reply);
-            others.push(Turn { key, index })?;
-        } else if !is_nothing(&reservation.reply) {
-            return Ok(false);
-        }
+        let key = own_key(entities, reservation.requested, &reservation.reply);
+        order.push(Turn { key, index })?;
     }
-    others.sort_by_cached_key(|turn| turn.key)?;
-    all_fit(alloc, entities, next, rest, &others)
+    order.sort_by_cached_key(|turn| turn.key)?;
+    Ok(order)
 }
 
-/// Whether the reservations fit in this order, one after the other, which is also that of each caller.
-fn all_fit(
+/// Whether all but one of the reservations fit in this order, one after the other, if it is also that
+/// of each caller. One for nothing fits anywhere.
+fn others_fit(
     alloc: Global,
     entities: &Entities,
     at: i64,
     rest: &[Placed],
     order: &[Turn],
+    named: usize,
 ) -> Result<bool, Memory> {
     let mut last = ByCaller::new(alloc);
     let mut next = at;
@@ -95,13 +85,17 @@ fn all_fit(
         let Some(one) = rest.get(turn.index) else {
             return Ok(false);
         };
+        let requested = one.reservation.requested;
+        if turn.index == named || (requested == 0 && is_nothing(&one.reservation.reply)) {
+            continue;
+        }
         let caller = one.reservation.caller;
         let place = turn.index as u64;
         if last.get(caller).unwrap_or(0) > place || !fits_within(alloc, entities, next, one)? {
             return Ok(false);
         }
         last.insert(caller, place)?;
-        next = next.saturating_sub(i64::from(one.reservation.requested));
+        next = next.saturating_sub(i64::from(requested));
     }
     Ok(true)
 }
