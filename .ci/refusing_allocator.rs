@@ -1,15 +1,15 @@
-//! An allocator that refuses, and counts. The tests and benches of `rust/forgeni` include this file, and are
-//! programs whose memory comes from it. It is the one file with `unsafe` code: Rust's trait of allocators wants it.
+//! An allocator that refuses, and counts. The tests and benches of `rust/forgeni` include this file, and take their
+//! memory from it. It is the only file with `unsafe` code: Rust's trait of allocators requires it.
 //!
-//! What is refused is said by each thread for itself, so a test that runs beside others doesn't touch them.
+//! Each thread says for itself what is refused, so a test doesn't affect others that run beside it.
 
-// Who includes it may use a part of it alone.
+// A program that includes it may use only a part of it.
 #![allow(dead_code)]
 
 use std::alloc::{GlobalAlloc, Layout, System};
 use std::cell::Cell;
 
-/// What a thread is refused.
+/// Which allocations of a thread are refused.
 #[derive(Clone, Copy)]
 pub enum Refusal {
     /// Nothing.
@@ -30,7 +30,7 @@ thread_local! {
     static ASKED: Cell<usize> = const { Cell::new(0) };
 }
 
-/// Does this while memory is refused so. Also returns how often it was refused.
+/// Does this while allocations are refused like this. Also returns how many were refused.
 pub fn refusing<T>(refusal: Refusal, work: impl FnOnce() -> T) -> (T, usize) {
     REFUSED.set(0);
     BLOCKS.set(0);

@@ -345,8 +345,8 @@ impl Entities {
     ///
     /// # Aborts
     ///
-    /// Rust's `Arc` can't be refused memory. As much is asked for before, so that the process ends
-    /// only if another thread takes it in between.
+    /// Rust's `Arc` ends the process if memory runs out. So as much memory is asked for before, and the
+    /// process ends only if another thread takes it in between.
     #[doc = include_str!("proved/ent_total/opening.share.md")]
     pub fn share(self, callers: usize) -> Result<(Shared, Vec<Reserver>), Unshared> {
         Shared::open(self.proved, callers)
@@ -439,7 +439,7 @@ impl Entities {
     #[doc = include_str!("proved/ent_alloc/entities.set_row.md")]
     #[inline]
     pub fn set_row(&mut self, handle: Handle, row: u32) -> Result<(), Absent> {
-        // The proved code wants a living entity.
+        // The proved code requires a living entity.
         if !self.is_alive(handle) {
             return Err(Absent);
         }

@@ -73,22 +73,22 @@ use std::sync::{Mutex, PoisonError};
 /// - [`NeedsFlush`](FrameError::NeedsFlush), [`Workers`](FrameError::Workers),
 ///   [`Systems`](FrameError::Systems) and [`Memory`](FrameError::Memory): no system ran, and the
 ///   world is as it was.
-/// - [`Lost`](FrameError::Lost): memory was refused later, or a system returned so. No command was
-///   applied. What the systems that ran had reserved stays reserved, and nothing else is:
-///   [`World::flush`] brings it to life, without components.
-/// - [`Sync`](FrameError::Sync): all systems ran, and the sync point stopped for want of memory. It
-///   may be made again, or go on.
+/// - [`Lost`](FrameError::Lost): a system returned an error, or systems are left and no worker has
+///   memory for another one. No command was applied. What the systems that ran had reserved stays
+///   reserved, and nothing else is: [`World::flush`] brings it to life, without components.
+/// - [`Sync`](FrameError::Sync): all systems ran, and the sync point ran out of memory. It may be made
+///   again, or go on.
 ///
 /// # Panics
 ///
 /// If a system panics, its panic is handed on when all workers have ended, and the world is as it
-/// is after [`Lost`](FrameError::Lost). If several do, it is that of the first of them in the order
-/// of the systems.
+/// is after [`Lost`](FrameError::Lost). If several systems panic, the panic of the first one in the
+/// order of the systems is handed on.
 ///
 /// # Aborts
 ///
-/// With more than one worker, threads are started as [`std::thread::scope`] starts them. It ends
-/// the process where memory for that is refused.
+/// With more than one worker, threads are started as [`std::thread::scope`] starts them. If memory
+/// for that runs out, it ends the process.
 #[doc = include_str!("proved/ent_total/framing.run_frame.md")]
 pub fn run_frame<S: System>(
     world: &mut World,
@@ -135,8 +135,8 @@ impl<'a, S: System> Guarded<'a, S> {
 }
 
 impl<S: System> ent_runner::System for Guarded<'_, S> {
-    /// A system that panics has stopped, as one does that was refused memory: the frame is lost,
-    /// and the world is closed with what was reserved.
+    /// A system that panics has stopped, like one that ran out of memory: the frame is lost, and the
+    /// world is closed with what was reserved.
     fn run(
         &self,
         _: Global,
@@ -165,9 +165,9 @@ pub enum FrameError {
     Workers,
     /// There are more than 65,536 systems. None of them ran, and the world is as it was.
     Systems,
-    /// Memory was refused before any system ran. The world is as it was.
+    /// Memory ran out before any system ran. The world is as it was.
     Memory,
-    /// The frame was refused memory after its first system began, or a system returned so. No
+    /// A system returned an error, or systems are left and no worker has memory for another one. No
     /// command was applied. The handles that the systems reserved stay reserved, and no others: the
     /// next flush brings them to life, without components.
     Lost,

@@ -89,7 +89,7 @@ impl Handle {
         Self(NonZeroU64::new(proved.to_bits()).unwrap_or(NonZeroU64::MIN))
     }
 
-    /// The handle as the proved code takes it, which wants both numbers in their range.
+    /// The handle as the proved code takes it, which requires both numbers in their range.
     #[inline]
     pub(crate) fn proved(self) -> ent_handle::Handle {
         ent_handle::Handle::from_parts(self.index(), self.generation())

@@ -10,8 +10,8 @@ use core::ops::Deref;
 /// A [`Reserver`] that is lent by a [`phase`](crate::Entities::phase) or by a pool of them. It
 /// reserves as the reserver does, and costs no more.
 ///
-/// Who has it can't keep the reserver, nor put another one in its place. So the phase has all of
-/// them at its end, also if this is dropped or forgotten.
+/// The borrower can't keep the reserver, nor put another one in its place. So the phase has all of
+/// them at its end, even if this is dropped or forgotten.
 pub struct Lent<'a> {
     reserver: &'a mut Reserver,
 }

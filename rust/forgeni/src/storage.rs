@@ -128,7 +128,7 @@ impl Storage {
 
     /// The entity's components and their values, by rising number, if the entity is there.
     ///
-    /// Where memory runs out for the list, it ends as `Vec` does.
+    /// If memory runs out for the list, the process ends, as with `Vec`.
     #[doc = include_str!("proved/ent_storage/looking.items.md")]
     #[must_use]
     pub fn items(&self, handle: Handle) -> Option<Vec<(ComponentId, i64)>> {

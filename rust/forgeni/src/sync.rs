@@ -1,4 +1,4 @@
-//! What a sync point is given, and where one stops for want of memory.
+//! What a sync point takes, and where one stops if memory runs out.
 
 use crate::proved::ent_total::{self, NumberedWorld, Unapplied, Ungone};
 use crate::proved::ent_world::SyncReport;
@@ -119,8 +119,8 @@ impl From<Unapplied> for SyncError {
     }
 }
 
-/// Where a sync point stopped for want of memory. All births stand, and of the commands just those
-/// before the one that is named.
+/// Where a sync point stopped because memory ran out. All births have taken effect, and only the
+/// commands before the one that is named.
 pub struct Stopped {
     /// The number of the queue at whose command it stopped, among those that are applied, from 0.
     pub system: usize,

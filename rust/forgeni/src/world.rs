@@ -181,7 +181,7 @@ impl World {
 
     /// The entity's components and their values, by rising number, if it is alive.
     ///
-    /// Where memory runs out for the list, it ends as `Vec` does.
+    /// If memory runs out for the list, the process ends, as with `Vec`.
     #[doc = include_str!("proved/ent_world/world.items.md")]
     #[must_use]
     pub fn items(&self, handle: Handle) -> Option<Vec<(ComponentId, i64)>> {
@@ -272,8 +272,8 @@ impl World {
     ///
     /// # Aborts
     ///
-    /// Rust's `Arc` can't be refused memory. As much is asked for before, so that the process ends
-    /// only if another thread takes it in between.
+    /// Rust's `Arc` ends the process if memory runs out. So as much memory is asked for before, and the
+    /// process ends only if another thread takes it in between.
     #[doc = include_str!("proved/ent_total/world_opening.open.md")]
     pub fn open(self, count: usize) -> Result<(OpenWorld, Vec<Commands>), Unopened> {
         OpenWorld::open(self.proved, self.next, count)

@@ -107,7 +107,7 @@ impl Left {
     }
 }
 
-/// A request in the world, even a refused one, wants a flush before the sync point goes on.
+/// A request in the world, even a refused one, needs a flush before the sync point goes on.
 fn with_a_request(world: World, stopped: Stopped) -> (World, Stopped) {
     let (open, mut systems) = world.open(1).expect("opened");
     let refused = SpawnError::Space { wanted: 1, left: 0 };
@@ -190,8 +190,8 @@ fn compare() {
 }
 
 /// `share` for as many callers as there may be, with no memory at first, and with 4 KiB more after
-/// each refusal. So it is refused at each place where it wants memory: when the phase begins, and
-/// when the reservers are given out, which is last.
+/// each refusal. So it fails at each place where it takes memory: when the phase begins, and when the
+/// reservers are given out, which is last.
 fn share_again_and_again() {
     let mut entities = Entities::new();
     let one = entities.alloc().expect("a handle");

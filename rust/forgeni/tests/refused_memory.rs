@@ -1,6 +1,6 @@
-//! Each request for memory is refused in turn: the first one alone, the second one, and so on, and then
-//! all from the first one on, from the second one on. Each call says so, what it says of the state
-//! stands, and it does the same as with ample memory when it is made again.
+//! Each allocation is refused in turn: the first one alone, the second one, and so on, and then all from
+//! the first one on, from the second one on. Each call must return an error, leave the state as its docs
+//! say, and do the same as with ample memory when it is made again.
 
 mod common;
 #[path = "../../../.ci/refusing_allocator.rs"]
@@ -61,10 +61,10 @@ fn each_block_in_turn(attempt: impl FnMut(Refusal) -> usize) {
     in_turn(above, attempt);
 }
 
-/// Makes a call while memory is refused. If it says so, it is made again without a refusal. Returns
-/// what it did in the end, and how often it was refused.
+/// Makes a call while allocations are refused. If it returns that error, makes it again without a refusal.
+/// Returns what the call did in the end, and how many allocations were refused.
 ///
-/// A call may do without memory that it was refused: a storage's index is one that may.
+/// A call may do without memory that it didn't get, as a storage's index does.
 fn insist<T, E: PartialEq + std::fmt::Debug>(
     refusal: Refusal,
     memory: E,
@@ -458,7 +458,7 @@ fn a_run_that_is_refused() {
     });
 }
 
-/// What a log was refused memory for isn't in it.
+/// A log doesn't have a reservation for which memory ran out.
 #[test]
 fn calls_of_a_log() {
     each_in_turn(|refusal| {

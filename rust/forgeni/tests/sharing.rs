@@ -170,7 +170,7 @@ fn all_must_come_home() {
     assert_eq!(shared.close(reservers).expect("closed").reserved(), 1);
 }
 
-/// Who was handed in to a close that was refused is at home, and can go on from there.
+/// A reserver that was handed in to a refused close is at home, and can go on from there.
 #[test]
 fn a_reserver_that_is_in_use() {
     let (shared, mut reservers) = share(Entities::new(), 2);

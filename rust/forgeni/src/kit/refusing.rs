@@ -7,7 +7,7 @@ std::thread_local! {
     static REFUSED: Cell<bool> = const { Cell::new(false) };
 }
 
-/// Does the work. Whatever list of the kit wants to grow meanwhile is refused.
+/// Does the work. Meanwhile no list of the kit can grow.
 pub fn refuse<R>(work: impl FnOnce() -> R) -> R {
     REFUSED.set(true);
     let result = work();

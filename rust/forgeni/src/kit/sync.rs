@@ -17,8 +17,8 @@ struct Room<T>(usize, usize, T);
 impl<T> Arc<T, Global> {
     /// The contract: the value, shared by this owner alone, or the value back.
     ///
-    /// Rust has no stable `Arc` that returns if memory is refused. So as much is asked for and given
-    /// back first. If another thread takes it meanwhile, and no other memory is left, the program ends.
+    /// Rust has no stable `Arc` that returns if memory runs out. So as much is asked for and given back
+    /// first. If another thread takes it meanwhile, and no other memory is left, the program ends.
     #[inline]
     pub fn new(alloc: Global, value: T) -> Result<Self, AllocFailed<T>> {
         match Vec::<Room<T>>::with_capacity(alloc, 1) {

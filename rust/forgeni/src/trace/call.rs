@@ -37,7 +37,7 @@ pub enum Call {
 /// One reservation of one caller.
 #[derive(Clone, Debug, PartialEq, Eq, Hash)]
 pub struct Reservation {
-    /// Who asked. Reservations of one caller stand in its order.
+    /// The caller. Reservations of one caller are in its order.
     pub caller: u32,
     /// For how many handles.
     pub requested: u32,
@@ -56,7 +56,7 @@ impl Reservation {
         }
     }
 
-    /// The same once more. It doesn't end the process for want of memory.
+    /// A copy. If memory runs out, it returns an error instead of ending the process.
     pub(super) fn copied(&self) -> Result<Self, OutOfMemory> {
         let reply = match &self.reply {
             ReserveReply::Handles(handles) => {
