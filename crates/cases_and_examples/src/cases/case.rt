@@ -135,6 +135,8 @@ impl<'a> Case<'a> {
         if layer.take_untold() {
             self.call.clear();
             self.call.word("the end");
+            self.wanted.clear();
+            self.wanted.word("nothing untold");
             self.note_untold();
         }
     }
