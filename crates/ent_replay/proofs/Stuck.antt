@@ -1,5 +1,5 @@
 -- If no caller's first reservation that is left fits, no line that may come next does.
-use Rattle.std.proofs.Common.{rules, arith, ◌≡◌, ℕ, List, [], ◌∷◌, ◌++◌, filter, length, refl, sym, ap}
+use Rattle.std.proofs.Common.{arith, ◌≡◌, ℕ, List, [], ◌∷◌, ◌++◌, filter, length, refl, sym, ap}
 use Rattle.std.proofs.Common.{subst, ◌∙◌, Bool, true, false, cond, ◌==◌}
 use Rattle.std.proofs.lemmas.List.{append-nil}
 use Rattle.std.proofs.lemmas.List.Elements.{filter-append}
@@ -10,7 +10,7 @@ use Rattle.ent_replay.specs.declared.trace.line.Line.TheVariants as line
 use Rattle.ent_replay.specs.declared.trace.lineup.Lineup.{Lineup}
 use Rattle.ent_replay.specs.declared.trace.placed.Placed.{Placed}
 use Rattle.ent_replay.specs.Trace.{Fits, IsOrderOf}
-use Rattle.ent_replay.specs.Checker.{Checked, Shows, reservations_of}
+use Rattle.ent_replay.specs.Checker.{Shows, reservations_of}
 use Rattle.ent_replay.specs.Lineup.{IsLineup, KeepsCallers, NamesOne, NoneFits, all_of, is_of, lines_of}
 use Rattle.ent_replay.specs.Lineup.{reached}
 use Rattle.ent_replay.proofs.Lists.{split}

@@ -3,7 +3,7 @@ use Rattle.std.proofs.lemmas.List.Sorted.{IsNonDecreasingBy-from_sort_by_key, an
 use Rattle.std.proofs.Common.{◌≡◌, ◌≢◌, ◌++◌, ℕ, arith, [], List, sym, ap, subst, ◌∙◌, rules}
 use Rattle.ent_replay.specs.declared.trace.placed.Placed.{Placed}
 use Rattle.ent_replay.specs.Trace.{AreAnswered, after_lines}
-use Rattle.ent_replay.specs.Checker.{Checked, HasNoOrder, IsSettled, Shows, requested_in}
+use Rattle.ent_replay.specs.Checker.{HasNoOrder, IsSettled, Shows, requested_in}
 use Rattle.ent_replay.specs.Checker.{reservations_of}
 use Rattle.ent_replay.specs.Lineup.{KeepsCallers, all_of, lines_of}
 use Rattle.ent_replay.proofs.Sorted.{IsRising, TieAlike, key, rising}
