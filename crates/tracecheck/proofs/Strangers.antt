@@ -1,6 +1,6 @@
 -- What is said of a trace whose first line can't be. The edits in must-fail/ say something else of it.
-use Rattle.std.proofs.Common.{rules, ◌≡◌, ℕ, ◌+◌, ◌^◌, ◌<◌, ◌≤◌, List, [], ◌∷◌, ◌++◌, length, take, None}
-use Rattle.std.proofs.Common.{Some, Ok, Err, refl, sym, ap, subst, ◌∙◌, arith}
+use Rattle.std.proofs.Common.{◌≡◌, ℕ, ◌+◌, ◌^◌, ◌<◌, List, [], ◌∷◌, ◌++◌, length, take, None}
+use Rattle.std.proofs.Common.{Some, Ok, Err, refl, sym, ap, subst, arith}
 use Rattle.std.specs.Prelude.{Bool, true, false, nat_le, if◌then◌else◌}
 use Rattle.std.proofs.lemmas.Grind.{common_steps}
 use Rattle.ent_handle.specs.Handle.{Handle}
