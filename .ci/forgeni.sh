@@ -15,6 +15,8 @@ for test in tests/*.rs; do
     }
 done
 cargo test --offline
+# The stand-ins for the kit, as optimised code in which no sum may wrap.
+CARGO_PROFILE_RELEASE_OVERFLOW_CHECKS=true cargo test --offline --release --quiet --lib kit::
 RUSTDOCFLAGS="-D warnings" cargo doc --offline --no-deps
 if cargo clippy --version >/dev/null 2>&1; then
     cargo clippy --offline --all-targets -- -D warnings

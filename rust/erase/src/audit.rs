@@ -12,8 +12,8 @@ mod messages;
 
 use crate::forms;
 use crate::lex::Kind;
+use crate::names::Names;
 use crate::source::{Fault, Source};
-use crate::walk::Names;
 use changes::{changes, Change};
 
 /// Tests a result.

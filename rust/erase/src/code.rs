@@ -22,11 +22,25 @@ impl Walk<'_> {
         Ok(())
     }
 
+    /// The code of a signature or of a header from this place to `end`, where `Drop` is a bound.
+    pub(crate) fn signature(&mut self, at: usize, end: usize) -> Next {
+        let before = std::mem::replace(&mut self.is_signature, true);
+        let mut at = at;
+        while at < end {
+            at = self.code_token(at)?;
+        }
+        self.is_signature = before;
+        Ok(at)
+    }
+
     /// One token of code, and what belongs to it.
     pub(crate) fn code_token(&mut self, at: usize) -> Next {
         let token = self.source.at(at);
         match self.source.token(at).kind {
             Kind::Word => return self.word(at),
+            Kind::Number if token.contains('.') && self.source.before(at) != "." => {
+                return Err(self.source.fault(at, "a number with a point"));
+            }
             Kind::Sign => {}
             _ => return Ok(at + 1),
         }
@@ -34,12 +48,15 @@ impl Walk<'_> {
             "." if self.source.is_word(at + 1) => self.method(at + 1),
             "#" => {
                 let end = self.after_attribute(at)?;
+                let is_ghost = forms::GHOST_ATTRIBUTES.contains(&self.source.at(at + 2));
+                if !is_ghost && !["#", "const", "fn", "pub", "use"].contains(&self.source.at(end)) {
+                    return Err(self.source.fault(at, "an attribute of code"));
+                }
                 self.attribute(at, end, false)?;
                 Ok(end)
             }
-            ".." if self.is_open_range(at) => Err(self
-                .source
-                .fault(at, "a range without an end, which ends sooner in the kit")),
+            ".." => self.range(at),
+            "::" => self.within_path(at),
             _ if !token.is_ascii() => Err(self
                 .source
                 .fault(at, format!("an unknown sign in code: `{token}`"))),
@@ -47,15 +64,58 @@ impl Walk<'_> {
         }
     }
 
-    /// Whether the `..` here begins a range that counts on without an end. That of a slice has one, and
-    /// in a pattern `..` is no range.
-    fn is_open_range(&self, at: usize) -> bool {
-        let after = self.source.at(at + 1);
-        if after == ")" && self.source.before(self.source.partner(at + 1)) == "get" {
+    /// A `..`: of a pattern, of a range, or before the rest of a value.
+    fn range(&self, at: usize) -> Next {
+        let (before, after) = (self.source.before(at), self.source.at(at + 1));
+        let has_begin = !["(", "[", "{", ",", "@", "|"].contains(&before);
+        if has_begin && !self.begins_value(at + 1) && !self.is_of_slice(at) {
+            let what = "a range without an end, which ends sooner in the kit";
+            return Err(self.source.fault(at, what));
+        }
+        let closes = [")", "]", "}", ",", "|", "=>", "="].contains(&after);
+        if ["{", ","].contains(&before) && !closes {
+            // Nothing of the rest may be run: the kit doesn't, if no field is taken from it.
+            let end = (at + 1..self.source.len())
+                .find(|at| !self.source.is_word(*at) && self.source.at(*at) != ".");
+            if end.is_none_or(|end| self.source.at(end) != "}") {
+                return Err(self
+                    .source
+                    .fault(at, "the rest of a value that isn't a place"));
+            }
+        }
+        Ok(at + 1)
+    }
+
+    /// Whether a value begins here.
+    fn begins_value(&self, at: usize) -> bool {
+        let token = self.source.at(at);
+        match self.source.token(at).kind {
+            Kind::Word => !["as", "else", "if", "in"].contains(&token),
+            Kind::Number | Kind::Literal => true,
+            _ => ["(", "&", "*", "-", "!"].contains(&token),
+        }
+    }
+
+    /// Whether the `..` here, which has no end, is of a part of a slice: in `x[a..]` or in `x.get(a..)`.
+    fn is_of_slice(&self, at: usize) -> bool {
+        let close = at + 1;
+        let open = self.source.partner(close);
+        if open > at {
             return false;
         }
-        let has_begin = !["(", "[", "{", ",", "@", "|"].contains(&self.source.before(at));
-        has_begin && [")", "{", ",", ";"].contains(&after)
+        let before = self.source.before(open);
+        match self.source.at(open) {
+            "[" => {
+                self.source.is_word(open - 1) && !forms::KEYWORDS.contains(&before)
+                    || [")", "]"].contains(&before)
+            }
+            // Of a constant, whose type is written, and no range.
+            "(" if before == "get" && self.source.before(open - 1) == "." => {
+                let receiver = self.source.before(open - 2);
+                receiver.starts_with(|c: char| c.is_uppercase())
+            }
+            _ => false,
+        }
     }
 
     fn word(&mut self, at: usize) -> Next {
@@ -68,13 +128,14 @@ impl Walk<'_> {
             "ghost" => "an unknown ghost form in code",
             _ if forms::REFUSED_WORDS.contains(&word) => "an unknown form",
             _ if self.is_unknown_block(at) => "an unknown block",
+            _ if self.is_item(at) => "an item in a body",
             _ => "",
         };
         if !refusal.is_empty() {
             return Err(self.source.fault(at, format!("{refusal}: `{word}`")));
         }
         match word {
-            forms::DROP if self.source.at(at + 1) != "::" => self.drop_bound(at),
+            forms::DROP if self.source.before(at) != "::" => self.drop_bound(at),
             "use" => self.use_item(at, at, Scope::Module),
             "fn" if self.source.is_word(at + 1) => self.function(at, at, at, Scope::Trait),
             "pub" => {
@@ -121,6 +182,12 @@ impl Walk<'_> {
         begin.is_some_and(|at| ["if", "while"].contains(&self.source.at(at)))
     }
 
+    /// Whether an item begins at this word, in the body of a function.
+    fn is_item(&self, at: usize) -> bool {
+        let begins = ["{", "}", ";", "pub"].contains(&self.source.before(at));
+        begins && forms::ITEM_WORDS.contains(&self.source.at(at))
+    }
+
     /// Whether the bounds of a `where` end before this place.
     fn is_only_bound(&self, at: usize) -> bool {
         let next = self.source.at(at);
@@ -131,6 +198,7 @@ impl Walk<'_> {
     fn drop_bound(&mut self, at: usize) -> Next {
         let (before, after) = (self.source.before(at), self.source.at(at + 1));
         match (before, after) {
+            _ if !self.is_signature => return Err(self.source.fault(at, "`Drop` in code")),
             ("+" | ":" | "impl", "+") => self.take_out(at, at + 2),
             ("+", _) => self.take_out_after(at - 1, at + 1),
             (":", ">" | "," | "=") if self.source.before(at - 2) != "where" => {
@@ -150,7 +218,7 @@ impl Walk<'_> {
         let name = self.source.at(at);
         let mut lists = self.names.forms.iter();
         if let Some(import) = lists.find_map(|forms| imported(forms.macros, name)) {
-            self.imports.insert(import);
+            self.import(at, import)?;
         } else if !self
             .names
             .forms
@@ -161,15 +229,69 @@ impl Walk<'_> {
                 .source
                 .fault(at, format!("an unknown macro: `{name}!`")));
         }
+        if name.starts_with("prove") {
+            self.only_looks(at + 3, self.source.partner(at + 2))?;
+        }
         Ok(at + 2)
     }
 
-    /// A name that no path leads to.
+    /// What is proved of code isn't run in a release, so the code may only look: at places, and by methods that are
+    /// known to.
+    fn only_looks(&self, at: usize, end: usize) -> Result<(), Fault> {
+        let looks = |at: usize| {
+            let token = self.source.at(at);
+            match self.source.token(at).kind {
+                Kind::Number | Kind::Literal => true,
+                Kind::Word if self.source.at(at + 1) == "(" => {
+                    let is_known = forms::LOOKING.contains(&token)
+                        && self.names.methods.get(token) == Some(&true);
+                    is_known && self.source.before(at) == "." && self.source.at(at + 2) == ")"
+                }
+                Kind::Word => {
+                    !forms::KEYWORDS.contains(&token) || ["self", "true", "false"].contains(&token)
+                }
+                _ if token == "(" => self.source.is_word(at - 1),
+                _ => [")", ".", ",", "::"].contains(&token),
+            }
+        };
+        match (at..end).find(|at| !looks(*at)) {
+            Some(at) => {
+                let what = format!(
+                    "what may do more than look, in a proof: `{}`",
+                    self.source.at(at)
+                );
+                Err(self.source.fault(at, what))
+            }
+            None => Ok(()),
+        }
+    }
+
+    /// A name that no path leads to. It is the sources' own, or known.
     fn name(&mut self, at: usize) -> Next {
+        let name = self.source.at(at);
         if !["::", "."].contains(&self.source.before(at)) {
             self.need(at)?;
+            let is_field = self.source.at(at + 1) == ":";
+            if !is_field && !self.is_known(name) {
+                return Err(self.unknown_name(at));
+            }
         }
         Ok(at + 1)
+    }
+
+    pub(crate) fn unknown_name(&self, at: usize) -> Fault {
+        let what = format!("an unknown name: `{}`", self.source.at(at));
+        self.source.fault(at, what)
+    }
+
+    /// Whether a name without a path is known.
+    pub(crate) fn is_known(&self, name: &str) -> bool {
+        let prelude = self.names.forms.iter().flat_map(|forms| forms.prelude);
+        forms::KEYWORDS.contains(&name)
+            || forms::BARE.contains(&name)
+            || self.bound.contains(name)
+            || self.names.items.contains(name)
+            || prelude.into_iter().any(|import| import.name == name)
     }
 
     /// A name of the kit's prelude has to be imported.
@@ -177,7 +299,7 @@ impl Walk<'_> {
         let word = self.source.at(at);
         let mut lists = self.names.forms.iter();
         if let Some(import) = lists.find_map(|forms| imported(forms.prelude, word)) {
-            self.imports.insert(import);
+            self.import(at, import)?;
         } else if forms::REFUSED_NAMES.contains(&word) {
             return Err(self
                 .source
@@ -190,7 +312,7 @@ impl Walk<'_> {
     fn method(&mut self, at: usize) -> Next {
         let mut open = at + 1;
         if self.source.has(open, &["::", "<"]) {
-            open = self.after_angles(open + 1)?;
+            open = self.source.after_angles(open + 1)?;
         }
         if self.source.at(open) != "(" {
             return Ok(at + 1);
@@ -198,16 +320,55 @@ impl Walk<'_> {
         let name = self.source.at(at);
         if let Some(renamed) = self.renamed(name, open + 1) {
             self.replace(at, at + 1, renamed.to);
-            self.imports.insert(renamed.import);
+            self.import(at, renamed.import)?;
             return Ok(at + 1);
         }
+        self.check_sorting(at, open)?;
         let is_known = |forms: &&Forms| forms.methods.contains(&name);
-        if self.names.forms.iter().any(is_known) || self.names.functions.contains(name) {
+        if self.names.forms.iter().any(is_known) {
             return Ok(at + 1);
+        }
+        if self.names.methods.contains_key(name) {
+            // Of a name that std has too the receiver tells whose it is.
+            let before = self.source.before(at - 1);
+            let is_own = |it: &&(&str, &[&str])| it.0 == name && it.1.contains(&before);
+            if !forms::is_of_std(name) || forms::OWN_CALLS.iter().any(|it| is_own(&it)) {
+                return Ok(at + 1);
+            }
         }
         Err(self
             .source
             .fault(at, format!("an unknown method, or form of it: `{name}`")))
+    }
+
+    /// A slice's own `sort_by_key` ends the program if memory is refused, and returns nothing. So what a call of that
+    /// name returns has to be used, or its list is declared as one.
+    fn check_sorting(&self, at: usize, open: usize) -> Result<(), Fault> {
+        let name = self.source.at(at);
+        let is_used = ["?", "."].contains(&self.source.at(self.source.partner(open) + 1));
+        if !forms::SORTING.contains(&name) || is_used {
+            return Ok(());
+        }
+        let list = self.source.before(at - 1);
+        let declared = [list, ":", "&", "mut", "Vec", "<"];
+        if (0..self.source.len()).any(|at| self.source.has(at, &declared)) {
+            return Ok(());
+        }
+        let what = format!("a `{name}` that may be a slice's own");
+        Err(self.source.fault(at, what))
+    }
+
+    /// An import from the kit goes to the top of the file, so a module within it has none.
+    fn import(&mut self, at: usize, path: &'static str) -> Result<(), Fault> {
+        if self.is_module {
+            let what = format!(
+                "a name of the kit in a module within a file: `{}`",
+                self.source.at(at)
+            );
+            return Err(self.source.fault(at, what));
+        }
+        self.imports.insert(path);
+        Ok(())
     }
 
     /// What a method is renamed to whose arguments begin here.

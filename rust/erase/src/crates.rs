@@ -1,8 +1,8 @@
 //! Which crates are erased, and their sources.
 
+use crate::names::Names;
 use crate::source::{Fault, Source};
-use crate::walk::Names;
-use std::collections::BTreeSet;
+use std::collections::{BTreeMap, BTreeSet};
 use std::path::{Path, PathBuf};
 use std::{fs, io};
 
@@ -74,7 +74,7 @@ pub fn below(listed: &str, tops: &[String]) -> Result<Vec<String>, String> {
 ///
 /// # Errors
 ///
-/// A file can't be read.
+/// A file can't be read, or two have one result, as those of a library and of a program.
 pub fn read(repository: &Path, name: &str) -> io::Result<Crate> {
     let folder = repository.join("crates").join(name).join("src");
     let mut paths = Vec::new();
@@ -98,9 +98,20 @@ pub fn read(repository: &Path, name: &str) -> io::Result<Crate> {
             text: fs::read_to_string(&path)?,
         })
     };
+    let files: Vec<File> = paths.into_iter().map(file).collect::<io::Result<_>>()?;
+    let mut sources = BTreeMap::new();
+    for file in &files {
+        if let Some(other) = sources.insert(&file.result, &file.path) {
+            let what = format!(
+                "{other} and {} have one result, so one would be lost",
+                file.path
+            );
+            return Err(io::Error::other(what));
+        }
+    }
     Ok(Crate {
         name: name.to_owned(),
-        files: paths.into_iter().map(file).collect::<io::Result<_>>()?,
+        files,
     })
 }
 
@@ -120,31 +131,19 @@ fn collect(folder: &Path, paths: &mut Vec<PathBuf>) -> io::Result<()> {
 ///
 /// # Errors
 ///
-/// A source can't be cut into tokens.
+/// A source can't be cut into tokens, or a name has two meanings.
 pub fn add_names(names: &mut Names, crates: &[Crate], path: &str) -> Result<(), Fault> {
     for krate in crates {
-        names
-            .crates
-            .insert(krate.name.clone(), format!("{path}::{}", krate.name));
-        for file in &krate.files {
-            let source = Source::read(&file.path, &file.text)?;
-            for at in 0..source.len().saturating_sub(1) {
-                let declared = || source.at(at + 1).to_owned();
-                match source.at(at) {
-                    "fn" if source.is_word(at + 1) => names.functions.insert(declared()),
-                    "trait" => names.traits.insert(declared()),
-                    "ghost" if is_declared_member(&source, at) => names.members.insert(declared()),
-                    _ => false,
-                };
-            }
-        }
+        let path = format!("{path}::{}", krate.name);
+        names.crates.insert(krate.name.clone(), path);
     }
-    Ok(())
-}
-
-/// Whether the `ghost` here begins `ghost NAME: { .. };`, or the same with a default, as in a trait.
-fn is_declared_member(source: &Source<'_>, at: usize) -> bool {
-    source.has(at + 2, &[":", "{"]) && [";", "="].contains(&source.at(source.partner(at + 3) + 1))
+    for file in crates.iter().flat_map(|krate| &krate.files) {
+        names.add(&Source::read(&file.path, &file.text)?)?;
+    }
+    for file in crates.iter().flat_map(|krate| &krate.files) {
+        names.add_blocks(&Source::read(&file.path, &file.text)?)?;
+    }
+    names.check()
 }
 
 #[cfg(test)]

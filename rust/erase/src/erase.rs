@@ -2,8 +2,9 @@
 
 use crate::edit::{edited, Change, Edit};
 use crate::items::Scope;
+use crate::names::Names;
 use crate::source::{Fault, Source};
-use crate::walk::{Names, Walk};
+use crate::walk::Walk;
 
 /// The result of a source: the same without what is ghost, with its clauses as comments.
 ///

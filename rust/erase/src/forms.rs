@@ -70,24 +70,215 @@ pub const KEPT_DERIVES: &[&str] = &[
 /// The derive that is written out: `Display` by the messages of `#[error("..")]`, and `Error`.
 pub const ERROR_DERIVE: &str = "Error";
 
-/// Traits of std of which an `impl` says in Rust what it says in the kit. The traits of the sources are
-/// known too.
-pub const KEPT_TRAITS: &[&str] = &[
+/// A trait of std or of the kit, of which an `impl` says in Rust what it says in the kit.
+pub struct KeptTrait {
+    /// Its name.
+    pub name: &'static str,
+    /// What an `impl` of it may have: what it has to have, and what the kit calls as Rust does.
+    pub members: &'static [&'static str],
+}
+
+const fn kept(name: &'static str, members: &'static [&'static str]) -> KeptTrait {
+    KeptTrait { name, members }
+}
+
+/// Those traits. The traits of the sources are known too.
+const KEPT_TRAITS: &[KeptTrait] = &[
+    kept("Default", &["default"]),
+    kept("Display", &["fmt"]),
+    kept("Eq", &[]),
+    kept("Error", &[]),
+    kept("ExactSizeIterator", &["len"]),
+    kept("From", &["from"]),
+    kept("Iterator", &["Item", "next", "size_hint"]),
+    kept("Join", &[]),
+    kept("Ord", &["cmp"]),
+    kept("PartialEq", &["eq"]),
+    kept("PartialOrd", &["partial_cmp"]),
+    kept("Play", &[]),
+    kept("Split", &[]),
+    kept("TableRule", &[]),
+];
+
+/// The trait of std or of the kit of this name.
+pub fn kept_trait(name: &str) -> Option<&'static KeptTrait> {
+    KEPT_TRAITS.iter().find(|it| it.name == name)
+}
+
+/// Words after which a name is declared.
+pub const DECLARING: &[&str] = &["const", "enum", "fn", "mod", "struct", "trait", "type"];
+
+/// Types of the kit that have no method and lead to none, so that a trait of the sources may be theirs.
+pub const OPEN_TYPES: &[&str] = &["Either"];
+
+/// Methods that nearly each type has by a trait of Rust's prelude, or by a derive, or that a macro calls. A type's
+/// own may not be called so: which of the two a call is would be up to how it is looked up.
+pub const COMMON_METHODS: &[&str] = &[
+    "as_mut",
+    "as_ref",
+    "borrow",
+    "borrow_mut",
+    "clamp",
+    "clone",
+    "clone_from",
+    "cmp",
+    "eq",
+    "fmt",
+    "ge",
+    "gt",
+    "hash",
+    "into",
+    "into_iter",
+    "le",
+    "lt",
+    "max",
+    "min",
+    "ne",
+    "partial_cmp",
+    "to_owned",
+    "to_string",
+    "try_into",
+    "type_id",
+    "write_fmt",
+];
+
+/// All methods of std that a value may have.
+const STD_METHODS: &str = include_str!("std_methods.txt");
+
+/// Whether a type or a trait of std has a method of this name.
+pub fn is_of_std(name: &str) -> bool {
+    let lines = STD_METHODS.lines().filter(|line| !line.starts_with('#'));
+    lines.flat_map(str::split_whitespace).any(|it| it == name)
+}
+
+/// Methods of the sources whose name std has too, and isn't in the lists of methods: each with the word before the
+/// point, where it is the sources' own.
+pub const OWN_CALLS: &[(&str, &[&str])] = &[
+    ("and", &["requests"]),
+    ("end", &["self"]),
+    ("flush", &["allocator", "entities", "self"]),
+    ("read", &["applying"]),
+    ("replace", &["calls"]),
+    ("write", &["self"]),
+];
+
+/// Methods of a list of the kit that a slice of Rust has too. Those of the kit return a `Result`.
+pub const SORTING: &[&str] = &["sort", "sort_by_cached_key", "sort_by_key"];
+
+/// Methods that look at a value and do nothing else, so that it is all the same whether they are called.
+pub const LOOKING: &[&str] = &["cursor"];
+
+/// The names of Rust's prelude. None of them may have another meaning.
+pub const PRELUDE: &[&str] = &[
+    "AsMut",
+    "AsRef",
+    "AsyncFn",
+    "AsyncFnMut",
+    "AsyncFnOnce",
+    "Box",
+    "Clone",
+    "Copy",
+    "Debug",
     "Default",
-    "Display",
-    "Error",
-    "ExactSizeIterator",
-    "From",
-    "Iterator",
-    "Join",
-    "Ord",
+    "DoubleEndedIterator",
+    "Drop",
     "Eq",
+    "Err",
+    "ExactSizeIterator",
+    "Extend",
+    "Fn",
+    "FnMut",
+    "FnOnce",
+    "From",
+    "FromIterator",
+    "Future",
+    "Hash",
+    "Into",
+    "IntoFuture",
+    "IntoIterator",
+    "Iterator",
+    "None",
+    "Ok",
+    "Option",
+    "Ord",
     "PartialEq",
     "PartialOrd",
-    "Play",
-    "Split",
-    "TableRule",
+    "Result",
+    "Send",
+    "Sized",
+    "Some",
+    "String",
+    "Sync",
+    "ToOwned",
+    "ToString",
+    "TryFrom",
+    "TryInto",
+    "Unpin",
+    "Vec",
+    "align_of",
+    "align_of_val",
+    "drop",
+    "size_of",
+    "size_of_val",
 ];
+
+/// The crates of Rust itself.
+pub const CRATES: &[&str] = &["alloc", "core", "std"];
+
+/// The types of Rust that have a word of their own.
+pub const PRIMITIVES: &[&str] = &[
+    "bool", "char", "f128", "f16", "f32", "f64", "i128", "i16", "i32", "i64", "i8", "isize", "str",
+    "u128", "u16", "u32", "u64", "u8", "usize",
+];
+
+/// Names that stand for themselves, without a path: of the prelude, and types. Their meaning is the kit's.
+pub const BARE: &[&str] = &[
+    "Clone",
+    "Copy",
+    "Default",
+    "Eq",
+    "Err",
+    "ExactSizeIterator",
+    "Fn",
+    "FnMut",
+    "FnOnce",
+    "From",
+    "Item",
+    "Iterator",
+    "None",
+    "Ok",
+    "Option",
+    "Ord",
+    "PartialEq",
+    "PartialOrd",
+    "Result",
+    "Self",
+    "Some",
+    "Sync",
+    "bool",
+    "char",
+    "i64",
+    "str",
+    "u128",
+    "u16",
+    "u32",
+    "u64",
+    "u8",
+    "usize",
+];
+
+/// Words of Rust that the sources use.
+pub const KEYWORDS: &[&str] = &[
+    "_", "as", "break", "const", "continue", "crate", "else", "enum", "false", "fn", "for", "if",
+    "impl", "in", "let", "loop", "match", "move", "mut", "pub", "return", "self", "struct",
+    "super", "trait", "true", "type", "use", "where", "while",
+];
+
+/// Words that begin an item. None stands in a body.
+pub const ITEM_WORDS: &[&str] = &["const", "enum", "impl", "mod", "struct", "trait", "type"];
+
+/// What a type of the sources has by a trait of std, and may be called by a path.
+pub const GIVEN: &[&str] = &["Item", "default", "from"];
 
 /// A module of the kit's std, or a crate of the kit's.
 pub struct Module {
@@ -404,6 +595,3 @@ pub const REFUSED_WORDS: &[&str] = &[
     "union",
     "yield",
 ];
-
-/// Words after which a block may stand at the beginning of a statement.
-pub const BLOCK_WORDS: &[&str] = &["const", "else", "loop", "move"];

@@ -50,14 +50,14 @@ impl Walk<'_> {
             self.fmt_signature(next)?;
         }
         if self.source.at(next) == "<" {
-            let end = self.after_angles(next)?;
-            self.code(next, end)?;
+            let end = self.source.after_angles(next)?;
+            self.signature(next, end)?;
             next = end;
         }
         self.expect(next, "(")?;
         let close = self.source.partner(next);
         if !self.test_runtime(start, visible, next)? {
-            self.code(next + 1, close)?;
+            self.signature(next + 1, close)?;
         }
         let end = self.rest_of_function(close + 1)?;
         let has_body = self.source.before(end) == "}";
@@ -146,14 +146,11 @@ impl Walk<'_> {
             if self.source.is_word(at) && token != "where" && self.is_after_type(at) {
                 return Err(self.unknown_clause(at));
             }
-            at = match token {
-                "(" | "[" => {
-                    let close = self.source.partner(at);
-                    self.code(at + 1, close)?;
-                    close + 1
-                }
-                _ => self.code_token(at)?,
+            let end = match token {
+                "(" | "[" => self.source.partner(at) + 1,
+                _ => at + 1,
             };
+            at = self.signature(at, end)?;
         }
     }
 
@@ -219,10 +216,8 @@ impl Walk<'_> {
         if self.source.is_word(next) {
             next += 1;
         }
-        if self.source.at(next) == "{" {
-            return Ok(self.source.partner(next) + 1);
-        }
-        Err(self.source.fault(at, "a clause of an unknown form"))
+        let unknown = || self.source.fault(at, "a clause of an unknown form");
+        self.source.after_term(next)?.ok_or_else(unknown)
     }
 
     /// How many blanks stand before the first code of the line of this token.

@@ -136,6 +136,7 @@ const METHODS: &[&str] = &[
 const ASSOCIATED: &[Associated] = &[
     ("AtomicBool", &["new"]),
     ("AtomicU32", &["new"]),
+    ("Error", &["from"]),
     ("ErrorKind", &["Interrupted", "TimedOut"]),
     ("Fail", &["new"]),
     ("HashMap", &["new"]),

@@ -1,6 +1,7 @@
 //! Items: what stands in a file, in an `impl` block and in a trait.
 
 use crate::forms;
+use crate::names::{block, header};
 use crate::source::Fault;
 use crate::walk::{Next, Walk};
 
@@ -75,10 +76,15 @@ impl Walk<'_> {
         match self.source.at(at) {
             "ghost" => self.ghost(at, scope).map(Some),
             "impl" => {
-                let body = self.body_of(at)?;
-                let of = self.trait_of(at, body)?;
-                let is_ghost = of.is_some_and(|name| forms::GHOST_TRAITS.contains(&name));
-                Ok(is_ghost.then(|| self.source.partner(body) + 1))
+                let of = header(self.source, at)?.implemented;
+                let Some(name) = of.filter(|name| forms::GHOST_TRAITS.contains(name)) else {
+                    return Ok(None);
+                };
+                if !self.ghosts.contains(name) {
+                    let what = format!("`{name}`, which isn't imported from the kit");
+                    return Err(self.source.fault(at, what));
+                }
+                Ok(Some(self.source.partner(block(self.source, at)?) + 1))
             }
             _ => Ok(None),
         }
@@ -92,8 +98,8 @@ impl Walk<'_> {
         }
         let is_known = forms::GHOST_MEMBERS.contains(&name) || self.names.members.contains(name);
         let end = match scope {
-            Scope::Trait => self.after_declared_member(at + 2),
-            Scope::Impl if is_known => self.after_member_value(at + 2),
+            Scope::Trait => self.after_declared_member(at + 2)?,
+            Scope::Impl if is_known => self.after_member_value(at + 2)?,
             _ => None,
         };
         let unknown = format!("an unknown ghost form: `ghost {name}`");
@@ -101,24 +107,26 @@ impl Walk<'_> {
     }
 
     /// `: { .. };`, or `: { .. } = { .. };` of a member with a default.
-    fn after_declared_member(&self, at: usize) -> Option<usize> {
-        if !self.source.has(at, &[":", "{"]) {
-            return None;
+    fn after_declared_member(&self, at: usize) -> Result<Option<usize>, Fault> {
+        if self.source.at(at) != ":" {
+            return Ok(None);
         }
-        let end = self.source.partner(at + 1) + 1;
-        match self.source.at(end) {
-            ";" => Some(end + 1),
-            _ => self.after_member_value(end),
+        match self.source.after_term(at + 1)? {
+            Some(end) if self.source.at(end) == ";" => Ok(Some(end + 1)),
+            Some(end) => self.after_member_value(end),
+            None => Ok(None),
         }
     }
 
     /// `= { .. };`
-    fn after_member_value(&self, at: usize) -> Option<usize> {
-        if !self.source.has(at, &["=", "{"]) {
-            return None;
+    fn after_member_value(&self, at: usize) -> Result<Option<usize>, Fault> {
+        if self.source.at(at) != "=" {
+            return Ok(None);
         }
-        let end = self.source.partner(at + 1) + 1;
-        (self.source.at(end) == ";").then_some(end + 1)
+        let end = self.source.after_term(at + 1)?;
+        Ok(end
+            .filter(|end| self.source.at(*end) == ";")
+            .map(|end| end + 1))
     }
 
     /// `ghost use PATH.{NAMES};` or `ghost use PATH as NAME;`.
@@ -135,35 +143,6 @@ impl Walk<'_> {
         Err(self.source.fault(names, "an unknown form of `ghost use`"))
     }
 
-    /// The place of the `{` that begins the block of the item here.
-    fn body_of(&self, at: usize) -> Next {
-        let body = self.source.find(at, self.source.len(), &["{", ";"]);
-        match body {
-            Some(body) if self.source.at(body) == "{" => Ok(body),
-            _ => Err(self.source.fault(at, "a block is missing")),
-        }
-    }
-
-    /// The last name of the trait that an `impl` is of, if it is of one.
-    fn trait_of(&self, at: usize, body: usize) -> Result<Option<&str>, Fault> {
-        let mut next = at + 1;
-        let mut last = None;
-        while next < body {
-            match self.source.at(next) {
-                "<" => {
-                    next = self.after_angles(next)?;
-                    continue;
-                }
-                "for" => return Ok(last),
-                "where" => return Ok(None),
-                word if self.source.is_word(next) => last = Some(word),
-                _ => {}
-            }
-            next += 1;
-        }
-        Ok(None)
-    }
-
     /// A module of a file of its own, or within this file.
     fn module(&mut self, at: usize) -> Next {
         if self.source.at(at + 2) == ";" {
@@ -171,7 +150,9 @@ impl Walk<'_> {
         }
         let body = self.expect(at + 2, "{")? - 1;
         let end = self.source.partner(body);
+        let before = std::mem::replace(&mut self.is_module, true);
         self.items(body + 1, end, Scope::Module)?;
+        self.is_module = before;
         Ok(end + 1)
     }
 
@@ -179,24 +160,24 @@ impl Walk<'_> {
     fn declaration(&mut self, at: usize) -> Next {
         let end = self.source.find(at, self.source.len(), &[";"]);
         let end = end.ok_or_else(|| self.source.fault(at, "`;` is missing"))?;
-        self.code(at + 1, end)?;
+        self.code(at + 2, end)?;
         Ok(end + 1)
     }
 
     /// A trait, or an `impl` of one or of a type.
     fn block_item(&mut self, at: usize, scope: Scope) -> Next {
-        let body = self.body_of(at)?;
+        let body = block(self.source, at)?;
         if scope == Scope::Impl {
-            if let Some(name) = self.trait_of(at, body)? {
+            if let Some(name) = header(self.source, at)?.implemented {
                 let is_known =
-                    forms::KEPT_TRAITS.contains(&name) || self.names.traits.contains(name);
+                    forms::kept_trait(name).is_some() || self.names.traits.contains(name);
                 if !is_known {
                     let what = format!("an impl of an unknown trait: `{name}`");
                     return Err(self.source.fault(at, what));
                 }
             }
         }
-        self.code(at + 1, body)?;
+        self.signature(at + 1, body)?;
         let end = self.source.partner(body);
         self.items(body + 1, end, scope)?;
         Ok(end + 1)
@@ -217,7 +198,7 @@ impl Walk<'_> {
         let is_enum = self.source.at(at) == "enum";
         let body = self.source.find(at, self.source.len(), &["{", "(", ";"]);
         let body = body.ok_or_else(|| self.source.fault(at, "a body is missing"))?;
-        self.code(at + 1, body)?;
+        self.signature(at + 1, body)?;
         let close = self.source.partner(body);
         let end = match self.source.at(body) {
             "{" if is_enum => {
@@ -270,12 +251,12 @@ impl Walk<'_> {
     /// `ghost NAME: { .. }` or `ghost NAME: { .. } by { .. }`, up to the comma.
     fn ghost_field(&self, at: usize, comma: usize) -> Result<(), Fault> {
         let unknown = || self.source.fault(at, "an unknown form of a ghost field");
-        if !self.source.is_word(at + 1) || !self.source.has(at + 2, &[":", "{"]) {
+        if !self.source.is_word(at + 1) || self.source.at(at + 2) != ":" {
             return Err(unknown());
         }
-        let mut next = self.source.partner(at + 3) + 1;
-        if self.source.has(next, &["by", "{"]) {
-            next = self.source.partner(next + 1) + 1;
+        let mut next = self.source.after_term(at + 3)?.ok_or_else(unknown)?;
+        if self.source.at(next) == "by" {
+            next = self.source.after_term(next + 1)?.ok_or_else(unknown)?;
         }
         if next == comma {
             return Ok(());

@@ -147,9 +147,10 @@ fn word_or_prefixed(text: &str) -> Result<(Kind, usize), &'static str> {
     let len = span(text, is_word);
     let (word, rest) = text.split_at(len);
     match (word, rest.chars().next()) {
-        ("b" | "c", Some('"')) => Ok((Kind::Literal, quoted(text, len + 1, '"')?)),
+        ("c" | "cr", Some('"' | '#')) => Err("a literal of C"),
+        ("b", Some('"')) => Ok((Kind::Literal, quoted(text, len + 1, '"')?)),
         ("b", Some('\'')) => Ok((Kind::Literal, quoted(text, len + 1, '\'')?)),
-        ("r" | "br" | "cr", Some('"' | '#')) => Ok((Kind::Literal, raw(text, len)?)),
+        ("r" | "br", Some('"' | '#')) => Ok((Kind::Literal, raw(text, len)?)),
         _ => Ok((Kind::Word, len)),
     }
 }

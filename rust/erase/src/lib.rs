@@ -21,10 +21,12 @@ pub mod host;
 mod items;
 pub mod lex;
 mod messages;
+mod names;
 mod paths;
 pub mod plan;
+mod scope;
 pub mod source;
 mod walk;
 
 pub use erase::{erase, header};
-pub use walk::Names;
+pub use names::Names;

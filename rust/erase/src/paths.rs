@@ -1,13 +1,14 @@
 //! Paths, in imports and in code.
 
-use crate::forms::Module;
+use crate::forms::{self, Module};
 use crate::items::Scope;
+use crate::names::taken;
 use crate::source::Fault;
 use crate::walk::{Next, Walk};
 
 /// What is taken from a module.
 #[derive(Default)]
-struct Taken<'a> {
+pub(crate) struct Taken<'a> {
     /// The names that stay.
     kept: Vec<&'a str>,
     /// Whether there are others, which are ghost.
@@ -37,12 +38,39 @@ impl<'a> Walk<'a> {
                 .source
                 .fault(at + 1, format!("an unknown crate: `{first}`")));
         }
+        self.check_import(at + 1, end - 1)?;
         if scope == Scope::File {
             let begin = self.begin_of_item(start)?;
             self.first_use.get_or_insert(begin);
             self.first_item.get_or_insert(begin);
         }
         Ok(end)
+    }
+
+    /// An import gives no name another meaning, and names all that it takes. What it takes of the sources are their
+    /// own names.
+    fn check_import(&self, at: usize, end: usize) -> Result<(), Fault> {
+        let is_of_std = self.module_at(at)?.is_some();
+        for at in at + 1..end {
+            let name = self.source.at(at);
+            let is_last = self.source.is_word(at) && self.source.at(at + 1) != "::";
+            let is_renamed = self.source.before(at) == "as";
+            let is_plain =
+                is_of_std && !is_renamed || ["as", "crate", "self", "super"].contains(&name);
+            if name == "*" {
+                let what = "an import of names that it doesn't list";
+                return Err(self.source.fault(at, what));
+            }
+            if is_last && !is_plain && self.names.is_taken(name) {
+                return Err(taken(self.source, at));
+            }
+            let is_own = self.names.has(name) || self.names.crates.contains_key(name);
+            if self.source.is_word(at) && !is_plain && !is_renamed && !is_own {
+                let what = format!("an import of an unknown name: `{name}`");
+                return Err(self.source.fault(at, what));
+            }
+        }
+        Ok(())
     }
 
     /// A path of code whose first name stands at `at`, before a `::`.
@@ -52,29 +80,93 @@ impl<'a> Walk<'a> {
             if self.taken(at, module)?.has_ghosts {
                 return Err(self.source.fault(at, "a ghost path in code"));
             }
+            let end = at + length(module);
+            if self.source.at(end + 2) == "::" {
+                self.rest_of_path(end + 1)?;
+            }
             self.lead(at, module);
-            return Ok(at + length(module));
+            return Ok(end);
         }
         if first == "crate" || self.names.crates.contains_key(first) {
+            self.rest_of_path(at)?;
             self.lead_to_crate(at);
             return Ok(at + 1);
         }
-        let known = match self.modules.get(first) {
-            Some(known) => Some(*known),
-            None => self.associated(first),
-        };
-        let mut next = at + 2;
-        if self.source.at(next) == "<" {
-            next = self.after_angles(next)? + 1;
-        }
-        let name = self.source.at(next);
-        if known.is_some_and(|known| !known.contains(&name)) {
-            return Err(self
-                .source
-                .fault(at, format!("an unknown path: `{first}::{name}`")));
-        }
         self.need(at)?;
+        self.rest_of_path(at)?;
         Ok(at + 1)
+    }
+
+    /// Each name of a path after the one at `at` has to be known: as what its head has, or as an own one.
+    fn rest_of_path(&self, at: usize) -> Result<(), Fault> {
+        let (mut head, mut next) = (at, self.after_name(at)?);
+        if self.source.at(next - 1) == ">" && !self.is_known(self.source.at(at)) {
+            return Err(self.unknown_name(at));
+        }
+        while self.source.at(next - 1) == "::" && self.source.is_word(next) {
+            let (first, name) = (self.source.at(head), self.source.at(next));
+            let of_std = match self.modules.get(first) {
+                Some(known) => Some(*known),
+                None => self.associated(first),
+            };
+            let is_own = ["crate", "self", "super", "Self"].contains(&first)
+                || self.names.crates.contains_key(first)
+                || !self.names.is_alias(first)
+                    && !self.of_std.contains(first)
+                    && (self.names.items.contains(first) || self.bound.contains(first));
+            let is_known = match of_std {
+                Some(known) => known.contains(&name),
+                None => {
+                    is_own
+                        && !forms::COMMON_METHODS.contains(&name)
+                        && (name == "super" || self.names.has(name) || forms::GIVEN.contains(&name))
+                }
+            };
+            if !is_known {
+                let what = format!("an unknown path: `{first}::{name}`");
+                return Err(self.source.fault(next, what));
+            }
+            (head, next) = (next, self.after_name(next)?);
+        }
+        Ok(())
+    }
+
+    /// The place after a name of a path, after the `::` that follows it, and after parameters between the two.
+    fn after_name(&self, at: usize) -> Next {
+        let mut next = at + 1;
+        if self.source.at(next) == "::" {
+            next += 1;
+            if self.source.at(next) == "<" {
+                next = self.source.after_angles(next)?;
+                next += usize::from(self.source.at(next) == "::");
+            }
+        }
+        Ok(next)
+    }
+
+    /// A `::` in code. A path begins with a name, and each parameter of it stands after a `::`.
+    pub(crate) fn within_path(&self, at: usize) -> Next {
+        let mut begin = at;
+        if self.source.before(at) == ">" {
+            let mut depth = 0;
+            begin = (0..at)
+                .rev()
+                .find(|at| {
+                    depth += match self.source.at(*at) {
+                        ">" => 1,
+                        "<" => -1,
+                        _ => 0,
+                    };
+                    depth == 0
+                })
+                .unwrap_or(0);
+            begin -= usize::from(self.source.before(begin) == "::");
+        }
+        let after_name = begin > 0 && self.source.is_word(begin - 1);
+        if after_name && (begin == at || self.source.at(begin) == "::") {
+            return Ok(at + 1);
+        }
+        Err(self.source.fault(at, "a path that begins with no name"))
     }
 
     /// What may be called by a path that begins with this type or module.
@@ -87,7 +179,7 @@ impl<'a> Walk<'a> {
 
     /// The module of std or of the kit that the path at this place begins with, the longest one. Any
     /// other path of std is a fault.
-    fn module_at(&self, at: usize) -> Result<Option<&'static Module>, Fault> {
+    pub(crate) fn module_at(&self, at: usize) -> Result<Option<&'static Module>, Fault> {
         let begins = |module: &&Module| {
             let names = module.path.split("::").enumerate();
             let fits = |(number, name)| self.source.at(at + 2 * number) == name;
@@ -95,7 +187,7 @@ impl<'a> Walk<'a> {
         };
         let all = self.names.forms.iter().flat_map(|forms| forms.modules);
         let longest = all.filter(begins).max_by_key(|module| module.path.len());
-        if longest.is_none() && ["std", "core", "alloc"].contains(&self.source.at(at)) {
+        if longest.is_none() && forms::CRATES.contains(&self.source.at(at)) {
             let path = format!("{}::{}", self.source.at(at), self.source.at(at + 2));
             return Err(self
                 .source
@@ -106,7 +198,7 @@ impl<'a> Walk<'a> {
 
     /// The names that are taken from the module at this place. If the path ends with the module, it is
     /// known by its name from here on.
-    fn taken(&mut self, at: usize, module: &'static Module) -> Result<Taken<'a>, Fault> {
+    pub(crate) fn taken(&mut self, at: usize, module: &'static Module) -> Result<Taken<'a>, Fault> {
         let end = at + length(module);
         let mut taken = Taken::default();
         if self.source.at(end) != "::" {
@@ -115,6 +207,10 @@ impl<'a> Walk<'a> {
             self.modules.insert(self.source.at(name), module.names);
             return Ok(taken);
         }
+        if self.source.at(end + 2) == "as" {
+            let what = "a name of std by another name";
+            return Err(self.source.fault(end + 2, what));
+        }
         let places = match self.source.at(end + 1) {
             "{" => end + 2..self.source.partner(end + 1),
             _ => end + 1..end + 2,
@@ -122,8 +218,10 @@ impl<'a> Walk<'a> {
         for at in places {
             let name = self.source.at(at);
             if module.ghost.contains(&name) {
+                self.ghosts.insert(name);
                 taken.has_ghosts = true;
             } else if module.names.contains(&name) {
+                self.of_std.insert(name);
                 taken.kept.push(name);
             } else if name != "," {
                 let what = format!("an unknown path: `{}::{name}`", module.path);

@@ -6,8 +6,8 @@ use crate::crates::{add_names, below, read, Crate, File};
 use crate::erase;
 use crate::forms::PACKAGE;
 use crate::host::HOST;
+use crate::names::Names;
 use crate::source::{Fault, Source};
-use crate::walk::Names;
 use std::collections::BTreeMap;
 use std::error::Error;
 use std::fs;
@@ -74,10 +74,7 @@ pub type Files = BTreeMap<PathBuf, String>;
 /// clauses that aren't there.
 pub fn package(repository: &Path) -> Result<Files, Box<dyn Error>> {
     let crates = crates_below(repository, TOPS)?;
-    let mut names = Names {
-        forms: vec![&PACKAGE],
-        ..Names::default()
-    };
+    let mut names = Names::new(&[&PACKAGE]);
     add_names(&mut names, &crates, PROVED.path)?;
     let mut files = erased(&crates, &PROVED, &names)?;
     let clauses = shown(repository, Path::new(PROVED.folder), &files)?;
@@ -97,10 +94,7 @@ pub fn tests(repository: &Path) -> Result<Files, Box<dyn Error>> {
     for krate in &mut tests {
         krate.leave_out(SCRIPTS);
     }
-    let mut names = Names {
-        forms: vec![&PACKAGE, &HOST],
-        ..Names::default()
-    };
+    let mut names = Names::new(&[&PACKAGE, &HOST]);
     add_names(&mut names, &crates, PROVED.path)?;
     add_names(&mut names, &tests, TESTED.path)?;
     erased(&tests, &TESTED, &names)

@@ -1,6 +1,6 @@
 //! A text with its tokens, and where its brackets close.
 
-use crate::lex::{tokens, Kind, Token};
+use crate::lex::{is_word, tokens, Kind, Token};
 use std::fmt;
 
 /// Why a source can't be erased, and where.
@@ -50,6 +50,9 @@ impl<'a> Source<'a> {
             what: what.to_owned(),
         };
         let tokens = tokens(text).map_err(|(at, what)| fault(at, what))?;
+        if let Some((at, what)) = otherwise_read(text, &tokens) {
+            return Err(fault(at, what));
+        }
         let is_code = |place: &usize| !matches!(tokens[*place].kind, Kind::Blank | Kind::Comment);
         let code: Vec<usize> = (0..tokens.len()).filter(is_code).collect();
         let signs = code.iter().map(|place| &tokens[*place]);
@@ -108,6 +111,29 @@ impl<'a> Source<'a> {
         self.partners[at]
     }
 
+    /// The end of the term in the braces that open here, if they do. No bracket in it is hidden in a comment or a
+    /// literal, which the kit may read otherwise.
+    ///
+    /// # Errors
+    ///
+    /// One is.
+    pub fn after_term(&self, open: usize) -> Result<Option<usize>, Fault> {
+        if self.at(open) != "{" {
+            return Ok(None);
+        }
+        let close = self.partner(open);
+        let hidden = self.tokens[self.code[open]..self.code[close]]
+            .iter()
+            .find(|token| {
+                matches!(token.kind, Kind::Comment | Kind::Literal)
+                    && self.text[token.from..token.to].contains(|c| "(){}[]".contains(c))
+            });
+        match hidden {
+            Some(_) => Err(self.fault(open, "a bracket in a comment or a literal of a term")),
+            None => Ok(Some(close + 1)),
+        }
+    }
+
     /// The first place from `at` on, and before `end`, where one of these tokens stands outside all
     /// brackets that open on the way.
     pub fn find(&self, at: usize, end: usize, wanted: &[&str]) -> Option<usize> {
@@ -119,6 +145,28 @@ impl<'a> Source<'a> {
             at = self.partner(at).max(at) + 1;
         }
         None
+    }
+
+    /// The place after the `>` that closes the `<` at this place.
+    ///
+    /// # Errors
+    ///
+    /// There is none.
+    pub fn after_angles(&self, at: usize) -> Result<usize, Fault> {
+        let (mut depth, mut next) = (0, at);
+        while next < self.len() {
+            match self.at(next) {
+                "<" => depth += 1,
+                ">" => depth -= 1,
+                ";" | "{" => break,
+                _ => next = self.partner(next).max(next),
+            }
+            next += 1;
+            if depth == 0 {
+                return Ok(next);
+            }
+        }
+        Err(self.fault(at, "`>` is missing"))
     }
 
     /// A fault at the code's token of this place.
@@ -134,6 +182,39 @@ impl<'a> Source<'a> {
             what: what.into(),
         }
     }
+}
+
+/// The first byte of what a term, or the kit, may take for a comment where Rust doesn't, or the other way round,
+/// with what it is.
+fn otherwise_read(text: &str, tokens: &[Token]) -> Option<(usize, &'static str)> {
+    let hides = |rest: &str| rest.contains(|c| "(){}[]\"'".contains(c)) || rest.contains("/*");
+    // A line may end there for one of the two, and with it a comment.
+    let is_odd = |c: char| c.is_control() && c != '\n' || ['\u{2028}', '\u{2029}'].contains(&c);
+    if let Some(at) = text.find(is_odd) {
+        return Some((at, "a character that isn't seen"));
+    }
+    tokens.iter().find_map(|token| {
+        let from = &text[token.from..];
+        let line = from.lines().next().unwrap_or("");
+        let what = match token.kind {
+            Kind::Sign if from.starts_with("--") && hides(line) => {
+                "a bracket in a comment of a term"
+            }
+            Kind::Sign if from.starts_with("{-") => "a block comment of a term",
+            Kind::Sign if from.starts_with('«') && !is_quoted_name(from) => "no name in quotes",
+            Kind::Comment if from[..token.to - token.from].matches("/*").count() > 1 => {
+                "a comment within a comment"
+            }
+            _ => return None,
+        };
+        Some((token.from, what))
+    })
+}
+
+/// Whether a name in quotes begins here, as `«data»`.
+fn is_quoted_name(text: &str) -> bool {
+    let rest = text.trim_start_matches('«');
+    rest.trim_start_matches(is_word).starts_with('»')
 }
 
 /// For each token the place of its partner, or the place of a bracket that has none.

@@ -1,25 +1,11 @@
 //! A walk through the code of one source, which collects what has to change.
 
 use crate::edit::{Change, Edit};
-use crate::forms::Forms;
 use crate::lex::Kind;
+use crate::names::Names;
+use crate::scope::bound;
 use crate::source::{Fault, Source};
 use std::collections::{BTreeMap, BTreeSet};
-
-/// What all sources together declare, and where that is in the result.
-#[derive(Default)]
-pub struct Names {
-    /// The crates, with their paths in the result, as `crate::proved::ent_alloc`.
-    pub crates: BTreeMap<String, String>,
-    /// Their functions and methods.
-    pub functions: BTreeSet<String>,
-    /// Their traits.
-    pub traits: BTreeSet<String>,
-    /// The ghost members that those traits declare.
-    pub members: BTreeSet<String>,
-    /// The names of std and of the kit that they may use.
-    pub forms: Vec<&'static Forms>,
-}
 
 /// What `pub(crate)` becomes in a file of a crate that is a module: the crate's module sees it, and
 /// nothing else does.
@@ -39,6 +25,16 @@ pub struct Walk<'a> {
     pub(crate) modules: BTreeMap<&'a str, &'static [&'static str]>,
     /// The modules, types and traits that the source declares.
     pub(crate) declared: BTreeSet<&'a str>,
+    /// The names that it imports from std and from the kit.
+    pub(crate) of_std: BTreeSet<&'a str>,
+    /// The ghost names that it imports from the kit.
+    pub(crate) ghosts: BTreeSet<&'a str>,
+    /// The names that it binds or imports.
+    pub(crate) bound: BTreeSet<&'a str>,
+    /// Whether the place is in a signature or a header, where `Drop` is a bound.
+    pub(crate) is_signature: bool,
+    /// Whether the place is in a module within the file.
+    pub(crate) is_module: bool,
     /// Where imports may go: the first byte of the first `use` that stays.
     pub(crate) first_use: Option<usize>,
     /// The first byte of the first item that stays.
@@ -56,7 +52,7 @@ impl<'a> Walk<'a> {
                 && source.is_word(at + 1)
         };
         let declarations = (0..source.len()).filter(is_declaration);
-        Walk {
+        let mut walk = Walk {
             source,
             krate,
             names,
@@ -64,9 +60,21 @@ impl<'a> Walk<'a> {
             imports: BTreeSet::new(),
             modules: BTreeMap::new(),
             declared: declarations.map(|at| source.at(at + 1)).collect(),
+            of_std: BTreeSet::new(),
+            ghosts: BTreeSet::new(),
+            bound: bound(source),
+            is_signature: false,
+            is_module: false,
             first_use: None,
             first_item: None,
+        };
+        // An import may stand below what uses it. A fault of it is found later, at its place.
+        for at in (0..source.len()).filter(|at| source.at(*at) == "use") {
+            if let Ok(Some(module)) = walk.module_at(at + 1) {
+                let _ = walk.taken(at + 1, module);
+            }
         }
+        walk
     }
 
     /// The code's token at this place has to be this one.
@@ -75,24 +83,6 @@ impl<'a> Walk<'a> {
             return Ok(at + 1);
         }
         Err(self.source.fault(at, format!("`{token}` is missing")))
-    }
-
-    /// The place after the `>` that closes the `<` at this place.
-    pub(crate) fn after_angles(&self, at: usize) -> Next {
-        let (mut depth, mut next) = (0, at);
-        while next < self.source.len() {
-            match self.source.at(next) {
-                "<" => depth += 1,
-                ">" => depth -= 1,
-                ";" | "{" => break,
-                _ => next = self.source.partner(next).max(next),
-            }
-            next += 1;
-            if depth == 0 {
-                return Ok(next);
-            }
-        }
-        Err(self.source.fault(at, "`>` is missing"))
     }
 
     /// Puts a text in place of these tokens of the code.

@@ -35,7 +35,7 @@ impl<T: Drop + Copy> From<T> for F {
     ghost from_gives = { j };
 
     /// Of k.
-    fn from(k: T) -> Self
+    fn from(k: T, alloc: J) -> Self
         // Of l.
         requires l { k ≡ m }
 

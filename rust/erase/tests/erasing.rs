@@ -41,8 +41,8 @@ fn ghost_members() {
         "impl From<B> for A {\n    #[inline]\n    fn from(b: B) -> Self {\n        A\n    }\n}\n",
     );
     gives(
-        "impl Join<V> for A {\n    ghost both = { b };\n\n    ghost spent = { [] };\n}\n",
-        "impl Join<V> for A {}\n",
+        "use atomic_table::Join;\n\nimpl Join<V> for A {\n    ghost both = { b };\n\n    ghost spent = { [] };\n}\n",
+        "use crate::kit::atomic_table::Join;\n\nimpl Join<V> for A {}\n",
     );
     gives(
         "trait A {\n    ghost may_issue: { Self → Type 0 };\n    ghost may_leave: { A } = { λ _. b };\n\n    \
@@ -199,10 +199,10 @@ fn what_the_crate_alone_sees() {
 #[test]
 fn names_of_the_kit_are_imported() {
     gives(
-        "//! A.\n\nuse super::b;\n\nfn c(d: Vec<u8>) -> Vec<u8> {\n    prove_eq!(1, 1);\n    \
+        "//! A.\n\nuse super::b;\n\nfn c<F>(alloc: F, d: Vec<u8>) -> Vec<u8> {\n    prove_eq!(1, 1);\n    \
          d.iter().collect(alloc)\n}\n",
         "//! A.\n\nuse crate::kit::prove_eq;\nuse crate::kit::vec::CollectIn;\nuse crate::kit::vec::Vec;\n\
-         use super::b;\n\n#[inline]\nfn c(d: Vec<u8>) -> Vec<u8> {\n    prove_eq!(1, 1);\n    \
+         use super::b;\n\n#[inline]\nfn c<F>(alloc: F, d: Vec<u8>) -> Vec<u8> {\n    prove_eq!(1, 1);\n    \
          d.iter().collect_in(alloc)\n}\n",
     );
     gives(
@@ -313,7 +313,7 @@ fn what_only_looks_ghost_stays() {
 
 #[test]
 fn types_and_ranges_of_slices() {
-    stays("type A = [u8; 2];\n\n#[inline]\nfn b() -> ([u8; 2], &[u8]) {\n    c.get(1..)\n}\n");
+    stays("type A = [u8; 2];\n\n#[inline]\nfn b() -> ([u8; 2], &[u8]) {\n    C.get(1..)\n}\n");
 }
 
 #[test]

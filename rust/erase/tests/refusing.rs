@@ -97,7 +97,7 @@ const REFUSED: &[(&str, usize, &str)] = &[
     (
         "fn a<T>()\nwhere\n    T: Ord,\n    promises b { c }\n{}\n",
         4,
-        "an unknown clause: `b`",
+        "an unknown name: `promises`",
     ),
     ("fn a()\n    requires b\n{}\n", 3, "a body is missing"),
     (

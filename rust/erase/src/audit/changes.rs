@@ -2,7 +2,8 @@
 
 use super::{has, pieces, Audit};
 use crate::forms::{Module, Renamed};
-use crate::walk::{Names, OWN_ONLY};
+use crate::names::Names;
+use crate::walk::OWN_ONLY;
 
 /// Tokens that stand in the result in place of those of the source.
 pub(super) struct Change {

@@ -2,41 +2,69 @@
 #![allow(dead_code)]
 
 use erase::audit::audit;
+use erase::crates::{add_names, Crate, File};
 use erase::forms::{Forms, PACKAGE};
 use erase::host::HOST;
 use erase::source::{Fault, Source};
 use erase::{erase, Names};
+use std::path::PathBuf;
 
 /// The path of the source.
 pub const PATH: &str = "crates/ent_here/src/here.rt";
 
-/// The crates `ent_here`, of which the source is, and `ent_other`, which may use these forms.
-fn names(forms: Vec<&'static Forms>) -> Names {
-    let mut names = Names {
-        forms,
-        ..Names::default()
+/// The crate `ent_here`, of which the source is, and `ent_other`. The sources may use these forms, and what a
+/// letter names.
+fn names(forms: &[&'static Forms], name: &str, path: &str, text: &str) -> Result<Names, Fault> {
+    let mut names = Names::new(forms);
+    let letters = |kind: &str, first: char, last: char| -> String {
+        (first..=last)
+            .map(|name| format!("{kind} {name};\n"))
+            .collect()
     };
-    for name in ["ent_here", "ent_other"] {
-        let path = format!("crate::proved::{name}");
-        names.crates.insert(name.to_owned(), path);
-    }
-    names
+    let known = "fn end() {}\n";
+    let other = letters("fn", 'a', 'z') + &letters("struct", 'A', 'Z') + known;
+    let file = |path: &str, text: &str| File {
+        path: path.to_owned(),
+        result: PathBuf::new(),
+        text: text.to_owned(),
+    };
+    let krate = |name: &str, file| Crate {
+        name: name.to_owned(),
+        files: vec![file],
+    };
+    let crates = [
+        krate("ent_other", file("crates/ent_other/src/lib.rt", &other)),
+        krate(name, file(path, text)),
+    ];
+    add_names(&mut names, &crates, "crate::proved")?;
+    Ok(names)
 }
 
 /// The result of a source of the package, if its audit agrees.
 pub fn erased(text: &str) -> Result<String, Fault> {
-    erased_with(text, &names(vec![&PACKAGE]))
+    erased_with(text, &[&PACKAGE])
 }
 
 /// The result of a source of a test, if its audit agrees.
 pub fn erased_test(text: &str) -> Result<String, Fault> {
-    erased_with(text, &names(vec![&PACKAGE, &HOST]))
+    erased_with(text, &[&PACKAGE, &HOST])
 }
 
-fn erased_with(text: &str, names: &Names) -> Result<String, Fault> {
+fn erased_with(text: &str, forms: &[&'static Forms]) -> Result<String, Fault> {
+    let names = names(forms, "ent_here", PATH, text)?;
     let source = Source::read(PATH, text)?;
-    let result = erase(&source, "ent_here", names)?;
-    audited_with(&source, &result, names)?;
+    let result = erase(&source, "ent_here", &names)?;
+    audited_with(&source, &result, &names)?;
+    Ok(result)
+}
+
+/// The result of a source that is all of a crate of the package, if its audit agrees.
+pub fn erased_as(krate: &str, text: &str) -> Result<String, Fault> {
+    let path = format!("crates/{krate}/src/here.rt");
+    let names = names(&[&PACKAGE], krate, &path, text)?;
+    let source = Source::read(&path, text)?;
+    let result = erase(&source, krate, &names)?;
+    audit(&source, &Source::read("here.rs", &result)?, krate, &names)?;
     Ok(result)
 }
 
@@ -47,9 +75,7 @@ pub fn erased_of(
     text: &str,
     other: &str,
 ) -> Result<(String, Result<(), Fault>), Fault> {
-    let mut names = names(vec![&PACKAGE]);
-    let proved = format!("crate::proved::{krate}");
-    names.crates.insert(krate.to_owned(), proved);
+    let names = names(&[&PACKAGE], krate, path, text)?;
     let source = Source::read(path, text)?;
     let audited = |result| audit(&source, &Source::read("here.rs", result)?, krate, &names);
     let result = erase(&source, krate, &names)?;
@@ -58,9 +84,14 @@ pub fn erased_of(
     Ok((result, other))
 }
 
-/// What the audit says of the result of a source of the package.
+/// What the audit says of the result of a source of the package. It asks for the crates alone.
 pub fn audited(text: &str, result: &str) -> Result<(), Fault> {
-    audited_with(&Source::read(PATH, text)?, result, &names(vec![&PACKAGE]))
+    let mut names = Names::new(&[&PACKAGE]);
+    for name in ["ent_here", "ent_other"] {
+        let path = format!("crate::proved::{name}");
+        names.crates.insert(name.to_owned(), path);
+    }
+    audited_with(&Source::read(PATH, text)?, result, &names)
 }
 
 fn audited_with(source: &Source<'_>, result: &str, names: &Names) -> Result<(), Fault> {

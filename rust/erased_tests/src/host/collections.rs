@@ -2,7 +2,7 @@
 
 pub use crate::kit::collections::BTreeMap;
 
-use crate::kit::alloc::{AllocError, Global};
+use crate::kit::alloc::{AllocFailed, Global};
 use std::hash::Hash;
 use std::ops::Deref;
 
@@ -14,7 +14,7 @@ impl<K: Eq + Hash, V> HashMap<K, V> {
         HashMap(std::collections::HashMap::new())
     }
 
-    pub fn insert(&mut self, key: K, value: V) -> Result<Option<V>, AllocError> {
+    pub fn insert(&mut self, key: K, value: V) -> Result<Option<V>, AllocFailed<(K, V)>> {
         Ok(self.0.insert(key, value))
     }
 }

@@ -12,7 +12,6 @@ fn the_greatest_limits() {
     assert!(!entities.needs_flush() && entities.is_empty());
     let reserved = entities
         .reply(Span::new(0, u32::MAX))
-        .ok()
         .expect("all are left");
     assert_eq!(reserved.len(), 4_294_967_295);
     entities.settle(-5, -5);

@@ -1,4 +1,6 @@
 //! Memory that may be refused.
+//!
+//! The contracts are those of the kit's `core/src/alloc.rt` and `std_alloc/src/room.rt`.
 
 use ::alloc::collections::TryReserveError;
 use core::fmt;

@@ -5,6 +5,8 @@
 //! bytes. What is left of it is the word. All steps are sequentially consistent, as in the kit.
 //!
 //! The contract of each step: it is one atomic access of the word, and returns what it found there.
+//!
+//! The contracts are those of the kit's `atomic_table/src/shared.rt`, `owned.rt` and `steps.rt`.
 
 use super::alloc::{AllocError, Global};
 use core::marker::PhantomData;

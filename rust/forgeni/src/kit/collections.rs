@@ -1,8 +1,11 @@
 //! The kit's map by rising key: a call that may grow it returns a `Result`.
+//!
+//! The contracts are those of the kit's `std_collections/src/btree_map/methods.rt`
+//! and `linked_list/methods.rt`.
 
 pub use ::alloc::collections::LinkedList;
 
-use super::alloc::{AllocError, Global};
+use super::alloc::{AllocFailed, Global};
 use super::vec::Vec;
 use core::ops::{Deref, DerefMut};
 
@@ -24,18 +27,24 @@ impl<K: Ord, V> BTreeMap<K, V> {
         BTreeMap(::alloc::collections::BTreeMap::new())
     }
 
-    /// The contract: the key has the value, and the one that it had comes back; or an `Err`, and nothing
-    /// has changed. It takes no memory for a key that has a value.
+    /// The contract: the key has the value, and the one that it had comes back; or the pair comes back in an
+    /// `Err`, and nothing has changed. It takes no memory for a key that has a value, and that key stays.
     ///
     /// Rust has no stable map that returns if memory is refused. So as much as it can take is asked for
     /// and given back first. If another thread takes it meanwhile, and no other memory is left, the
     /// program ends.
-    pub fn insert(&mut self, key: K, value: V) -> Result<Option<V>, AllocError> {
+    pub fn insert(&mut self, key: K, value: V) -> Result<Option<V>, AllocFailed<(K, V)>> {
         if let Some(old) = self.0.get_mut(&key) {
             return Ok(Some(core::mem::replace(old, value)));
         }
-        let room = Vec::<Node<K, V>>::with_capacity(Global, LEVELS)?;
-        drop(core::hint::black_box(room));
+        match Vec::<Node<K, V>>::with_capacity(Global, LEVELS) {
+            Ok(room) => drop(core::hint::black_box(room)),
+            Err(_) => {
+                return Err(AllocFailed {
+                    value: (key, value),
+                })
+            }
+        }
         Ok(self.0.insert(key, value))
     }
 }
@@ -77,11 +86,12 @@ mod tests {
     #[test]
     fn a_refused_insertion_changes_nothing_and_a_key_with_a_value_needs_none() {
         let mut map = BTreeMap::new(Global);
-        assert_eq!(refuse(|| map.insert(1_u32, 2_u64)), Err(AllocError));
+        let refused = |pair| Err(AllocFailed { value: pair });
+        assert_eq!(refuse(|| map.insert(1_u32, 2_u64)), refused((1, 2)));
         assert!(map.is_empty());
         map.insert(1, 2).expect("memory");
         assert_eq!(refuse(|| map.insert(1, 3)), Ok(Some(2)));
-        assert_eq!(refuse(|| map.insert(2, 3)), Err(AllocError));
+        assert_eq!(refuse(|| map.insert(2, 3)), refused((2, 3)));
         assert!(map.iter().eq([(&1, &3)]));
     }
 }

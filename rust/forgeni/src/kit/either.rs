@@ -1,4 +1,6 @@
 //! One of two types, as the crate `either` has it.
+//!
+//! The contracts are those of the kit's `either/src/lib.rt`.
 
 pub use Either::{Left, Right};
 

@@ -1,4 +1,6 @@
 //! The decimal of a number without memory, as the crate `itoa` has it.
+//!
+//! The contracts are those of the kit's `itoa/src/lib.rt`.
 
 /// A whole number.
 pub trait Integer: Copy {

@@ -1,4 +1,6 @@
 //! The kit's `smallvec`: a list whose first items stand in itself.
+//!
+//! The contracts are those of the kit's `smallvec/src/small_vec.rt` and `edits.rt`.
 
 use super::alloc::{AllocError, AllocFailed, Global};
 use super::vec::Vec;

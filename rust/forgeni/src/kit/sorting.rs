@@ -69,11 +69,14 @@ fn insertion_sort<T: Copy, K: Ord>(items: &mut [T], key: &impl Fn(&T) -> K) {
 }
 
 /// Sorts items that may not be copied by their keys, of which each is asked for once. Those of one key keep
-/// their order. After an `Err` no item has moved.
+/// their order. After an `Err` no item has moved. Fewer than two items are in order, so nothing is asked for.
 pub(super) fn sort_in_cycles<T, K: Ord>(
     items: &mut [T],
     key: &impl Fn(&T) -> K,
 ) -> Result<(), AllocError> {
+    if items.len() < 2 {
+        return Ok(());
+    }
     let mut order = Vec::with_capacity(Global, items.len())?;
     for (place, item) in items.iter().enumerate() {
         order.push_reserved((key(item), place));

@@ -1,4 +1,6 @@
 //! The kit's `Arc`.
+//!
+//! The contracts are those of the kit's `std_alloc/src/arc/methods.rt`.
 
 use super::alloc::{AllocError, AllocFailed, Global};
 use super::vec::Vec;

@@ -1,4 +1,6 @@
 //! Work side by side. It starts threads under the feature `std`.
+//!
+//! The contracts are those of the kit's `core/src/thread.rt` and `thread/lent.rt`.
 
 /// The right to start threads.
 pub trait Threads {}

@@ -1,4 +1,7 @@
 //! The kit's `Vec`: each call that may grow it returns a `Result`.
+//!
+//! The contracts are those of the kit's `std_alloc/src/vec/methods.rt`, `ends.rt`, `edits.rt`,
+//! `filters.rt`, `sorts.rt`, `copies.rt` and `collects.rt`.
 
 use super::alloc::{AllocError, AllocFailed, Global};
 use super::sorting::{merge_sort, sort_in_cycles};
@@ -14,9 +17,17 @@ use core::slice;
 pub struct Vec<T>(::alloc::vec::Vec<T>);
 
 impl<T> Vec<T> {
+    /// A list of values without a size has all room there is in Rust, and what was asked for in the kit. No source
+    /// has one, so none is built.
+    const HAVE_A_SIZE: () = assert!(
+        size_of::<T>() > 0,
+        "the room of a list of values without a size isn't what the kit says"
+    );
+
     /// The contract: no items, and no room. It takes no memory.
     #[inline]
     pub const fn new(_alloc: Global) -> Self {
+        let () = Self::HAVE_A_SIZE;
         Vec(::alloc::vec::Vec::new())
     }
 
@@ -159,7 +170,7 @@ impl<T> Vec<T> {
     }
 
     /// The contract: the items rise by their keys, and those of one key keep their order. All memory
-    /// is asked for before an item moves, and none for no items.
+    /// is asked for before an item moves, and none for one item or for no items.
     pub fn sort_by_cached_key<K: Ord>(&mut self, key: impl Fn(&T) -> K) -> Result<(), AllocError> {
         sort_in_cycles(&mut self.0, &key)
     }
@@ -205,6 +216,7 @@ fn allow_growth() -> Result<(), AllocError> {
 impl<T> From<::alloc::vec::Vec<T>> for Vec<T> {
     #[inline]
     fn from(list: ::alloc::vec::Vec<T>) -> Self {
+        let () = Vec::<T>::HAVE_A_SIZE;
         Vec(list)
     }
 }
@@ -270,11 +282,17 @@ impl<'a, T> IntoIterator for &'a mut Vec<T> {
 
 /// The kit's `collect`, which is handed the right to allocate.
 pub trait CollectIn: Iterator + Sized {
-    /// The contract: all that the iterator yields, in its order. What it says of its length is asked
-    /// for at once.
+    /// The contract: all that the iterator yields, in its order, and no memory if that is nothing. As much is asked
+    /// for as the iterator says that there is, and if that is refused, which is no lack of memory yet, one place.
     #[inline]
-    fn collect_in(self, alloc: Global) -> Result<Vec<Self::Item>, AllocError> {
-        let mut list = Vec::with_capacity(alloc, self.size_hint().0)?;
+    fn collect_in(mut self, alloc: Global) -> Result<Vec<Self::Item>, AllocError> {
+        let Some(first) = self.next() else {
+            return Ok(Vec::new(alloc));
+        };
+        let count = self.size_hint().0.saturating_add(1);
+        let mut list =
+            Vec::with_capacity(alloc, count).or_else(|_| Vec::with_capacity(alloc, 1))?;
+        list.push_reserved(first);
         for item in self {
             list.push(item)?;
         }
@@ -413,5 +431,55 @@ mod tests {
         assert_eq!((odd.len(), odd[0], odd[49]), (50, 1, 99));
         let none = refuse(|| (0..0).collect_in(Global)).expect("nothing is asked for");
         assert!(none.is_empty());
+    }
+
+    /// Yields the numbers below, and says this of how many there are.
+    struct Hinting(u8, usize);
+
+    impl Iterator for Hinting {
+        type Item = u8;
+
+        fn next(&mut self) -> Option<u8> {
+            self.0 = self.0.checked_sub(1)?;
+            Some(self.0)
+        }
+
+        fn size_hint(&self) -> (usize, Option<usize>) {
+            (self.1, None)
+        }
+    }
+
+    #[test]
+    fn a_wrong_hint_is_no_lack_of_memory() {
+        for hint in [0, 1, 200, usize::MAX] {
+            let list = Hinting(100, hint).collect_in(Global).expect("memory");
+            assert!(list.into_iter().eq((0..100).rev()), "{hint}");
+            let none = refuse(|| Hinting(0, hint).collect_in(Global));
+            assert_eq!(none.map(|list| list.capacity()), Ok(0), "{hint}");
+        }
+    }
+
+    #[test]
+    fn one_item_is_sorted_by_its_key_without_memory() {
+        for items in [&[][..], &[7]] {
+            let mut few = list(items);
+            assert_eq!(refuse(|| few.sort_by_cached_key(|item| *item)), Ok(()));
+            assert_eq!(&few[..], items);
+        }
+        let mut two = list(&[7, 6]);
+        assert_eq!(
+            refuse(|| two.sort_by_cached_key(|item| *item)),
+            Err(AllocError)
+        );
+        assert_eq!(&two[..], [7, 6]);
+    }
+
+    #[test]
+    fn the_room_is_as_much_as_was_asked_for() {
+        for count in [1, 2, 3, 5, 7, 1000, 4097, 1 << 20] {
+            let bytes = Vec::<u8>::with_capacity(Global, count).expect("memory");
+            let words = Vec::<[u64; 3]>::with_capacity(Global, count).expect("memory");
+            assert_eq!((bytes.capacity(), words.capacity()), (count, count));
+        }
     }
 }

@@ -1,0 +1,4 @@
+//! A static item.
+//! refused: 4: an unknown item: `static`
+
+static LAMPS: u8 = 3;

@@ -1,0 +1,7 @@
+//! A brace between the primes of two names.
+//! refused: 5: a bracket in a comment or a literal of a term
+
+pub fn shown(count: &mut u8)
+    ensures { count.new ≡ '}' }
+{
+}
