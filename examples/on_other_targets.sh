@@ -1,9 +1,10 @@
 #!/bin/sh
 # Runs the tests of the package on other processors, each under an emulator: on aarch64, and on s390x, where a word begins with its highest
 # byte. It installs nothing, and names what it lacks. A processor that is named, as by `examples/on_other_targets.sh aarch64 s390x` before a
-# release, has to be tried: if something is missing, the status is 1. Without a name, as in the gate, those are tried for which all is
-# there. It needs `cargo`, and for each processor the emulator, a C compiler with its library, and Rust's std. RUSTC says which compiler has
-# that, if neither the one on the path nor Debian's, /usr/bin/rustc, does.
+# release, has to be tried: if something is missing, the status is 1. Without a name, as in the gate, it tries those that have all they need,
+# and a failed test alone is a failure. It needs `cargo`, and for each processor QEMU's emulator, a C compiler with a static library, and
+# Rust's std. RUSTC says which compiler has that, if neither the one on the path nor Debian's, /usr/bin/rustc, does. An emulator on x86-64
+# shows the other order of bytes, and nothing of a weaker order of memory.
 set -eu
 here=$(cd "$(dirname "$0")" && pwd)
 out=$(mktemp -d)
@@ -42,7 +43,8 @@ try() {
         cd "$here/../rust/forgeni"
         export RUSTC="$rustc" FORGENI_EMULATOR="qemu-$1"
         export "${variable}_RUNNER=qemu-$1" "${variable}_LINKER=$1-linux-gnu-gcc" "${variable}_RUSTFLAGS=-Ctarget-feature=+crt-static"
-        cargo test --offline --tests --no-fail-fast --target "$target"
+        # With the tests of sizes, which are for optimised code.
+        cargo test --offline --tests --no-fail-fast --target "$target" -- --include-ignored
     ) >"$out/printed" 2>&1 || status=$?
     [ "$status" = 0 ] || { cat "$out/printed"; exit 1; }
     passed=$(awk '/^test result: ok/ { passed += $4 } END { print passed + 0 }' "$out/printed")
