@@ -1,7 +1,7 @@
 #!/bin/sh
 # Runs the tests of the package on other processors, each under an emulator: on aarch64, and on s390x, where a word begins with its highest
 # byte. It installs nothing, and names what it lacks. A processor that is named, as by `examples/on_other_targets.sh aarch64 s390x` before a
-# release, has to be tried: if something is missing, the status is 1. Without a name, as in the gate, it tries those that have all they need,
+# release, has to be tried: if something is missing, the status is 1. Without a name, as in the gate, it tries those for which all is there,
 # and a failed test alone is a failure. It needs `cargo`, and for each processor QEMU's emulator, a C compiler with a static library, and
 # Rust's std. RUSTC says which compiler has that, if neither the one on the path nor Debian's, /usr/bin/rustc, does. An emulator on x86-64
 # shows the other order of bytes, and nothing of a weaker order of memory.
