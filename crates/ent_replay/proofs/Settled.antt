@@ -76,6 +76,8 @@ module _ (s : Allocator) (run sorted : List Placed) (l : Lineup) (sound : IsSoun
       → HasNoOrder (record { allocator = s; run = reservations_of run })
   some-none some whole other is all = some (whole (best other is all).0)
 
-  pub some-Shows : NoneFits (reached s l) l.rest.items → (d : Difference) → NamesOne s l d → (n : ℕ)
+  pub some-Shows : l.rest.items ≢ [] → (AreAnswered s (lines_of sorted) → l.rest.items ≡ [])
+      → NoneFits (reached s l) l.rest.items → (d : Difference) → NamesOne s l d → (n : ℕ)
       → Shows (record { allocator = s; run = reservations_of run }) n [] d
-  some-Shows none d names n = lineup-Shows s run l kept lined none d names n
+  some-Shows some whole none d names n =
+      lineup-Shows s run l kept lined none (some-none some whole) d names n
