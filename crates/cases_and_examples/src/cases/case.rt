@@ -130,7 +130,7 @@ impl<'a> Case<'a> {
         }
     }
 
-    /// A file ends when all is told.
+    /// At the end of a file every stop must have its line.
     fn end(&mut self, layer: &mut Layer) {
         if layer.take_untold() {
             self.call.clear();
