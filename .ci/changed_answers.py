@@ -3,10 +3,10 @@
 
     changed_answers.py [--program FILE] [--traces N] [--seed N]
 
-A true trace is made by a model of the sequential allocator: some exclusive calls, and runs of reservations by callers that overlap, each
-caller's in its own order. Then one answer is changed. If the trace still agrees, it doesn't count. Of the others the changed line should be
-named where no change of another answer would mend the trace: that is found by trying all orders of the run. The script ends with 0 if that
-is so in 98 of 100. It runs at the top of the repository, on the program that the gate has built.
+A model of the sequential allocator makes a true trace: some exclusive calls, and runs of reservations by callers that overlap, each caller's
+in its own order. Then one answer is changed. A trace that still agrees doesn't count. In the others `tracecheck` should name the changed line
+if no other changed answer would mend the trace; the script tries all orders of the run to find out. It ends with 0 if the line is named in
+98 of 100 of these. It runs at the top of the repository, on the program that the gate has built.
 """
 
 import argparse
@@ -23,7 +23,7 @@ WANTED = 0.98
 
 
 class Model:
-    """The sequential allocator, by its lists."""
+    """The sequential allocator, as lists."""
 
     def __init__(self, slots, generations):
         self.generations = generations
@@ -36,7 +36,7 @@ class Model:
         return old[::-1] + given[len(old) :]
 
     def reply(self, asked, wanted):
-        """What a request gets that finds so many requested since the last flush."""
+        """The reply to a request for `wanted` if `asked` were requested since the last flush."""
         left = self.pool[asked:]
         return self.listed(left[:wanted]) if wanted <= len(left) else ("space", len(left))
 
@@ -84,7 +84,7 @@ def fits(reply, said):
 
 
 class Run:
-    """Reservations that overlap: who asked for how many, and what was said, in the order of the lines."""
+    """Reservations that overlap: the caller, the count and the answer of each, in the order of the lines."""
 
     def __init__(self, model, first_line):
         self.model = model
@@ -101,7 +101,7 @@ class Run:
         return old[::-1] + given[len(old) :]
 
     def agrees(self, but=None):
-        """Whether some order gives all answers, but for that of one line."""
+        """Whether some order gives all answers, except that of one line."""
         queues = {}
         for at, (caller, wanted, said) in enumerate(self.lines):
             queues.setdefault(caller, []).append((at, wanted, said))
@@ -135,7 +135,7 @@ def reservations(model, rng, run):
             served = asked
         asked += wanted
         made.append((caller, wanted, reply_words(reply, rng)))
-    # The lines stand in an order that keeps each caller's.
+    # The lines are in an order that keeps each caller's own.
     order = [caller for caller, _, _ in made]
     rng.shuffle(order)
     queues = {caller: [it for it in made if it[0] == caller] for caller in order}
@@ -170,7 +170,7 @@ def trace(rng):
 
 
 def other_answer(line, lines, rng):
-    """The line with another answer: of its kind, or that of another reservation."""
+    """The line with another answer: one of its kind, or that of another reservation."""
     asked, _, answer = line.partition(" =>")
     answer, call = answer.strip(), asked.split()[0]
     said = answer.split()

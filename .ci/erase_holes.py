@@ -1,8 +1,8 @@
 #!/usr/bin/env python3
-"""Small crates that are easy to erase wrongly, each a case of erase_holes.case: no wrong result of one passes the comparison of two erasers.
+"""Small crates that are easy to erase wrongly, each a case of erase_holes.case: no wrong result passes the comparison of the two erasers.
 
-The second eraser has to refuse a case with the words that it says, or to make what it says. The first eraser is run on it too. Where both make
-a result, they are compared: they differ, or both have what the case says.
+The second eraser must refuse a case with the words that the case has, or make the tokens that it has. The first eraser runs on it too. If both
+make a result, the results must differ, or both must have the tokens of the case.
 """
 
 import pathlib
@@ -42,7 +42,7 @@ def make_repository(top, says, files):
 
 
 def fault_of(says, top):
-    """What is wrong with how the second eraser treats a case, or none; and whether it refuses it."""
+    """What is wrong with how the second eraser treats a case, or None; and whether it refuses the case."""
     try:
         made, _ = second_eraser.erase(top, CRATES)
     except second_eraser.Refused as refused:

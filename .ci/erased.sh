@@ -1,7 +1,7 @@
 #!/bin/sh
 # The proved sources as plain Rust: the eraser's own tests, and then the erased sources of the package. They are made anew, and compared with
-# those that are there. One byte that differs fails it, and so does a source with a form that the eraser doesn't know. A second eraser, of
-# other hands, makes them by itself, and compares token by token. It has to find 500 changed tokens, and each wrong result of small crates
+# those that are there. The script fails if one byte differs, or if a source has a form that the eraser doesn't know. A second eraser, by
+# another author, makes them by itself, and compares token by token. It must find 500 changed tokens, and each wrong result of small crates
 # that are easy to erase wrongly.
 set -eu
 cd "$(dirname "$0")/.."

@@ -15,7 +15,7 @@ for test in tests/*.rs; do
     }
 done
 cargo test --offline
-# The stand-ins for the kit, as optimised code in which no sum may wrap.
+# The stand-ins for the kit, as optimised code that checks for overflow.
 CARGO_PROFILE_RELEASE_OVERFLOW_CHECKS=true cargo test --offline --release --quiet --lib kit::
 RUSTDOCFLAGS="-D warnings" cargo doc --offline --no-deps
 if cargo clippy --version >/dev/null 2>&1; then

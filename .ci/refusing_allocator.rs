@@ -48,14 +48,14 @@ pub fn held<T>(work: impl FnOnce() -> T) -> (T, isize) {
 }
 
 /// Does this, and returns how many bytes this thread asked for meanwhile, whether it gave them back or not. A
-/// block that grows is asked for anew.
+/// block that grows counts again, with its whole new size.
 pub fn asked<T>(work: impl FnOnce() -> T) -> (T, usize) {
     let before = ASKED.get();
     let done = work();
     (done, ASKED.get() - before)
 }
 
-/// A block has this many bytes more than before, and was asked for with so many.
+/// Counts a block that has `more` bytes more than before, for which `asked` bytes were asked for.
 fn count(more: isize, asked: usize) {
     BYTES.set(BYTES.get() + more);
     ASKED.set(ASKED.get() + asked);

@@ -1,11 +1,12 @@
 #!/usr/bin/env python3
-"""A second eraser. It reads the proved sources by itself, and compares what it makes of them with `rust/forgeni/src/proved`, token by token.
+"""A second eraser. It reads the proved sources by itself, and compares its results with `rust/forgeni/src/proved`, token by token.
 
-    .ci/second_eraser.py                        prints a line if TABLE has each difference, with its count; any other one is an error
-    .ci/second_eraser.py --mutate 500 --seed 1  changes one token of the results at a time, and the comparison has to find each change
+    .ci/second_eraser.py                        prints TABLE if the differences are its classes and counts; any other difference is an error
+    .ci/second_eraser.py --mutate 500 --seed 1  changes one token of the results at a time; the comparison must find each change
 
-It is written from the language's guide, without a look at `rust/erase`. A reader goes down a grammar. A name is an item of these crates, a
-binding, or in one of the lists below, which have what means the same in both languages. What is in neither grammar nor lists is an error.
+It was written from the language's guide, without a look at `rust/erase`. A reader goes down a grammar. A name must be an item of these crates,
+a binding, or in one of the lists below of names that mean the same in both languages. Whatever the grammar and the lists don't have is an
+error.
 """
 
 import argparse
@@ -18,7 +19,7 @@ import sys
 SOURCES, RESULTS, PACKAGE, EDITION = "crates", "rust/forgeni/src/proved", "rust/forgeni/Cargo.toml", "2024"
 LINTS = "#![allow(dead_code, unused_imports, unused_variables, clippy::all)]"
 
-# What differs between a source without its ghost words and its result: each class, how often it is made today, and why it keeps the meaning.
+# What differs between a source without its ghost words and its result: each class, how often it occurs today, and why it keeps the meaning.
 TABLE = {
     "derive(Drop)": (74, "in the kit a type may be dropped only if it says so, in Rust each may; no type here has a destructor"),
     "derive(Error)": (15, "written out as the next class"),
@@ -67,7 +68,7 @@ METHODS = set(
     "sort_by_cached_key sort_by_key sort_unstable split_at split_at_mut split_first split_first_chunk split_seat swap_remove take then "
     "to_le_bytes truncate unwrap unwrap_or word write_str".split()
 )
-# Methods of a trait of these crates that another type or trait has too: they are called where no other can be meant.
+# Methods of a trait of these crates that another type or trait has too. Each call of one can mean no other method.
 SHARED_NAMES = {
     "run": "`System` has it, and `Worker` of the same crate, which is no `System`",
     "take": "`Sink` has it, called on a parameter `S: Sink`; `Machine` and `Checker` are no `Sink`, and iterators are none",
@@ -95,7 +96,7 @@ Token = collections.namedtuple("Token", "kind text start end line")
 
 
 class Refused(Exception):
-    """What the second eraser doesn't know, with its place."""
+    """A form or name that the second eraser doesn't know, with its place."""
 
 
 class Text:

@@ -11,8 +11,8 @@ An edit is a file `crates/CRATE/wrong_bodies/NAME.edit`. It has pairs of lines: 
 `file: PATH` above names, and `new: TEXT`. Lines with `#` say what it does.
 
 Its line `refused by: FUNCTION: GOAL` says which function the prover refuses then, and which goal of that proof it names. A goal is a clause
-at a return, an invariant, or what a call requires, and its name says which. If a lemma fails that the goal's answer cites, or the answer
-cites a step that is gone with the edit, it is cut, and the prover has to name the goal. With a line `gate` the gate tries it.
+at a return, an invariant, or what a call requires, and its name says which. If a lemma that the goal's answer cites fails, or the answer cites
+a step that the edit took away, the script cuts it, and the prover must name the goal. The gate tries the edits with a line `gate`.
 
 Only the function that the file names is checked. Of those that it calls the contracts count, which no edit changes: their bodies are left
 out, and a hole stands for each of their proofs, and for the proof of each lemma. So a try takes seconds where the check of a crate takes

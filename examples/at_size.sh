@@ -1,9 +1,9 @@
 #!/bin/sh
 # Runs above 70,000 of each thing that grows, or as many as the formats allow: that memory which is there is not refused, and that nothing
 # is cut or mixed up at some size. No contract says the first. The tests `sizes` and `room` of the package make such runs of the allocator,
-# its phases, storages, worlds and frames. The test `sizes` of `crates/ent_tests` does so of a map by handle. The programs then run scripts,
-# a schedule and traces, and must print what is computed here of their numbers alone. It needs `cargo` and `python3` on the path, and the
-# programs as `.ci/run` or `prove.sh` built them. If one wasn't built, `rt`, which then proves it first.
+# its phases, storages, worlds and frames. The test `sizes` of `crates/ent_tests` does the same for a map by handle. The programs then run
+# scripts, a schedule and traces, and must print what is computed here from their numbers alone. It needs `cargo` and `python3` on the path,
+# and the programs as `.ci/run` or `prove.sh` built them. If one wasn't built, it needs `rt`, which then proves it first.
 set -eu
 here=$(cd "$(dirname "$0")" && pwd)
 out=$(mktemp -d)
@@ -105,7 +105,7 @@ write("schedule.out", ["%dv1" % slot for slot in range(count)]
 
 
 def trace(name, lines, text):
-    """A trace, and what is said of it. A difference is shown with the state before it."""
+    """A trace, and what must be printed for it. A difference comes with the state before it."""
     write(name + ".in", lines)
     write(name + ".out", text)
 
@@ -121,14 +121,14 @@ bulk = "reserve 1 %d => " % (2 * count) + " ".join(old + new)
 trace("listed", made + [bulk, "flush => born " + " ".join(new + old), "len => %d" % (2 * count)],
       ["agrees: %d lines, %d handles given" % (2 * count + 3, 3 * count)])
 
-# Single reservations of two callers in one run, each in the order of its caller, and a flush of all of them. The last freed slot is given
-# first: those of even number to the caller whose log comes last.
+# Single reservations of two callers in one run, each in the order of its caller, and a flush of all of them. The slot that was freed last is
+# given first. The handles at even places go to the caller whose log comes last.
 given = old[::-1] + new
 single = ["reserve %d 1 => %s" % (caller, handle) for caller, first in ((7, 1), (9, 0)) for handle in given[first::2]]
 trace("single", made + single + ["flush => born " + " ".join(new + old)],
       ["agrees: %d lines, %d handles given" % (4 * count + 1, 3 * count)])
 
-# A difference in a line above number 1,000 and above 100,000, of an exclusive call, of a flush and of a reservation.
+# A difference in a line above 1,000 and in one above 100,000: of an exclusive call, of a flush and of a reservation.
 for last in (1500, 2 * count):
     lines = ["alloc => %dv1" % slot for slot in range(last)]
     pool = ["%dv1" % slot for slot in range(last, last + 8)]
@@ -146,7 +146,7 @@ trace("long", made + [bulk, "flush => born " + " ".join(old + new)],
        shown(["%dv1" % slot for slot in range(2 * count, 2 * count + 8)], -count)])
 END
 
-# prints PROGRAM STATUS CASE WORDS..: the program must print what was computed, and end so.
+# prints PROGRAM STATUS CASE WORDS..: the program must print what was computed, and end with this status.
 prints() {
     program=$1 wanted=$2 name=$3
     shift 3

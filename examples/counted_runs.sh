@@ -89,7 +89,7 @@ for entities in 1000 10000; do
     at_most "sweeps of the index in $((20 * entities)) births among $entities entities" "$sweeps" 20
 done
 
-# A walk along the list would have a thousand times as many steps at each flush.
+# A walk along the longer list would take a thousand times as many steps at each flush.
 for entities in 64 65536; do
     counted "behind_$entities" "$entities" flushes_into_a_long_list --toggle-collect='counted::one_by_one*'
 done

@@ -3,9 +3,9 @@
 # memory and with many births as targets, a script that is refused, and traces that agree, differ or are none. Each run must end as an
 # undisturbed one does (the program may do without that piece of memory), or with status 3, `memory` on standard error and nothing else. Then
 # it runs each test of refused memory in the same way, and the files `*_refused.txt` of `crates/cases_and_examples`: they must pass, whichever
-# allocation is refused, and each of their lines must be made in one of these runs at least. And it counts what tests of things that take no
-# memory ask for. It needs `cc` on the path, and the programs, the tests and the cases as `.ci/run` built them. If a program wasn't built,
-# `rt`, which then proves it first; what else wasn't built is left out.
+# allocation is refused, and each of their lines must be run in at least one of these runs. It also counts what tests of things that take no
+# memory ask for. It needs `cc` on the path, and the programs, the tests and the cases as `.ci/run` built them. If a program wasn't built, it
+# needs `rt`, which then proves it first; anything else that wasn't built is left out.
 set -eu
 here=$(cd "$(dirname "$0")" && pwd)
 top=$(cd "$here/.." && pwd)
@@ -42,7 +42,7 @@ says_memory() {
     { IFS= read -r first && ! IFS= read -r second; } <"$room/said" && [ "$first" = memory ] && [ -z "$second" ]
 }
 
-# Whether the program has said what it says undisturbed, or that there was no memory for what it found.
+# Whether standard error is as in an undisturbed run, or says that there was no memory to show what was found.
 is_heard() {
     cmp -s "$room/said" "$room/wanted_said" && return
     cmp -s "$room/said" "$room/wanted_unshown" && unshown=$((unshown + 1))
@@ -74,7 +74,7 @@ each() {
     shift
     echo "$(basename "$program") $* on $name: status $wanted, $memory times memory, $undisturbed times undisturbed"
     [ "$memory" -gt 0 ]
-    # The value of a refused script is looked for, and that takes memory.
+    # Looking for the value of a refused script takes memory.
     [ "$name" != "${name#no_}" ] || return 0
     [ "$unshown" -gt 0 ]
 }
@@ -123,14 +123,14 @@ each "$room/differs" --slots 9 --generations 2
 each "$room/refused_line"
 each "$room/agrees" --slots 0
 
-# note_left_out: which lines the run of a file of cases has left out, as it says.
+# note_left_out: notes which lines the run of a file of cases has left out, as it prints them.
 note_left_out() {
     while IFS= read -r line; do
         case $line in *'left out:'*) echo "${line#*left out:}" ;; esac
     done <"$room/printed" >>"$room/left_out"
 }
 
-# never_made FILE: the lines that all runs of this file have left out. A run tells them by their numbers among the lines with a condition.
+# never_made FILE: the lines that all runs of this file have left out. A run prints their numbers among the lines with a condition.
 never_made() {
     awk '{ for (i = 1; i <= NF; i++) count[$i]++ } END { for (line in count) if (count[line] == NR) print line }' "$room/left_out" |
         while read -r number; do
@@ -172,8 +172,8 @@ tested() {
     done
 }
 
-# answered: the files of calls that take whichever allocation is refused. Which worker of two takes a system isn't the same in each run, so
-# there are up to ten rounds until each line was made.
+# answered: the files of calls that must pass whichever allocation is refused. Which of two workers takes a system differs from run to run,
+# so there are up to ten rounds until each line was run.
 answered() {
     cases=$top/crates/cases_and_examples/out/cases_and_examples
     [ -x "$cases" ] || { echo "the cases are not built, .ci/run builds them"; return; }

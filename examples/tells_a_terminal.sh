@@ -1,10 +1,10 @@
 #!/bin/sh
-# Runs the programs with a terminal as standard error and without one. `spawnrun` is given a schedule and a script that come late. A terminal
-# must be told how far the run is, since it takes more than a second, in a line that is empty in the end. `tracecheck` is given long traces.
-# A terminal must be told after each million lines how many were read, and nothing of a shorter one. Anything that is no terminal must be
-# told nothing. In both cases the output must be the same. No contract says what `main` takes for a terminal. It needs `script` of util-linux
-# for one, without which it shows nothing, and the programs as `.ci/run` or `prove.sh` built them. If one wasn't built, `rt`, which then
-# proves it first.
+# Runs the programs with a terminal as standard error and without one. `spawnrun` gets a schedule and a script that come late. Its run takes
+# more than a second, so a terminal must show how far it is, in a line that is empty in the end. `tracecheck` gets long traces. A terminal
+# must show after each million lines how many were read, and nothing for a shorter trace. Anything that isn't a terminal must get nothing.
+# In both cases the output must be the same. No contract says what `main` takes for a terminal. The script needs `script` of util-linux for a
+# terminal, without which it shows nothing, and the programs as `.ci/run` or `prove.sh` built them. If one wasn't built, it needs `rt`, which
+# then proves it first.
 set -eu
 here=$(cd "$(dirname "$0")" && pwd)
 out=$(mktemp -d)
@@ -18,7 +18,7 @@ built() {
     [ -x "$program" ] || (cd "$here/../crates/$1" && rt run >"$out/built" 2>&1)
 }
 
-# tells WHAT SEEN INPUT WORDS..: if this command makes the input, that is what a terminal sees.
+# tells WHAT SEEN INPUT WORDS..: if the command INPUT makes the input, a terminal must show SEEN.
 tells() {
     what=$1 input=$3
     printf "$2" >"$out/wanted"
@@ -42,7 +42,7 @@ tells 'a script' '' "$frames" run
 tells 'a schedule after 1.1 seconds' '\r0 of 7 done\r\033[K' "sleep 1.1; $schedule" replay
 tells 'a script after 1.1 seconds' '\r0 of 3 done\r\033[K' "sleep 1.1; $frames" run
 
-# A terminal begins its next line at the left by a carriage return.
+# A terminal writes each line feed as a carriage return and a line feed.
 built tracecheck
 lines() {
     echo "yes len | head -n $1"

@@ -1,12 +1,12 @@
-"""Random programs in the subset of the proved crates: `rt try` runs each, and so does what the eraser makes of it, built by rustc.
+"""Random programs in the subset of the proved crates: `rt try` runs each, rustc builds it erased, and both must print the same.
 
     python3 .ci/random_programs --programs 50 --seed 1     builds each batch of programs three times, and compares what they print
     python3 .ci/random_programs --show 17 --seed 1         prints program 17 of this seed
 
 A program is a function of statements that its seed draws: integer expressions, casts, shifts, matches, loops, closures, traits
-with defaults, generics, slices, iterators, early returns, compound assignments and values that are shared and dropped. It notes numbers as it
-goes, in the order of evaluation. An expression is written with the least and the largest value that it can have, so no sum, cast or index of a
-program is out of range. Many programs stand in one crate, since a run of `rt try` takes half a minute.
+with defaults, generics, slices, iterators, early returns, compound assignments and values that are shared and dropped. It notes numbers in the
+order of evaluation. The least and the greatest value of each expression are known as it is written, so no sum, cast or index of a program is
+out of range. One crate has many programs, since a run of `rt try` takes half a minute.
 """
 
 import argparse
@@ -59,7 +59,7 @@ fn main() {
 
 
 def run(command, folder, **how):
-    """What a command prints, or the end of what it says if it fails."""
+    """What a command prints, or the end of its errors if it fails."""
     found = subprocess.run(command, cwd=folder, capture_output=True, text=True, **how)
     if found.returncode:
         said = (found.stdout + found.stderr).strip().splitlines()
@@ -107,7 +107,7 @@ def by_program(output):
 
 
 def compare(numbers, seed, folder):
-    """The programs of these numbers do the same three times, and each notes something."""
+    """Checks that the programs of these numbers do the same in all three builds, and that each notes something."""
     texts = {it: Program(it, seed).text() for it in numbers}
     found = outputs(folder, numbers, "\n\n".join([TRACE.rstrip(), *texts.values()]) + "\n")
     first, *others = found.values()

@@ -1,4 +1,4 @@
-"""Integer expressions, each with the least and the largest value that it can have."""
+"""Integer expressions, each with the least and the greatest value that it can have."""
 
 import random
 
@@ -61,12 +61,12 @@ class Expressions:
         self.scopes[-1].append((name, type_of, low, high, is_mutable))
 
     def kept(self, is_mutable=None, type_of=None):
-        """The variables that can be read, the last one of each name."""
+        """The variables that can be read: of each name the last one."""
         found = {name: (name, *rest) for scope in self.scopes for name, *rest in scope}
         return [it for it in found.values() if (is_mutable is None or it[4] == is_mutable) and type_of in (None, it[1])]
 
     def new_or_hidden(self):
-        """A new name, or that of a variable that is hidden from here on."""
+        """A new name, or that of a variable that the new one hides."""
         names = [it[0] for it in self.kept(False) if it[0][0] in "vko"]
         return self.pick(*names) if names and self.chance(30) else self.name()
 
@@ -183,7 +183,7 @@ class Expressions:
         return Value(f"(if {condition} {{ {a.text} }} else {{ {b.text} }})", type_of, min(a.low, b.low), max(a.high, b.high))
 
     def matched(self, type_of, depth):
-        """A match on a number, whose arms are all reached by some number."""
+        """A match on a number, each arm of which some number reaches."""
         of, arms, results = self.value(None, depth), [], []
         at = max(least(of.type), -60)
         for _ in range(self.random.randint(1, 3)):
@@ -218,7 +218,7 @@ class Expressions:
         return Value(f"({{ let {name} = {inner.text}; {result.text} }})", type_of, result.low, result.high)
 
     def noted(self, type_of, depth):
-        """A number that is noted as it is evaluated. Its own parts note nothing, since the trace is lent to one at a time."""
+        """A number that is noted when it is evaluated. Its parts note nothing, since the trace is lent to one of them at a time."""
         if not self.may_trace:
             return None
         self.may_trace = False

@@ -55,7 +55,7 @@ class Program(Statements):
         self.items.append("\n".join(lines))
 
     def function(self, head, body, given=""):
-        """A function of its own, in which nothing of the program is known."""
+        """A function that knows nothing else of the program."""
         saved = self.lines, self.depth, self.scopes
         self.lines, self.depth, self.scopes = [head + " {"], 1, [[]]
         body()
@@ -107,7 +107,7 @@ class Program(Statements):
         self.note_text(f"u64::from({is_one} || {self.pick(*made)} == {self.pick(*made)})")
 
     def a_trait(self):
-        """A trait with a constant and a default, two types that have it, and a function of any."""
+        """A trait with a constant and a default, two types that implement it, and a function that takes any of them."""
         trait, given = f"Weigh{self.number}x{self.names}", self.pick(*BITS)
         one, two, by = f"One{self.number}x{self.names}", f"Two{self.number}x{self.names}", f"weigh{self.number}x{self.names}"
         self.names += 1
@@ -259,7 +259,7 @@ class Program(Statements):
         self.block(f"for each in {name} {{", lambda: self.note(Value("each", type_of, 0, 0)))
 
     def a_shared_value(self):
-        """Values that several own. Whether one is the last owner shows which of the others were dropped before."""
+        """Values with several owners. Whether an owner is the last one shows which others were dropped before."""
         name, looks = self.name("s"), f"looks{self.number}x{self.names}"
         self.names += 1
         self.item(

@@ -7,7 +7,7 @@ class Statements(Expressions):
     """Draws statements, and writes them."""
 
     def note(self, value):
-        """Notes a value. The trace is lent to one at a time, so what notes by itself is evaluated before."""
+        """Notes a value. The trace is lent to one of them at a time, so a value that notes something itself is evaluated first."""
         if "trace" in value.text:
             self.say(f"let noted = {value.text};")
             value = Value("noted", value.type, value.low, value.high)
@@ -129,7 +129,7 @@ class Statements(Expressions):
         self.keep(given, type_of, least(type_of), largest(type_of))
 
     def array(self):
-        """An array: its elements by index, in what order a compound assignment reads, and parts of it."""
+        """An array: its elements by index, the order in which a compound assignment reads, and parts of it."""
         type_of, name, size = self.pick(*BITS), self.name("a"), self.random.randint(3, 5)
         elements = ", ".join(self.value(type_of, 1).text for _ in range(size))
         self.say(f"let mut {name} = [{elements}];")

@@ -22,7 +22,7 @@ impl Walk<'_> {
         Ok(())
     }
 
-    /// The code of a signature or of a header from this place to `end`, where `Drop` is a bound.
+    /// The code of a signature or of a header from this place to `end`. `Drop` is a bound there.
     pub(crate) fn signature(&mut self, at: usize, end: usize) -> Next {
         let before = std::mem::replace(&mut self.is_signature, true);
         let mut at = at;
@@ -64,7 +64,7 @@ impl Walk<'_> {
         }
     }
 
-    /// A `..`: of a pattern, of a range, or before the rest of a value.
+    /// A `..`: in a pattern, in a range, or before the rest of a value.
     fn range(&self, at: usize) -> Next {
         let (before, after) = (self.source.before(at), self.source.at(at + 1));
         let has_begin = !["(", "[", "{", ",", "@", "|"].contains(&before);
@@ -74,7 +74,7 @@ impl Walk<'_> {
         }
         let closes = [")", "]", "}", ",", "|", "=>", "="].contains(&after);
         if ["{", ","].contains(&before) && !closes {
-            // Nothing of the rest may be run: the kit doesn't, if no field is taken from it.
+            // No code of the rest may run: the kit doesn't run it if no field is taken from it.
             let end = (at + 1..self.source.len())
                 .find(|at| !self.source.is_word(*at) && self.source.at(*at) != ".");
             if end.is_none_or(|end| self.source.at(end) != "}") {
@@ -96,7 +96,7 @@ impl Walk<'_> {
         }
     }
 
-    /// Whether the `..` here, which has no end, is of a part of a slice: in `x[a..]` or in `x.get(a..)`.
+    /// Whether the `..` here, which has no end, takes a part of a slice: in `x[a..]` or in `x.get(a..)`.
     fn is_of_slice(&self, at: usize) -> bool {
         let close = at + 1;
         let open = self.source.partner(close);
@@ -109,7 +109,7 @@ impl Walk<'_> {
                 self.source.is_word(open - 1) && !forms::KEYWORDS.contains(&before)
                     || [")", "]"].contains(&before)
             }
-            // Of a constant, whose type is written, and no range.
+            // A constant's, whose type is written: no range.
             "(" if before == "get" && self.source.before(open - 1) == "." => {
                 let receiver = self.source.before(open - 2);
                 receiver.starts_with(|c: char| c.is_uppercase())
@@ -235,8 +235,8 @@ impl Walk<'_> {
         Ok(at + 2)
     }
 
-    /// What is proved of code isn't run in a release, so the code may only look: at places, and by methods that are
-    /// known to.
+    /// The code in a proof isn't run in a release. So it may only look: at places, and by methods that are known only
+    /// to look.
     fn only_looks(&self, at: usize, end: usize) -> Result<(), Fault> {
         let looks = |at: usize| {
             let token = self.source.at(at);
@@ -266,7 +266,7 @@ impl Walk<'_> {
         }
     }
 
-    /// A name that no path leads to. It is the sources' own, or known.
+    /// A name without a path. It must be the sources' own, or known.
     fn name(&mut self, at: usize) -> Next {
         let name = self.source.at(at);
         if !["::", "."].contains(&self.source.before(at)) {
@@ -329,7 +329,7 @@ impl Walk<'_> {
             return Ok(at + 1);
         }
         if self.names.methods.contains_key(name) {
-            // Of a name that std has too the receiver tells whose it is.
+            // If std has a method of the name too, the receiver tells whose it is.
             let before = self.source.before(at - 1);
             let is_own = |it: &&(&str, &[&str])| it.0 == name && it.1.contains(&before);
             if !forms::is_of_std(name) || forms::OWN_CALLS.iter().any(|it| is_own(&it)) {
@@ -341,8 +341,8 @@ impl Walk<'_> {
             .fault(at, format!("an unknown method, or form of it: `{name}`")))
     }
 
-    /// A slice's own `sort_by_key` ends the program if memory is refused, and returns nothing. So what a call of that
-    /// name returns has to be used, or its list is declared as one.
+    /// A slice's own `sort_by_key` ends the program if memory runs out, and returns nothing. So the result of a call
+    /// of that name must be used, or its list must be declared as one.
     fn check_sorting(&self, at: usize, open: usize) -> Result<(), Fault> {
         let name = self.source.at(at);
         let is_used = ["?", "."].contains(&self.source.at(self.source.partner(open) + 1));
@@ -358,7 +358,7 @@ impl Walk<'_> {
         Err(self.source.fault(at, what))
     }
 
-    /// An import from the kit goes to the top of the file, so a module within it has none.
+    /// An import from the kit goes to the top of the file, so a module within the file must have none.
     fn import(&mut self, at: usize, path: &'static str) -> Result<(), Fault> {
         if self.is_module {
             let what = format!(

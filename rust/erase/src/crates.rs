@@ -74,7 +74,7 @@ pub fn below(listed: &str, tops: &[String]) -> Result<Vec<String>, String> {
 ///
 /// # Errors
 ///
-/// A file can't be read, or two have one result, as those of a library and of a program.
+/// A file can't be read, or two files have one result, such as those of a library and of a program.
 pub fn read(repository: &Path, name: &str) -> io::Result<Crate> {
     let folder = repository.join("crates").join(name).join("src");
     let mut paths = Vec::new();

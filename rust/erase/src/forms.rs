@@ -70,11 +70,11 @@ pub const KEPT_DERIVES: &[&str] = &[
 /// The derive that is written out: `Display` by the messages of `#[error("..")]`, and `Error`.
 pub const ERROR_DERIVE: &str = "Error";
 
-/// A trait of std or of the kit, of which an `impl` says in Rust what it says in the kit.
+/// A trait of std or of the kit whose `impl` means the same in Rust as in the kit.
 pub struct KeptTrait {
     /// Its name.
     pub name: &'static str,
-    /// What an `impl` of it may have: what it has to have, and what the kit calls as Rust does.
+    /// What an `impl` of it may have: what it must have, and what the kit calls as Rust does.
     pub members: &'static [&'static str],
 }
 
@@ -105,14 +105,14 @@ pub fn kept_trait(name: &str) -> Option<&'static KeptTrait> {
     KEPT_TRAITS.iter().find(|it| it.name == name)
 }
 
-/// Words after which a name is declared.
+/// Words after which a source declares a name.
 pub const DECLARING: &[&str] = &["const", "enum", "fn", "mod", "struct", "trait", "type"];
 
-/// Types of the kit that have no method and lead to none, so that a trait of the sources may be theirs.
+/// Types of the kit that have no method and lead to none. So the sources may implement a trait for them.
 pub const OPEN_TYPES: &[&str] = &["Either"];
 
-/// Methods that nearly each type has by a trait of Rust's prelude, or by a derive, or that a macro calls. A type's
-/// own may not be called so: which of the two a call is would be up to how it is looked up.
+/// Methods that nearly every type has by a trait of Rust's prelude, or by a derive, or that a macro calls. A type
+/// must have no method of its own with such a name: the rules of look-up would decide which of the two is called.
 pub const COMMON_METHODS: &[&str] = &[
     "as_mut",
     "as_ref",
@@ -151,8 +151,8 @@ pub fn is_of_std(name: &str) -> bool {
     lines.flat_map(str::split_whitespace).any(|it| it == name)
 }
 
-/// Methods of the sources whose name std has too, and isn't in the lists of methods: each with the word before the
-/// point, where it is the sources' own.
+/// Methods of the sources whose name std has too, and that aren't in the lists of methods: each with the word before
+/// the point that makes it the sources' own.
 pub const OWN_CALLS: &[(&str, &[&str])] = &[
     ("and", &["requests"]),
     ("end", &["self"]),
@@ -162,13 +162,13 @@ pub const OWN_CALLS: &[(&str, &[&str])] = &[
     ("write", &["self"]),
 ];
 
-/// Methods of a list of the kit that a slice of Rust has too. Those of the kit return a `Result`.
+/// Methods of the kit's list that a slice of Rust has too. Those of the kit return a `Result`.
 pub const SORTING: &[&str] = &["sort", "sort_by_cached_key", "sort_by_key"];
 
-/// Methods that look at a value and do nothing else, so that it is all the same whether they are called.
+/// Methods that only look at a value, so that nothing changes if they aren't called.
 pub const LOOKING: &[&str] = &["cursor"];
 
-/// The names of Rust's prelude. None of them may have another meaning.
+/// The names of Rust's prelude. No source may give one of them another meaning.
 pub const PRELUDE: &[&str] = &[
     "AsMut",
     "AsRef",
@@ -225,13 +225,13 @@ pub const PRELUDE: &[&str] = &[
 /// The crates of Rust itself.
 pub const CRATES: &[&str] = &["alloc", "core", "std"];
 
-/// The types of Rust that have a word of their own.
+/// The primitive types of Rust.
 pub const PRIMITIVES: &[&str] = &[
     "bool", "char", "f128", "f16", "f32", "f64", "i128", "i16", "i32", "i64", "i8", "isize", "str",
     "u128", "u16", "u32", "u64", "u8", "usize",
 ];
 
-/// Names that stand for themselves, without a path: of the prelude, and types. Their meaning is the kit's.
+/// Names that may be used without a path: of the prelude, and types. They mean what they mean in the kit.
 pub const BARE: &[&str] = &[
     "Clone",
     "Copy",
@@ -274,7 +274,7 @@ pub const KEYWORDS: &[&str] = &[
     "super", "trait", "true", "type", "use", "where", "while",
 ];
 
-/// Words that begin an item. None stands in a body.
+/// Words that begin an item. No body has one.
 pub const ITEM_WORDS: &[&str] = &["const", "enum", "impl", "mod", "struct", "trait", "type"];
 
 /// What a type of the sources has by a trait of std, and may be called by a path.

@@ -1,17 +1,17 @@
 //! What the sources declare, and what they may not.
 //!
 //! The eraser acts on names: `Drop` is a bound, an `impl` of `Model` goes, `itoa` is a crate, `.len()` of a list is
-//! that of its slice. So a source may give none of these names another meaning, and a method has to be the same
-//! one however it is looked up.
+//! that of its slice. So no source may give one of these names another meaning, and a method must be the same one
+//! however it is looked up.
 
 use crate::forms::{self, Forms};
 use crate::source::{Fault, Source};
 use std::collections::{BTreeMap, BTreeSet};
 
-/// What all sources together declare, and where that is in the result.
+/// What all sources together declare, and where the result has it.
 #[derive(Default)]
 pub struct Names {
-    /// The crates, with their paths in the result, as `crate::proved::ent_alloc`.
+    /// The crates, with their paths in the result, such as `crate::proved::ent_alloc`.
     pub crates: BTreeMap<String, String>,
     /// Their items.
     pub items: BTreeSet<String>,
@@ -19,11 +19,11 @@ pub struct Names {
     pub belonging: BTreeSet<String>,
     /// Their structs and enums, each with the files that declare one of this name.
     types: BTreeMap<String, BTreeSet<String>>,
-    /// Their other names of types, which may be of std.
+    /// Their other names for types, which may be types of std.
     aliases: BTreeSet<String>,
     /// Their traits.
     pub traits: BTreeSet<String>,
-    /// Their functions that take a `self`. For each whether all of that name only look at it.
+    /// Their functions that take a `self`. For each name, whether all functions of that name only look at it.
     pub methods: BTreeMap<String, bool>,
     /// The ghost members that their traits declare.
     pub members: BTreeSet<String>,
@@ -37,18 +37,18 @@ pub struct Names {
 
 /// An `impl` block.
 struct Block {
-    /// The type, with its file. Where several may be meant, the block counts for each.
+    /// The type, with its file. If several may be meant, the block counts for each.
     of: (String, String),
-    /// The trait, if it is of one.
+    /// The trait, if it implements one.
     implemented: Option<String>,
     /// Whether the type has no parameters.
     is_plain: bool,
-    /// What it has: how a function takes its `self`, if it does, and what is said if it may not be there.
+    /// What it has: how a function takes its `self`, if it does, and the error if the function may not be there.
     methods: BTreeMap<String, (Option<String>, Fault)>,
 }
 
 impl Names {
-    /// No crate yet, and what they may use.
+    /// No crate yet, and the names that crates may use.
     pub fn new(forms: &[&'static Forms]) -> Self {
         Names {
             forms: forms.to_vec(),
@@ -56,11 +56,11 @@ impl Names {
         }
     }
 
-    /// Adds what a source declares. The crates have to be known before.
+    /// Adds what a source declares. The crates must be known before.
     ///
     /// # Errors
     ///
-    /// A name has another meaning for the eraser, or an `impl` is of a type that isn't the sources' own.
+    /// A name has another meaning for the eraser, or an `impl` is for a type that isn't the sources' own.
     pub fn add(&mut self, source: &Source<'_>) -> Result<(), Fault> {
         let mut members = BTreeSet::new();
         for at in 0..source.len() {
@@ -107,7 +107,7 @@ impl Names {
         }
     }
 
-    /// One name that is declared. A member of a trait or of an `impl` is found by its type alone.
+    /// Adds one declared name. A member of a trait or of an `impl` is found by its type alone.
     fn declare(&mut self, source: &Source<'_>, at: usize, is_member: bool) -> Result<(), Fault> {
         let (kind, name) = (source.at(at), source.at(at + 1));
         let is_taken = if is_member {
@@ -132,7 +132,7 @@ impl Names {
             "type" if !is_member => drop(self.aliases.insert(name.to_owned())),
             "fn" => {
                 if let Some(receiver) = receiver(source, at) {
-                    // That of a slice takes a range without an end.
+                    // A slice's method takes a range without an end.
                     let end = source.find(at, source.len(), &["{", ";"]).unwrap_or(at);
                     let is_generic = (at..end).any(|at| source.at(at) == "impl");
                     if name == "get" && (is_generic || source.at(at + 2) == "<") {
@@ -172,7 +172,7 @@ impl Names {
     ///
     /// # Errors
     ///
-    /// One is of a type that isn't the sources' own, or of a trait that isn't known.
+    /// One is for a type that isn't the sources' own, or of a trait that isn't known.
     pub fn add_blocks(&mut self, source: &Source<'_>) -> Result<(), Fault> {
         for at in 0..source.len() {
             if source.at(at) != "impl" || !begins_item(source, at) {
@@ -195,7 +195,7 @@ impl Names {
                 return Err(source.fault(at, what));
             }
             if header.refers {
-                // Which of the two a call finds is up to how a receiver is looked up.
+                // The look-up of a receiver would decide which of the two a call finds.
                 return Err(source.fault(at, "an impl for a reference"));
             }
             let members = members_of(source, at)?;
@@ -230,7 +230,7 @@ impl Names {
         Ok(())
     }
 
-    /// The crate that the source has this name from.
+    /// The crate from which the source has this name.
     fn crate_of<'a>(&self, source: &Source<'a>, name: &str) -> &'a str {
         let mut at = 0;
         while let Some(import) = source.find(at, source.len(), &["use"]) {
@@ -244,8 +244,8 @@ impl Names {
         krate(source)
     }
 
-    /// An `impl` of a trait of std says no more than it has to: a method that has a default may be one that Rust
-    /// calls and the kit doesn't.
+    /// An `impl` of a trait of std must have no method with a default: it may be one that Rust calls and the kit
+    /// doesn't.
     fn check_members(
         &self,
         source: &Source<'_>,
@@ -265,11 +265,11 @@ impl Names {
         Ok(())
     }
 
-    /// Whether each method of a type is the one of its name, in whichever order Rust and the kit look.
+    /// Checks that each method of a type is the only one of its name, so that the order of look-up doesn't matter.
     ///
     /// # Errors
     ///
-    /// The first one of which that isn't so: it stands in two blocks, or a trait of std gives it to the type too.
+    /// The first method that isn't: it is in two blocks, or a trait of std gives it to the type too.
     pub fn check(&self) -> Result<(), Fault> {
         let mut found = BTreeMap::new();
         let iterators: BTreeSet<_> = self
@@ -283,7 +283,7 @@ impl Names {
             let is_of_std = implemented.is_some_and(|name| forms::kept_trait(name).is_some());
             for (name, (receiver, fault)) in &block.methods {
                 let before = found.insert((&block.of, name), (implemented, receiver));
-                // Taken in one way, the type's own comes before that of a trait.
+                // If both take `self` in the same way, the type's own comes before that of a trait.
                 let is_other = before.is_some_and(|(other, how)| {
                     let is_one_own = other.is_none() != implemented.is_none();
                     let is_same = other == implemented && other.is_some();
@@ -300,7 +300,7 @@ impl Names {
         Ok(())
     }
 
-    /// Whether this is another name of a type, which may be of std.
+    /// Whether this is another name for a type, which may be a type of std.
     pub fn is_alias(&self, name: &str) -> bool {
         self.aliases.contains(name) && !self.types.contains_key(name)
     }
@@ -336,13 +336,13 @@ fn krate<'a>(source: &Source<'a>) -> &'a str {
     source.path.split('/').nth(1).unwrap_or_default()
 }
 
-/// What is said of a name that the eraser gives a meaning.
+/// The error for a name to which the eraser gives a meaning.
 pub(crate) fn taken(source: &Source<'_>, at: usize) -> Fault {
     let what = format!("a name that has another meaning: `{}`", source.at(at));
     source.fault(at, what)
 }
 
-/// Whether an `impl` or a `trait` here is an item, and no type.
+/// Whether an `impl` or a `trait` here is an item, and not a type.
 pub(crate) fn begins_item(source: &Source<'_>, at: usize) -> bool {
     ["", "}", "{", ";", "]", "pub", ")"].contains(&source.before(at))
 }
@@ -356,13 +356,13 @@ pub(crate) fn block(source: &Source<'_>, at: usize) -> Result<usize, Fault> {
 
 /// The first line of an `impl` block.
 pub(crate) struct Header<'a> {
-    /// The last name of the trait that it is of, if it is of one.
+    /// The last name of the trait that it implements, if it implements one.
     pub(crate) implemented: Option<&'a str>,
-    /// The last name of its type, without what it refers by.
+    /// The last name of its type, without `&`.
     of: &'a str,
     /// Whether the type has no parameters.
     is_plain: bool,
-    /// Whether it is of a reference to the type.
+    /// Whether it is for a reference to the type.
     refers: bool,
     /// Its parameters.
     parameters: BTreeSet<&'a str>,
@@ -390,7 +390,7 @@ pub(crate) fn header<'a>(source: &Source<'a>, at: usize) -> Result<Header<'a>, F
             _ if source.is_word(next) => last = source.at(next),
             "&" => refers = true,
             "::" => {}
-            // No type of the sources begins so.
+            // No type of the sources begins like this.
             _ if source.token(next).kind == crate::lex::Kind::Lifetime => {}
             other => last = other,
         }
@@ -405,7 +405,7 @@ pub(crate) fn header<'a>(source: &Source<'a>, at: usize) -> Result<Header<'a>, F
     })
 }
 
-/// Where the parameters stand that the angles from `at` to `end` declare.
+/// The places of the parameters that the angles from `at` to `end` declare.
 pub(crate) fn parameters_in(source: &Source<'_>, at: usize, end: usize) -> Vec<usize> {
     let mut depth = 0;
     let is_declared = |at: &usize| {
@@ -420,14 +420,14 @@ pub(crate) fn parameters_in(source: &Source<'_>, at: usize, end: usize) -> Vec<u
     (at..end).filter(is_declared).collect()
 }
 
-/// Where the `fn`, `type` and `const` of a trait or an `impl` stand, that are its own members.
+/// The places of each `fn`, `type` and `const` that is a member of a trait or an `impl`.
 fn members_of(source: &Source<'_>, at: usize) -> Result<Vec<usize>, Fault> {
     let body = block(source, at)?;
     let end = source.partner(body);
     let mut members = Vec::new();
     let mut at = body + 1;
     while let Some(found) = source.find(at, end, &["fn", "type", "const"]) {
-        // Not of the type of a function, nor of `const fn`.
+        // Not the `fn` of a function's type, nor the `const` of `const fn`.
         if source.is_word(found + 1) && source.at(found + 1) != "fn" {
             members.push(found);
         }

@@ -47,8 +47,8 @@ impl<'a> Walk<'a> {
         Ok(end)
     }
 
-    /// An import gives no name another meaning, and names all that it takes. What it takes of the sources are their
-    /// own names.
+    /// An import must give no name another meaning, and must name all that it imports. From the sources it imports
+    /// only their own names.
     fn check_import(&self, at: usize, end: usize) -> Result<(), Fault> {
         let is_of_std = self.module_at(at)?.is_some();
         for at in at + 1..end {
@@ -97,7 +97,7 @@ impl<'a> Walk<'a> {
         Ok(at + 1)
     }
 
-    /// Each name of a path after the one at `at` has to be known: as what its head has, or as an own one.
+    /// Each name of a path after the one at `at` must be known: as one that its head has, or as one of the sources.
     fn rest_of_path(&self, at: usize) -> Result<(), Fault> {
         let (mut head, mut next) = (at, self.after_name(at)?);
         if self.source.at(next - 1) == ">" && !self.is_known(self.source.at(at)) {

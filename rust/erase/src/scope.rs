@@ -5,7 +5,7 @@ use crate::names::parameters_in;
 use crate::source::Source;
 use std::collections::BTreeSet;
 
-/// All of them. Where in the source a name is bound isn't told: that is Rust's as it is the kit's.
+/// All of them, wherever the source binds them: Rust and the kit have the same scopes.
 pub(crate) fn bound<'a>(source: &Source<'a>) -> BTreeSet<&'a str> {
     let mut scope = Scope {
         source,
@@ -31,7 +31,7 @@ pub(crate) fn bound<'a>(source: &Source<'a>) -> BTreeSet<&'a str> {
             _ => {}
         }
     }
-    // To bind one of these would give it another meaning.
+    // Binding one of these would give it another meaning.
     let is_free = |name: &&str| !forms::PRELUDE.contains(name) && !forms::PRIMITIVES.contains(name);
     scope.bound.into_iter().filter(is_free).collect()
 }
@@ -50,7 +50,7 @@ impl Scope<'_, '_> {
             .extend(places.filter(last).map(|at| self.source.at(at)));
     }
 
-    /// The parameters of an item, if angles stand here; and the arguments, if they are of a function.
+    /// The parameters of an item, if angles are here, and the arguments, if the item is a function.
     fn parameters(&mut self, at: usize) {
         let mut next = at;
         if self.source.at(at) == "<" {

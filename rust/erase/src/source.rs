@@ -111,8 +111,8 @@ impl<'a> Source<'a> {
         self.partners[at]
     }
 
-    /// The end of the term in the braces that open here, if they do. No bracket in it is hidden in a comment or a
-    /// literal, which the kit may read otherwise.
+    /// The end of the term in the braces that open here, if any do. No bracket in the term may be in a comment or a
+    /// literal, which the kit may read in another way.
     ///
     /// # Errors
     ///
@@ -184,11 +184,11 @@ impl<'a> Source<'a> {
     }
 }
 
-/// The first byte of what a term, or the kit, may take for a comment where Rust doesn't, or the other way round,
-/// with what it is.
+/// The first byte of what a term or the kit may read as a comment where Rust doesn't, or the other way round, and
+/// what it is.
 fn otherwise_read(text: &str, tokens: &[Token]) -> Option<(usize, &'static str)> {
     let hides = |rest: &str| rest.contains(|c| "(){}[]\"'".contains(c)) || rest.contains("/*");
-    // A line may end there for one of the two, and with it a comment.
+    // For one of the two, a line may end there, and a comment with it.
     let is_odd = |c: char| c.is_control() && c != '\n' || ['\u{2028}', '\u{2029}'].contains(&c);
     if let Some(at) = text.find(is_odd) {
         return Some((at, "a character that isn't seen"));
@@ -211,7 +211,7 @@ fn otherwise_read(text: &str, tokens: &[Token]) -> Option<(usize, &'static str)>
     })
 }
 
-/// Whether a name in quotes begins here, as `«data»`.
+/// Whether a name in quotes begins here, such as `«data»`.
 fn is_quoted_name(text: &str) -> bool {
     let rest = text.trim_start_matches('«');
     rest.trim_start_matches(is_word).starts_with('»')

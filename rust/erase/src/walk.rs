@@ -68,7 +68,7 @@ impl<'a> Walk<'a> {
             first_use: None,
             first_item: None,
         };
-        // An import may stand below what uses it. A fault of it is found later, at its place.
+        // An import may come after its uses. A fault in it is found later, at its place.
         for at in (0..source.len()).filter(|at| source.at(*at) == "use") {
             if let Ok(Some(module)) = walk.module_at(at + 1) {
                 let _ = walk.taken(at + 1, module);

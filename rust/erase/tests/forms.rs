@@ -1,7 +1,7 @@
-//! Forms that could become another program. Each file of `forms` has one, with what it is in its first line and
-//! what becomes of it in its second: `refused: LINE: WHY`; `stopped: WHY`, where it is the package's kit that refuses it,
-//! as it is built; or `shown: VALUE`, which its function `shown` has to return in a debug build and in a release build,
-//! of the package's edition.
+//! Forms that could become another program. Each file of `forms` has one. Its first line says what the form is, and
+//! its second what becomes of it: `refused: LINE: WHY`; `stopped: WHY`, if the package's kit refuses it at compile
+//! time; or `shown: VALUE`, which its function `shown` must return in a debug build and in a release build of the
+//! package's edition.
 
 mod common;
 use common::erased_as;
@@ -16,7 +16,7 @@ struct Form {
 }
 
 impl Form {
-    /// What stands in the second line after this word.
+    /// What the second line has after this word.
     fn says(&self, word: &str) -> Option<&str> {
         let second = self.text.lines().nth(1).unwrap_or_default();
         second.strip_prefix(&format!("//! {word}: "))
@@ -132,7 +132,7 @@ fn folder(name: &str) -> PathBuf {
     folder
 }
 
-/// Puts the result of a form there. Returns the line that makes it a module.
+/// Writes the result of a form there. Returns the line that makes it a module.
 fn put(folder: &Path, form: &Form) -> String {
     let name = &form.name;
     let result = erased_as(name, &form.text).unwrap_or_else(|fault| panic!("{name}: {fault}"));
@@ -140,7 +140,7 @@ fn put(folder: &Path, form: &Form) -> String {
     format!("pub mod {name};\n")
 }
 
-/// Builds a program that has these modules, beside the package's kit, and makes these calls.
+/// Builds a program that has these modules and the package's kit, and makes these calls.
 fn build(folder: &Path, modules: &str, calls: &str, name: &str, options: &[&str]) -> Output {
     let package = Path::new(env!("CARGO_MANIFEST_DIR")).join("../forgeni");
     let kit = package.join("src/kit/mod.rs");
@@ -167,12 +167,12 @@ fn build(folder: &Path, modules: &str, calls: &str, name: &str, options: &[&str]
     build.args(["-o", name, "main.rs"]).output().expect("rustc")
 }
 
-/// What a program says on its standard error.
+/// What a program writes to standard error.
 fn said(output: &Output) -> String {
     String::from_utf8_lossy(&output.stderr).into_owned()
 }
 
-/// Of two sources with one result one would be lost.
+/// If two sources have one result, one of them would be lost.
 #[test]
 fn two_sources_have_two_results() {
     let repository = Path::new(env!("CARGO_TARGET_TMPDIR")).join("roots");

@@ -43,8 +43,8 @@ impl Commands {
         Ok(Handle::of(self.proved.spawn(Global, &bundle)?))
     }
 
-    /// Reserves `count` handles at once, each of which is to have the components. The time is that of
-    /// their list, and as much of the queue.
+    /// Reserves `count` handles at once, each of which is to have the components. It takes time for each
+    /// handle of the list, and of the queue, which has them too.
     ///
     /// # Errors
     ///
@@ -224,8 +224,8 @@ pub enum SpawnError {
 }
 
 impl SpawnError {
-    /// What a system makes of the error. A refusal stands in the queue, and the system goes on.
-    /// Only want of memory ends it:
+    /// What a system makes of the error. The queue has the refusal, and the system goes on.
+    /// Only lack of memory ends the system:
     ///
     /// ```
     /// # use forgeni::{Commands, OutOfMemory};

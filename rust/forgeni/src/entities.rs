@@ -238,7 +238,7 @@ impl Entities {
     }
 
     /// Brings to life what was requested, and lists it: first the handles of new slots, then the
-    /// others. The time is that of what comes to life.
+    /// others. It takes time for each handle that comes to life.
     ///
     /// # Errors
     ///
@@ -250,12 +250,12 @@ impl Entities {
         Ok(all_handles(born))
     }
 
-    /// [`flush`](Self::flush), which appends the handles to this list. The time is that of what is
-    /// appended, however long the list is.
+    /// [`flush`](Self::flush), which appends the handles to this list. It takes time for each handle
+    /// that it appends, however long the list is.
     ///
-    /// Into a list without handles it takes no memory if the list has room and no slot is new. So a
-    /// list that is cleared and used again takes none in the end. Of one that has handles already, what
-    /// comes to life is first listed apart.
+    /// If the list has no handles but room for these, and no slot is new, the call takes no memory. So a
+    /// list that is cleared and used again takes none in the end. If the list has handles already, the
+    /// call first lists what comes to life apart.
     ///
     /// ```
     /// use forgeni::Entities;

@@ -30,13 +30,14 @@ use std::sync::{Mutex, PoisonError};
 ///
 /// # What depends on the workers
 ///
-/// Which handles a system is given does. The births, the components and the faults don't, as long as
+/// Which handles a system gets depends on the workers. The births, the components and the faults don't, as
+/// long as
 ///
-/// - no spawn is refused: if slots or a credit run out, who asks late is refused, and who is late depends
-///   on the workers;
-/// - no memory is refused;
-/// - no handle decides: no system compares handles or keeps them as values, and no two entities have
-///   one birth. [`View::by_birth`] and [`View::with`] list those of one birth by handle.
+/// - no spawn is refused: if slots or a credit run out, late requests are refused, and which requests are
+///   late depends on the workers;
+/// - no allocation fails;
+/// - nothing depends on handles: no system compares them or keeps them as values, and no two entities have
+///   the same birth. [`View::by_birth`] and [`View::with`] list entities of one birth by handle.
 ///   [`World::spawn`] gives each entity a birth of its own. [`World::spawn_with_birth`] may not, and a
 ///   [`World::flush`] after a lost frame begins with the births that `World::spawn` gave in that phase.
 ///

@@ -23,9 +23,9 @@ use core::ops::{Index, IndexMut};
 /// It does not know which handles an allocator has given or freed. A value that nobody removes stays
 /// until a later occupant of its slot gets one, and can't be found by that one's handle.
 ///
-/// **A handle of another's making may ask for much memory**: of a save, or from a network. Its index says
-/// for how many slots the map gets room, and `200000000v1` is a well formed handle. A map that is given
-/// such handles has a [limit](Self::with_limit), above which it refuses them:
+/// **A handle from a save or a network may make the map take much memory.** The handle's index says for how
+/// many slots the map takes room, and `200000000v1` is a well-formed handle. So give a map for such handles
+/// a [limit](Self::with_limit). It refuses each handle whose slot is at or above it:
 ///
 /// ```
 /// use forgeni::{Entities, Handle, HandleMap, InsertionError};
@@ -71,7 +71,7 @@ use core::ops::{Index, IndexMut};
 /// that is no greater than 4 bytes it is 8 bytes a slot, and of one with 8 bytes it is 16.
 pub struct HandleMap<T> {
     proved: handle_map::HandleMap<T>,
-    /// The first handle, in their order, that is refused.
+    /// The first handle, in the order of handles, that is refused.
     end: Handle,
 }
 
@@ -83,9 +83,9 @@ impl<T> HandleMap<T> {
         Self::with_limit(u32::MAX)
     }
 
-    /// A map without values, which refuses the handles of slots at or above this limit. It takes no
+    /// A map without values, which refuses each handle whose slot is at or above this limit. It takes no
     /// memory. [`Entities::total`](crate::Entities::total) is a limit that fits an allocator as long as
-    /// it makes no new slots; [`set_limit`](Self::set_limit) sets another one.
+    /// it makes no new slots; [`set_limit`](Self::set_limit) changes the limit.
     #[must_use]
     pub const fn with_limit(slots: u32) -> Self {
         Self {
@@ -94,7 +94,7 @@ impl<T> HandleMap<T> {
         }
     }
 
-    /// How many slots the map may have values for: 2^32 - 1, or the limit that was set.
+    /// For how many slots the map may have values: 2^32 - 1, or the limit that was set.
     #[inline]
     #[must_use]
     pub const fn limit(&self) -> u32 {
@@ -105,7 +105,7 @@ impl<T> HandleMap<T> {
         }
     }
 
-    /// Sets the limit. The values that the map has stay, also those of slots at or above it.
+    /// Sets the limit. The map keeps the values that it has, even those of slots at or above the limit.
     #[inline]
     pub fn set_limit(&mut self, slots: u32) {
         self.end = end_of(slots);
@@ -186,8 +186,8 @@ impl<T> HandleMap<T> {
     /// Gives the handle a value, and returns the one that it had. If an earlier occupant of the slot
     /// has one, that is dropped.
     ///
-    /// It takes no memory if there is room for the slot ([`capacity`](Self::capacity)), and constant
-    /// time then. Else it takes memory and time for all slots up to that of the handle.
+    /// If there is room for the slot ([`capacity`](Self::capacity)), it takes no memory, and constant
+    /// time. If not, it takes memory and time for all slots up to that of the handle.
     ///
     /// ```
     /// use forgeni::{Handle, HandleMap, InsertionError};
@@ -212,7 +212,8 @@ impl<T> HandleMap<T> {
     #[doc = include_str!("proved/ent_storage/handle_map.insert.md")]
     #[inline]
     pub fn insert(&mut self, handle: Handle, value: T) -> Result<Option<T>, Uninserted<T>> {
-        // The first comparison, which the second one implies, costs less, and is all for most handles.
+        // The second comparison implies the first one. But that one costs less, and for most handles it
+        // is the only one made.
         if handle.index() >= self.end.index() && handle >= self.end {
             return Err(Uninserted {
                 value,
@@ -257,8 +258,8 @@ impl<T> HandleMap<T> {
     ///
     /// # Panics
     ///
-    /// A panic of `keep` is handed on. The map has then what was kept, all that `keep` wasn't called
-    /// at, and the value at which it panicked, changed as far as `keep` had changed it.
+    /// A panic of `keep` is handed on. The map then has the values that were kept, those that `keep`
+    /// wasn't called on, and the one on which it panicked, as far as `keep` had changed it.
     #[doc = include_str!("proved/ent_storage/handle_map.retain.md")]
     #[inline]
     pub fn retain(&mut self, mut keep: impl FnMut(Handle, &mut T) -> bool) {
@@ -266,7 +267,7 @@ impl<T> HandleMap<T> {
             .retain(|handle, value: &mut T| keep(Handle::of(handle), value));
     }
 
-    /// Calls `change` at each value once, by rising slot.
+    /// Calls `change` on each value once, by rising slot.
     ///
     /// It is what `iter_mut` is elsewhere: the kit of the proofs has no words for a map of which
     /// several values are lent at once. [`get_mut`](Self::get_mut) lends one.
@@ -314,8 +315,8 @@ impl<T> HandleMap<T> {
     }
 }
 
-/// The first handle that a map with this limit refuses. Without a limit it is the last one that there
-/// is, which is the placeholder.
+/// The first handle that a map with this limit refuses. Without a limit that is the last handle there is,
+/// the placeholder.
 const fn end_of(slots: u32) -> Handle {
     match Handle::new(slots, 1) {
         Some(first) => first,
@@ -323,7 +324,7 @@ const fn end_of(slots: u32) -> Handle {
     }
 }
 
-/// Ends the process as `Vec` does: there is no memory for a value, and nobody to say it to.
+/// Ends the process as `Vec` does: there is no memory for a value, and the caller can't return an error.
 #[cold]
 fn out_of_memory<T>() -> ! {
     handle_alloc_error(Layout::new::<(u32, T)>())
@@ -341,7 +342,7 @@ impl<T: fmt::Debug> fmt::Debug for HandleMap<T> {
     }
 }
 
-/// It has the same limit. Where memory runs out, it ends as that of `Vec` does.
+/// The clone has the same limit. If memory runs out, the process ends, as when a `Vec` is cloned.
 impl<T: Clone> Clone for HandleMap<T> {
     fn clone(&self) -> Self {
         let slots = self
@@ -355,7 +356,7 @@ impl<T: Clone> Clone for HandleMap<T> {
     }
 }
 
-/// The same handles have equal values. Limits aren't compared.
+/// Two maps are equal if the same handles have equal values. Limits aren't compared.
 impl<T: PartialEq> PartialEq for HandleMap<T> {
     fn eq(&self, other: &Self) -> bool {
         self.len() == other.len() && self.iter().eq(other)
@@ -398,9 +399,9 @@ fn no_value(handle: Handle) -> ! {
     panic!("{handle} has no value")
 }
 
-/// Inserts each value, in their order, as [`HandleMap::insert`] does. One that is refused is dropped: a
-/// later occupant of its slot has a value, or its handle is above the limit or the placeholder. Where
-/// memory runs out, it ends as that of `Vec` does.
+/// Inserts each value, in their order, as [`HandleMap::insert`] does. A value is dropped if it is refused:
+/// if a later occupant of its slot has a value, the slot is at or above the limit, or the handle is the
+/// placeholder. If memory runs out, the process ends, as when a `Vec` is extended.
 impl<T> Extend<(Handle, T)> for HandleMap<T> {
     fn extend<I: IntoIterator<Item = (Handle, T)>>(&mut self, values: I) {
         for (handle, value) in values {
@@ -483,8 +484,8 @@ impl<'a, T> IntoIterator for &'a HandleMap<T> {
     }
 }
 
-/// The handles are listed first, by one look at each slot. Where memory runs out for their list, it ends as
-/// that of `Vec` does.
+/// The handles are listed first, by one look at each slot. If memory runs out for their list, the process
+/// ends, as when a `Vec` is filled.
 impl<T> IntoIterator for HandleMap<T> {
     type Item = (Handle, T);
     type IntoIter = IntoIter<T>;

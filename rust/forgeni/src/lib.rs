@@ -77,11 +77,10 @@
 //! # Worlds and frames
 //!
 //! A [`World`] has the allocator and what entities are made of, by numbered components of 64 bits. It
-//! knows when each entity was born, and reports what a frame did. `run_frame` runs systems on workers, and
-//! says what depends on their number.
-//! Each reads the world and issues commands, and the commands take effect in the order of the
-//! systems. Who has threads of its own uses [`World::open`], [`Commands`], [`OpenWorld::close`] and
-//! [`World::apply`].
+//! knows when each entity was born, and reports what a frame did. `run_frame` runs systems on workers; its
+//! docs say what depends on their number. Each system reads the world and issues commands, and the commands
+//! take effect in the order of the systems. With threads of your own, use [`World::open`], [`Commands`],
+//! [`OpenWorld::close`] and [`World::apply`].
 //!
 //! # An allocator of your own
 //!
@@ -113,9 +112,9 @@
 //! - Memory runs out: an `Err`. Nothing has changed then, but where a sync point stopped
 //!   ([`Stopped`]) or a frame is lost.
 //!
-//! Nothing panics, but for a pool without reservers (`Reservers::with`), a map that is indexed by a
-//! handle without a value, and what the caller's own code panics with, which is handed on. Where Rust
-//! has no form that can be refused memory, the process ends, as it does of `Vec` and `Arc`:
+//! Only two calls panic: `Reservers::with` of a pool without reservers, and a map that is indexed by a
+//! handle without a value. A panic of the caller's own code is handed on. Where Rust has no form that
+//! returns an error if memory runs out, the process ends, as with `Vec` and `Arc`:
 //!
 //! - [`Storage::items`] and [`World::items`] make a list.
 //! - [`Entities::share`], [`Entities::phase`] and [`World::open`] make an `Arc`. They ask for as much memory before, and

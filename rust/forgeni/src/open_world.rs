@@ -27,7 +27,7 @@ type Ended = Result<(NumberedWorld, ent_total::Queues), ent_total::Unfinished<Nu
 /// It may go to another thread, and so may the [`Commands`] of its systems.
 pub struct OpenWorld {
     proved: Phase,
-    /// As the [`World`] has it, to which it goes back.
+    /// `next` of the [`World`], which gets it back.
     next: Birth,
 }
 
@@ -139,8 +139,8 @@ impl OpenWorld {
 
     /// Ends the phase with the queues of all its systems. Their order here is the order in which
     /// they will take effect, and numbers their systems in births and faults. Nothing of the world
-    /// has changed but that handles are reserved. The time is that of a look at each queue, however many
-    /// commands it has.
+    /// has changed, except that handles are reserved. It takes the time of a look at each queue, however
+    /// many commands a queue has.
     ///
     /// # Errors
     ///
@@ -308,7 +308,7 @@ pub struct Unfinished {
 }
 
 impl Unfinished {
-    /// The phase goes on. The queues are handed back in the memory in which they came.
+    /// The phase goes on. The queues are handed back in the memory of the list that had them.
     fn of(refused: ent_total::Unfinished<Numbers>, next: Birth) -> Self {
         let queues: Vec<Issued> = refused.queues.into();
         Self {

@@ -55,15 +55,15 @@ use std::thread_local;
 ///
 /// # What it costs
 ///
-/// Each reserver has a flag, one atomic word in a cache line of its own. A lending looks up a number
-/// of its thread, and takes the flag of the reserver with that number, or of the next one that is
-/// free. That is one atomic step for each flag that it looks at, and to give it back one step, a fence,
-/// and a look at whether somebody waits. There is no lock of the pool. So a reservation makes three
-/// atomic steps instead of one, and two of them are of a word that only few threads touch. With as many
-/// reservers as threads that run, a thread mostly finds the first one free.
+/// Each reserver has a flag, one atomic word in a cache line of its own. Lending looks up the number of the
+/// thread, and takes the flag of the reserver with that number, or of the next one that is free. That is one
+/// atomic step for each flag that it looks at. Giving the reserver back is one step, a fence, and a look at
+/// whether a thread waits. The pool has no lock. So a reservation makes three atomic steps instead of one,
+/// and two of them are on a word that only few threads touch. With as many reservers as running threads, a
+/// thread mostly finds the first one free.
 ///
-/// If none was free when it looked, [`with`](Self::with) sleeps, and takes whichever comes free first.
-/// [`try_with`](Self::try_with) waits for nobody.
+/// If no reserver is free, [`with`](Self::with) sleeps, and takes the first one that becomes free.
+/// [`try_with`](Self::try_with) never waits.
 pub struct Reservers<R = Reserver> {
     places: Vec<Place<R>>,
     waiting: Waiting,
@@ -137,11 +137,11 @@ impl<R: Lends> Reservers<R> {
         self.places.len()
     }
 
-    /// Lends a reserver to `run`, and returns what that returns. If none is free, it waits until one
-    /// is, whichever comes first.
+    /// Lends a reserver to `run`, and returns what `run` returns. If no reserver is free, it waits for the
+    /// first one that becomes free.
     ///
-    /// A `with` within a `with` takes one reserver more. If threads have all of them and wait for one
-    /// more each, they wait for good, so there [`try_with`](Self::try_with) is the call to make.
+    /// A `with` within a `with` takes another reserver. If threads have all reservers and each waits for
+    /// another one, they wait for good. So use [`try_with`](Self::try_with) within a `with`.
     ///
     /// # Panics
     ///
@@ -152,7 +152,7 @@ impl<R: Lends> Reservers<R> {
         run(&mut loan.reserver.lend())
     }
 
-    /// Lends a reserver to `run`, and returns what that returns, or `None` at once if none was free.
+    /// Lends a reserver to `run`, and returns what `run` returns, or `None` at once if none was free.
     ///
     /// # Panics
     ///
@@ -171,7 +171,7 @@ impl<R: Lends> Reservers<R> {
         Some(Loan { reserver, _wakes })
     }
 
-    /// The reserver that comes free first.
+    /// The first reserver that becomes free.
     #[cold]
     fn awaited(&self) -> Loan<'_, R> {
         assert!(!self.places.is_empty(), "the pool has no reservers");
@@ -179,14 +179,14 @@ impl<R: Lends> Reservers<R> {
     }
 }
 
-/// A reserver that is lent, until this is dropped. Its flag is given back first, and then who waits is
-/// woken: that is the order of the fields.
+/// A reserver that is lent until this is dropped. The order of the fields makes the drop give the flag back
+/// first, and then wake a waiting thread.
 struct Loan<'a, R> {
     reserver: MutexGuard<'a, R>,
     _wakes: Wakes<'a>,
 }
 
-/// Wakes one of those who wait as it is dropped.
+/// Wakes a waiting thread when it is dropped.
 struct Wakes<'a>(&'a Waiting);
 
 impl Drop for Wakes<'_> {
@@ -197,9 +197,9 @@ impl Drop for Wakes<'_> {
 }
 
 impl<R> Reservers<R> {
-    /// The reservers, in the order in which they came. Each is moved once.
+    /// The reservers, in the order in which they were handed in. Each is moved once.
     ///
-    /// Where memory runs out for the list, it ends as `Vec` does.
+    /// If memory runs out for the list, the process ends, as with `Vec`.
     #[must_use]
     pub fn into_inner(self) -> Vec<R> {
         let places = self.places.into_iter();
@@ -211,7 +211,7 @@ impl<R> Place<R> {
     fn try_take(&self) -> Option<MutexGuard<'_, R>> {
         match self.0.try_lock() {
             Ok(reserver) => Some(reserver),
-            // A panic can't leave a reserver half done: none comes from a reservation.
+            // A panic can't leave a reserver half changed: a reservation doesn't panic.
             Err(TryLockError::Poisoned(poisoned)) => Some(poisoned.into_inner()),
             Err(TryLockError::WouldBlock) => None,
         }

@@ -21,12 +21,12 @@ type Caller = ent_total::Caller<Numbers>;
 /// The allocator is inside, so nothing but reservations happens until [`close`](Self::close) gives
 /// it back. If the `Shared` is dropped, the allocator goes with the last of the reservers.
 ///
-/// It is `Send` and `Sync`: any thread may read what it tells.
+/// It is `Send` and `Sync`: any thread may read it.
 pub struct Shared {
     proved: Phase,
     /// Room for the callers on their way home, so that a close takes no memory.
     room: Vec<Caller>,
-    /// How many handles the pool had as the phase was opened. It has never more.
+    /// How many handles the pool had when the phase was opened. It never has more.
     pool: u64,
 }
 
@@ -267,7 +267,7 @@ impl ent_total::Sink for Listing<'_> {
 #[repr(align(128))]
 pub struct Reserver {
     proved: Caller,
-    /// How many handles the pool had as the phase was opened.
+    /// How many handles the pool had when the phase was opened.
     pool: u64,
 }
 
@@ -294,13 +294,14 @@ impl Reserver {
     ///
     /// # Errors
     ///
-    /// `Quota` if `n` is above what is left of it, and then nothing has changed. `Space` if the pool
-    /// has fewer than `n` handles, which is taken from the quota too, and the pool gives no more until
-    /// the next flush. `Memory` if there is none for the list, and then nothing has changed.
+    /// - `Quota` if `n` is above what is left of the quota. Nothing has changed.
+    /// - `Space` if the pool has fewer than `n` handles. `n` is taken from the quota all the same, and the
+    ///   pool gives no more until the next flush.
+    /// - `Memory` if there is no memory for the list. Nothing has changed.
     ///
-    /// The list is asked for before the atomic step, which tells what the pool has. So a request that
-    /// others leave too little for may be `Memory`. One for more than the pool had as the phase was
-    /// opened asks for no memory, and is `Space`.
+    /// The list is allocated before the atomic step, and only that step tells what the pool has. So if
+    /// others have left too few handles, the error may be `Memory`. A request for more than the pool had
+    /// when the phase was opened takes no memory, and returns `Space`.
     #[doc = include_str!("proved/ent_total/caller.reserve_many.md")]
     #[inline]
     pub fn reserve_many(&mut self, n: u32) -> Result<Vec<Handle>, Refused> {

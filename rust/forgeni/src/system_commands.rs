@@ -37,8 +37,8 @@ impl<'a, 'w> SystemCommands<'a, 'w> {
         Ok(Handle::of(self.proved.spawn(&bundle)?))
     }
 
-    /// Reserves `count` handles at once, each of which is to have the components. The time is that of
-    /// their list, and as much of the queue.
+    /// Reserves `count` handles at once, each of which is to have the components. It takes time for each
+    /// handle of the list, and of the queue, which has them too.
     ///
     /// # Errors
     ///

@@ -43,8 +43,8 @@ impl<'a> View<'a> {
         self.proved.birth(handle.proved())
     }
 
-    /// The handles of the entities that have the component, by birth and then by handle. The time is that
-    /// of a sort of them.
+    /// The handles of the entities that have the component, by birth and then by handle. It takes the time
+    /// of a sort of these handles.
     ///
     /// # Errors
     ///

@@ -3,10 +3,10 @@
 use core::sync::atomic::{fence, AtomicUsize, Ordering};
 use std::sync::{Condvar, Mutex, MutexGuard, PoisonError};
 
-/// Those who wait for one of several things, whichever is given back first.
+/// Threads that wait for the first of several things to be given back.
 ///
-/// Giving something back costs a fence and a look at a number while nobody waits. The number has a line of
-/// a processor's cache to itself, so as long as nobody waits each processor has a copy of it.
+/// If no thread waits, giving something back costs a fence and a look at the count. The count has a cache
+/// line to itself, so as long as no thread waits each processor has a copy of it.
 #[repr(align(128))]
 pub(crate) struct Waiting {
     count: AtomicUsize,
@@ -15,7 +15,7 @@ pub(crate) struct Waiting {
 }
 
 impl Waiting {
-    /// Nobody waits.
+    /// No thread waits.
     pub(crate) const fn new() -> Self {
         Self {
             count: AtomicUsize::new(0),
@@ -24,8 +24,8 @@ impl Waiting {
         }
     }
 
-    /// What `look` finds. It sleeps as long as `look` finds nothing, and looks again each time that
-    /// something was given back.
+    /// Returns what `look` finds. Sleeps as long as `look` finds nothing, and looks again whenever it is
+    /// woken.
     pub(crate) fn until<T>(&self, mut look: impl FnMut() -> Option<T>) -> T {
         let mut turn = self.turn();
         self.count.fetch_add(1, Ordering::Relaxed);
@@ -40,10 +40,11 @@ impl Waiting {
         found
     }
 
-    /// Something was given back: one of those who wait looks again.
+    /// Something was given back: wakes one waiting thread, which looks again.
     #[inline]
     pub(crate) fn wake_one(&self) {
-        // Of two fences one is first. So who gives back sees the number, or who waits sees what is given back.
+        // One of the two fences comes first. So this thread sees the count, or the waiting thread sees what
+        // was given back.
         fence(Ordering::SeqCst);
         if self.count.load(Ordering::Relaxed) > 0 {
             self.wake();
@@ -52,7 +53,7 @@ impl Waiting {
 
     #[cold]
     fn wake(&self) {
-        // Who looks has the turn. When it is free, all others sleep.
+        // A thread that looks holds the turn. While this thread has it, all waiting threads sleep.
         drop(self.turn());
         self.given_back.notify_one();
     }

@@ -26,9 +26,9 @@ use core::fmt;
 /// once ([`spawn`](Self::spawn), [`despawn`](Self::despawn)), and the components of a living one
 /// change by commands alone.
 ///
-/// Queues take effect in their order, whoever issued first. So births, components and faults are the same
-/// on any number of threads, if no request and no memory is refused and no handle decides what a system
-/// does (`run_frame` says when one does).
+/// Queues take effect in their order, whichever system issued first. So births, components and faults are
+/// the same on any number of threads, if no request is refused, no allocation fails, and nothing depends on
+/// handles (the docs of `run_frame` say when something does).
 ///
 /// ```
 /// use forgeni::{ComponentId, World};
@@ -60,7 +60,7 @@ pub struct World {
 }
 
 impl World {
-    /// A world that was away, with the birth that it gives next.
+    /// A world that comes back from a phase, with the birth that it gives next.
     pub(crate) fn of(proved: NumberedWorld, next: Birth) -> Self {
         Self { proved, next }
     }
@@ -90,9 +90,9 @@ impl World {
         Ok(Self::with_limits(limits))
     }
 
-    /// Brings an entity to life at once, with these components. If one stands twice in the list,
-    /// its last value counts. Its birth names the phase, no system, and as ordinal how many were
-    /// spawned so since the last flush. The ordinal stays at 2^32 - 1.
+    /// Brings an entity to life at once, with these components. If a component is in the list twice,
+    /// its last value counts. The entity's birth names the phase and no system. Its ordinal is how many
+    /// entities `spawn` made before it since the last flush, and at most 2^32 - 1.
     ///
     /// ```
     /// use forgeni::World;
@@ -128,7 +128,7 @@ impl World {
         }
     }
 
-    /// As [`spawn`](Self::spawn), with this birth, which may be any, also that of another entity.
+    /// As [`spawn`](Self::spawn), with this birth. It may be any, even that of another entity.
     ///
     /// # Errors
     ///
@@ -244,7 +244,7 @@ impl World {
     /// spawned whose queues are not to take effect. The birth of each entity names the phase that
     /// ends, no system, and the entity's number among those that are born. So an entity that
     /// [`spawn`](Self::spawn) made in that phase may have the same birth.
-    /// [`apply`](Self::apply) brings to life too.
+    /// [`apply`](Self::apply) brings entities to life too.
     ///
     /// # Errors
     ///
@@ -281,8 +281,8 @@ impl World {
 
     /// The sync point: brings to life what is reserved, and then lets the queues take effect, one
     /// after the other, in their order. A command on an entity that is not alive at its turn has no
-    /// effect and is a fault of the report, and so is a refused spawn. The lists of the report are walked
-    /// once more, and take no memory for that.
+    /// effect and is a fault of the report, and so is a refused spawn. The call walks the lists of the report
+    /// once more, which takes no memory.
     ///
     /// # Errors
     ///

@@ -1,6 +1,6 @@
-//! How many bytes each call asks for that grows something. No contract says that: a call that takes room for
-//! nothing meets it. A number is worked out from what has to be kept, and a list that grows with its items is
-//! asked for at most twice over: each doubling asks anew.
+//! How many bytes each call asks for if it makes something grow. No contract says this: a call that takes more room
+//! than it needs meets every contract. The numbers here are computed from what must be kept. A list that grows item
+//! by item asks for at most twice its room in all: each doubling asks for the whole list again.
 
 mod common;
 #[path = "../../../.ci/refusing_allocator.rs"]
@@ -25,7 +25,7 @@ const HANDLE: usize = 8;
 /// What a slot of an allocator takes: its generation, and what became of its occupant.
 const SLOT: usize = 12;
 
-/// What one thing takes that is used by a thread of its own: two lines of a processor's cache.
+/// What a thing takes that has a thread of its own: two cache lines.
 const APART: usize = 128;
 
 const HP: ComponentId = ComponentId(0);
@@ -36,7 +36,7 @@ const BIRTH: Birth = Birth {
     ordinal: 0,
 };
 
-/// Does this, which asks for so many bytes.
+/// Does this, which must ask for exactly so many bytes.
 #[track_caller]
 fn exactly<T>(bytes: usize, work: impl FnOnce() -> T) -> T {
     let (done, taken) = asked(work);
@@ -44,7 +44,7 @@ fn exactly<T>(bytes: usize, work: impl FnOnce() -> T) -> T {
     done
 }
 
-/// Does this, which asks for so many bytes at most, and for some. At the end no more than these are held.
+/// Does this, which must ask for some bytes, and at most so many. At the end it must hold no more than these.
 #[track_caller]
 fn at_most<T>(most: usize, work: impl FnOnce() -> T) -> T {
     let ((done, taken), kept) = held(|| asked(work));
@@ -53,8 +53,8 @@ fn at_most<T>(most: usize, work: impl FnOnce() -> T) -> T {
     done
 }
 
-/// What a list asks for in all that grows one by one to `N` items: the last room is at most twice what is
-/// needed, and those before it are as much together.
+/// What a list that grows one by one to `N` items asks for in all: the last room is at most twice what it needs, and
+/// the rooms before it together are as much.
 const fn grown(item: usize) -> usize {
     4 * item * BYTES
 }
@@ -84,7 +84,7 @@ fn maps_of<T: Copy + Default>(slot: usize) {
         map.retain(|one, _| one.index() < 2 * N);
     });
 
-    // Room for what has values, and a list of handles.
+    // Room for the slots that have values, and a list of handles.
     let clone = exactly(slot * 2 * BYTES, || map.clone());
     exactly(HANDLE * 2 * BYTES, || clone.into_iter());
 

@@ -278,7 +278,7 @@ fn births(world: &World) -> Vec<(String, Option<i64>)> {
     all.map(told).collect()
 }
 
-/// Where a request is refused, who is born depends on who asked first.
+/// If a request is refused, which entities are born depends on which system asked first.
 #[test]
 fn refusals_depend_on_the_workers() {
     for (workers, birth, late) in [(1, "0.0.0", 1), (2, "0.1.0", 0)] {
@@ -290,8 +290,8 @@ fn refusals_depend_on_the_workers() {
     }
 }
 
-/// Two entities that take the slots of two others, whose handles depend on the workers. Each has a birth of
-/// its own, if the world chooses it. Of two with one birth the handles decide who is first.
+/// Two entities that take the slots of two others, whose handles depend on the workers. If the world chooses their
+/// births, each has its own. If both have the same birth, the handles decide which is first.
 #[test]
 fn births_between_frames() {
     fn replace(world: &mut World, spawn: impl Fn(&mut World, i64) -> Handle) -> Vec<Option<i64>> {
@@ -376,7 +376,7 @@ fn systems_of_several_types() {
     assert_eq!(world.len(), 3);
 }
 
-/// A system is lost in whatever it lies.
+/// If a system runs out of memory, the frame is lost, even if the system is lent or boxed.
 #[test]
 fn systems_that_lack_memory() {
     fn lacks(_: View<'_>, _: &mut SystemCommands<'_, '_>) -> Result<(), OutOfMemory> {
@@ -394,8 +394,8 @@ fn systems_that_lack_memory() {
     assert_eq!((world.phase(), world.len()), (0, 0));
 }
 
-/// Each command stands in its queue, also one that sets nothing or takes out what isn't there: the fault of
-/// one on an entity that is gone has its number.
+/// Each command is in its queue, even one that sets nothing or takes out what isn't there: the fault of such a
+/// command on an entity that is gone has its number.
 #[test]
 fn no_command_is_lost() {
     let mut world = World::new();

@@ -338,8 +338,8 @@ fn capacity_and_room() {
     assert_eq!(map.capacity(), room);
 }
 
-/// No map takes the placeholder, and one with a limit takes no handle of a slot at or above it. Memory is
-/// asked for by neither.
+/// No map takes the placeholder, and a map with a limit takes no handle of a slot at or above it. Neither refusal
+/// asks for memory.
 #[test]
 fn limits() {
     let refused = |map: &mut HandleMap<u8>, one| {
@@ -365,7 +365,7 @@ fn limits() {
     }
     assert_eq!(HandleMap::<u8>::with_limit(u32::MAX).limit(), u32::MAX);
 
-    // What is there stays, and is found, changed and taken out.
+    // The values that are there stay, and can be found, changed and taken out.
     let mut map: HandleMap<u8> = (0..4).map(|index| (handle(index, 2), 1)).collect();
     map.set_limit(2);
     assert_eq!((map.limit(), map.len(), map[handle(3, 2)]), (2, 4, 1));
@@ -373,7 +373,7 @@ fn limits() {
     refused(&mut map, handle(2, 3));
     assert_eq!(map.insert(handle(1, 2), 5).expect("below"), Some(1));
     assert_eq!(map.remove(handle(3, 2)), Some(1));
-    // It goes with a clone, and is no part of equality. What it refuses isn't extended by.
+    // A clone has the same limit, and equality ignores it. `extend` leaves out what it refuses.
     let mut clone = map.clone();
     refused(&mut clone, handle(2, 2));
     clone.set_limit(9);
@@ -530,7 +530,7 @@ fn a_closure_that_panics() {
     map.for_each_mut(|_, value| *value += 1);
     assert!(map.values().eq(&[11, 13, 4, 5]));
 
-    // The value at which it panics stays, as it was changed.
+    // The value on which it panics stays, as it was changed.
     let ran = catch_unwind(AssertUnwindSafe(|| {
         map.retain(|_, value| {
             *value = 99;
@@ -541,7 +541,7 @@ fn a_closure_that_panics() {
     assert!(map.values().eq(&[99, 13, 4, 5]));
 }
 
-/// Each value is inserted in its turn, and one that is refused keeps none of the others away.
+/// Each value is inserted in its turn, and a refused one doesn't keep the others out.
 #[test]
 fn extending() {
     let pairs = [

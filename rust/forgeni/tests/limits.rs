@@ -76,7 +76,7 @@ fn defaults() {
     assert_eq!(HandleMap::<u8>::default().limit(), u32::MAX);
 }
 
-/// With one of something it isn't empty.
+/// With one of anything it isn't empty.
 #[test]
 fn one_is_not_none() {
     let one = handle(0, 1);
@@ -111,7 +111,7 @@ fn a_row_of_a_reserved_handle() {
     assert_eq!(entities.set_row(one, 6), Ok(()));
     assert_eq!(entities.row(one), Some(6));
 
-    // One of a slot that was made is nobody yet either.
+    // Nor has a reserved handle of an old slot a row yet.
     let next = entities.free(one).expect("alive").next;
     assert_eq!(entities.request().ok(), next);
     let again = next.expect("a generation");
@@ -123,7 +123,7 @@ fn a_row_of_a_reserved_handle() {
 /// 2^26 handles at a time, of a pool of one.
 const WANTED: u32 = 1 << 26;
 
-/// How often they are requested before the quota of 2^40 is used up.
+/// How often that many are requested before the quota of 2^40 is used up.
 const TIMES: u32 = 1 << 14;
 
 #[test]
@@ -166,7 +166,7 @@ fn the_end_of_a_quota() {
     assert_eq!(entities.reserved(), 0);
 }
 
-/// The commands of a system have the same quota. What they are refused are faults.
+/// The commands of a system have the same quota. Each spawn above it is a fault.
 #[test]
 fn the_end_of_a_credit() {
     const ALL: ComponentId = ComponentId(0);

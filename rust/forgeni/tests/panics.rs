@@ -47,7 +47,7 @@ mod frames {
                 }
                 Does::SpawnAndPanic(count, number) => {
                     commands.spawn_many(count, &[(HP, 1)]).expect("handles");
-                    // It makes no noise.
+                    // This panic prints nothing.
                     resume_unwind(Box::new(number));
                 }
                 Does::Despawn => {
@@ -96,7 +96,7 @@ mod frames {
                 assert_eq!(world.items(entity), Some(vec![]));
             }
 
-            // The next frame is as any.
+            // The next frame is like any other.
             let systems = [Does::Despawn, Does::Spawn(2)];
             let report = run_frame(&mut world, &systems, workers).expect("memory");
             assert_eq!((report.born().len(), report.faults().len()), (2, 0));
@@ -168,7 +168,7 @@ mod frames {
         assert_eq!(panic.downcast_ref(), Some(&3_u32));
     }
 
-    /// A value whose drop panics too. It is dropped by who catches the panic, not by the frame.
+    /// A value whose drop panics too. The code that catches the panic drops it, not the frame.
     struct Loud;
 
     impl Drop for Loud {

@@ -313,8 +313,8 @@ mod pools {
         assert_eq!(entities.reserved(), 2);
     }
 
-    /// Who waits takes whichever reserver comes free first, whatever numbers the threads have: one is
-    /// lent to a thread that waits for the others.
+    /// A waiting thread takes the first reserver that becomes free, whatever the numbers of the threads: one reserver
+    /// is lent to a thread that waits for the other threads.
     #[test]
     fn the_first_that_comes_free() {
         let (shared, reservers) = Entities::new().share(2).expect("shared");
@@ -330,7 +330,7 @@ mod pools {
                 });
             });
             is_lent.wait();
-            // They all find both lent. Threads that follow each other have numbers that do so too.
+            // They all find both lent. Threads that are started one after the other have consecutive numbers.
             for _ in 0..4 {
                 let (pool, tell) = (Arc::clone(&pool), tell.clone());
                 std::thread::spawn(move || {
@@ -409,7 +409,7 @@ mod pools {
         };
         let numbers: HashSet<usize> = [one, two, three].into_iter().collect();
         assert_eq!(numbers.len(), 3);
-        // Who waits is woken by one that panics.
+        // A thread that panics wakes a waiting one.
         let all = Barrier::new(3);
         std::thread::scope(|scope| {
             for _ in 0..2 {

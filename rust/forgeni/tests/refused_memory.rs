@@ -290,7 +290,7 @@ fn reserving_many() {
     });
 }
 
-/// A request that the pool or the quota can't serve is refused for that, and no list is asked for.
+/// A request that the pool or the quota can't serve is refused for that, and asks for no memory.
 #[test]
 fn reserving_too_many() {
     let none = Refusal::All { after: 0 };
@@ -298,7 +298,7 @@ fn reserving_too_many() {
     let entities = Entities::with_limits(Limits::new(left, 1).expect("limits"));
     let (shared, mut reservers) = entities.share(2).expect("shared");
     let only = &mut reservers[0];
-    // Of less than the pool had, the list comes first. Nothing has changed then.
+    // For no more than the pool had, the list comes first. If its allocation fails, nothing has changed.
     let (given, refused) = refusing(none, || only.reserve_many(left));
     assert_eq!((given, refused), (Err(Refused::Memory), 1));
     assert_eq!(only.quota_left(), 1 << 40);
@@ -311,7 +311,7 @@ fn reserving_too_many() {
         quota -= u64::from(wanted);
         assert_eq!(only.quota_left(), quota);
     }
-    // Others count on what was in the pool too, and after a refused close.
+    // The other reserver knows what was in the pool too, and so does one that comes back from a refused close.
     let missing = shared.close(vec![]).expect_err("two are missing");
     let other = &mut reservers[1];
     let (given, refused) = refusing(none, || other.reserve_many(left + 1));
@@ -725,7 +725,7 @@ fn a_sync_point_goes_on_wherever_it_stopped() {
 }
 
 /// The components that the first commands of three systems give to the world's second entity. Each number is
-/// new in the world, so each command may want memory.
+/// new in the world, so each command may take memory.
 const GIVEN: [&[u8]; 3] = [&[20, 21, 22], &[], &[23, 24]];
 
 /// How many the fourth system spawns at once, after a command without effect.
@@ -751,8 +751,8 @@ fn with_places() -> (World, Queues, Vec<Handle>) {
     (world, queues, spawned)
 }
 
-/// Where a sync point stops, just the commands before that place have taken effect, and of a spawn of many
-/// just the first handles. It stops at each place that may want memory.
+/// If a sync point stops, only the commands before the place of the stop have taken effect, and of a spawn of many
+/// only the first handles. It stops at each place that may take memory.
 #[test]
 fn the_place_of_a_stop() {
     let mut places = Vec::new();
@@ -925,7 +925,7 @@ mod frames {
         (report.faults().to_vec(), all(&world))
     }
 
-    /// The world is the one before, but for what the systems that ran had reserved.
+    /// The world is as before, except for what the systems that ran had reserved.
     fn expect_lost(mut world: World) {
         assert_eq!(all(&world), all(&two()));
         world.flush().expect("memory");
@@ -974,8 +974,8 @@ mod frames {
         );
     }
 
-    /// Memory is refused on the worker that runs the system, and nowhere else: starting threads takes
-    /// memory that can't be refused.
+    /// Allocations fail only on the worker that runs the system: starting a thread needs memory, and Rust has no form
+    /// of it that returns an error.
     #[test]
     fn refused_on_a_worker() {
         for workers in [1, 2, 3] {

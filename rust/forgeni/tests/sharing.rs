@@ -322,7 +322,7 @@ fn numbers(reservers: &[Reserver]) -> Vec<usize> {
     reservers.iter().map(Reserver::number).collect()
 }
 
-/// They come, and come back, in the order in which they were.
+/// The reservers are given out, and come back, in their order.
 #[test]
 fn reservers_keep_their_order() {
     let (shared, mut reservers) = share(Entities::new(), 5);
@@ -341,7 +341,7 @@ fn reservers_keep_their_order() {
     assert_eq!(numbers(&refused.reservers), [2, 1, 0, 3, 0]);
     assert!(refused.reservers[4].is_of(&other));
 
-    // Those at home are given again, and the last one that came comes first.
+    // Those at home are given out again, the last one that came back first.
     let mut reservers = refused.reservers;
     let foreign = reservers.pop().expect("five");
     let refused = refused.shared.close_lost(reservers).expect_err("in use");
@@ -352,7 +352,7 @@ fn reservers_keep_their_order() {
     assert_eq!(closed.reserved(), 0);
 }
 
-/// No two of 70,000 phases have one number: none takes a reserver of another for its own.
+/// No two of 70,000 phases have the same number: none takes another phase's reserver for its own.
 #[test]
 fn phases_without_end() {
     let first: Vec<_> = (0..100).map(|_| share(Entities::new(), 1)).collect();

@@ -84,7 +84,7 @@ fn values_by_handle() {
         .all(|(one, value)| one.generation() == 2 && value == 7));
 }
 
-/// Room for as many slots as there may be asked for, and a value in a slot far behind all others.
+/// Room for as many slots as may be asked for, and a value in a slot far behind all others.
 #[test]
 #[cfg_attr(debug_assertions, ignore = "for optimised code")]
 fn room_for_values() {
@@ -105,7 +105,7 @@ fn room_for_values() {
     }
 }
 
-/// A run with as many reservations, each of a caller of its own, and their flush.
+/// A run with that many reservations, each of a caller of its own, and their flush.
 #[test]
 #[cfg_attr(debug_assertions, ignore = "for optimised code")]
 fn runs_of_a_trace() {
@@ -117,7 +117,7 @@ fn runs_of_a_trace() {
     checker.run(&run).expect("memory is ample");
     checker.flush(&all[..]).expect("memory is ample");
     checker.len(MANY).expect("it agrees");
-    // One reservation of as many.
+    // One reservation of that many.
     let next: Vec<Handle> = (MANY..2 * MANY).map(|index| handle(index, 1)).collect();
     let one = checker.reserve(0, MANY, &next[..]);
     one.expect("memory is ample");
@@ -125,7 +125,7 @@ fn runs_of_a_trace() {
     checker.finish().expect("it agrees");
 }
 
-/// As many calls, and differences after them, also of a flush of as many.
+/// That many calls, and differences after them, also of a flush of that many.
 #[test]
 #[cfg_attr(debug_assertions, ignore = "for optimised code")]
 fn lines_of_a_trace() {
@@ -168,7 +168,7 @@ fn lines_of_a_trace() {
     );
 }
 
-/// Logs of as many reservations.
+/// Logs of that many reservations.
 #[test]
 #[cfg_attr(debug_assertions, ignore = "for optimised code")]
 fn logs_of_a_trace() {
@@ -246,7 +246,7 @@ fn one_reservation_of_2_to_the_24() {
     assert_eq!((entities.len(), entities.total()), (count, count));
 }
 
-/// 2^31 handles would be 16 GiB of list, which isn't asked for: there are fewer slots.
+/// A list of 2^31 handles would take 16 GiB. No call asks for it, since there are fewer slots.
 #[test]
 #[cfg_attr(debug_assertions, ignore = "for optimised code")]
 fn one_reservation_of_2_to_the_31() {
@@ -493,7 +493,7 @@ mod frames {
         assert_eq!(world.len(), 2 * 65_536);
     }
 
-    /// A frame whose one system spawns as many singly, and one whose systems list all of them.
+    /// A frame whose one system spawns that many singly, and one whose systems list all of them.
     #[test]
     #[cfg_attr(debug_assertions, ignore = "for optimised code")]
     fn entities_of_a_frame() {

@@ -1,4 +1,4 @@
-//! What each public type is as a text: all errors, and what is printed to look into a value.
+//! The texts of each public type: `Display` of all errors, and what `Debug` shows of a value.
 
 use crate::common::{handle, small};
 use forgeni::trace::{AllocReply, Call, CheckError, Checker, Difference, FlushReply, FreeReply};

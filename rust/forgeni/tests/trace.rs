@@ -361,7 +361,7 @@ fn logs_are_joined_at_the_next_other_call() {
     );
 }
 
-/// Each call of a recorder first joins what the logs have: the answers are those after it.
+/// Each call of a recorder first adds what the logs have: its answer is the one after these reservations.
 #[test]
 fn each_call_joins_the_logs() {
     let one = handle(0, 1);
@@ -381,7 +381,7 @@ fn each_call_joins_the_logs() {
     joined(|recorder, _| recorder.flush([handle(1, 1)]));
 }
 
-/// A refusal that doesn't say what was left isn't one that says there was none.
+/// A refusal that doesn't say what was left is not the same as one that says that nothing was.
 #[test]
 fn space_without_a_number() {
     let mut checker = Checker::new(limits(2, 1));
@@ -394,7 +394,7 @@ fn space_without_a_number() {
         checker.run(&[wrong]),
         "differs line 3: reserve 0 3 => space left 0, expected space left 2",
     );
-    // As it was told, so it is handed back.
+    // It is handed back as it was handed in.
     let mut checker = Checker::new(limits(2, 1));
     let told = Reservation::new(0, 1, ReserveReply::Space);
     let wrong = checker

@@ -12,8 +12,7 @@ use std::path::PathBuf;
 /// The path of the source.
 pub const PATH: &str = "crates/ent_here/src/here.rt";
 
-/// The crate `ent_here`, of which the source is, and `ent_other`. The sources may use these forms, and what a
-/// letter names.
+/// The source's crate, `ent_here`, and `ent_other`. The sources may use these forms, and what a letter names.
 fn names(forms: &[&'static Forms], name: &str, path: &str, text: &str) -> Result<Names, Fault> {
     let mut names = Names::new(forms);
     let letters = |kind: &str, first: char, last: char| -> String {
@@ -84,7 +83,7 @@ pub fn erased_of(
     Ok((result, other))
 }
 
-/// What the audit says of the result of a source of the package. It asks for the crates alone.
+/// What the audit says of the result of a source of the package. The audit needs only the crates.
 pub fn audited(text: &str, result: &str) -> Result<(), Fault> {
     let mut names = Names::new(&[&PACKAGE]);
     for name in ["ent_here", "ent_other"] {

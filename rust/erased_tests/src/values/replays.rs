@@ -1,4 +1,4 @@
-//! Lists of handles that outcomes have.
+//! The lists of handles in outcomes.
 
 use crate::kit::alloc::Global;
 use crate::kit::vec::Vec;

@@ -68,8 +68,8 @@ fn insertion_sort<T: Copy, K: Ord>(items: &mut [T], key: &impl Fn(&T) -> K) {
     }
 }
 
-/// Sorts items that may not be copied by their keys, of which each is asked for once. Those of one key keep
-/// their order. After an `Err` no item has moved. Fewer than two items are in order, so nothing is asked for.
+/// Sorts items that may not be copied by their keys, of which each is computed once. Those of one key keep
+/// their order. After an `Err` no item has moved. Fewer than two items are in order, and take no memory.
 pub(super) fn sort_in_cycles<T, K: Ord>(
     items: &mut [T],
     key: &impl Fn(&T) -> K,

@@ -17,8 +17,8 @@ use core::slice;
 pub struct Vec<T>(::alloc::vec::Vec<T>);
 
 impl<T> Vec<T> {
-    /// A list of values without a size has all room there is in Rust, and what was asked for in the kit. No source
-    /// has one, so none is built.
+    /// In Rust, a list of values of size 0 has unlimited room; in the kit, the room that was asked for. No source
+    /// has such a list, and one doesn't compile.
     const HAVE_A_SIZE: () = assert!(
         size_of::<T>() > 0,
         "the room of a list of values without a size isn't what the kit says"
@@ -282,8 +282,9 @@ impl<'a, T> IntoIterator for &'a mut Vec<T> {
 
 /// The kit's `collect`, which is handed the right to allocate.
 pub trait CollectIn: Iterator + Sized {
-    /// The contract: all that the iterator yields, in its order, and no memory if that is nothing. As much is asked
-    /// for as the iterator says that there is, and if that is refused, which is no lack of memory yet, one place.
+    /// The contract: all that the iterator yields, in its order, and no memory if that is nothing. First it asks for
+    /// as many places as the iterator says that there are items. If that fails, memory may still suffice for what
+    /// comes, so it asks for one place.
     #[inline]
     fn collect_in(mut self, alloc: Global) -> Result<Vec<Self::Item>, AllocError> {
         let Some(first) = self.next() else {
@@ -433,7 +434,7 @@ mod tests {
         assert!(none.is_empty());
     }
 
-    /// Yields the numbers below, and says this of how many there are.
+    /// Yields the numbers below this one, and claims this length.
     struct Hinting(u8, usize);
 
     impl Iterator for Hinting {

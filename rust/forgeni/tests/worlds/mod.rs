@@ -68,7 +68,7 @@ pub struct WorldModel {
     pub generations: u32,
     pub made: u32,
     pub phase: u64,
-    /// How many were spawned by the world itself in this phase.
+    /// How many entities the world itself has spawned in this phase.
     pub spawned: u32,
     pub live: BTreeMap<Handle, (Birth, Components)>,
     /// What each slot that waits gives next, the one that was freed last at the end.
