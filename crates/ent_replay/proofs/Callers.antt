@@ -1,17 +1,15 @@
 -- Lists that have the reservations of each caller in the same order.
-use Rattle.std.proofs.lemmas.Grind.{common_steps}
-use Rattle.std.proofs.Common.{rules, arith, ◌≡◌, ◌≢◌, ℕ, Bool, true, false, cond, ◌==◌, List, []}
-use Rattle.std.proofs.Common.{◌∷◌, ◌++◌, filter, length, refl, sym, ap, subst, ◌∙◌, true≢false}
-use Rattle.std.proofs.Common.{eq-eqb, ne_eqb, inl, inr, ◌⊎◌, append-nil}
-use Rattle.std.proofs.lemmas.Bool.{cases_eq, eqb-true}
-use Rattle.std.proofs.lemmas.List.{append_assoc}
+use Rattle.std.proofs.Common.{◌≡◌, ◌≢◌, ℕ, true, false, cond, List, []}
+use Rattle.std.proofs.Common.{◌∷◌, ◌++◌, filter, refl, sym, ap, subst, ◌∙◌, true≢false}
+use Rattle.std.proofs.Common.{eq-eqb, ne_eqb, inl, inr, ◌⊎◌}
+use Rattle.std.proofs.lemmas.Bool.{cases_eq}
 use Rattle.std.proofs.lemmas.List.Elements.{filter-append}
 use Rattle.std.specs.List.{AllByRecursion}
 use Rattle.ent_replay.specs.declared.trace.placed.Placed.{Placed}
 use Rattle.ent_replay.specs.declared.trace.line.Line.{Line}
 use Rattle.ent_replay.specs.declared.trace.line.Line.TheVariants as line
 use Rattle.ent_replay.specs.Trace.{MayPass, IsOrderOf}
-use Rattle.ent_replay.specs.Lineup.{KeepsCallers, is_of, lines_of}
+use Rattle.ent_replay.specs.Lineup.{KeepsCallers, is_of}
 use Rattle.ent_replay.proofs.Lists.{split}
 use Rattle.ent_replay.proofs.KeysOf.{IsOfOther}
 use Rattle.ent_replay.proofs.Complete.{IsPlacedOrder}
@@ -128,16 +126,7 @@ pub keeps-again : (first second third : List Placed) → KeepsCallers first seco
     → KeepsCallers second third → KeepsCallers first third
 keeps-again first second third one two q = two q ∙ one q
 
--- a list keeps the callers of itself
-pub keeps-same : (run order : List Placed) → run ≡ order → KeepsCallers run order
-keeps-same run order same q = ap (filter (is_of q)) (sym same)
-
 -- ---- one comes before those of others
-
-filter_parts : (q : ℕ) (xs ys zs : List Placed) → filter (is_of q) (xs ++ (ys ++ zs))
-    ≡ filter (is_of q) xs ++ (filter (is_of q) ys ++ filter (is_of q) zs)
-filter_parts q xs ys zs = filter-append (is_of q) xs (ys ++ zs)
-    ∙ ap (λ (ps : List Placed). filter (is_of q) xs ++ ps) (filter-append (is_of q) ys zs)
 
 pub keeps-forward : (run placed left rest : List Placed) (p : Placed)
     → filter (is_of p.reservation.caller) left ≡ []

@@ -1,7 +1,6 @@
 -- What is placed of a run, and what is left: one pass over what is left, and what stops it.
-use Rattle.std.proofs.lemmas.Grind.{common_steps}
 use Rattle.std.proofs.lemmas.Int.{ints}
-use Rattle.std.proofs.Common.{rules, arith, ◌≡◌, ◌≢◌, ℕ, ◌+◌, ◌^◌, ◌≤◌, ℤ, pos, ◌-ℤ◌, ◌+ℤ◌, ◌≤ℤ◌}
+use Rattle.std.proofs.Common.{arith, ◌≡◌, ℕ, ◌+◌, ◌^◌, ◌≤◌, ℤ, pos, ◌-ℤ◌, ◌+ℤ◌, ◌≤ℤ◌}
 use Rattle.std.proofs.Common.{List, [], ◌∷◌, ◌++◌, filter, length, Option, Some, None, refl, sym, ap}
 use Rattle.std.proofs.Common.{subst, ◌∙◌, inl, inr, ◌⊎◌, append-nil, drop, true, false, true≢false}
 use Rattle.std.specs.Option.{is_some}
@@ -21,7 +20,6 @@ use Rattle.ent_replay.specs.declared.trace.lineup.Lineup.{Lineup}
 use Rattle.ent_replay.specs.declared.trace.line.Line.TheVariants as line
 use Rattle.ent_replay.specs.declared.trace.placed.Placed.{Placed}
 use Rattle.ent_replay.specs.Trace.{AreAnswered, FitsReserved, after_lines}
-use Rattle.ent_replay.specs.Checker.{requested_in, reservations_of}
 use Rattle.ent_replay.specs.Lineup.{FitsAt, IsLineup, KeepsCallers, NoneFits, all_of, is_of, lines_of}
 use Rattle.ent_replay.specs.Lineup.{IsFirstAt, NamesOne, reached}
 use Rattle.ent_replay.specs.Trace.{reserve_reply}

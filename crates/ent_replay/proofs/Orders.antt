@@ -8,7 +8,7 @@ use Rattle.ent_replay.specs.declared.trace.line.Line.TheVariants as line
 use Rattle.ent_replay.specs.declared.trace.line.Reservation.{Reservation}
 use Rattle.ent_replay.specs.Trace.{Fits, AreAnswered, after_line, after_lines, IsAlone, IsOrderOf}
 use Rattle.ent_replay.specs.Checker.{Checked, reserve_lines, AgreesWith, IsSettled, Follows, Reaches}
-use Rattle.ent_replay.specs.Checker.{Differs, Shows, HasNoOrder, NoneFollows}
+use Rattle.ent_replay.specs.Checker.{Differs, IfReserve, Shows, HasNoOrder, NoneFollows}
 use Rattle.ent_replay.proofs.Parting.{IsReserve, parts, parted, all_reserve}
 use Rattle.ent_replay.proofs.Lists.{all_at}
 use Rattle.ent_replay.proofs.Requested.{reserves-ordered}
@@ -129,6 +129,7 @@ Shows-more c n l d alone shows = record {
       (IsOrderOf-cons l [] [] refl));
   answered = shows.answered;
   differs = shows.differs;
+  blamed = shows.blamed;
   stuck = λ x more is.
       let p = parts (reserve_lines c.run) [] l (shows.placed ++ x ∷ more) (all_reserve c.run) alone is in
       let own = no_rest c.run (shows.placed ++ shows.next ∷ shows.left) shows.is_order in
@@ -150,6 +151,14 @@ Shows-more c n l d alone shows = record {
       ];
 }
 
+none_blamed : (l : Line) (P : Type 0) → IsAlone l → IfReserve l P
+none_blamed (line.Reserve r) P alone = absurd alone
+none_blamed (line.Alloc told) P alone = tt
+none_blamed (line.Free h told) P alone = tt
+none_blamed (line.Flush told) P alone = tt
+none_blamed (line.State h told) P alone = tt
+none_blamed (line.Len told) P alone = tt
+
 -- the run was settled, and the line differs then
 pub called-Shows : (c : Checked) (l : Line) (after : Allocator) (n : ℕ) (d : Difference) → IsAlone l
     → IsSettled c after → Differs after n l d → Shows c n (l ∷ []) d
@@ -161,6 +170,7 @@ called-Shows c l after n d alone settled differs = record {
       (IsOrderOf-cons l [] [] refl);
   answered = settled.answered;
   differs = subst (λ s. Differs s n l d) settled.after_is differs;
+  blamed = none_blamed l (HasNoOrder c) alone;
   stuck = λ x more is fits.
       let p = parts (reserve_lines c.run) [] l (settled.order ++ x ∷ more) (all_reserve c.run) alone is in
       elim (parted settled.order more p.first p.second x l p.is) [

@@ -1,7 +1,6 @@
 -- What the lines that were taken request.
 use Rattle.std.proofs.Common.{rules, ◌≡◌, ℕ, ◌+◌, Bool, true, false, if◌then◌else◌, nat_lt, arith}
 use Rattle.std.proofs.Common.{List, [], ◌∷◌, ◌++◌, Option, ap, sym, subst, ◌∙◌, refl}
-use Rattle.std.proofs.lemmas.Grind.{common_steps}
 use Rattle.std.proofs.lemmas.List.Sums.{sum_by-cons, sum_by_push}
 use Rattle.std.specs.List.{AllByRecursion}
 use Rattle.std.specs.FinSet as set
@@ -11,7 +10,7 @@ use Rattle.ent_alloc.proofs.PoolLaw.{asked-after_take}
 use Rattle.ent_replay.specs.declared.trace.line.Line.{Line}
 use Rattle.ent_replay.specs.declared.trace.line.Line.TheVariants as line
 use Rattle.ent_replay.specs.declared.trace.line.Reservation.{Reservation}
-use Rattle.ent_replay.specs.Trace.{IsOrderOf, IsAlone, after_front, after_line, after_lines}
+use Rattle.ent_replay.specs.Trace.{IsOrderOf, after_front, after_line, after_lines}
 use Rattle.ent_replay.specs.Checker.{Checked, IsSettled, Reaches, ReachesAll, requested_in}
 use Rattle.ent_replay.specs.Checker.{reserve_lines}
 use Rattle.ent_replay.specs.declared.trace.reply.AllocReply.{AllocReply}

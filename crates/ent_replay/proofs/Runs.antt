@@ -1,27 +1,16 @@
 -- The reservations of a run one after the other: what is left to be made.
-use Rattle.std.proofs.Common.{rules, ◌≡◌, ℕ, ◌+◌, ◌^◌, ◌<◌, ◌≤◌, List, [], ◌∷◌, length, drop}
-use Rattle.std.proofs.Common.{get_or, ap, arith}
+use Rattle.std.proofs.Common.{rules, ◌≡◌, ℕ, ◌+◌, ◌^◌, ◌<◌, ◌≤◌, List, length, drop}
+use Rattle.std.proofs.Common.{get_or, arith}
 use Rattle.std.proofs.lemmas.Grind.{common_steps}
 use Rattle.std.proofs.Math.Seq.{drop-cons}
 use Rattle.std.proofs.lemmas.List.{drop_all}
 use Rattle.std.proofs.lemmas.List.Sums.{sum_by-cons}
 use Rattle.ent_alloc.specs.Sequential.{Allocator, after_take}
 use Rattle.ent_alloc.proofs.PoolLaw.{asked-after_take}
-use Rattle.ent_replay.specs.declared.trace.line.Reservation.{Reservation}
 use Rattle.ent_replay.specs.declared.trace.placed.Placed.{Placed}
 use Rattle.ent_replay.specs.Trace.{after_lines}
 use Rattle.ent_replay.specs.Checker.{reservations_of, requested_in}
 use Rattle.ent_replay.proofs.Sorted.{lines}
-
-abbrev requested : Reservation → ℕ
-requested r = r.requested
-
--- what a run requests is asked for after it
-pub asked-lines : (s : Allocator) (run : List Placed) → (after_lines s (lines run)).asked ≡ s.asked
-    + requested_in (reservations_of run)
-asked-lines s [] = omega arith
-asked-lines s (p ∷ run) =
-    grind (arith, common_steps, asked-lines (after_take s p.reservation.requested) run)
 
 -- those before an index were made
 pub record Made (old s : Allocator) (run : List Placed) (i : ℕ) : Type 0 where

@@ -1,5 +1,5 @@
 -- The sorted run is lined up: all of it is placed, or no order of the run is answered so.
-use Rattle.std.proofs.Common.{◌≡◌, ◌≢◌, ℕ, ◌++◌, ◌≤◌, List, [], ◌∷◌, filter, sym, ap, subst, ◌∙◌, rules}
+use Rattle.std.proofs.Common.{◌≡◌, ◌≢◌, ℕ, ◌++◌, ◌≤◌, List, [], ◌∷◌, filter, sym, ap, subst, ◌∙◌}
 use Rattle.std.proofs.lemmas.List.{append-nil}
 use Rattle.std.specs.List.{AllByRecursion}
 use Rattle.ent_alloc.specs.Sequential.{Allocator, available}
@@ -9,11 +9,10 @@ use Rattle.ent_replay.specs.declared.trace.lineup.Lineup.{Lineup}
 use Rattle.ent_replay.specs.declared.trace.placed.Placed.{Placed}
 use Rattle.ent_replay.specs.declared.trace.difference.Difference.{Difference}
 use Rattle.ent_replay.specs.Trace.{AreAnswered, IsOrderOf, after_lines}
-use Rattle.ent_replay.specs.Checker.{AreKeyed, AreSteady, Checked, HasNoOrder, IsSettled, Shows}
+use Rattle.ent_replay.specs.Checker.{AreKeyed, AreSteady, HasNoOrder, IsSettled, Shows}
 use Rattle.ent_replay.specs.Checker.{requested_in, reservations_of}
 use Rattle.ent_replay.specs.Lineup.{IsLineup, KeepsCallers, NamesOne, NoneFits, all_of, lines_of, reached}
 use Rattle.ent_replay.proofs.Lists.{split, all_left}
-use Rattle.ent_replay.proofs.KeysOf.{IsOfOther}
 use Rattle.ent_replay.proofs.Complete.{IsPlacedOrder}
 use Rattle.ent_replay.proofs.Lifted.{others_of, sorted_run}
 use Rattle.ent_replay.proofs.Sorted.{IsRising, TieAlike, alike_rest, begins, least, nothing_left, passes}
@@ -77,6 +76,8 @@ module _ (s : Allocator) (run sorted : List Placed) (l : Lineup) (sound : IsSoun
       → HasNoOrder (record { allocator = s; run = reservations_of run })
   some-none some whole other is all = some (whole (best other is all).0)
 
-  pub some-Shows : NoneFits (reached s l) l.rest.items → (d : Difference) → NamesOne s l d → (n : ℕ)
+  pub some-Shows : l.rest.items ≢ [] → (AreAnswered s (lines_of sorted) → l.rest.items ≡ [])
+      → NoneFits (reached s l) l.rest.items → (d : Difference) → NamesOne s l d → (n : ℕ)
       → Shows (record { allocator = s; run = reservations_of run }) n [] d
-  some-Shows none d names n = lineup-Shows s run l kept lined none d names n
+  some-Shows some whole none d names n =
+      lineup-Shows s run l kept lined none (some-none some whole) d names n

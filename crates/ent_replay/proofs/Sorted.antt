@@ -14,9 +14,9 @@ use Rattle.std.proofs.lemmas.List.Elements.{All-from_recursion, recursion_from_A
 use Rattle.ent_replay.specs.declared.trace.line.Line.{Line}
 use Rattle.ent_replay.specs.declared.trace.line.Line.TheVariants as line
 use Rattle.ent_replay.specs.declared.trace.placed.Placed.{Placed}
-use Rattle.ent_replay.specs.Trace.{MayPass, IsOrderOf}
+use Rattle.ent_replay.specs.Trace.{MayPass}
 use Rattle.ent_replay.specs.Checker.{reservations_of, reserve_lines, ComesAfter, AreSteady}
-use Rattle.ent_replay.proofs.Lists.{split, all_at, all_without, all_left}
+use Rattle.ent_replay.proofs.Lists.{all_at, all_without}
 
 abbrev pub lines : List Placed → List Line
 lines run = reserve_lines (reservations_of run)

@@ -1,5 +1,5 @@
 -- If no caller's first reservation that is left fits, no line that may come next does.
-use Rattle.std.proofs.Common.{rules, arith, ◌≡◌, ℕ, List, [], ◌∷◌, ◌++◌, filter, length, refl, sym, ap}
+use Rattle.std.proofs.Common.{arith, ◌≡◌, ℕ, List, [], ◌∷◌, ◌++◌, filter, length, refl, sym, ap}
 use Rattle.std.proofs.Common.{subst, ◌∙◌, Bool, true, false, cond, ◌==◌}
 use Rattle.std.proofs.lemmas.List.{append-nil}
 use Rattle.std.proofs.lemmas.List.Elements.{filter-append}
@@ -10,7 +10,7 @@ use Rattle.ent_replay.specs.declared.trace.line.Line.TheVariants as line
 use Rattle.ent_replay.specs.declared.trace.lineup.Lineup.{Lineup}
 use Rattle.ent_replay.specs.declared.trace.placed.Placed.{Placed}
 use Rattle.ent_replay.specs.Trace.{Fits, IsOrderOf}
-use Rattle.ent_replay.specs.Checker.{Checked, Shows, reservations_of}
+use Rattle.ent_replay.specs.Checker.{HasNoOrder, Shows, reservations_of}
 use Rattle.ent_replay.specs.Lineup.{IsLineup, KeepsCallers, NamesOne, NoneFits, all_of, is_of, lines_of}
 use Rattle.ent_replay.specs.Lineup.{reached}
 use Rattle.ent_replay.proofs.Lists.{split}
@@ -72,9 +72,10 @@ module _ (s : Allocator) (run : List Placed) (l : Lineup) (keeps : KeepsCallers 
       none at.before u.placed at.after at.is (none_before q at.before at.none)
       (subst (Fits (reached s l)) (sym u.placed_is) fits)
 
-  pub lineup-Shows : IsLineup s l → NoneFits (reached s l) l.rest.items → (d : Difference)
+  pub lineup-Shows : IsLineup s l → NoneFits (reached s l) l.rest.items
+      → HasNoOrder (record { allocator = s; run = reservations_of run }) → (d : Difference)
       → NamesOne s l d → (n : ℕ) → Shows (record { allocator = s; run = reservations_of run }) n [] d
-  lineup-Shows lined none d names n =
+  lineup-Shows lined none unordered d names n =
       let forward : KeepsCallers run (l.placed.items ++ names.named ∷ (names.before ++ names.after)) =
       keeps-forward run l.placed.items names.before names.after names.named names.first
       (subst (λ (ps : List Placed). KeepsCallers run (l.placed.items ++ ps)) names.is keeps) in
@@ -94,4 +95,5 @@ module _ (s : Allocator) (run : List Placed) (l : Lineup) (keeps : KeepsCallers 
         stuck = λ next left is. stuck none next left
             (subst (λ (ls : List Line). IsOrderOf ls (lines_of l.placed.items ++ next ∷ left))
             (append-nil (lines_of run)) is);
+        blamed = unordered;
       }

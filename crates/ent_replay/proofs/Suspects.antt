@@ -1,6 +1,6 @@
 -- Which of those that are left is its caller's first one.
-use Rattle.std.proofs.Common.{rules, arith, ◌≡◌, ◌≢◌, ℕ, suc, ◌+◌, ◌<◌, List, [], ◌∷◌, ◌++◌, filter, length}
-use Rattle.std.proofs.Common.{take, drop, get_or, None, Some, refl, sym, ap, subst, ◌∙◌, inl, inr}
+use Rattle.std.proofs.Common.{arith, ◌≡◌, ◌≢◌, ℕ, suc, ◌+◌, ◌<◌, List, [], ◌∷◌, ◌++◌, filter, length}
+use Rattle.std.proofs.Common.{take, drop, get_or, None, Some, refl, sym, ap, ◌∙◌, inl, inr}
 use Rattle.std.proofs.Common.{append-nil}
 use Rattle.std.proofs.Math.Seq.{drop-cons}
 use Rattle.std.proofs.lemmas.Bool.{cases_eq}
@@ -59,7 +59,8 @@ module _ (seen : finite.FinMap nat_cmp ℕ) (rest : List Placed) (index : ℕ) (
     after = drop (index + 1) rest;
     is = sym (take-append-drop index rest)
         ∙ ap (λ (ps : List Placed). take index rest ++ ps)
-        (drop-cons rest index p within ∙ ap (λ n. get_or rest index p ∷ drop n rest) (one_up index) ∙ ap (λ (x : Placed). x ∷ drop (index + 1) rest) (sym at));
+        (drop-cons rest index p within ∙ ap (λ n. get_or rest index p ∷ drop n rest) (one_up index)
+        ∙ ap (λ (x : Placed). x ∷ drop (index + 1) rest) (sym at));
     index_is = let a = length-take index rest in omega arith;
     first = h p.reservation.caller none;
   }

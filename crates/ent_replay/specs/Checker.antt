@@ -91,13 +91,23 @@ pub record Differs (s : Allocator) (number : ℕ) (l : Line) (d : Difference) : 
   pub front_is : d.front ≡ take 8 s.pool
   pub cursor_is : d.cursor ≡ cursor s
 
+-- in no order the reservations of the run were answered so
+abbrev pub HasNoOrder : Checked → Type 0
+HasNoOrder c = (order : List Line) → IsOrderOf (reserve_lines c.run) order
+    → AreAnswered c.allocator order → ⊥
+
+-- what has to hold if the line is a reservation
+abbrev pub IfReserve : Line → Type 0 → Type 0
+IfReserve (line.Reserve r) P = P
+IfReserve other P = Unit {0}
+
 -- no line that may come next after these fits
 abbrev pub IsStuck : Allocator → List Line → List Line → Type 0
 IsStuck s lines placed = (next : Line) (left : List Line)
     → IsOrderOf lines (placed ++ next ∷ left) → ¬ (Fits (after_lines s placed) next)
 
 -- The lines may have come in this order, in which some agree and the next one doesn't. After those that
--- agree no line that may come next does.
+-- agree no line that may come next does. It is a reservation only if the run agrees in no order.
 pub record Shows (c : Checked) (number : ℕ) (rest : List Line) (d : Difference) : Type 0 where
   pub placed : List Line
   pub next : Line
@@ -106,11 +116,7 @@ pub record Shows (c : Checked) (number : ℕ) (rest : List Line) (d : Difference
   pub answered : AreAnswered c.allocator placed
   pub differs : Differs (after_lines c.allocator placed) number next d
   pub stuck : IsStuck c.allocator (reserve_lines c.run ++ rest) placed
-
--- in no order the reservations of the run were answered so
-abbrev pub HasNoOrder : Checked → Type 0
-HasNoOrder c = (order : List Line) → IsOrderOf (reserve_lines c.run) order
-    → AreAnswered c.allocator order → ⊥
+  pub blamed : IfReserve next (HasNoOrder c)
 
 -- no trace that goes on with this line agrees
 abbrev pub NoneFollows : Checked → Line → Type 0

@@ -122,7 +122,7 @@ pub(crate) fn recruit(
     }
 }
 
-/// Whether a system of a worker has stopped for want of memory.
+/// Whether a system of a worker has stopped because memory ran out.
 pub(crate) fn some_stopped(workers: &[Worker]) -> bool
     ensures going { result ≡ false → All (λ w. w.stopped ≡ false) workers.now }
     ensures some { result ≡ true → Any (λ w. w.stopped ≡ true) workers.now }

@@ -49,7 +49,7 @@ use std::thread::Threads;
 /// - [`FrameFault::Lost`] if a system returned `Memory`, or if systems are left and no worker has
 ///   memory for the queue of another one. No command was applied. What the systems that ran had
 ///   reserved stays reserved, and nothing else is: [`World::flush`] brings it to life.
-/// - [`FrameFault::Sync`] if all systems ran and the sync point stopped for want of memory. The
+/// - [`FrameFault::Sync`] if all systems ran and memory ran out in the sync point. The
 ///   fault has the queues. If it stopped before any entity was born ([`SyncFault::FlushMemory`]),
 ///   [`World::apply`] does the sync point. If it stopped at a command, [`World::apply_from`] goes
 ///   on there. Both end as this frame would have.
@@ -198,7 +198,7 @@ where
     run_all(rt, &stage, workers);
 }
 
-/// Closes the world, and collects the queues, unless a system has stopped for want of memory or
+/// Closes the world, and collects the queues, unless memory ran out in a system or
 /// some are left.
 fn finish(
     opened: OpenWorld,

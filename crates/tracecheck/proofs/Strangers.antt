@@ -1,6 +1,6 @@
 -- What is said of a trace whose first line can't be. The edits in must-fail/ say something else of it.
-use Rattle.std.proofs.Common.{rules, ◌≡◌, ℕ, ◌+◌, ◌^◌, ◌<◌, ◌≤◌, List, [], ◌∷◌, ◌++◌, length, take, None}
-use Rattle.std.proofs.Common.{Some, Ok, Err, refl, sym, ap, subst, ◌∙◌, arith}
+use Rattle.std.proofs.Common.{◌≡◌, ℕ, ◌+◌, ◌^◌, ◌<◌, List, [], ◌∷◌, ◌++◌, length, take, None}
+use Rattle.std.proofs.Common.{Some, Ok, Err, refl, sym, ap, subst, arith}
 use Rattle.std.specs.Prelude.{Bool, true, false, nat_le, if◌then◌else◌}
 use Rattle.std.proofs.lemmas.Grind.{common_steps}
 use Rattle.ent_handle.specs.Handle.{Handle}
@@ -62,6 +62,11 @@ first = never 1 1
 abbrev named : Reservation
 named = never 1 1
 
+no_order : (s : Allocator) (order : List Line) → IsOrderOf (line.Reserve named ∷ []) order
+    → AreAnswered s order → ⊥
+no_order s order is answered =
+    dead (line.Reserve named) (never_fits named.number named.caller) order [] s is answered
+
 abbrev rest_of : List Line → List Line
 rest_of [] = []
 rest_of (x ∷ xs) = xs
@@ -88,13 +93,17 @@ only_first s next left (b ∷ d ∷ before, after, parts, passes, more) fits =
     none_in [] after l is = cc
     none_in (x ∷ before) after l is = cc
 
+-- the state in which it is compared
+abbrev state : Limits → Allocator
+state limits = opening limits
+
 abbrev said : Limits → Difference
 said limits = record {
   number = named.number;
   told = line.Reserve named;
   expected = line.Reserve (record named { reply = reserve.Handles [] });
-  front = take 8 (opening limits).pool;
-  cursor = cursor (opening limits);
+  front = take 8 (state limits).pool;
+  cursor = cursor (state limits);
 }
 
 module _ (limits : Limits) (one two : List ℕ)
@@ -114,7 +123,7 @@ module _ (limits : Limits) (one two : List ℕ)
       read = read;
       named = is;
     };
-    checked = record { allocator = opening limits; run = named ∷ [] };
+    checked = record { allocator = state limits; run = named ∷ [] };
     reached = (record { allocator = opening limits; run = first ∷ [] }, refl, refl);
     shows = record {
       placed = [];
@@ -123,14 +132,15 @@ module _ (limits : Limits) (one two : List ℕ)
       is_order = ([], line.Flush None ∷ [], refl, tt, ([], [], refl, tt, refl));
       answered = tt;
       differs = record {
-        unlike = never_fits named.number named.caller (opening limits);
+        unlike = never_fits named.number named.caller (state limits);
         expected = grind (arith, common_steps);
         number_is = refl;
         told_is = refl;
         front_is = refl;
         cursor_is = refl;
       };
-      stuck = only_first (opening limits);
+      stuck = only_first (state limits);
+      blamed = no_order (state limits);
     };
     none = λ rest a. dead (line.Reserve first) (never_fits 1 1) a.order (line.Flush None ∷ rest)
         (opening limits) a.is_order a.answered;

@@ -13,7 +13,6 @@ use Rattle.ent_replay.proofs.Requested.{requested-flush, requested-alloc, reques
 use Rattle.ent_replay.proofs.Requested.{requested-state, requested-len}
 use Rattle.tracecheck.specs.Verdict.{IsVerdict, StandsAt, agrees, asks_too_many, differs}
 use Rattle.tracecheck.specs.Verdict.{differs_in_all, is_none}
-use Rattle.ent_replay.specs.Trace.{Agrees}
 use Rattle.ent_replay.specs.Text.{line_of, words_of}
 use Rattle.ent_replay.specs.declared.trace.difference.Difference.{Difference}
 use Rattle.ent_replay.specs.declared.trace.line.Line.{Line}

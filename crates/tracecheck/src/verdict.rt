@@ -30,7 +30,7 @@ pub enum Verdict {
         /// How many handles it says were given out.
         given: u64,
     },
-    /// It differs, first in this line.
+    /// It differs in this line, as the difference shows.
     Differs(Difference),
     /// The text is no trace.
     Refused {

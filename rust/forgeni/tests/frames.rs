@@ -1,5 +1,6 @@
-//! Frames. What one makes doesn't depend on the number of its workers, and is what the same systems
-//! make one after the other by `World::open` and `World::apply`.
+//! Frames. If nothing is refused and no handle decides anything, what one makes doesn't depend on the
+//! number of its workers, and is what the same systems make one after the other by `World::open` and
+//! `World::apply`.
 
 use crate::common::{handle, seeds, Numbers};
 use forgeni::{

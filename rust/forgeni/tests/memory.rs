@@ -2,6 +2,9 @@
 //! give back what they were called on. That is tried in processes of their own, whose memory the
 //! shell bounds.
 
+mod common;
+
+use common::this_program;
 use forgeni::{Commands, ComponentId, Entities, Fault, GoOnError, Handle, Limits};
 use forgeni::{OpenError, Queues, Report, ShareError, SpawnError};
 use forgeni::{Stopped, SyncError, SyncErrorKind, World};
@@ -249,10 +252,14 @@ fn in_little_memory(name: &str, test: fn()) {
     if env::var_os(LITTLE).is_some() {
         return test();
     }
+    let program = this_program();
+    // An emulator takes three quarters of the difference for itself.
+    let kibibytes = if program.len() > 1 { 400_000 } else { 200_000 };
     let output = Command::new("sh")
-        .args(["-c", "ulimit -v 200000 && exec \"$0\" --exact \"$1\""])
-        .arg(env::current_exe().expect("a path"))
-        .arg(name)
+        .args(["-c", &format!("ulimit -v {kibibytes} && exec \"$@\"")])
+        .arg("sh")
+        .args(program)
+        .args(["--exact", name])
         .env(LITTLE, "1")
         .env("MALLOC_ARENA_MAX", "1")
         .output()

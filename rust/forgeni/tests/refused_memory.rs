@@ -6,7 +6,7 @@ mod common;
 #[path = "../../../.ci/refusing_allocator.rs"]
 mod refusing;
 
-use common::handle;
+use common::{handle, this_program};
 use forgeni::trace::{Call, CheckError, Checker, FreeReply, Log, Reservation};
 use forgeni::{
     AllocError, Birth, BornError, CommandQueue, Commands, ComponentId, Entities, Fault,
@@ -1037,7 +1037,9 @@ fn one_request_ends_the_process() {
     }
     for call in ["share", "open"] {
         let ends = |after: &usize| {
-            let run = std::process::Command::new(std::env::current_exe().expect("a path"))
+            let program = this_program();
+            let run = std::process::Command::new(&program[0])
+                .args(&program[1..])
                 .args(["--exact", name])
                 .env(ONE_REFUSED, format!("{call} {after}"))
                 .output()

@@ -118,6 +118,20 @@ fn queues_take_effect_in_their_order() {
     assert_eq!((world.len(), world.phase()), (2, 1));
 }
 
+/// An insertion that only replaces several values needs no memory that isn't there.
+#[test]
+fn several_values_are_replaced() {
+    let mut world = World::new();
+    let one = world.spawn(&[(HP, 1), (SPEED, 2)]).expect("a handle");
+    let (open, mut systems) = world.open(1).expect("a phase");
+    let mut only = systems.pop().expect("a system");
+    only.insert(one, &[(HP, 3), (SPEED, 4)]).expect("memory");
+    let (mut world, queues) = open.close(vec![only.finish()]).expect("all queues");
+    let report = world.apply(queues).expect("memory");
+    assert_eq!((report.born().len(), report.faults().len()), (0, 0));
+    assert_eq!(world.items(one), Some(vec![(HP, 3), (SPEED, 4)]));
+}
+
 #[test]
 fn a_refused_spawn_is_a_fault() {
     let (open, mut systems) = small(3, 9).open(1).expect("a phase");

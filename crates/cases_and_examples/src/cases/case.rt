@@ -130,11 +130,13 @@ impl<'a> Case<'a> {
         }
     }
 
-    /// A file ends when all is told.
+    /// At the end of a file every stop must have its line.
     fn end(&mut self, layer: &mut Layer) {
         if layer.take_untold() {
             self.call.clear();
             self.call.word("the end");
+            self.wanted.clear();
+            self.wanted.word("nothing untold");
             self.note_untold();
         }
     }

@@ -9,7 +9,7 @@ pub enum Ended {
     Done,
     /// It did nothing, for this reason.
     Refused(&'static str),
-    /// It stopped for want of memory: at a system, a command, and how many handles of that are done.
+    /// Memory ran out: at a system, a command, and how many handles of that are done.
     Stopped(usize, usize, usize),
     /// The frame was lost: no command of its systems was applied.
     Lost,
@@ -97,7 +97,7 @@ impl Tried {
         tells
     }
 
-    /// Whether no line has told it. Who asks is told so once.
+    /// Whether no line has told it. It says so once.
     pub fn take_untold(&mut self) -> bool {
         let is_untold = self.is_untold;
         self.is_untold = false;

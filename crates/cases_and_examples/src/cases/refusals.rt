@@ -18,7 +18,7 @@ pub struct Refusals {
     pub are_awaited: bool,
     /// How many calls were made again.
     pub count: u64,
-    /// What is told of the state before a call, and after its refusal.
+    /// The text of the state before a call, and of that after its refusal.
     before: Out,
     after: Out,
 }
@@ -91,7 +91,7 @@ fn answer<R: Threads + Sync>(rt: &R, layer: &mut Layer, call: &Call<'_>, out: &m
     }
 }
 
-/// Writes what is told of the state. If memory for it is refused, it is written again.
+/// Writes the state as text, again if memory for it is refused.
 fn write_state(layer: &Layer, call: &Call<'_>, out: &mut Out) {
     out.clear();
     layer.write_state(call, out);

@@ -2,6 +2,7 @@
 #![allow(dead_code)]
 
 use forgeni::{AllocError, Entities, FreeError, Freed, Handle, Limits, Refused, State};
+use std::ffi::OsString;
 
 pub fn handle(index: u32, generation: u32) -> Handle {
     Handle::new(index, generation).expect("a handle")
@@ -175,4 +176,13 @@ pub fn seeds(count: u64, run: impl Fn(u64)) {
     for seed in 0..set("FORGENI_SEEDS").unwrap_or(count) {
         run(seed);
     }
+}
+
+/// The words that start this program anew. Where the tests run under an emulator, that is the first
+/// of them: `FORGENI_EMULATOR` has it with its options (`examples/on_other_targets.sh`).
+pub fn this_program() -> Vec<OsString> {
+    let emulator = std::env::var("FORGENI_EMULATOR").unwrap_or_default();
+    let program = std::env::current_exe().expect("a path");
+    let words = emulator.split_whitespace().map(OsString::from);
+    words.chain([program.into()]).collect()
 }

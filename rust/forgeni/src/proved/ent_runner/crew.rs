@@ -124,7 +124,7 @@ pub(super) fn recruit(
     }
 }
 
-/// Whether a system of a worker has stopped for want of memory.
+/// Whether a system of a worker has stopped because memory ran out.
 #[inline]
 pub(super) fn some_stopped(workers: &[Worker]) -> bool
     // ensures going { result ≡ false → All (λ w. w.stopped ≡ false) workers.now }

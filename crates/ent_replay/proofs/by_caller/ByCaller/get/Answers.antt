@@ -1,5 +1,4 @@
 use Rattle.std.proofs.Common.{rules}
-use Rattle.std.specs.FinMap as map
 use Rattle.ent_replay.proofs.Maps.{get-of_tree}
 use Rattle.ent_replay.proofs.by_caller.ByCaller.get.Goals as goal
 

@@ -1,6 +1,4 @@
 use Rattle.std.proofs.Common.{rules}
-use Rattle.std.specs.FinMap as map
-use Rattle.std.specs.BTreeMap as tree
 use Rattle.ent_replay.proofs.Maps.{no_test, get-of_tree, from_entries-set}
 use Rattle.ent_replay.proofs.by_caller.ByCaller.replace.Goals as goal
 use Rattle.ent_replay.proofs.by_caller.ByCaller.replace.Goals.{in-Some, in_default}

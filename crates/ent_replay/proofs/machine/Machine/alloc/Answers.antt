@@ -1,8 +1,6 @@
 use Rattle.std.proofs.Common.{rules, refl}
 use Rattle.ent_alloc.specs.declared.fault.AllocFault.TheVariants as why
 use Rattle.ent_alloc.proofs.Meaning.{allocator_is}
-use Rattle.ent_replay.specs.declared.outcome.Outcome.TheVariants as outcome
-use Rattle.ent_replay.specs.declared.fault.ReplayFault.TheVariants as fault
 use Rattle.ent_replay.proofs.Maps.{no_test}
 use Rattle.ent_replay.proofs.MachineAnswers.{flushed, ok_not_err, faulty, allocator_did}
 use Rattle.ent_replay.proofs.MachineAnswers.{allocator_refused, consistent_as, not_other}

@@ -7,7 +7,6 @@ use Rattle.ent_replay.specs.Schedule.{on_answer, reported}
 use Rattle.ent_replay.specs.Machine.{machine_state, AreConsistent}
 use Rattle.ent_replay.specs.declared.machine.Machine.TheInside.{Inside}
 use Rattle.ent_replay.specs.declared.outcome.Outcome.{Outcome}
-use Rattle.ent_replay.specs.declared.outcome.Outcome.TheVariants as outcome
 use Rattle.ent_replay.specs.declared.fault.ReplayFault.TheVariants as fault
 use Rattle.ent_replay.proofs.MachineAnswers.{done, faulty, refused}
 use Rattle.ent_replay.proofs.CallEvents.{answer-not_open, answer-not_stepped, answer-answered}

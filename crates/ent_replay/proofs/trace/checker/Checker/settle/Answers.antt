@@ -3,7 +3,7 @@ use Rattle.std.proofs.lemmas.List.Sorted.{IsNonDecreasingBy-from_sort_by_key, an
 use Rattle.std.proofs.Common.{◌≡◌, ◌≢◌, ◌++◌, ℕ, arith, [], List, sym, ap, subst, ◌∙◌, rules}
 use Rattle.ent_replay.specs.declared.trace.placed.Placed.{Placed}
 use Rattle.ent_replay.specs.Trace.{AreAnswered, after_lines}
-use Rattle.ent_replay.specs.Checker.{Checked, HasNoOrder, IsSettled, Shows, requested_in}
+use Rattle.ent_replay.specs.Checker.{HasNoOrder, IsSettled, Shows, requested_in}
 use Rattle.ent_replay.specs.Checker.{reservations_of}
 use Rattle.ent_replay.specs.Lineup.{KeepsCallers, all_of, lines_of}
 use Rattle.ent_replay.proofs.Sorted.{IsRising, TieAlike, key, rising}
@@ -60,6 +60,9 @@ returns-then-not-is_empty-clause-differs c =
     c.in_ok-lineup.lineup c.in_ok-lineup.ensures.lined.sound c.self.invariant.keyed
     c.self.invariant.steady (up at.In_ok-sort_by_cached_key) (alike at.In_ok-sort_by_cached_key)
     (requests at.In_ok-sort_by_cached_key) c.in_ok-lineup.ensures.lined (keeps at.In_ok-lineup)
+    (some at.After-difference) (λ fit. c.in_ok-lineup.ensures.whole
+    (subst (λ (ps : List Placed). AreAnswered e.entities.allocator (lines_of ps))
+    (sym (begun at.In_ok-lineup)) fit))
     c.in_ok-lineup.ensures.stuck c.in_ok-difference.field-0 c.in_ok-difference.ensures)
 
 pub returns-then-not-is_empty-clause-none : goal.returns-then-not-is_empty-clause-none

@@ -1,10 +1,8 @@
-use Rattle.std.proofs.Common.{rules, arith, ◌≡◌, ◌∷◌, [], true, false, not, ap, sym, ◌∙◌, inl, inr, List, to_z, of_z, w64, pos, ◌-ℤ◌}
+use Rattle.std.proofs.Common.{rules, ◌≡◌, ◌∷◌, [], sym, ◌∙◌, inl, inr, to_z, of_z, w64, pos, ◌-ℤ◌}
 use Rattle.std.proofs.lemmas.Int.{ints}
-use Rattle.ent_replay.specs.declared.trace.lineup.Lineup.{Lineup}
-use Rattle.ent_replay.specs.declared.trace.placed.Placed.{Placed}
-use Rattle.ent_replay.proofs.Lineups.{Passing, Passing-least, Passing-passed, Passing-lower, started}
-use Rattle.ent_replay.proofs.Lineups.{placed_next, left_next, over_lined, over_keeps, over_fewer}
-use Rattle.ent_replay.proofs.Lineups.{over_stuck, over_whole, some_of, none_of_some, no_items}
+use Rattle.ent_replay.proofs.Lineups.{Passing-least, Passing-passed, Passing-lower, started}
+use Rattle.ent_replay.proofs.Lineups.{placed_next, left_next, over_lined, over_keeps}
+use Rattle.ent_replay.proofs.Lineups.{over_stuck, some_of, none_of_some, no_items}
 use Rattle.ent_replay.proofs.trace.lineup.Lineup.pass.Goals.{In_ok-push, In_ok-push-2}
 use Rattle.ent_replay.proofs.trace.lineup.Lineup.pass.Goals.{else-free-via-then-free+in_ok-fits_at+else-branch}
 use Rattle.ent_replay.proofs.trace.lineup.Lineup.pass.Goals.{else-free-via-else-free}

@@ -1,5 +1,5 @@
 use Rattle.std.proofs.Common.{rules}
-use Rattle.ent_replay.proofs.Lineups.{Settling-start, Settling-next, Settling-stuck, Settling-whole}
+use Rattle.ent_replay.proofs.Lineups.{Settling-start, Settling-next}
 use Rattle.ent_replay.proofs.trace.lineup.Lineup.settle.Goals as goal
 
 pub loop-before-init : goal.loop-before-init
