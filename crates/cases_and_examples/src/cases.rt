@@ -1,7 +1,7 @@
 //! Files of calls, each with what it has to return.
 //!
-//! What the driver itself needs is asked for again if it is refused once. Of the calls just those are
-//! made again whose file awaits it (`refusals`).
+//! If an allocation of the driver itself fails, the driver asks once more. A call is made again only if its
+//! file expects that (`refusals`).
 
 mod allocating;
 mod call;

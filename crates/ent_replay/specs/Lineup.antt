@@ -44,7 +44,7 @@ pub record IsLineup (s : Allocator) (l : Lineup) : Type 0 where
   pub at_is : l.at ≡ cursor (reached s l)
   pub few : s.asked + requested_in (reservations_of (all_of l)) ≤ 2 ^ 50
 
--- the difference is that of a caller's first reservation among those that are left
+-- the difference names the first reservation of a caller among those that are left
 pub record NamesOne (s : Allocator) (l : Lineup) (d : Difference) : Type 0 where
   pub before : List Placed
   pub named : Placed

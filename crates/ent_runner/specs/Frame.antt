@@ -83,7 +83,7 @@ abbrev pub SystemMayHaveIssued : {S : Type 0} → (S → View → List Command �
 SystemMayHaveIssued may leave systems view n queue =
     SystemMayIssue may systems view n queue ⊎ SystemMayIssue leave systems view n queue
 
--- Memory was refused to the system that one of these workers ran last, which left its queue so.
+-- The system that one of these workers ran last ran out of memory, and left its queue so.
 abbrev pub HasStopped : {S : Type 0} → (S → View → List Command → Type 0) → List S → View
     → List (List Command) → List (List ℕ) → Type 0
 HasStopped leave systems view queues ran =
@@ -116,8 +116,8 @@ pub record IsBrokenOff {S : Type 0} (may leave : S → View → List Command →
   pub ended : (worker : ℕ) (mine : List ℕ) → slice_get ran worker ≡ Some mine
       → AllPairs (λ earlier later. SystemMayIssue may systems (view_of before) earlier
       (queue_at queues earlier)) mine
-  -- Why it was broken off: a system stopped, or some are left that no worker has room for. Then each
-  -- worker has run one at least, for whose queue it had room from the beginning.
+  -- Why it was broken off: a system stopped, or some are left that no worker has room for. If some are
+  -- left, each worker has run at least one, for whose queue it had room from the beginning.
   pub why : HasStopped leave systems (view_of before) queues ran ⊎ (count < length systems)
   pub busy : count < length systems → All (λ mine. 0 < length mine) ran
 

@@ -49,15 +49,15 @@ pub record HasRunSome {S : Type 0} (may leave : S → View → List Command → 
   pub ended : AllPairs (λ (i later : SystemQueue). SystemMayIssue may systems view i.system i.queue)
       issued
 
--- Memory was refused to the last of these systems, which left its queue so.
+-- The last of these systems ran out of memory, and left its queue so.
 abbrev pub WasRefused : {S : Type 0} → (S → View → List Command → Type 0) → List S → View
     → List SystemQueue → Type 0
 WasRefused leave systems view issued =
     (last : SystemQueue) × (slice_get issued (length issued - 1) ≡ Some last)
     × SystemMayIssue leave systems view last.system last.queue
 
--- Why a worker claims no more though no system of it stopped: it found none left, or it has run
--- some, and there is no room for one queue more.
+-- Why a worker claims no more although none of its systems stopped: it found none left, or it has run
+-- some, and there is no room for another queue.
 abbrev pub IsThrough : Worker → Type 0
 IsThrough w = (w.claimer.own.ended ≡ true)
     ⊎ ((0 < length w.issued.items) × (vec_capacity w.issued ≤ vec_len w.issued))
@@ -76,7 +76,7 @@ pub record IsNewWorker (w : Worker) : Type 0 where
   pub unused : IsUnused w.claimer
   pub issued : IsRoomForOne w.issued
 
--- It has run all that it claimed, until none was left or there was no room for one more, or the
+-- It has run all that it claimed, until none was left, or there was no room for another one, or the
 -- last of them stopped. Its reserver began with this record.
 pub record HasWorked {S : Type 0} (may leave : S → View → List Command → Type 0)
     (shared : Shared) (claims : Claims) (systems : List S) (view : View) (before : Record)
@@ -125,7 +125,7 @@ pub record HaveWorked {S : Type 0} (may leave : S → View → List Command → 
       (opened world.shared.start k) w
 
 -- Together these workers ran the first systems, each once, and at least one if there are any. If
--- some are left, each worker ran one at least.
+-- some are left, each worker ran at least one.
 pub record HaveRunFirst (numbers : ℕ) (team : List Worker) : Type 0 where
   pub count : ℕ
   pub within : count ≤ numbers
@@ -134,7 +134,7 @@ pub record HaveRunFirst (numbers : ℕ) (team : List Worker) : Type 0 where
       (range_with_len 0 count)
   pub busy : count < numbers → All (λ (w : Worker). 0 < length w.issued.items) team
 
--- Why no queues come of it: a system of one of the workers has stopped, or some systems are left.
+-- Why there are no queues: a system of one of the workers has stopped, or some systems are left.
 abbrev pub IsLostFor : ℕ → List Worker → Type 0
 IsLostFor numbers team = Any (λ (w : Worker). w.stopped ≡ true) team
     ⊎ (length (flat_map (λ (w : Worker). systems_of w.issued.items) team) < numbers)

@@ -46,7 +46,7 @@ pub(crate) struct Worker {
     /// The queues of the systems that it ran, in the order of the claims. If a system stopped,
     /// its queue is the last one.
     pub(crate) issued: Vec<SystemQueue>,
-    /// Memory was refused to its last system, so it has claimed no more.
+    /// Its last system ran out of memory, so it has claimed no more.
     pub(crate) stopped: bool,
 }
 
@@ -71,7 +71,7 @@ impl<S: System, G: Gate> Stage<'_, S, G> {
 
 impl Worker {
     /// Runs the systems that it claims, until none is left. It claims one only if there is room
-    /// for its queue, which there is for the first one: without it the others run what is left.
+    /// for its queue, as there is for the first one. If not, other workers run what is left.
     fn work<S: System, G: Gate>(&mut self, stage: &Stage<'_, S, G>) -> Result<(), Memory>
         requires systems { stage.now.claims.now.numbers ≡ length stage.now.systems.now }
         requires reserver { IsOf stage.now.shared.now self.old.reserver }

@@ -1,4 +1,4 @@
-//! Maps by handle at size: no clause says that memory which is there isn't refused.
+//! Maps by handle at size: no clause says that a call succeeds if there is memory.
 
 use crate::frames::first;
 use ent_storage::handle_map::HandleMap;

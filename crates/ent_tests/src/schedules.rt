@@ -6,8 +6,8 @@ use std::alloc::Global;
 use std::process::Abort;
 use std::test::Fail;
 
-// The generation limit, a schedule over 3 slots, and its lines. Each outcome and fault stands here
-// once at least, but for `Quota`: it takes hundreds of calls, and the cases of the program have it.
+// The generation limit, a schedule over 3 slots, and its lines. They have each outcome and fault at least
+// once, except `Quota`: it takes hundreds of calls, and the cases of the program have it.
 const SCHEDULES: &[(u32, &[u8], &[u8])] = &[
     // It begins with the events of a call that was never begun.
     (
@@ -33,7 +33,7 @@ const SCHEDULES: &[(u32, &[u8], &[u8])] = &[
         b"open\ncursor -4\nspace wanted 4 left 3\nopen\ncursor -5\nspace wanted 1 left 0\n\
         born\n0v1\n1v1\n2v1\nspace wanted 1 left 0\n",
     ),
-    // With one generation each slot is given once.
+    // With a limit of one generation each slot is given once.
     (
         1,
         b"alloc\nfree 0v1\nalloc\nfree 0v1\nfree 1v1\nbegin 1 1\nstep 1\nanswer 1\nflush\n\

@@ -115,8 +115,8 @@ pub record IsClosed (opened : OpenWorld) (home : List Reserver) (after : World) 
 
 -- The phase ended with those of its reservers that are at home: the world is the one that was
 -- opened, and a front of the pool is reserved. It counts what these have requested, and of the
--- others no more than their credit. It has all that these were given. If all are at home, it counts
--- what they have requested, and the cursor is where their history leaves it.
+-- others no more than their credit. It has all handles that these got. If all are at home, it counts
+-- exactly what they have requested, and the cursor is where their history leaves it.
 pub record IsClosedLost (opened : OpenWorld) (home : List Reserver) (after : World) : Type 0 where
   pub phase : after.phase ≡ opened.phase
   pub entities : after.entities ≡ opened.entities

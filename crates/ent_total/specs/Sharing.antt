@@ -44,8 +44,8 @@ pub record MakesReservation (before after : Caller) (n : ℕ)
   pub same : after ≡ record before { reserver = after.reserver }
   pub reserves : Reserves before.shared before.reserver after.reserver n returned
 
--- So many handles were reserved, and given to a sink behind those that it was given before. They are
--- recorded behind those that the caller was given before.
+-- So many handles were reserved. The sink has them after those that it had before, and the caller's
+-- record after those that the caller got before.
 pub record GivesReply (before after : Caller) (n : ℕ) (old new : List Handle) : Type 0 where
   pub given : List Handle
   pub behind : new ≡ old ++ given

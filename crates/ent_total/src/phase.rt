@@ -115,8 +115,8 @@ impl<J: Numbering> Phase<J> {
     ///
     /// # Errors
     ///
-    /// `Memory` if a reserver is at home, and the phase can't have one more owner. Nothing has
-    /// changed then.
+    /// `Memory` if a reserver is at home, but there is no room for another owner of the phase. Then
+    /// nothing has changed.
     pub fn caller(&mut self) -> Result<Option<Caller<J>>, Memory>
         ensures given { IfOk result (λ found. IfSome found (λ c.
             (c.number ≡ self.old.number) × (c.shared ≡ self.old.shared)

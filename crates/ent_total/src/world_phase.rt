@@ -124,8 +124,8 @@ impl<J: Numbering> WorldPhase<J> {
     ///
     /// # Errors
     ///
-    /// `Memory` if a reserver is at home, and the phase can't have one more owner. Nothing has
-    /// changed then.
+    /// `Memory` if a reserver is at home, but there is no room for another owner of the phase. Then
+    /// nothing has changed.
     pub fn issuer(&mut self) -> Result<Option<Issuer<J>>, Memory>
         ensures given { IfOk result (λ found. IfSome found (λ i.
             (i.number ≡ self.old.number) × (i.world ≡ self.old.world) × (i.queue ≡ [])

@@ -48,8 +48,8 @@ pub record TellsOfValue (text : List ℕ) (e : ReadFault) (found : List ℕ) : T
 abbrev pub unshown_text : ReadFault → List ℕ
 unshown_text e = codes "; found what there was no memory to show" ++ position_text e
 
--- Of a text of more than 65,536 bytes it is only said where the test failed. Of a shorter one it is
--- said what stands there, or that there was no memory to show that.
+-- For a text of more than 65,536 bytes the line says only where the test failed. For a shorter one it
+-- also says what is there, or that there was no memory to show it.
 pub record TellsOfScript (text : List ℕ) (e : ReadFault) (found : List ℕ) : Type 0 where
   pub long : 65536 < length text → found ≡ position_text e
   pub short : length text ≤ 65536 → TellsOfValue text e found ⊎ (found ≡ unshown_text e)

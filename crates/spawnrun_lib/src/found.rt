@@ -7,9 +7,9 @@ use std::fmt::InlineText;
 
 /// What a test found, and where: one line without its line feed, which follows what the test wants.
 ///
-/// It begins with `; found `, and ends with where that stands. Of a script of more than 65,536 bytes
-/// it only says where, as ` at frame 0 (counted from 0)`; outside of a frame it is then empty. It
-/// takes no memory itself.
+/// It begins with `; found `, and ends with the place. Of a script of more than 65,536 bytes it has only
+/// the place, such as ` at frame 0 (counted from 0)`, and outside of a frame it is empty. It takes no
+/// memory itself.
 pub(crate) type Found = InlineText<256>;
 
 /// Appends a text, for which there is room.

@@ -26,8 +26,8 @@ const LONGEST: usize = 65_536;
 /// It is printable ASCII, whatever the text has. A value of more than 60 characters is cut, and ends
 /// in three dots.
 ///
-/// The text is read as JSON once more, so this is for a text that is refused. Of a text of more than
-/// 65,536 bytes it only says where. If memory runs out, it says so in place of the value.
+/// It reads the text as JSON once more, so it is for a text that is refused. Of a text of more than
+/// 65,536 bytes it has only the place. If memory runs out, it says so in place of the value.
 pub(crate) fn script_found(alloc: Global, text: &[u8], fault: ReadFault) -> Found
     ensures found { TellsOfScript text.now fault (inline_text result) }
     ensures long { 65536 < length text.now → inline_text result ≡ position_text fault }

@@ -1,4 +1,4 @@
--- What a terminal is told while a trace is read.
+-- What is written to a terminal while a trace is read.
 use Rattle.std.specs.Prelude.{ℕ, List, ◌++◌, codes}
 use Rattle.std.specs.Fmt.{decimal}
 

@@ -68,8 +68,8 @@ pub record DiffersInAll (limits : Limits) (lines : List (List ℕ)) (d : Differe
   pub shows : Shows checked 0 [] d
   pub none : Agrees (opening limits) calls → ⊥
 
--- The calls before this line were taken. With its call more was requested since the last flush than an
--- allocator counts, and without it not.
+-- The calls before this line were taken. Only with its call more was requested since the last flush than
+-- an allocator counts.
 pub record AsksAt (limits : Limits) (lines : List (List ℕ)) (number : ℕ) : Type 0 where
   pub calls : List Line
   pub next : Line

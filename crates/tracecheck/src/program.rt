@@ -1,5 +1,5 @@
-//! The program: what its words ask for, done between two devices, what it says on the error stream,
-//! and what a terminal is told.
+//! The program: what its words ask for, done between two devices, and what it writes to the error stream
+//! and to a terminal.
 ghost use Rattle.std.specs.Prelude.{◌≡◌, ◌≢◌, ◌≤◌, ◌⊎◌, IfOk, OnErr, OnOk, map, true, false};
 ghost use Rattle.std.specs.Prelude.{codes, string_bytes};
 ghost use Rattle.std.specs.IoError.{error_kind};
@@ -34,7 +34,7 @@ const LINE_FAULT: u8 = 2;
 /// | 3 | Memory ran out. Nothing was written. | `memory` |
 /// | 4 | A call of the input or the output failed. | `device` |
 ///
-/// If `tells`, the terminal is told how many lines were read, after each million. A failure of the
+/// If `tells`, it writes to the terminal how many lines were read, after each million. A failure of the
 /// error stream or of the terminal changes no status.
 pub fn execute<S: AsStr, I: Source, O: Sink, E: Sink, T: Sink>(
     alloc: Global,

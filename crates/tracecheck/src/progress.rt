@@ -1,4 +1,4 @@
-//! What a terminal is told while a trace is read.
+//! What is written to a terminal while a trace is read.
 ghost use Rattle.std.specs.Prelude.{◌≡◌, ◌+◌, ◌/◌, ◌<◌, ◌≤◌, true, false, OnErr, OnOk};
 ghost use Rattle.std.specs.Io.KnownBytes.{Appends};
 ghost use Rattle.tracecheck.specs.Progress.{millions_text};
@@ -9,8 +9,8 @@ use itoa::Buffer;
 // After how many lines it is told.
 const STEP: u64 = 1_000_000;
 
-/// Tells the terminal after each million lines how many were read, if that is wanted. Returns how many
-/// millions were told.
+/// After each million lines, writes to the terminal how many were read, if `is_wanted`. Returns how many
+/// millions were written.
 pub fn tell<T: Sink>(terminal: &mut T, is_wanted: bool, told: u64, lines: u64) -> u64
     ensures unwanted { is_wanted ≡ false → terminal.new ≡ terminal.old }
     ensures early { lines / 1000000 ≤ told → terminal.new ≡ terminal.old }
@@ -24,7 +24,7 @@ pub fn tell<T: Sink>(terminal: &mut T, is_wanted: bool, told: u64, lines: u64) -
     if !is_wanted || millions <= told {
         return told;
     }
-    // If the terminal fails, there is nobody to tell.
+    // A failure of the terminal is ignored: there is nobody to tell.
     let _ = put_millions(terminal, millions);
     millions
 }

@@ -58,8 +58,8 @@ fn check<I: Source, T: Sink>(
 /// have any length. It stops at the first line that is none or differs.
 ///
 /// After `Memory`, or a failure of the input, the output is as it was. `Device` is one failed call
-/// of one of the two devices. If `tells`, the terminal is told after each million lines how many
-/// were read, and else nothing.
+/// of one of the two devices. If `tells`, it writes to the terminal after each million lines how many
+/// were read. If not, it writes nothing there.
 pub fn check_trace<I: Source, O: Sink, T: Sink>(
     alloc: Global,
     input: &mut I,

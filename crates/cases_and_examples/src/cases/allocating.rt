@@ -83,7 +83,7 @@ impl Allocating {
         }
     }
 
-    /// Writes what can be told of the state.
+    /// Writes what the calls show of the state.
     pub fn write_state(&self, out: &mut Out) {
         match (&self.entities, &self.sharing) {
             (Some(entities), _) => write_state(entities, out),
@@ -146,7 +146,7 @@ fn reserve(entities: &mut Entities, n: u32, out: &mut Out) {
     }
 }
 
-/// Flushes into this list, which is as it was if there is no memory.
+/// Flushes into this list. If there is no memory, the list is as it was.
 fn flush(entities: &mut Entities, mut list: Vec<Handle>, out: &mut Out) {
     let (len, first) = (list.len(), list.first().copied());
     match entities.flush(&mut list) {

@@ -22,7 +22,7 @@ pub struct Case<'a> {
     found: Out,
     conditions: Conditions,
     refusals: Refusals,
-    /// How many calls were made. One that was made again is one.
+    /// How many calls were made. A call that was made again counts once.
     calls: u64,
     /// How many of them did not return what the file says.
     differ: u64,
@@ -117,7 +117,7 @@ impl<'a> Case<'a> {
         fill(&mut self.wanted, wanted.trim(), round);
     }
 
-    /// Makes the call that is written, unless its condition doesn't hold, and compares.
+    /// Makes the call of the line, unless its condition doesn't hold, and compares the answer.
     fn make<R: Threads + Sync>(&mut self, rt: &R, layer: &mut Layer) {
         if when_of(self.call.text.as_str()).is_none() && layer.take_untold() {
             return self.note_untold();
@@ -141,7 +141,7 @@ impl<'a> Case<'a> {
         }
     }
 
-    /// Before this call no line told how a sync point or a frame was disturbed.
+    /// No line before this call told how a sync point or a frame ran out of memory.
     fn note_untold(&mut self) {
         self.found.clear();
         self.found.word(" no line tells what was disturbed before");

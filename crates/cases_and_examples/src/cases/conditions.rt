@@ -1,4 +1,4 @@
-//! Lines that are made only if something went as they say.
+//! Lines with a condition: their calls are made only if it holds.
 
 use crate::cases::call::Call;
 use crate::cases::layer::Layer;
@@ -9,7 +9,7 @@ use std::alloc::{AllocError, Global};
 #[derive(Drop)]
 pub struct Conditions {
     alloc: Global,
-    /// How many there were up to here.
+    /// How many lines with a condition there were so far.
     count: u64,
     /// The numbers of those that were left out.
     pub left_out: Out,

@@ -1,4 +1,4 @@
-//! How a sync point or a frame ended, and whether a line tells it.
+//! How a sync point or a frame ended, and whether a line says so.
 
 use crate::cases::call::Call;
 use crate::cases::writing::Out;
@@ -13,7 +13,7 @@ pub enum Ended {
     Stopped(usize, usize, usize),
     /// The frame was lost: no command of its systems was applied.
     Lost,
-    /// The frame's systems ran, and none of those that they spawned was born.
+    /// The frame's systems ran, and none of the entities that they spawned was born.
     Unborn,
 }
 
@@ -63,11 +63,11 @@ fn write_stop(place: [usize; 3], out: &mut Out) {
     }
 }
 
-/// How the last sync point or frame ended that might be disturbed.
+/// How the last sync point or frame ended that may run out of memory.
 #[derive(Clone, Copy)]
 pub struct Tried {
     pub ended: Ended,
-    /// It was disturbed, and no line has told how.
+    /// It ran out of memory, and no line has said how it ended.
     is_untold: bool,
 }
 
@@ -80,7 +80,7 @@ impl Tried {
         Tried { ended, is_untold }
     }
 
-    /// Whether it ended as the condition says, where so many live now.
+    /// Whether it ended as the condition says. So many entities live now.
     pub fn holds(&mut self, when: &Call<'_>, living: usize) -> bool {
         match when.name {
             "at" => self.is_told(self.ended.is_at(when.numbers)),
@@ -91,7 +91,7 @@ impl Tried {
         }
     }
 
-    /// Notes a line that tells it, if it does.
+    /// Notes that a line says how it ended, if the line does.
     fn is_told(&mut self, tells: bool) -> bool {
         self.is_untold = self.is_untold && !tells;
         tells

@@ -36,7 +36,7 @@ impl Layer {
         }
     }
 
-    /// Writes what can be told of the state, so that who compares sees whether that call changed it.
+    /// Writes what the calls show of the state, to compare whether that call changed it.
     pub fn write_state(&self, call: &Call<'_>, out: &mut Out) {
         match self {
             Layer::Alloc(layer) => layer.write_state(out),
@@ -45,7 +45,7 @@ impl Layer {
         }
     }
 
-    /// Whether the last sync point or frame that might be disturbed ended so.
+    /// Whether the last sync point or frame that may run out of memory ended so.
     pub fn holds(&mut self, when: &Call<'_>) -> bool {
         match self {
             Layer::World(layer) => layer.holds(when),
@@ -53,7 +53,7 @@ impl Layer {
         }
     }
 
-    /// Whether it was disturbed, and no line has told how. It is said once.
+    /// Whether it ran out of memory, and no line has said how it ended. Returns `true` once.
     pub fn take_untold(&mut self) -> bool {
         match self {
             Layer::World(layer) => layer.take_untold(),

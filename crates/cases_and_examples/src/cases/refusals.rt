@@ -1,4 +1,4 @@
-//! Calls to which memory may be refused.
+//! Calls that may run out of memory.
 
 use crate::cases::call::Call;
 use crate::cases::layer::Layer;
@@ -6,13 +6,13 @@ use crate::cases::writing::Out;
 use std::alloc::{AllocError, Global};
 use std::thread::Threads;
 
-/// What a call answers if memory was refused to it.
+/// What a call answers if it ran out of memory.
 const REFUSED: &str = "out of memory";
 
-/// Which calls of a file were refused memory.
+/// Which calls of a file ran out of memory.
 ///
 /// In a file whose name ends with `refused` such a call is made again, if it has changed nothing. In
-/// all others its answer stands, as any other answer does.
+/// all other files its answer is compared as any other is.
 #[derive(Drop)]
 pub struct Refusals {
     pub are_awaited: bool,
@@ -55,7 +55,7 @@ impl Refusals {
         }
     }
 
-    /// Makes a call again that was refused, if it has changed nothing.
+    /// Makes a call again that ran out of memory, if it has changed nothing.
     fn make_again<R: Threads + Sync>(
         &mut self,
         rt: &R,

@@ -46,7 +46,7 @@ impl Storing {
         write_entities(&self.storage, out);
         let spare = self.storage.spare();
         if call.name == "reserve" {
-            // If it is refused, there may be more room than before, but less than it was asked for.
+            // If it fails, there may be more room than before, but less than it asked for.
             out.next(&(spare >= call.number() as usize));
         } else {
             out.next(&spare);

@@ -4,7 +4,7 @@ use crate::cases::ended::Ended;
 use ent_world::{SyncFault, SyncReport};
 use std::alloc::Global;
 
-/// What the last sync point reported, also if it stopped.
+/// What the last sync point reported, even if it stopped.
 #[derive(Drop)]
 pub struct Synced {
     pub report: SyncReport,

@@ -28,7 +28,7 @@ pub struct Worlding {
     systems: Vec<Listed>,
     synced: Synced,
     tried: Tried,
-    /// That of the calls `bundle` and `put`.
+    /// The bundle of the calls `bundle` and `put`.
     bundle: Bundle,
     alloc: Global,
 }
@@ -257,7 +257,7 @@ impl Worlding {
         }
     }
 
-    /// A sync point or a frame that is done also if it was disturbed. Then a line has to tell how.
+    /// A sync point or a frame: `done` even if it ran out of memory. Then a line must say how it ended.
     fn keep_tried(&mut self, ended: Ended, out: &mut Out) {
         match ended {
             Ended::Refused(why) => out.word(why),
@@ -281,7 +281,7 @@ impl Worlding {
         self.tried.take_untold()
     }
 
-    /// Writes what can be told of the state.
+    /// Writes what the calls show of the state.
     pub fn write_state(&self, out: &mut Out) {
         match (&self.world, &self.phase) {
             (Some(world), _) => write_state(world, out),

@@ -1,4 +1,4 @@
-//! Where a reservation of a run comes, by what it was answered.
+//! The place of a reservation in its run, by its answer.
 ghost use Rattle.std.specs.Prelude.{◌≡◌, ◌<◌, ◌^◌, ℕ};
 ghost use Rattle.ent_alloc.specs.Sequential.{available};
 ghost use Rattle.ent_replay.specs.Checker.{KeyOf};
@@ -7,16 +7,16 @@ use crate::trace::reply::ReserveReply;
 use ent_alloc::Entities;
 use ent_handle::Handle;
 
-/// The keys of refusals. A reservation that was served has a lesser one: the place of a handle.
+/// The keys of refusals. A reservation that was served has a lower key: the place of a handle.
 const FIRST_REFUSED: u64 = 1 << 32;
 
 const LAST_REFUSED: u64 = 1 << 33;
 
-/// Where a reservation comes in a run, if nothing else is known of its caller.
+/// The place of a reservation in its run, if nothing else is known of its caller.
 ///
-/// Those that were served come by the place of a handle that they were given. Then come those that
-/// were refused: first the one that says how many handles it left, then those that don't say it, the
-/// greatest first, then those that found none.
+/// First come the reservations that were served, by the place of a handle that they got. Then come those
+/// that were refused: first the one that says how many handles were left, then those that don't say so,
+/// the greatest first, then those that found none.
 pub(super) fn own_key(entities: &Entities, requested: u32, reply: &ReserveReply) -> u64
     ensures key { KeyOf (available entities.now.allocator) requested reply.now result }
     ensures small { requested < 2 ^ 32 }
@@ -29,7 +29,7 @@ pub(super) fn own_key(entities: &Entities, requested: u32, reply: &ReserveReply)
     }
 }
 
-/// The place of the first of these handles, or 0 if there is none or it can't be given.
+/// The place of the first of these handles, or 0 if there is none or no allocator could give it.
 fn list_key(entities: &Entities, handles: &[Handle]) -> u64
     ensures { (n : ℕ)
         → KeyOf (available entities.now.allocator) n (ReserveReply.Handles handles.now) result }

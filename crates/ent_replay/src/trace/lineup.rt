@@ -1,5 +1,5 @@
-//! The reservations of a run, lined up: those that agree, in an order that they may have come in,
-//! and the others.
+//! The reservations of a run, lined up: those that agree, in an order in which they may have come, and
+//! the others.
 ghost use Rattle.std.specs.Prelude.{◌≡◌, ◌≢◌, ◌↔◌, ◌<◌, ◌≤◌, ◌+◌, ◌++◌, [], length, IfOk, IsTrue};
 ghost use Rattle.std.specs.Prelude.{◌^◌, pos, ◌+ℤ◌, ◌≤ℤ◌};
 ghost use Rattle.ent_alloc.specs.Sequential.{cursor, pool_at, reply_from, top};
@@ -22,7 +22,7 @@ use ent_alloc::{Entities, Reserved, Space, Span};
 use ent_handle::Memory;
 use std::alloc::Global;
 
-/// The reservations of a run in an order that they may have come in.
+/// The reservations of a run in an order in which they may have come.
 #[derive(Drop)]
 pub(super) struct Lineup {
     /// Those that agree, one after the other.
@@ -34,7 +34,7 @@ pub(super) struct Lineup {
 }
 
 impl Lineup {
-    /// None of the run is placed.
+    /// The lineup of a run of which nothing is placed yet.
     pub(super) fn new(alloc: Global, run: Vec<Placed>, entities: &Entities) -> Self
         requires { entities.now.allocator.asked + requested_in (reservations_of run.items) ≤ 2 ^ 50 }
         ensures lined { IsLineup entities.now.allocator result }
@@ -67,8 +67,8 @@ impl Lineup {
         Ok(lineup)
     }
 
-    /// Goes over those that are not placed, in their order, and places each that fits and is its
-    /// caller's next one.
+    /// Goes over those that are not placed, in their order, and places each one that fits and is the next
+    /// one of its caller.
     fn pass(self, alloc: Global, entities: &Entities) -> Result<Self, Memory>
         requires { IsLineup entities.now.allocator self }
         ensures lined { IfOk result (λ next. IsLineup entities.now.allocator next) }
@@ -106,7 +106,7 @@ impl Lineup {
         })
     }
 
-    /// The difference that a run shows of which some can't be placed.
+    /// The difference of a run that has reservations which can't be placed.
     pub(super) fn difference(self, alloc: Global, entities: &Entities) -> Result<Difference, Memory>
         requires lined { IsLineup entities.now.allocator self }
         requires stuck { NoneFits (reached entities.now.allocator self) self.rest.items }
@@ -134,7 +134,7 @@ impl Lineup {
     }
 }
 
-/// What was answered, as a line says it.
+/// The answer, as a line has it.
 fn reply_of(given: Result<HandleList, Space>) -> ReserveReply
     ensures { result ≡ reserve_reply given }
 {
@@ -177,7 +177,7 @@ fn listed(alloc: Global, reserved: Reserved<'_>) -> Result<HandleList, Memory>
     Ok(HandleList::new(handles))
 }
 
-/// What a request for `n` handles gets that finds the cursor at this position.
+/// The reply to a request for `n` handles if the cursor is at this position.
 pub(super) fn reply_at(
     alloc: Global,
     entities: &Entities,
@@ -199,7 +199,7 @@ pub(super) fn reply_at(
     }
 }
 
-/// Whether the reservation's reply is the allocator's if it finds the cursor at this position.
+/// Whether the reservation's reply is the allocator's if the cursor is at this position.
 pub(super) fn fits_at(
     alloc: Global,
     entities: &Entities,

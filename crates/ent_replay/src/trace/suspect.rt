@@ -1,4 +1,4 @@
-//! Which of the reservations that can't be placed is named.
+//! Chooses which of the reservations that can't be placed a difference names.
 ghost use Rattle.std.specs.Prelude.{◌≡◌, ◌≢◌, ◌<◌, ◌≤◌, ◌+◌, [], length, IfOk};
 ghost use Rattle.ent_replay.specs.Lineup.{IsFirstAt};
 
@@ -24,9 +24,9 @@ struct Turn {
     index: usize,
 }
 
-/// The index of the reservation that is named if none of these fits at this position: the first one
-/// that is its caller's next one, and is the only one whose answer is wrong. If there is none among the
-/// first 64 callers, it is the first of the list.
+/// If none of these fits at this position, the index of the one that is named: the first one that is its
+/// caller's next one, and without whose answer all others fit. If none of the first 64 callers has such
+/// a reservation, it is the first of the list.
 pub(super) fn suspect(
     alloc: Global,
     entities: &Entities,
@@ -69,8 +69,8 @@ fn turns(alloc: Global, entities: &Entities, rest: &[Placed]) -> Result<Vec<Turn
     Ok(order)
 }
 
-/// Whether all but one of the reservations fit in this order, one after the other, if it is also that
-/// of each caller. One for nothing fits anywhere.
+/// Whether all reservations but one fit in this order, one after the other, if the order is also that of
+/// each caller. A reservation of nothing fits anywhere.
 fn others_fit(
     alloc: Global,
     entities: &Entities,

@@ -1,4 +1,4 @@
-//! A call of `replay` or `run` over devices in memory, and what it has to give.
+//! A call of `replay` or `run` on devices in memory, and what it must write.
 use super::memory::{MemorySink, NEVER};
 use super::source::MemorySource;
 use spawnrun_lib::{Sink, Source, Status, Task, command_line, replay, run};
@@ -14,7 +14,7 @@ pub struct Row {
     pub output: &'static str,
 }
 
-/// Does what the words ask for, and says something on the error stream only if the input is refused.
+/// Does what the words ask for, and writes to the error stream only if the input is refused.
 pub fn ended<R, I: Source, O: Sink>(
     rt: &R,
     alloc: Global,
@@ -49,7 +49,7 @@ where
     status
 }
 
-/// Whether the words make this output of the input, and end so.
+/// Whether the words make this output from the input, and end with this status.
 pub fn gives<R>(
     rt: &R,
     alloc: Global,

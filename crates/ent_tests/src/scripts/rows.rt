@@ -32,7 +32,7 @@ where
     }
 }
 
-// Of a script, that each beginning of it is none.
+// Checks that no beginning of a script is a script.
 #[test]
 fn each_beginning_of_a_script(rt: HostRuntime) {
     let script = EACH.as_bytes();
@@ -122,7 +122,7 @@ fn credit(alloc: Global) -> Result<(Vec<u8>, Vec<u8>), Memory> {
     Ok((input, output))
 }
 
-// What the request of this number gives. The first is told of the one slot.
+// What the request of this number gives. The first one says that one slot was left.
 fn refused_request(alloc: Global, number: u32) -> Result<String, Memory> {
     let cursor = u64::from(number) * 4_294_967_295;
     let left = if number == 1 { 1 } else { 0 };
@@ -132,7 +132,7 @@ fn refused_request(alloc: Global, number: u32) -> Result<String, Memory> {
 
 const WORDS: &[&[&str]] = &[&["replay"], &["run"]];
 
-// One byte more than the limit is taken of a source without end.
+// Of a source without end, one byte more than the limit is read.
 #[test]
 fn a_source_without_end(rt: HostRuntime) {
     for words in WORDS {

@@ -57,14 +57,14 @@ pub const SCHEDULES: &[Row] = &[
         output: "open\ncursor -2\n0v1 1v1\nopen\ncursor -4\nspace wanted 2 left 1\nopen\ncursor -5\n\
             space wanted 1 left 0\nborn 0v1 1v1\nopen\ncursor -1\n2v1\n",
     },
-    // `alloc` wants no open call, and nothing that is reserved.
+    // `alloc` is refused while a call is open, or while something is reserved.
     Row {
         words: &["replay"],
         input: "begin 1 1\nalloc\nstep 1\nanswer 1\nalloc\nflush\nalloc\n",
         status: Status::Done,
         output: "open\nbusy\ncursor -1\n0v1\nneeds flush\nborn 0v1\n1v1\n",
     },
-    // Handles that are gone, that wait, and whose slot was never made.
+    // Handles that are gone, that are reserved, and whose slot was never made.
     Row {
         words: &["replay"],
         input: "alloc\nfree 0v1\nfree 0v1\nfree 0v2\nfree 9v1\n",

@@ -3,7 +3,7 @@ ghost use Rattle.std.specs.Prelude.{None};
 
 use spawnrun_lib::{Failed, Source};
 
-/// Gives a text, and fails once, after `calls` calls that succeed. It doesn't tell its bytes.
+/// Gives a text, and fails once, after `calls` successful calls. It doesn't tell its bytes.
 #[derive(Drop)]
 pub struct MemorySource<'a> {
     rest: &'a [u8],

@@ -26,8 +26,8 @@ fn put(issued: SystemQueue, by_system: &mut [Option<CommandQueue>])
     by_system[system] = Some(queue);
 }
 
-/// Moves the queues into this list, system by system, which has room for them. Returns `None` if a
-/// system has no queue, so it didn't run.
+/// Moves the queues into this list, which has room for them, in the order of the systems. Returns `None`
+/// if a system has no queue, since it didn't run.
 #[inline]
 pub(super) fn collect(
     by_system: Vec<Option<CommandQueue>>,

@@ -67,7 +67,7 @@ where
     //     × (world.new ≡ reserved_by history world.old) }
     // ensures still { IsErrOf result FrameFault.Lost → IsLost world.old world.new }
 
-    // Only a system is refused memory so late, or workers that have run one.
+    // So late, memory runs out only in a system, or in workers that have run one.
     // ensures lost_some { IsErrOf result FrameFault.Lost → 0 < length systems.now }
 
     // ensures stopped { IfSyncStopped result (λ fault queues.
@@ -109,8 +109,8 @@ where
     }
 }
 
-/// Runs the systems on the open world and closes it. There are no queues if the frame was broken off,
-/// and only then; so there are some systems then.
+/// Runs the systems on the open world and closes it. There are no queues exactly if the frame was broken
+/// off. Then there is at least one system.
 #[inline]
 fn run_open<R, S, G>(
     rt: &R,

@@ -37,7 +37,7 @@ pub(super) struct Worker {
     /// The queues of the systems that it ran, in the order of the claims. If a system stopped,
     /// its queue is the last one.
     pub(super) issued: Vec<SystemQueue>,
-    /// Memory was refused to its last system, so it has claimed no more.
+    /// Its last system ran out of memory, so it has claimed no more.
     pub(super) stopped: bool,
 }
 
@@ -63,7 +63,7 @@ impl<S: System, G: Gate> Stage<'_, S, G> {
 
 impl Worker {
     /// Runs the systems that it claims, until none is left. It claims one only if there is room
-    /// for its queue, which there is for the first one: without it the others run what is left.
+    /// for its queue, as there is for the first one. If not, other workers run what is left.
     #[inline]
     fn work<S: System, G: Gate>(&mut self, stage: &Stage<'_, S, G>) -> Result<(), Memory>
         // requires systems { stage.now.claims.now.numbers ≡ length stage.now.systems.now }

@@ -89,8 +89,8 @@ impl<J: Numbering> Phase<J> {
     ///
     /// # Errors
     ///
-    /// `Memory` if a reserver is at home, and the phase can't have one more owner. Nothing has
-    /// changed then.
+    /// `Memory` if a reserver is at home, but there is no room for another owner of the phase. Then
+    /// nothing has changed.
     #[inline]
     pub fn caller(&mut self) -> Result<Option<Caller<J>>, Memory>
         // ensures given { IfOk result (λ found. IfSome found (λ c.

@@ -1,7 +1,7 @@
 // Made of crates/ent_replay/src/trace/lineup.rt by rust/erase. It isn't edited by hand.
 
-//! The reservations of a run, lined up: those that agree, in an order that they may have come in,
-//! and the others.
+//! The reservations of a run, lined up: those that agree, in an order in which they may have come, and
+//! the others.
 
 use crate::kit::vec::Vec;
 use crate::proved::ent_replay::by_caller::ByCaller;
@@ -17,7 +17,7 @@ use crate::proved::ent_alloc::{Entities, Reserved, Space, Span};
 use crate::proved::ent_handle::Memory;
 use crate::kit::alloc::Global;
 
-/// The reservations of a run in an order that they may have come in.
+/// The reservations of a run in an order in which they may have come.
 pub(super) struct Lineup {
     /// Those that agree, one after the other.
     pub(super) placed: Vec<Placed>,
@@ -28,7 +28,7 @@ pub(super) struct Lineup {
 }
 
 impl Lineup {
-    /// None of the run is placed.
+    /// The lineup of a run of which nothing is placed yet.
     #[inline]
     pub(super) fn new(alloc: Global, run: Vec<Placed>, entities: &Entities) -> Self
         // requires { entities.now.allocator.asked + requested_in (reservations_of run.items) ≤ 2 ^ 50 }
@@ -63,8 +63,8 @@ impl Lineup {
         Ok(lineup)
     }
 
-    /// Goes over those that are not placed, in their order, and places each that fits and is its
-    /// caller's next one.
+    /// Goes over those that are not placed, in their order, and places each one that fits and is the next
+    /// one of its caller.
     #[inline]
     fn pass(self, alloc: Global, entities: &Entities) -> Result<Self, Memory>
         // requires { IsLineup entities.now.allocator self }
@@ -103,7 +103,7 @@ impl Lineup {
         })
     }
 
-    /// The difference that a run shows of which some can't be placed.
+    /// The difference of a run that has reservations which can't be placed.
     #[inline]
     pub(super) fn difference(self, alloc: Global, entities: &Entities) -> Result<Difference, Memory>
         // requires lined { IsLineup entities.now.allocator self }
@@ -132,7 +132,7 @@ impl Lineup {
     }
 }
 
-/// What was answered, as a line says it.
+/// The answer, as a line has it.
 #[inline]
 fn reply_of(given: Result<HandleList, Space>) -> ReserveReply
     // ensures { result ≡ reserve_reply given }
@@ -179,7 +179,7 @@ fn listed(alloc: Global, reserved: Reserved<'_>) -> Result<HandleList, Memory>
     Ok(HandleList::new(handles))
 }
 
-/// What a request for `n` handles gets that finds the cursor at this position.
+/// The reply to a request for `n` handles if the cursor is at this position.
 #[inline]
 pub(super) fn reply_at(
     alloc: Global,
@@ -202,7 +202,7 @@ pub(super) fn reply_at(
     }
 }
 
-/// Whether the reservation's reply is the allocator's if it finds the cursor at this position.
+/// Whether the reservation's reply is the allocator's if the cursor is at this position.
 #[inline]
 pub(super) fn fits_at(
     alloc: Global,

@@ -1,6 +1,6 @@
 // Made of crates/ent_replay/src/trace/suspect.rt by rust/erase. It isn't edited by hand.
 
-//! Which of the reservations that can't be placed is named.
+//! Chooses which of the reservations that can't be placed a difference names.
 
 use crate::kit::vec::Vec;
 use crate::proved::ent_replay::by_caller::ByCaller;
@@ -24,9 +24,9 @@ struct Turn {
     index: usize,
 }
 
-/// The index of the reservation that is named if none of these fits at this position: the first one
-/// that is its caller's next one, and is the only one whose answer is wrong. If there is none among the
-/// first 64 callers, it is the first of the list.
+/// If none of these fits at this position, the index of the one that is named: the first one that is its
+/// caller's next one, and without whose answer all others fit. If none of the first 64 callers has such
+/// a reservation, it is the first of the list.
 #[inline]
 pub(super) fn suspect(
     alloc: Global,
@@ -71,8 +71,8 @@ fn turns(alloc: Global, entities: &Entities, rest: &[Placed]) -> Result<Vec<Turn
     Ok(order)
 }
 
-/// Whether all but one of the reservations fit in this order, one after the other, if it is also that
-/// of each caller. One for nothing fits anywhere.
+/// Whether all reservations but one fit in this order, one after the other, if the order is also that of
+/// each caller. A reservation of nothing fits anywhere.
 #[inline]
 fn others_fit(
     alloc: Global,
