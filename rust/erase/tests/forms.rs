@@ -189,4 +189,6 @@ fn two_sources_have_two_results() {
         );
         assert_eq!(read.expect_err("two of one").to_string(), wanted);
     }
+    // The gate refuses a source outside the repository's crates.
+    fs::remove_dir_all(&repository).expect("the folder");
 }
