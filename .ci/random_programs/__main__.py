@@ -21,6 +21,8 @@ from pieces import TRACE, Program
 TOP = pathlib.Path(__file__).resolve().parent.parent.parent
 # The first eraser erases these crates and those that they use.
 CRATES = ["ent_replay", "ent_runner", "ent_total"]
+# How a program's first note begins: its number stands in the last six digits.
+MARK = "true 1000000000000"
 
 MAIN = """#![tactic(auto)]
 
@@ -102,7 +104,7 @@ def outputs(folder, numbers, text):
 
 def by_program(output):
     """The notes of each program, by its number."""
-    parts = output.split("true 1000000000000000")[1:]
+    parts = output.split(MARK)[1:]
     return {int(it.split("\n", 1)[0]): it.split("\n", 1)[1] for it in parts}
 
 
@@ -111,7 +113,7 @@ def compare(numbers, seed, folder):
     texts = {it: Program(it, seed).text() for it in numbers}
     found = outputs(folder, numbers, "\n\n".join([TRACE.rstrip(), *texts.values()]) + "\n")
     first, *others = found.values()
-    if not all(it.startswith("true 1000000000000000") for it in found.values()):
+    if not all(it.startswith(MARK) for it in found.values()):
         sys.exit("\n\n".join(f"{name}:\n{it[:300] if it.startswith('true') else it[-3000:]}" for name, it in found.items()))
     parts = {name: by_program(it) for name, it in found.items()}
     for number in numbers:
