@@ -1,8 +1,9 @@
 -- Handles: a slot of the allocator, and one of its occupants.
-use Rattle.std.specs.Prelude.{ℕ, ◌+◌, ◌-◌, ◌*◌, ◌^◌, ◌<◌, ◌≤◌, refl}
+use Rattle.std.specs.Prelude.{◌≡◌, ℕ, ◌+◌, ◌-◌, ◌*◌, ◌/◌, ◌%◌, ◌^◌, ◌<◌, ◌≤◌, ◌==◌, Bool, refl}
+use Rattle.std.proofs.Common.{arith}
 use Rattle.std.specs.Coded.{Coded, code_by, coded×, coded_ℕ}
 use Rattle.std.specs.declared.cmp.Ordering.{Ordering}
-use Rattle.std.specs.Ordering.{nat_cmp, on, then_cmp}
+use Rattle.std.specs.Ordering.{nat_cmp, on, then_cmp, eq_of_both}
 use Rattle.std.specs.Cmp.{IsTotalOrder, nat_cmp_total, on_total, then_total}
 use Rattle.std.specs.FinMap.{IsAntisymmetric, nat_cmp-IsAntisymmetric}
 use Rattle.ent_handle.specs.Ties.{both_tie}
@@ -21,6 +22,17 @@ pub record IsHandle (h : Handle) : Type 0 where
 -- the two numbers in one: the generation above the index
 abbrev pub bits : Handle → ℕ
 bits h = h.generation * 2 ^ 32 + h.index
+
+-- the handle of these bits
+abbrev pub handle_of_bits : ℕ → Handle
+handle_of_bits n = record { index = n % 2 ^ 32; generation = n / 2 ^ 32 }
+
+pub bits-handle_of_bits : (n : ℕ) → bits (handle_of_bits n) ≡ n
+bits-handle_of_bits n = omega arith
+
+-- both numbers are the same
+abbrev pub handle_eq : Handle → Handle → Bool
+handle_eq = eq_of_both (on (λ h. h.index) ◌==◌) (on (λ h. h.generation) ◌==◌)
 
 -- by index, then by generation
 abbrev pub handle_cmp : Handle → Handle → Ordering

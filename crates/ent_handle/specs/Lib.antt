@@ -3,3 +3,4 @@ pub mod Handle
 pub mod Birth
 pub mod Component
 pub mod Text
+pub mod NonZero

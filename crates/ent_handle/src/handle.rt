@@ -5,9 +5,14 @@ ghost use Rattle.std.specs.Cmp.{partial_order_from_own_ties};
 ghost use Rattle.std.specs.Cmp.Rules.{comparing};
 ghost use Rattle.std.specs.Ordering.{as_partial_cmp};
 ghost use Rattle.ent_handle.specs.Handle.{Handle, IsHandle, bits, handle_cmp, handle_cmp_total};
+ghost use Rattle.ent_handle.specs.Handle.{handle_eq};
+ghost use Rattle.std.specs.Hash as fed;
+ghost use Rattle.std.specs.Cmp.Rules.{hashing};
 
 use std::cmp::Ordering;
+use std::hash::{Hash, Hasher};
 use std::marker::Model;
+use std::num::NonZeroU64;
 
 /// Names one occupant of one slot: the slot's index, and a generation that tells the slot's
 /// occupants apart.
@@ -17,22 +22,39 @@ use std::marker::Model;
 /// that of the one before it, so that an earlier handle does not name a later occupant. After the
 /// last generation a slot has no more occupants, where in Bevy the first one comes again. The order
 /// is this project's own: by index, then by generation. Bevy's is by generation first.
-#[derive(Clone, Copy, Debug, PartialEq, Eq, Hash)]
+#[derive(Clone, Copy)]
 pub struct Handle {
-    index: u32,
-    generation: u32,
+    bits: NonZeroU64,
 }
 
 impl Model for Handle {
-    ghost use Rattle.ent_handle.specs.Handle.{Handle, IsHandle};
+    ghost use Rattle.ent_handle.specs.Handle.{Handle, IsHandle, bits as bits_of, handle_of_bits};
+    ghost use Rattle.std.proofs.Common.{arith};
+    ghost use Rattle.ent_handle.specs.Handle.{bits-handle_of_bits};
 
     ghost Value = { Handle };
 
-    ghost view = { λ h. record { index = h.index; generation = h.generation } };
+    ghost use Rattle.std.specs.Prelude.{◌+◌, ◌-◌, ◌≡◌};
+    ghost use Rattle.std.specs.Int.NonZero.{non_zero_u64_get};
+    ghost use Rattle.ent_handle.specs.NonZero.{positive, same_number, same_proof};
 
-    ghost invariant = { λ h. IsHandle (record { index = h.index; generation = h.generation }) };
+    ghost view = { λ h. handle_of_bits (non_zero_u64_get h.bits) };
 
-    ghost inverse = { λ h. record { index = h.index; generation = h.generation } };
+    ghost invariant = { λ h. IsHandle (handle_of_bits (non_zero_u64_get h.bits)) };
+
+    ghost inverse = { λ h. record {
+      bits = record {
+        value = bits_of h + (1 - bits_of h);
+        ok = positive (bits_of h);
+      };
+    } };
+
+    ghost inverse_ok = { λ h is i. record {
+      bits = record {
+        value = same_number h.bits.value h.bits.ok i;
+        ok = same_proof (same_number h.bits.value h.bits.ok) (positive (bits_of (handle_of_bits h.bits.value))) h.bits.ok i;
+      };
+    } };
 }
 
 impl Handle {
@@ -56,21 +78,27 @@ impl Handle {
         requires { IsHandle (record { index = index; generation = generation }) }
         ensures { result ≡ record { index = index; generation = generation } }
     {
-        Handle { index, generation }
+        let bits = ((generation as u64) << 32) + index as u64;
+        // The bits are never 0, and to take another number for 0 costs less than a branch.
+        let bits = match NonZeroU64::new(bits) {
+            Some(bits) => bits,
+            None => NonZeroU64::MIN,
+        };
+        Handle { bits }
     }
 
     /// Which slot it is: 0 to 4,294,967,294.
     pub fn index(self) -> u32
         ensures { result ≡ self.index }
     {
-        self.index
+        (self.bits.get() & 0xffff_ffff) as u32
     }
 
     /// Which occupant of the slot it is: 1 to 2,147,483,647.
     pub fn generation(self) -> u32
         ensures { result ≡ self.generation }
     {
-        self.generation
+        (self.bits.get() >> 32) as u32
     }
 
     /// The handle as one number: the generation times 2^32, plus the index.
@@ -78,7 +106,7 @@ impl Handle {
         ensures bits { result ≡ bits self }
         ensures in_range { IsHandle self }
     {
-        (u64::from(self.generation) << 32) + u64::from(self.index)
+        self.bits.get()
     }
 
     /// The handle that has these bits, or `None` if no handle has them.
@@ -88,6 +116,30 @@ impl Handle {
         ensures none { IfNone result ((h : Handle) → IsHandle h → bits h ≢ of) }
     {
         Handle::new((of & 0xffff_ffff) as u32, (of >> 32) as u32)
+    }
+}
+
+impl PartialEq for Handle {
+    ghost eq = { handle_eq };
+
+    ghost laws = { Prim.search (comparing, rules) };
+
+    fn eq(&self, other: &Self) -> bool {
+        self.bits == other.bits
+    }
+}
+
+impl Eq for Handle {
+    ghost laws = { Prim.search (comparing, rules) };
+}
+
+impl Hash for Handle {
+    ghost hash_input = { λ h. fed.u64 (bits h) };
+
+    ghost respects_eq = { Prim.search (hashing, rules) };
+
+    fn hash<H: Hasher>(&self, state: &mut H) {
+        state.write_u64(self.bits.get());
     }
 }
 
@@ -101,8 +153,8 @@ impl Ord for Handle {
     ghost matches_eq = { Prim.search (comparing, rules) };
 
     fn cmp(&self, other: &Self) -> Ordering {
-        let by_index = self.index.cmp(&other.index);
-        by_index.then(self.generation.cmp(&other.generation))
+        let by_index = self.index().cmp(&other.index());
+        by_index.then(self.generation().cmp(&other.generation()))
     }
 }
 

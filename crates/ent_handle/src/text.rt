@@ -111,3 +111,12 @@ impl fmt::Display for Handle {
         write!(f, "{index}v{generation}")
     }
 }
+
+/// As `Display` writes it.
+impl fmt::Debug for Handle {
+    fn fmt<W: fmt::Write>(&self, f: &mut fmt::Formatter<W>) -> fmt::Result {
+        let index = self.index();
+        let generation = self.generation();
+        write!(f, "{index}v{generation}")
+    }
+}
