@@ -7,19 +7,18 @@ ghost use Rattle.ent_total.specs.Applying.{IsUnbegun, IfStoppedAgain, IsOfOtherW
 ghost use Rattle.ent_total.specs.Applying.{IsUnmoved, queues_in, stopped_in};
 ghost use Rattle.ent_total.specs.Batch.{IsSynced, IsSyncedUntil, IsFinished, IsLeftUntil};
 
-use crate::numbered_world::NumberedWorld;
+use crate::world::World;
 use crate::queues::Queues;
 use crate::stop::Stop;
 use crate::stopped::Stopped;
-use ent_queue::CommandQueue;
-use ent_world::{SyncFault, SyncReport, World};
+use ent_world::{SyncFault, SyncReport};
 
 /// How many queues may be applied at once.
 const QUEUES: usize = 65_536;
 
 /// Why a sync point didn't do all.
 #[derive(Drop)]
-pub enum Unapplied {
+pub enum SyncError {
     /// The queues are of another world. Nothing was done.
     OtherWorld(Queues),
     /// There are more than 65,536 queues. Nothing was done.
@@ -33,7 +32,7 @@ pub enum Unapplied {
 
 /// Why a sync point that went on didn't do all.
 #[derive(Drop)]
-pub enum Ungone {
+pub enum GoOnError {
     /// It stopped in another world. Nothing has changed.
     OtherWorld(Stopped),
     /// The world needs a flush first. Nothing has changed.
@@ -42,16 +41,16 @@ pub enum Ungone {
     Stopped(Stopped, SyncReport),
 }
 
-impl NumberedWorld {
+impl World {
     /// The sync point: brings to life what is reserved, and then lets the queues take effect, one
     /// after the other, in their order.
     ///
     /// # Errors
     ///
-    /// It is the first of these that holds: [`Unapplied::OtherWorld`], [`Unapplied::TooMany`],
-    /// [`Unapplied::Memory`], and then the queues come back, and nothing was done;
-    /// [`Unapplied::Stopped`], from where it may go on.
-    pub fn apply(&mut self, queues: Queues) -> Result<SyncReport, Unapplied>
+    /// It is the first of these that holds: [`SyncError::OtherWorld`], [`SyncError::TooMany`],
+    /// [`SyncError::Memory`], and then the queues come back, and nothing was done;
+    /// [`SyncError::Stopped`], from where it may go on.
+    pub fn apply(&mut self, queues: Queues) -> Result<SyncReport, SyncError>
         ensures applied { IfOk result (λ report.
             IsSynced queues.queues self.old.world self.new.world report) }
         ensures stopped { IfErr result (λ why. IfStopped why (λ stopped so_far.
@@ -66,17 +65,17 @@ impl NumberedWorld {
         ensures number { self.new.number ≡ self.old.number }
     {
         if queues.world() != self.number {
-            return Err(Unapplied::OtherWorld(queues));
+            return Err(SyncError::OtherWorld(queues));
         }
         if queues.len() > QUEUES {
-            return Err(Unapplied::TooMany(queues));
+            return Err(SyncError::TooMany(queues));
         }
         sync(&mut self.world, queues)
     }
 }
 
 /// `World::apply`, with what it ensures as one fact.
-fn sync(world: &mut World, queues: Queues) -> Result<SyncReport, Unapplied>
+fn sync(world: &mut ent_world::World, queues: Queues) -> Result<SyncReport, SyncError>
     requires { length queues.queues ≤ 2 ^ 16 }
     ensures applied { IfOk result (λ report.
         IsSynced queues.queues world.old world.new report) }
@@ -89,7 +88,7 @@ fn sync(world: &mut World, queues: Queues) -> Result<SyncReport, Unapplied>
 {
     match world.apply(queues.list()) {
         Ok(report) => Ok(report),
-        Err(SyncFault::FlushMemory) => Err(Unapplied::Memory(queues)),
+        Err(SyncFault::FlushMemory) => Err(SyncError::Memory(queues)),
         Err(
             SyncFault::Memory {
                 system,
@@ -103,7 +102,7 @@ fn sync(world: &mut World, queues: Queues) -> Result<SyncReport, Unapplied>
                 command,
                 done,
             };
-            Err(Unapplied::Stopped(Stopped::new(queues, stop), so_far))
+            Err(SyncError::Stopped(Stopped::new(queues, stop), so_far))
         }
     }
 }
@@ -115,9 +114,9 @@ impl Stopped {
     ///
     /// # Errors
     ///
-    /// It is the first of these that holds: [`Ungone::OtherWorld`], [`Ungone::NeedsFlush`], and
-    /// then nothing has changed; [`Ungone::Stopped`], from where it may go on.
-    pub fn go_on(self, world: &mut NumberedWorld) -> Result<SyncReport, Ungone>
+    /// It is the first of these that holds: [`GoOnError::OtherWorld`], [`GoOnError::NeedsFlush`], and
+    /// then nothing has changed; [`GoOnError::Stopped`], from where it may go on.
+    pub fn go_on(self, world: &mut World) -> Result<SyncReport, GoOnError>
         ensures applied { IfOk result (λ report.
             IsFinished self.stop self.queues.queues world.old.world world.new.world report) }
         ensures stopped { IfErr result (λ why. IfStoppedAgain why (λ later so_far.
@@ -133,23 +132,23 @@ impl Stopped {
         ensures number { world.new.number ≡ world.old.number }
     {
         if self.world() != world.number {
-            return Err(Ungone::OtherWorld(self));
+            return Err(GoOnError::OtherWorld(self));
         }
         if world.world.needs_flush() {
-            return Err(Ungone::NeedsFlush(self));
+            return Err(GoOnError::NeedsFlush(self));
         }
         let (queues, stop) = self.into_parts();
         match apply_left(&mut world.world, queues.list(), stop) {
             Ok(report) => Ok(report),
-            Err((later, so_far)) => Err(Ungone::Stopped(Stopped::new(queues, later), so_far)),
+            Err((later, so_far)) => Err(GoOnError::Stopped(Stopped::new(queues, later), so_far)),
         }
     }
 }
 
 /// `World::apply_from`, with a stop as one value.
 fn apply_left(
-    world: &mut World,
-    queues: &[CommandQueue],
+    world: &mut ent_world::World,
+    queues: &[ent_queue::CommandQueue],
     from: Stop,
 ) -> Result<SyncReport, (Stop, SyncReport)>
     requires flushed { world.old.allocator.asked ≡ 0 }

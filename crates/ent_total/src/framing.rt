@@ -9,11 +9,10 @@ ghost use Rattle.ent_total.specs.Faults.{IsErrWith};
 ghost use Rattle.ent_total.specs.Framing.{IsUnflushed, IsNoCrew, IsTooManySystems};
 ghost use Rattle.ent_total.specs.Framing.{IsLostFrame, IsUnbegun, IfHeld, IfStoppedAt, HasStop, held};
 
-use crate::numbered_world::NumberedWorld;
+use crate::world::World;
 use crate::queues::Queues;
 use crate::stop::Stop;
 use crate::stopped::Stopped;
-use ent_queue::CommandQueue;
 use ent_runner::{FrameFault, FrameReport, Gate, System, run_frame};
 use ent_world::{SyncFault, SyncReport};
 use std::alloc::Global;
@@ -27,7 +26,7 @@ const SYSTEMS: usize = 65_536;
 
 /// Why a frame didn't do all.
 #[derive(Drop)]
-pub enum Unframed {
+pub enum FrameError {
     /// The world needs a flush first. No system ran, and the world is as it was.
     NeedsFlush,
     /// There are no workers, or more than 64. No system ran, and the world is as it was.
@@ -40,22 +39,22 @@ pub enum Unframed {
     /// had reserved stays reserved, and nothing else is.
     Lost,
     /// All systems ran, and there was no memory to begin the sync point. No command took effect.
-    /// [`NumberedWorld::apply`] makes it.
-    Unapplied(Queues),
+    /// [`World::apply`] makes it.
+    SyncError(Queues),
     /// All systems ran, and memory ran out at a command. All births stand, and of the commands just
     /// those before. The report has what was done, and [`Stopped::go_on`] does the rest.
     Stopped(Stopped, SyncReport),
 }
 
-impl NumberedWorld {
+impl World {
     /// Runs each system once, on that many workers side by side, and then the sync point, as
     /// `ent_runner::run_frame` does.
     ///
     /// # Errors
     ///
-    /// It is the first of these that holds: [`Unframed::NeedsFlush`], [`Unframed::Workers`],
-    /// [`Unframed::Systems`], [`Unframed::Memory`], and then no system ran, and nothing has
-    /// changed; [`Unframed::Lost`]; [`Unframed::Unapplied`] or [`Unframed::Stopped`], which have
+    /// It is the first of these that holds: [`FrameError::NeedsFlush`], [`FrameError::Workers`],
+    /// [`FrameError::Systems`], [`FrameError::Memory`], and then no system ran, and nothing has
+    /// changed; [`FrameError::Lost`]; [`FrameError::SyncError`] or [`FrameError::Stopped`], which have
     /// the queues.
     pub fn run_frame<R, S, G>(
         &mut self,
@@ -64,7 +63,7 @@ impl NumberedWorld {
         systems: &[S],
         workers: usize,
         gate: &G,
-    ) -> Result<FrameReport, Unframed>
+    ) -> Result<FrameReport, FrameError>
     where
         R: Threads + Sync,
         S: System + Sync,
@@ -105,31 +104,31 @@ impl NumberedWorld {
         ensures number { self.new.number ≡ self.old.number }
     {
         if self.world.needs_flush() {
-            return Err(Unframed::NeedsFlush);
+            return Err(FrameError::NeedsFlush);
         }
         if workers == 0 || workers > WORKERS {
-            return Err(Unframed::Workers);
+            return Err(FrameError::Workers);
         }
         if systems.len() > SYSTEMS {
-            return Err(Unframed::Systems);
+            return Err(FrameError::Systems);
         }
         match run_frame(rt, alloc, &mut self.world, systems, workers, gate) {
             Ok(report) => Ok(report),
-            Err(FrameFault::Memory) => Err(Unframed::Memory),
-            Err(FrameFault::Lost) => Err(Unframed::Lost),
+            Err(FrameFault::Memory) => Err(FrameError::Memory),
+            Err(FrameFault::Lost) => Err(FrameError::Lost),
             Err(FrameFault::Sync { fault, queues }) => Err(hold(self.number, fault, queues)),
         }
     }
 }
 
 /// The queues of a frame whose sync point stopped, with the number of its world.
-fn hold(number: u64, fault: SyncFault, queues: Vec<CommandQueue>) -> Unframed
+fn hold(number: u64, fault: SyncFault, queues: Vec<ent_queue::CommandQueue>) -> FrameError
     requires { HasStop fault queues.items }
     ensures { result ≡ held number fault queues.items }
 {
     let queues = Queues::new(number, queues);
     match fault {
-        SyncFault::FlushMemory => Unframed::Unapplied(queues),
+        SyncFault::FlushMemory => FrameError::SyncError(queues),
         SyncFault::Memory {
             system,
             command,
@@ -141,7 +140,7 @@ fn hold(number: u64, fault: SyncFault, queues: Vec<CommandQueue>) -> Unframed
                 command,
                 done,
             };
-            Unframed::Stopped(Stopped::new(queues, stop), so_far)
+            FrameError::Stopped(Stopped::new(queues, stop), so_far)
         }
     }
 }

@@ -1,13 +1,12 @@
 ghost use Rattle.std.specs.Prelude.{◌≡◌, length};
 
-use ent_queue::CommandQueue;
 use std::marker::Model;
 
 /// The queues of a phase, in the order of their effect, and the number of its world.
 #[derive(Drop)]
 pub struct Queues {
     world: u64,
-    queues: Vec<CommandQueue>,
+    queues: Vec<ent_queue::CommandQueue>,
 }
 
 impl Model for Queues {
@@ -21,7 +20,7 @@ impl Model for Queues {
 }
 
 impl Queues {
-    pub(crate) fn new(world: u64, queues: Vec<CommandQueue>) -> Self
+    pub(crate) fn new(world: u64, queues: Vec<ent_queue::CommandQueue>) -> Self
         ensures { result ≡ record { world = world; queues = queues.items } }
     {
         Queues { world, queues }
@@ -42,7 +41,7 @@ impl Queues {
     }
 
     /// The queues themselves.
-    pub(crate) fn list(&self) -> &[CommandQueue]
+    pub(crate) fn list(&self) -> &[ent_queue::CommandQueue]
         ensures { result.now ≡ self.now.queues }
     {
         &self.queues

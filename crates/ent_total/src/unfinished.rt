@@ -1,11 +1,11 @@
-use crate::issued::Issued;
+use crate::command_queue::CommandQueue;
 use crate::numbering::Numbering;
-use crate::world_phase::WorldPhase;
+use crate::open_world::OpenWorld;
 use thiserror::Error;
 
 /// Why a phase of a world was not closed.
 #[derive(Clone, Copy, Debug, PartialEq, Eq, Error)]
-pub enum FinishFault {
+pub enum FinishError {
     /// One of the queues is of another phase. All of them are handed back.
     #[error("a queue is of another phase")]
     OtherPhase,
@@ -31,9 +31,9 @@ pub enum FinishFault {
 #[derive(Drop)]
 pub struct Unfinished<J: Numbering> {
     /// The phase.
-    pub phase: WorldPhase<J>,
+    pub phase: OpenWorld<J>,
     /// The queues that are handed back.
-    pub queues: Vec<Issued<J>>,
+    pub queues: Vec<CommandQueue<J>>,
     /// Why it was not closed.
-    pub why: FinishFault,
+    pub error: FinishError,
 }

@@ -4,13 +4,11 @@ ghost use Rattle.ent_shared.specs.Record.{opened_records};
 ghost use Rattle.ent_total.specs.Faults.{IsErrWith};
 ghost use Rattle.ent_total.specs.declared.opening.ShareFault.TheVariants.{NeedsFlush, Count};
 
-use crate::numbered_world::NumberedWorld;
+use crate::world::World;
 use crate::numbering::Numbering;
 use crate::opening::{CALLERS, ShareFault};
-use crate::world_phase::WorldPhase;
-use ent_queue::CommandQueue;
+use crate::open_world::OpenWorld;
 use ent_shared::Reserver;
-use ent_world::{OpenWorld, World};
 use std::alloc::Global;
 use std::marker::Model;
 use std::sync::Arc;
@@ -19,9 +17,9 @@ use std::sync::Arc;
 #[derive(Drop)]
 pub struct Unopened {
     /// The world as it was.
-    pub world: NumberedWorld,
+    pub world: World,
     /// Why it was not opened.
-    pub why: ShareFault,
+    pub error: ShareFault,
 }
 
 /// A phase of a world that has no number yet, with all its reservers.
@@ -29,7 +27,7 @@ pub struct Unopened {
 pub struct WorldOpening {
     alloc: Global,
     of_world: u64,
-    world: Arc<OpenWorld, Global>,
+    world: Arc<ent_world::OpenWorld, Global>,
     home: Vec<Reserver>,
 }
 
@@ -59,7 +57,7 @@ impl Model for WorldOpening {
 ///
 /// [`Unopened`] says why, and has the world as it was. It is the first of these that holds:
 /// [`ShareFault::NeedsFlush`], [`ShareFault::Count`], [`ShareFault::Memory`].
-pub fn open(alloc: Global, world: NumberedWorld, count: usize) -> Result<WorldOpening, Unopened>
+pub fn open(alloc: Global, world: World, count: usize) -> Result<WorldOpening, Unopened>
     ensures of_world { IfOk result (λ o. o.of_world ≡ world.number) }
     ensures shared { IfOk result (λ o. (o.world.shared.start ≡ world.world.allocator)
         × (o.world.shared.count ≡ count)) }
@@ -67,37 +65,37 @@ pub fn open(alloc: Global, world: NumberedWorld, count: usize) -> Result<WorldOp
         × (o.world.entities ≡ world.world.entities)) }
     ensures home { IfOk result (λ o.
         records_of o.home ≡ opened_records world.world.allocator 0 count) }
-    ensures needs_flush { IsErrWith result (λ u. u.why ≡ NeedsFlush)
+    ensures needs_flush { IsErrWith result (λ u. u.error ≡ NeedsFlush)
         ↔ (0 < world.world.allocator.asked) }
-    ensures no_count { IsErrWith result (λ u. u.why ≡ Count)
+    ensures no_count { IsErrWith result (λ u. u.error ≡ Count)
         ↔ ((world.world.allocator.asked ≡ 0) × ((count ≡ 0) ⊎ (1024 < count))) }
     ensures handed_back { IfErr result (λ u. u.world ≡ world) }
 {
     if world.world.needs_flush() {
         return Err(Unopened {
             world,
-            why: ShareFault::NeedsFlush,
+            error: ShareFault::NeedsFlush,
         });
     }
     if count == 0 || count > CALLERS {
         return Err(Unopened {
             world,
-            why: ShareFault::Count,
+            error: ShareFault::Count,
         });
     }
-    let NumberedWorld { world, number } = world;
+    let World { world, number } = world;
     match WorldOpening::new(alloc, world, count, number) {
         Ok(opening) => Ok(opening),
         Err(world) => Err(Unopened {
-            world: NumberedWorld { world, number },
-            why: ShareFault::Memory,
+            world: World { world, number },
+            error: ShareFault::Memory,
         }),
     }
 }
 
 impl WorldOpening {
     /// Opens a flushed world. If memory runs out, it comes back.
-    fn new(alloc: Global, world: World, count: usize, of_world: u64) -> Result<Self, World>
+    fn new(alloc: Global, world: ent_world::World, count: usize, of_world: u64) -> Result<Self, ent_world::World>
         requires flushed { world.allocator.asked ≡ 0 }
         requires some { 0 < count }
         requires few { count ≤ 1024 }
@@ -127,7 +125,7 @@ impl WorldOpening {
 
     /// The phase, under a number by which it is told from all others. All its reservers are at home,
     /// and no queue is.
-    pub fn numbered<J: Numbering>(self, number: u64) -> WorldPhase<J>
+    pub fn numbered<J: Numbering>(self, number: u64) -> OpenWorld<J>
         requires stands_for { J.world_of number ≡ self.world }
         ensures { result ≡ record {
           number = number;
@@ -144,6 +142,6 @@ impl WorldOpening {
             home,
         } = self;
         let none = Vec::new(alloc);
-        WorldPhase::new(alloc, of_world, world, home, none, number)
+        OpenWorld::new(alloc, of_world, world, home, none, number)
     }
 }

@@ -1,7 +1,7 @@
 use Rattle.std.specs.Arc.{arc_value}
 use Rattle.std.proofs.lemmas.List.Elements.{All-pop}
 use Rattle.ent_shared.specs.Phase.{IsOf}
-use Rattle.ent_total.proofs.world_phase.WorldPhase.issuer.Goals as goal
+use Rattle.ent_total.proofs.open_world.OpenWorld.commands.Goals as goal
 
 -- those that are left after the pop came with the world, as all did before
 pub invariant_of-self : goal.invariant_of-self

@@ -4,13 +4,12 @@ ghost use Rattle.ent_shared.specs.Order.{handles_given};
 ghost use Rattle.ent_queue.specs.Command.{Spawn, SpawnMany, Insert, Remove, Despawn};
 ghost use Rattle.ent_queue.specs.Reserving.{IsReturned, refused_by};
 
-use crate::issued::Issued;
+use crate::command_queue::CommandQueue;
 use crate::numbering::Numbering;
-use crate::world_phase::WorldPhase;
+use crate::open_world::OpenWorld;
 use ent_handle::{ComponentId, Handle, Memory};
-use ent_queue::{Bundle, CommandQueue, Commands, QueueFault};
+use ent_queue::{Bundle, QueueFault};
 use ent_shared::Reserver;
-use ent_world::OpenWorld;
 use std::alloc::Global;
 use std::marker::{Model, PhantomData};
 use std::mem;
@@ -19,23 +18,23 @@ use std::sync::Arc;
 /// A system of a phase while it issues its commands: its reserver, its queue so far, and the world
 /// that it views. It may go to a thread of its own.
 #[derive(Drop)]
-pub struct Issuer<J: Numbering> {
-    pub(crate) world: Arc<OpenWorld, Global>,
+pub struct Commands<J: Numbering> {
+    pub(crate) world: Arc<ent_world::OpenWorld, Global>,
     pub(crate) reserver: Reserver,
-    pub(crate) queue: CommandQueue,
+    pub(crate) queue: ent_queue::CommandQueue,
     pub(crate) number: u64,
     pub(crate) of: PhantomData<J>,
 }
 
-impl<J: Numbering> Model for Issuer<J> {
+impl<J: Numbering> Model for Commands<J> {
     ghost use Rattle.std.specs.Prelude.{◌≡◌};
     ghost use Rattle.std.specs.Arc.{arc_value};
     ghost use Rattle.ent_shared.specs.Phase.{IsOf};
-    ghost use Rattle.ent_total.specs.Issuing.{Issuer, issuer_code};
+    ghost use Rattle.ent_total.specs.Issuing.{Commands, commands_code};
 
-    ghost Value = { Issuer };
+    ghost Value = { Commands };
 
-    ghost coded = { issuer_code };
+    ghost coded = { commands_code };
 
     ghost view = { λ i. record {
       number = i.number;
@@ -49,14 +48,14 @@ impl<J: Numbering> Model for Issuer<J> {
         × IsOf (arc_value i.world).shared i.reserver };
 }
 
-impl<J: Numbering> Issuer<J> {
+impl<J: Numbering> Commands<J> {
     ghost use Rattle.ent_total.specs.Issuing.{Extends, IsRefused};
 
     /// Reserves a handle at once, by one atomic step. It is to have the components.
     ///
     /// # Errors
     ///
-    /// As [`Commands::spawn`].
+    /// As [`ent_queue::Commands::spawn`].
     pub fn spawn(&mut self, alloc: Global, bundle: &Bundle) -> Result<Handle, QueueFault>
         ensures extends { Extends self.old self.new }
         ensures ok { IfOk result (λ handle.
@@ -78,7 +77,7 @@ impl<J: Numbering> Issuer<J> {
     {
         let queue = self.take_queue(alloc);
         let shared = self.world.shared();
-        let mut commands = Commands::resume(alloc, shared, &mut self.reserver, queue);
+        let mut commands = ent_queue::Commands::resume(alloc, shared, &mut self.reserver, queue);
         let spawned = commands.spawn(bundle);
         self.queue = commands.finish();
         spawned
@@ -88,7 +87,7 @@ impl<J: Numbering> Issuer<J> {
     ///
     /// # Errors
     ///
-    /// As [`Commands::spawn_many`].
+    /// As [`ent_queue::Commands::spawn_many`].
     pub fn spawn_many(
         &mut self,
         alloc: Global,
@@ -116,7 +115,7 @@ impl<J: Numbering> Issuer<J> {
     {
         let queue = self.take_queue(alloc);
         let shared = self.world.shared();
-        let mut commands = Commands::resume(alloc, shared, &mut self.reserver, queue);
+        let mut commands = ent_queue::Commands::resume(alloc, shared, &mut self.reserver, queue);
         let spawned = commands.spawn_many(n, bundle);
         self.queue = commands.finish();
         spawned
@@ -135,7 +134,7 @@ impl<J: Numbering> Issuer<J> {
     {
         let queue = self.take_queue(alloc);
         let shared = self.world.shared();
-        let mut commands = Commands::resume(alloc, shared, &mut self.reserver, queue);
+        let mut commands = ent_queue::Commands::resume(alloc, shared, &mut self.reserver, queue);
         let issued = commands.insert(handle, bundle);
         self.queue = commands.finish();
         issued
@@ -154,7 +153,7 @@ impl<J: Numbering> Issuer<J> {
     {
         let queue = self.take_queue(alloc);
         let shared = self.world.shared();
-        let mut commands = Commands::resume(alloc, shared, &mut self.reserver, queue);
+        let mut commands = ent_queue::Commands::resume(alloc, shared, &mut self.reserver, queue);
         let issued = commands.remove(handle, id);
         self.queue = commands.finish();
         issued
@@ -173,24 +172,24 @@ impl<J: Numbering> Issuer<J> {
     {
         let queue = self.take_queue(alloc);
         let shared = self.world.shared();
-        let mut commands = Commands::resume(alloc, shared, &mut self.reserver, queue);
+        let mut commands = ent_queue::Commands::resume(alloc, shared, &mut self.reserver, queue);
         let issued = commands.despawn(handle);
         self.queue = commands.finish();
         issued
     }
 
     /// The queue, and leaves an empty one, which takes no memory.
-    fn take_queue(&mut self, alloc: Global) -> CommandQueue
+    fn take_queue(&mut self, alloc: Global) -> ent_queue::CommandQueue
         ensures queue { result ≡ self.old.queue }
         ensures rest { self.new ≡ record self.old { queue = [] } }
     {
         let shared = self.world.shared();
-        let empty = Commands::new(alloc, shared, &mut self.reserver).finish();
+        let empty = ent_queue::Commands::new(alloc, shared, &mut self.reserver).finish();
         mem::replace(&mut self.queue, empty)
     }
 
     /// Whether it is of this phase.
-    pub fn is_of(&self, phase: &WorldPhase<J>) -> bool
+    pub fn is_of(&self, phase: &OpenWorld<J>) -> bool
         ensures number { IsTrue result ↔ (self.now.number ≡ phase.now.number) }
         ensures world { IsTrue result → self.now.world ≡ phase.now.world }
     {
@@ -205,16 +204,16 @@ impl<J: Numbering> Issuer<J> {
     }
 
     /// The world that is open. Its `view` shows it as it was opened.
-    pub fn world(&self) -> &OpenWorld
+    pub fn world(&self) -> &ent_world::OpenWorld
         ensures { result.now ≡ self.now.world }
     {
         &self.world
     }
 
     /// Ends the issuing.
-    pub fn finish(self) -> Issued<J>
+    pub fn finish(self) -> CommandQueue<J>
         ensures { result ≡ self }
     {
-        Issued::new(self)
+        CommandQueue::new(self)
     }
 }

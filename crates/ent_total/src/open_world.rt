@@ -3,41 +3,39 @@ ghost use Rattle.std.specs.Prelude.{All, IfOk, IfErr, IfSome, IfNone, OnOk, OnEr
 ghost use Rattle.std.specs.Arc.{arc_value};
 ghost use Rattle.std.specs.Vec.{vec_capacity, vec_len};
 ghost use Rattle.ent_shared.specs.Phase.{IsOf};
-ghost use Rattle.ent_total.specs.Issuing.{AreIssuersOf, reservers_home, with_home};
+ghost use Rattle.ent_total.specs.Issuing.{AreCommandsOf, reservers_home, with_home};
 
-use crate::issued::Issued;
-use crate::issuer::Issuer;
+use crate::command_queue::CommandQueue;
+use crate::commands::Commands;
 use crate::numbering::Numbering;
 use crate::world_homecoming::bring_home;
 use ent_handle::Memory;
-use ent_queue::{CommandQueue, Commands};
 use ent_shared::Reserver;
-use ent_world::OpenWorld;
 use std::alloc::Global;
 use std::marker::{Model, PhantomData};
 use std::sync::Arc;
 
-/// A world in a phase, with the reservers that no issuer has, and the queues that came home.
+/// A world in a phase, with the reservers that no system has, and the queues that came home.
 #[derive(Drop)]
-pub struct WorldPhase<J: Numbering> {
+pub struct OpenWorld<J: Numbering> {
     alloc: Global,
     of_world: u64,
-    world: Arc<OpenWorld, Global>,
+    world: Arc<ent_world::OpenWorld, Global>,
     home: Vec<Reserver>,
-    queues: Vec<CommandQueue>,
+    queues: Vec<ent_queue::CommandQueue>,
     number: u64,
     of: PhantomData<J>,
 }
 
-impl<J: Numbering> Model for WorldPhase<J> {
+impl<J: Numbering> Model for OpenWorld<J> {
     ghost use Rattle.std.specs.Prelude.{All, ◌≡◌};
     ghost use Rattle.std.specs.Arc.{arc_value};
     ghost use Rattle.ent_shared.specs.Phase.{IsOf};
-    ghost use Rattle.ent_total.specs.Issuing.{WorldPhase, world_phase_code};
+    ghost use Rattle.ent_total.specs.Issuing.{OpenWorld, open_world_code};
 
-    ghost Value = { WorldPhase };
+    ghost Value = { OpenWorld };
 
-    ghost coded = { world_phase_code };
+    ghost coded = { open_world_code };
 
     ghost view = { λ p. record {
       number = p.number;
@@ -56,18 +54,18 @@ impl<J: Numbering> Model for WorldPhase<J> {
 #[derive(Drop)]
 pub(crate) struct Parts {
     pub(crate) of_world: u64,
-    pub(crate) world: OpenWorld,
+    pub(crate) world: ent_world::OpenWorld,
     pub(crate) home: Vec<Reserver>,
-    pub(crate) queues: Vec<CommandQueue>,
+    pub(crate) queues: Vec<ent_queue::CommandQueue>,
 }
 
-impl<J: Numbering> WorldPhase<J> {
+impl<J: Numbering> OpenWorld<J> {
     pub(crate) fn new(
         alloc: Global,
         of_world: u64,
-        world: Arc<OpenWorld, Global>,
+        world: Arc<ent_world::OpenWorld, Global>,
         home: Vec<Reserver>,
-        queues: Vec<CommandQueue>,
+        queues: Vec<ent_queue::CommandQueue>,
         number: u64,
     ) -> Self
         requires stands_for { J.world_of number ≡ arc_value world }
@@ -80,7 +78,7 @@ impl<J: Numbering> WorldPhase<J> {
           queues = queues.items;
         } }
     {
-        WorldPhase {
+        OpenWorld {
             alloc,
             of_world,
             world,
@@ -106,7 +104,7 @@ impl<J: Numbering> WorldPhase<J> {
     }
 
     /// The world that is open. Its `view` shows it as it was opened.
-    pub fn world(&self) -> &OpenWorld
+    pub fn world(&self) -> &ent_world::OpenWorld
         ensures { result.now ≡ self.now.world }
     {
         &self.world
@@ -119,14 +117,14 @@ impl<J: Numbering> WorldPhase<J> {
         self.number
     }
 
-    /// An issuer with the last of the reservers at home and no commands, or `None` if none is at
+    /// The commands of a system with the last of the reservers at home, none yet, or `None` if none is at
     /// home.
     ///
     /// # Errors
     ///
     /// `Memory` if a reserver is at home, but there is no room for another owner of the phase. Then
     /// nothing has changed.
-    pub fn issuer(&mut self) -> Result<Option<Issuer<J>>, Memory>
+    pub fn commands(&mut self) -> Result<Option<Commands<J>>, Memory>
         ensures given { IfOk result (λ found. IfSome found (λ i.
             (i.number ≡ self.old.number) × (i.world ≡ self.old.world) × (i.queue ≡ [])
             × (self.old ≡ record self.new { home = self.new.home ++ i.reserver ∷ [] }))) }
@@ -144,8 +142,8 @@ impl<J: Numbering> WorldPhase<J> {
         let Some(mut reserver) = self.home.pop() else {
             unreachable!()
         };
-        let queue = Commands::new(self.alloc, world.shared(), &mut reserver).finish();
-        Ok(Some(Issuer {
+        let queue = ent_queue::Commands::new(self.alloc, world.shared(), &mut reserver).finish();
+        Ok(Some(Commands {
             world,
             reserver,
             queue,
@@ -155,8 +153,8 @@ impl<J: Numbering> WorldPhase<J> {
     }
 
     /// Takes systems home, in their order. If memory runs out, they are handed back.
-    pub(crate) fn take_home(&mut self, queues: Vec<Issued<J>>) -> Result<(), Vec<Issued<J>>>
-        requires own { AreIssuersOf self.old.number queues.items }
+    pub(crate) fn take_home(&mut self, queues: Vec<CommandQueue<J>>) -> Result<(), Vec<CommandQueue<J>>>
+        requires own { AreCommandsOf self.old.number queues.items }
         ensures ok { OnOk result (self.new ≡ with_home self.old queues.items) }
         ensures memory { OnErr result (0 < length queues.items) }
         ensures err { IfErr result (λ back.
@@ -175,7 +173,7 @@ impl<J: Numbering> WorldPhase<J> {
         Ok(())
     }
 
-    /// What it is made of, if no issuer owns the world too.
+    /// What it is made of, if no system owns the world too.
     pub(crate) fn end(self) -> Result<Parts, Self>
         ensures world { IfOk result (λ parts. parts.world ≡ self.world) }
         ensures of_world { IfOk result (λ parts. parts.of_world ≡ self.of_world) }
@@ -184,7 +182,7 @@ impl<J: Numbering> WorldPhase<J> {
         ensures own { IfOk result (λ parts. All (IsOf parts.world.shared) parts.home.items) }
         ensures err { IfErr result (λ phase. phase ≡ self) }
     {
-        let WorldPhase {
+        let OpenWorld {
             alloc,
             of_world,
             world,
@@ -200,12 +198,12 @@ impl<J: Numbering> WorldPhase<J> {
                 home,
                 queues,
             }),
-            Err(world) => Err(WorldPhase::new(alloc, of_world, world, home, queues, number)),
+            Err(world) => Err(OpenWorld::new(alloc, of_world, world, home, queues, number)),
         }
     }
 
     /// A list without systems.
-    pub(crate) fn no_issued(&self) -> Vec<Issued<J>>
+    pub(crate) fn no_issued(&self) -> Vec<CommandQueue<J>>
         ensures { result.items ≡ [] }
     {
         Vec::new(self.alloc)
