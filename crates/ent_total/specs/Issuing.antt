@@ -1,5 +1,5 @@
 -- What contracts see of a world in a phase, and of a system that issues commands in it.
-use Rattle.std.specs.Prelude.{◌≡◌, ◌≢◌, ◌↔◌, ◌⊎◌, ◌+◌, ◌*◌, ◌≤◌, ◌≤ℤ◌, ◌<ℤ◌, ℕ, List, ◌++◌}
+use Rattle.std.specs.Prelude.{◌≡◌, ◌≢◌, ◌↔◌, ◌⊎◌, ◌+◌, ◌*◌, ◌≤◌, ◌≤ℤ◌, ◌<ℤ◌, ℕ, List, [], ◌++◌}
 use Rattle.std.specs.Prelude.{Err, refl, All, AllPairs, Contains, length, map, sum_by}
 use Rattle.std.specs.Coded.{Coded, code_by, coded×, coded_ℕ, coded_list}
 use Rattle.ent_handle.specs.Handle.{Handle}
@@ -19,17 +19,22 @@ use Rattle.ent_queue.specs.contracts.queue.CommandQueue as queued
 use Rattle.ent_world.specs.OpenWorld.{OpenWorld as Opened, open_world_code as opened_code}
 use Rattle.ent_world.specs.World.{World, IsWorld}
 
--- the number of the world, the world that is open, and all its reservers
+-- the number of the world and how many entities were spawned in it since the last flush, the world
+-- that is open, all its reservers, and how many systems can be given out
 pub record WorldOpening : Type 0 where
   pub of_world : ℕ
+  pub spawned : ℕ
   pub world : Opened
   pub home : List Reserver
+  pub owners : ℕ
 
--- the number by which phases are told apart, the number of the world, the world that is open, the
--- reservers that no system has, and the queues that came home
+-- the number by which phases are told apart, the number of the world and how many entities were
+-- spawned in it since the last flush, the world that is open, the reservers that no system has, and
+-- the queues that came home
 pub record OpenWorld : Type 0 where
   pub number : ℕ
   pub of_world : ℕ
+  pub spawned : ℕ
   pub world : Opened
   pub home : List Reserver
   pub queues : List (List Command)
@@ -40,6 +45,11 @@ pub record Commands : Type 0 where
   pub world : Opened
   pub reserver : Reserver
   pub queue : List Command
+
+-- a system that has issued nothing
+abbrev pub new_commands : ℕ → Opened → Reserver → Commands
+new_commands number world reserver =
+    record { number = number; world = world; reserver = reserver; queue = [] }
 
 -- all of them are of the phase of this number
 abbrev pub AreCommandsOf : ℕ → List Commands → Type 0
@@ -136,23 +146,31 @@ pub record IsClosedLost (opened : Opened) (home : List Reserver) (after : World)
 -- each is stored as the tuple of its parts
 abbrev pub world_opening_code : Coded WorldOpening
 world_opening_code =
-    code_by (ℕ × (Opened × List Reserver))
-    (coded× coded_ℕ (coded× opened_code (coded_list reserver_code)))
-    (λ o. (o.of_world, (o.world, o.home)))
-    (λ t. record { of_world = t.0; world = t.1.0; home = t.1.1 }) (λ _. refl)
+    code_by (ℕ × (ℕ × (Opened × (List Reserver × ℕ))))
+    (coded× coded_ℕ (coded× coded_ℕ (coded× opened_code (coded× (coded_list reserver_code)
+    coded_ℕ))))
+    (λ o. (o.of_world, (o.spawned, (o.world, (o.home, o.owners)))))
+    (λ t. record {
+      of_world = t.0;
+      spawned = t.1.0;
+      world = t.1.1.0;
+      home = t.1.1.1.0;
+      owners = t.1.1.1.1;
+    }) (λ _. refl)
 
 abbrev pub open_world_code : Coded OpenWorld
 open_world_code =
-    code_by (ℕ × (ℕ × (Opened × (List Reserver × List (List Command)))))
-    (coded× coded_ℕ (coded× coded_ℕ (coded× opened_code
-    (coded× (coded_list reserver_code) (coded_list queued.the_row.coded)))))
-    (λ p. (p.number, (p.of_world, (p.world, (p.home, p.queues)))))
+    code_by (ℕ × (ℕ × (ℕ × (Opened × (List Reserver × List (List Command))))))
+    (coded× coded_ℕ (coded× coded_ℕ (coded× coded_ℕ (coded× opened_code
+    (coded× (coded_list reserver_code) (coded_list queued.the_row.coded))))))
+    (λ p. (p.number, (p.of_world, (p.spawned, (p.world, (p.home, p.queues))))))
     (λ t. record {
       number = t.0;
       of_world = t.1.0;
-      world = t.1.1.0;
-      home = t.1.1.1.0;
-      queues = t.1.1.1.1;
+      spawned = t.1.1.0;
+      world = t.1.1.1.0;
+      home = t.1.1.1.1.0;
+      queues = t.1.1.1.1.1;
     }) (λ _. refl)
 
 abbrev pub commands_code : Coded Commands

@@ -5,7 +5,9 @@ use crate::numbering::Numbering;
 use crate::open_world::OpenWorld;
 use std::marker::Model;
 
-/// A system that issues no more: its queue, and its reserver.
+/// The commands of one system, in the order of issue. [`OpenWorld::close`] and
+/// [`OpenWorld::close_lost`] take it.
+#[must_use = "`OpenWorld::close` takes it"]
 #[derive(Drop)]
 pub struct CommandQueue<J: Numbering> {
     pub(crate) commands: Commands<J>,
@@ -28,7 +30,10 @@ impl<J: Numbering> CommandQueue<J> {
         CommandQueue { commands }
     }
 
-    /// Which of the systems of its phase it is, from 0.
+    /// The number of its [`Commands`]. Queues that came in any order are put back in order by it:
+    /// `queues.sort_by_key(|one| one.number())`. A queue that a refused close kept stays where it
+    /// is.
+    #[must_use]
     pub fn number(&self) -> usize
         ensures { result ≡ self.now.reserver.own.number }
     {
@@ -36,6 +41,7 @@ impl<J: Numbering> CommandQueue<J> {
     }
 
     /// Whether it is of this phase.
+    #[must_use]
     pub fn is_of(&self, phase: &OpenWorld<J>) -> bool
         ensures number { IsTrue result ↔ (self.now.number ≡ phase.now.number) }
         ensures world { IsTrue result → self.now.world ≡ phase.now.world }

@@ -1,25 +1,32 @@
-ghost use Rattle.std.specs.Prelude.{◌≡◌, ◌↔◌, ◌+◌, ◌<◌, ◌≤◌, ◌∷◌, [], ◌++◌, Ok, None};
-ghost use Rattle.std.specs.Prelude.{All, IfOk, IfErr, IfSome, IfNone, OnOk, OnErr, length};
+ghost use Rattle.std.specs.Prelude.{◌≡◌, ◌≢◌, ◌↔◌, ◌+◌, ◌<◌, ◌≤◌, [], All, IfOk, IfErr, OnErr, length};
+ghost use Rattle.std.specs.FinMap as map;
 ghost use Rattle.std.specs.Arc.{arc_value};
-ghost use Rattle.std.specs.Vec.{vec_capacity, vec_len};
+ghost use Rattle.std.specs.Vec.{vec_capacity};
 ghost use Rattle.ent_shared.specs.Phase.{IsOf};
+ghost use Rattle.ent_storage.specs.EntityMap.{birth_of, value_of};
+ghost use Rattle.ent_storage.specs.BirthOrder.{ListsAll};
 ghost use Rattle.ent_total.specs.Issuing.{AreCommandsOf, reservers_home, with_home};
 
 use crate::command_queue::CommandQueue;
-use crate::commands::Commands;
 use crate::numbering::Numbering;
 use crate::world_homecoming::bring_home;
-use ent_handle::Memory;
+use ent_handle::{Birth, ComponentId, Handle, Memory};
 use ent_shared::Reserver;
+use ent_world::View;
 use std::alloc::Global;
 use std::marker::{Model, PhantomData};
 use std::sync::Arc;
 
-/// A world in a phase, with the reservers that no system has, and the queues that came home.
+/// A world in a phase. It can be read, as it was when it was opened. The phase ends by
+/// [`close`](OpenWorld::close).
+///
+/// It may go to another thread, and so may the [`Commands`](crate::Commands) of its systems.
+#[must_use = "the world comes back by `close`"]
 #[derive(Drop)]
 pub struct OpenWorld<J: Numbering> {
     alloc: Global,
     of_world: u64,
+    spawned: u32,
     world: Arc<ent_world::OpenWorld, Global>,
     home: Vec<Reserver>,
     queues: Vec<ent_queue::CommandQueue>,
@@ -28,8 +35,9 @@ pub struct OpenWorld<J: Numbering> {
 }
 
 impl<J: Numbering> Model for OpenWorld<J> {
-    ghost use Rattle.std.specs.Prelude.{All, ◌≡◌};
+    ghost use Rattle.std.specs.Prelude.{All, ◌≡◌, ◌≤◌, length};
     ghost use Rattle.std.specs.Arc.{arc_value};
+    ghost use Rattle.std.specs.Vec.{vec_capacity};
     ghost use Rattle.ent_shared.specs.Phase.{IsOf};
     ghost use Rattle.ent_total.specs.Issuing.{OpenWorld, open_world_code};
 
@@ -40,20 +48,30 @@ impl<J: Numbering> Model for OpenWorld<J> {
     ghost view = { λ p. record {
       number = p.number;
       of_world = p.of_world;
+      spawned = p.spawned;
       world = arc_value p.world;
       home = p.home.items;
       queues = p.queues.items;
     } };
 
-    // The number stands for this world, and the reservers at home came with it.
-    ghost invariant = { λ p. (J.world_of p.number ≡ arc_value p.world)
-        × All (IsOf (arc_value p.world).shared) p.home.items };
+    ghost invariant = { λ p. record {
+      -- the number stands for this world, and the reservers at home came with it
+      stands_for : J.world_of p.number ≡ arc_value p.world;
+      own : All (IsOf (arc_value p.world).shared) p.home.items;
+      -- a system that came home brought its reserver and its queue
+      each : length p.queues.items ≤ length p.home.items;
+      -- there are at most 1,024 systems, and there is room for all of them
+      few : (arc_value p.world).shared.count ≤ 1024;
+      home_room : (arc_value p.world).shared.count ≤ vec_capacity p.home;
+      queue_room : (arc_value p.world).shared.count ≤ vec_capacity p.queues;
+    } };
 }
 
 /// What a phase of a world is made of, once nobody else has a part of it.
 #[derive(Drop)]
 pub(crate) struct Parts {
     pub(crate) of_world: u64,
+    pub(crate) spawned: u32,
     pub(crate) world: ent_world::OpenWorld,
     pub(crate) home: Vec<Reserver>,
     pub(crate) queues: Vec<ent_queue::CommandQueue>,
@@ -63,6 +81,7 @@ impl<J: Numbering> OpenWorld<J> {
     pub(crate) fn new(
         alloc: Global,
         of_world: u64,
+        spawned: u32,
         world: Arc<ent_world::OpenWorld, Global>,
         home: Vec<Reserver>,
         queues: Vec<ent_queue::CommandQueue>,
@@ -70,9 +89,14 @@ impl<J: Numbering> OpenWorld<J> {
     ) -> Self
         requires stands_for { J.world_of number ≡ arc_value world }
         requires own { All (IsOf (arc_value world).shared) home.items }
+        requires each { length queues.items ≤ length home.items }
+        requires few { (arc_value world).shared.count ≤ 1024 }
+        requires home_room { (arc_value world).shared.count ≤ vec_capacity home }
+        requires queue_room { (arc_value world).shared.count ≤ vec_capacity queues }
         ensures { result ≡ record {
           number = number;
           of_world = of_world;
+          spawned = spawned;
           world = arc_value world;
           home = home.items;
           queues = queues.items;
@@ -81,6 +105,7 @@ impl<J: Numbering> OpenWorld<J> {
         OpenWorld {
             alloc,
             of_world,
+            spawned,
             world,
             home,
             queues,
@@ -89,25 +114,65 @@ impl<J: Numbering> OpenWorld<J> {
         }
     }
 
-    /// How many systems it has, whether they issue, are at home or were lost.
+    /// The value of the entity's component, if the entity is alive and has it.
+    #[must_use]
+    pub fn get(&self, handle: Handle, id: ComponentId) -> Option<i64>
+        ensures { result ≡ value_of self.now.world.entities handle id }
+    {
+        self.world.view().get(handle, id)
+    }
+
+    /// When and by whom the entity was brought to life, if it is alive.
+    #[must_use]
+    pub fn birth(&self, handle: Handle) -> Option<Birth>
+        ensures { result ≡ birth_of self.now.world.entities handle }
+    {
+        self.world.view().birth(handle)
+    }
+
+    /// Whether the entity is alive. What the systems spawn isn't yet.
+    #[must_use]
+    pub fn contains(&self, handle: Handle) -> bool
+        ensures { result ≡ map.contains_key self.now.world.entities handle }
+    {
+        self.world.view().contains(handle)
+    }
+
+    /// The handles of all entities, by birth and then by handle. The time is that of a sort.
+    ///
+    /// # Errors
+    ///
+    /// `OutOfMemory`: there is no memory for the list. It never comes if there are no entities.
+    pub fn by_birth(&self) -> Result<Vec<Handle>, Memory>
+        ensures ok { IfOk result (λ handles. ListsAll self.now.world.entities handles.items) }
+        ensures memory { OnErr result (self.now.world.entities ≢ map.empty) }
+    {
+        self.world.view().by_birth()
+    }
+
+    /// All that can be read of the world, as a system of a frame reads it.
+    #[must_use]
+    pub fn view(&self) -> View<'_>
+        ensures phase { result.phase ≡ self.now.world.phase }
+        ensures entities { result.entities ≡ self.now.world.entities }
+    {
+        self.world.view()
+    }
+
+    /// How many systems the phase has.
+    #[must_use]
     pub fn count(&self) -> usize
         ensures { result ≡ self.now.world.shared.count }
     {
         self.world.shared().count()
     }
 
-    /// How many of them are at home.
+    /// How many systems have come home: a close that was refused kept their queues.
+    #[must_use]
     pub fn at_home(&self) -> usize
         ensures { result ≡ length self.now.home }
     {
         self.home.len()
-    }
-
-    /// The world that is open. Its `view` shows it as it was opened.
-    pub fn world(&self) -> &ent_world::OpenWorld
-        ensures { result.now ≡ self.now.world }
-    {
-        &self.world
     }
 
     pub(crate) fn number(&self) -> u64
@@ -117,52 +182,13 @@ impl<J: Numbering> OpenWorld<J> {
         self.number
     }
 
-    /// The commands of a system with the last of the reservers at home, none yet, or `None` if none is at
-    /// home.
-    ///
-    /// # Errors
-    ///
-    /// `Memory` if a reserver is at home, but there is no room for another owner of the phase. Then
-    /// nothing has changed.
-    pub fn commands(&mut self) -> Result<Option<Commands<J>>, Memory>
-        ensures given { IfOk result (λ found. IfSome found (λ i.
-            (i.number ≡ self.old.number) × (i.world ≡ self.old.world) × (i.queue ≡ [])
-            × (self.old ≡ record self.new { home = self.new.home ++ i.reserver ∷ [] }))) }
-        ensures none { IfOk result (λ found. IfNone found
-            ((self.old.home ≡ []) × (self.new ≡ self.old))) }
-        ensures none_home { (result ≡ Ok None) ↔ (self.old.home ≡ []) }
-        ensures err { OnErr result (self.new ≡ self.old) }
-    {
-        if self.home.is_empty() {
-            return Ok(None);
-        }
-        let Ok(world) = Arc::try_clone(&self.world) else {
-            return Err(Memory);
-        };
-        let Some(mut reserver) = self.home.pop() else {
-            unreachable!()
-        };
-        let queue = ent_queue::Commands::new(self.alloc, world.shared(), &mut reserver).finish();
-        Ok(Some(Commands {
-            world,
-            reserver,
-            queue,
-            number: self.number,
-            of: PhantomData,
-        }))
-    }
-
-    /// Takes systems home, in their order. If memory runs out, they are handed back.
-    pub(crate) fn take_home(&mut self, queues: Vec<CommandQueue<J>>) -> Result<(), Vec<CommandQueue<J>>>
+    /// Takes systems home, in their order, which needs no memory.
+    pub(crate) fn take_home(&mut self, queues: Vec<CommandQueue<J>>)
         requires own { AreCommandsOf self.old.number queues.items }
-        ensures ok { OnOk result (self.new ≡ with_home self.old queues.items) }
-        ensures memory { OnErr result (0 < length queues.items) }
-        ensures err { IfErr result (λ back.
-            (back.items ≡ queues.items) × (self.new ≡ self.old)) }
+        requires few { length (reservers_home self.old queues.items)
+            ≤ self.old.world.shared.count }
+        ensures { self.new ≡ with_home self.old queues.items }
     {
-        if self.home.reserve(queues.len()).is_err() || self.queues.reserve(queues.len()).is_err() {
-            return Err(queues);
-        }
         bring_home(
             &mut self.home,
             &mut self.queues,
@@ -170,21 +196,25 @@ impl<J: Numbering> OpenWorld<J> {
             self.number,
             queues,
         );
-        Ok(())
     }
 
     /// What it is made of, if no system owns the world too.
     pub(crate) fn end(self) -> Result<Parts, Self>
         ensures world { IfOk result (λ parts. parts.world ≡ self.world) }
         ensures of_world { IfOk result (λ parts. parts.of_world ≡ self.of_world) }
+        ensures spawned { IfOk result (λ parts. parts.spawned ≡ self.spawned) }
         ensures home { IfOk result (λ parts. parts.home.items ≡ self.home) }
         ensures queues { IfOk result (λ parts. parts.queues.items ≡ self.queues) }
         ensures own { IfOk result (λ parts. All (IsOf parts.world.shared) parts.home.items) }
+        ensures each { IfOk result (λ parts.
+            length parts.queues.items ≤ length parts.home.items) }
+        ensures few { IfOk result (λ parts. parts.world.shared.count ≤ 1024) }
         ensures err { IfErr result (λ phase. phase ≡ self) }
     {
         let OpenWorld {
             alloc,
             of_world,
+            spawned,
             world,
             home,
             queues,
@@ -194,16 +224,19 @@ impl<J: Numbering> OpenWorld<J> {
         match Arc::try_unwrap(world) {
             Ok(world) => Ok(Parts {
                 of_world,
+                spawned,
                 world,
                 home,
                 queues,
             }),
-            Err(world) => Err(OpenWorld::new(alloc, of_world, world, home, queues, number)),
+            Err(world) => Err(OpenWorld::new(
+                alloc, of_world, spawned, world, home, queues, number,
+            )),
         }
     }
 
     /// A list without systems.
-    pub(crate) fn no_issued(&self) -> Vec<CommandQueue<J>>
+    pub(crate) fn no_queues(&self) -> Vec<CommandQueue<J>>
         ensures { result.items ≡ [] }
     {
         Vec::new(self.alloc)

@@ -38,6 +38,8 @@ pub(crate) fn bring_home<J: Numbering>(
     ensures home { home.new.items ≡ home.old.items ++ issuing queues.items }
     ensures queues { queues_home.new.items ≡ queues_home.old.items ++ issued queues.items }
     ensures own { All (IsOf world.now.shared) home.new.items }
+    ensures room { vec_capacity home.new ≡ vec_capacity home.old }
+    ensures queue_room { vec_capacity queues_home.new ≡ vec_capacity queues_home.old }
 {
     for one in queues {
         let Commands {

@@ -1,40 +1,44 @@
-ghost use Rattle.std.specs.Prelude.{◌≡◌, ◌<◌, ◌≤◌, ◌↔◌, ◌⊎◌, [], IfOk, IfErr};
-ghost use Rattle.ent_shared.specs.Phase.{records_of};
+ghost use Rattle.std.specs.Prelude.{◌≡◌, ◌+◌, ◌<◌, ◌≤◌, ◌↔◌, ◌⊎◌, [], All, IfOk, IfErr, IfSome, length, map};
+ghost use Rattle.std.specs.Arc.{arc_value};
+ghost use Rattle.std.specs.Vec.{vec_capacity};
+ghost use Rattle.ent_shared.specs.Phase.{IsOf, records_of};
 ghost use Rattle.ent_shared.specs.Record.{opened_records};
 ghost use Rattle.ent_total.specs.Faults.{IsErrWith};
+ghost use Rattle.ent_total.specs.Issuing.{new_commands};
 ghost use Rattle.ent_total.specs.declared.opening.ShareFault.TheVariants.{NeedsFlush, Count};
 
-use crate::world::World;
+use crate::commands::Commands;
+use crate::handing_out::{hand_out, owners_of};
 use crate::numbering::Numbering;
-use crate::opening::{CALLERS, ShareFault};
 use crate::open_world::OpenWorld;
+use crate::opening::{CALLERS, ShareFault};
+use crate::unopened::Unopened;
+use crate::world::World;
 use ent_shared::Reserver;
 use std::alloc::Global;
-use std::marker::Model;
+use std::marker::{Model, PhantomData};
 use std::sync::Arc;
 
-/// A world that was not opened.
+/// A world that is open for its systems, and has no number yet. It holds all memory that its phase
+/// needs.
 #[derive(Drop)]
-pub struct Unopened {
-    /// The world as it was.
-    pub world: World,
-    /// Why it was not opened.
-    pub error: ShareFault,
-}
-
-/// A phase of a world that has no number yet, with all its reservers.
-#[derive(Drop)]
-pub struct WorldOpening {
+pub struct WorldOpening<J: Numbering> {
     alloc: Global,
     of_world: u64,
+    spawned: u32,
     world: Arc<ent_world::OpenWorld, Global>,
     home: Vec<Reserver>,
+    owners: Vec<Arc<ent_world::OpenWorld, Global>>,
+    queues: Vec<ent_queue::CommandQueue>,
+    given: Vec<Commands<J>>,
 }
 
-impl Model for WorldOpening {
-    ghost use Rattle.std.specs.Prelude.{All};
+impl<J: Numbering> Model for WorldOpening<J> {
+    ghost use Rattle.std.specs.Prelude.{◌≡◌, ◌≤◌, [], All, length};
     ghost use Rattle.std.specs.Arc.{arc_value};
+    ghost use Rattle.std.specs.Vec.{vec_capacity};
     ghost use Rattle.ent_shared.specs.Phase.{IsOf};
+    ghost use Rattle.ent_world.specs.OpenWorld.{OpenWorld as Opened};
     ghost use Rattle.ent_total.specs.Issuing.{WorldOpening, world_opening_code};
 
     ghost Value = { WorldOpening };
@@ -43,12 +47,25 @@ impl Model for WorldOpening {
 
     ghost view = { λ o. record {
       of_world = o.of_world;
+      spawned = o.spawned;
       world = arc_value o.world;
       home = o.home.items;
+      owners = length o.owners.items;
     } };
 
-    // The reservers at home came with this world.
-    ghost invariant = { λ o. All (IsOf (arc_value o.world).shared) o.home.items };
+    ghost invariant = { λ o. record {
+      -- the reservers came with this world, and each owner is one of it
+      own : All (IsOf (arc_value o.world).shared) o.home.items;
+      same : All (λ a. arc_value a ≡ arc_value o.world) o.owners.items;
+      each : length o.owners.items ≤ length o.home.items;
+      -- there are at most 1,024 systems, and there is room for all of them
+      few : (arc_value o.world).shared.count ≤ 1024;
+      home_room : (arc_value o.world).shared.count ≤ vec_capacity o.home;
+      queue_room : (arc_value o.world).shared.count ≤ vec_capacity o.queues;
+      room : length o.owners.items ≤ vec_capacity o.given;
+      no_queue : o.queues.items ≡ [];
+      none_given : o.given.items ≡ [];
+    } };
 }
 
 /// Opens a world for `count` systems, 1 to 1,024.
@@ -57,21 +74,32 @@ impl Model for WorldOpening {
 ///
 /// [`Unopened`] says why, and has the world as it was. It is the first of these that holds:
 /// [`ShareFault::NeedsFlush`], [`ShareFault::Count`], [`ShareFault::Memory`].
-pub fn open(alloc: Global, world: World, count: usize) -> Result<WorldOpening, Unopened>
+pub fn open<J: Numbering>(
+    alloc: Global,
+    world: World,
+    count: usize,
+) -> Result<WorldOpening<J>, Unopened>
     ensures of_world { IfOk result (λ o. o.of_world ≡ world.number) }
+    ensures spawned { IfOk result (λ o. o.spawned ≡ world.spawned) }
     ensures shared { IfOk result (λ o. (o.world.shared.start ≡ world.world.allocator)
         × (o.world.shared.count ≡ count)) }
     ensures world { IfOk result (λ o. (o.world.phase ≡ world.world.phase)
         × (o.world.entities ≡ world.world.entities)) }
     ensures home { IfOk result (λ o.
         records_of o.home ≡ opened_records world.world.allocator 0 count) }
+
+    // All systems can be given out, or none: only if the world could have no more owners, and this
+    // one could not be told to be the last.
+    ensures owners { IfOk result (λ o. (o.owners ≡ count) ⊎ (o.owners ≡ 0)) }
+
+    // When it is refused, and what stands then.
     ensures needs_flush { IsErrWith result (λ u. u.error ≡ NeedsFlush)
         ↔ (0 < world.world.allocator.asked) }
     ensures no_count { IsErrWith result (λ u. u.error ≡ Count)
         ↔ ((world.world.allocator.asked ≡ 0) × ((count ≡ 0) ⊎ (1024 < count))) }
     ensures handed_back { IfErr result (λ u. u.world ≡ world) }
 {
-    if world.world.needs_flush() {
+    if world.needs_flush() {
         return Err(Unopened {
             world,
             error: ShareFault::NeedsFlush,
@@ -83,65 +111,133 @@ pub fn open(alloc: Global, world: World, count: usize) -> Result<WorldOpening, U
             error: ShareFault::Count,
         });
     }
-    let World { world, number } = world;
-    match WorldOpening::new(alloc, world, count, number) {
+    let World {
+        world,
+        number,
+        spawned,
+    } = world;
+    match WorldOpening::new(alloc, world, count, number, spawned) {
         Ok(opening) => Ok(opening),
         Err(world) => Err(Unopened {
-            world: World { world, number },
+            world: World {
+                world,
+                number,
+                spawned,
+            },
             error: ShareFault::Memory,
         }),
     }
 }
 
-impl WorldOpening {
+impl<J: Numbering> WorldOpening<J> {
     /// Opens a flushed world. If memory runs out, it comes back.
-    fn new(alloc: Global, world: ent_world::World, count: usize, of_world: u64) -> Result<Self, ent_world::World>
+    fn new(
+        alloc: Global,
+        world: ent_world::World,
+        count: usize,
+        of_world: u64,
+        spawned: u32,
+    ) -> Result<Self, ent_world::World>
         requires flushed { world.allocator.asked ≡ 0 }
         requires some { 0 < count }
         requires few { count ≤ 1024 }
         ensures of_world { IfOk result (λ o. o.of_world ≡ of_world) }
+        ensures spawned { IfOk result (λ o. o.spawned ≡ spawned) }
         ensures shared { IfOk result (λ o. (o.world.shared.start ≡ world.allocator)
             × (o.world.shared.count ≡ count)) }
         ensures world { IfOk result (λ o. (o.world.phase ≡ world.phase)
             × (o.world.entities ≡ world.entities)) }
         ensures home { IfOk result (λ o.
             records_of o.home ≡ opened_records world.allocator 0 count) }
+        ensures owners { IfOk result (λ o. (o.owners ≡ count) ⊎ (o.owners ≡ 0)) }
         ensures err { IfErr result (λ refused. refused ≡ world) }
     {
-        let (opened, home) = match world.open(count) {
-            Ok(made) => made,
-            Err((world, _)) => return Err(world),
+        let Ok(queues) = Vec::with_capacity(alloc, count) else {
+            return Err(world);
         };
-        match Arc::new(alloc, opened) {
-            Ok(world) => Ok(WorldOpening {
-                alloc,
-                of_world,
-                world,
-                home,
-            }),
-            Err(refused) => Err(refused.value.close(home)),
-        }
+        let Ok(given) = Vec::with_capacity(alloc, count) else {
+            return Err(world);
+        };
+        let (world, home) = shared_world(alloc, world, count)?;
+        let (world, owners) = match owners_of(alloc, &world, count) {
+            Some(owners) => (world, owners),
+            None => match Arc::try_unwrap(world) {
+                Ok(opened) => return Err(opened.close(home)),
+                Err(world) => (world, Vec::new(alloc)),
+            },
+        };
+        Ok(WorldOpening {
+            alloc,
+            of_world,
+            spawned,
+            world,
+            home,
+            owners,
+            queues,
+            given,
+        })
     }
 
-    /// The phase, under a number by which it is told from all others. All its reservers are at home,
-    /// and no queue is.
-    pub fn numbered<J: Numbering>(self, number: u64) -> OpenWorld<J>
+    /// The phase, under a number by which it is told from all others, and its systems, in the order
+    /// of their numbers. It takes no memory.
+    pub fn numbered(self, number: u64) -> (OpenWorld<J>, Vec<Commands<J>>)
         requires stands_for { J.world_of number ≡ self.world }
-        ensures { result ≡ record {
+        ensures open { result.0 ≡ record {
           number = number;
           of_world = self.of_world;
+          spawned = self.spawned;
           world = self.world;
-          home = self.home;
+          home = result.0.home;
           queues = [];
         } }
+        ensures all { self.owners ≡ length self.home
+            → (result.1.items ≡ map (new_commands number self.world) self.home)
+            × (result.0.home ≡ []) }
+        ensures none { self.owners ≡ 0
+            → (result.1.items ≡ []) × (result.0.home ≡ self.home) }
     {
         let WorldOpening {
             alloc,
             of_world,
+            spawned,
             world,
-            home,
+            mut home,
+            owners,
+            queues,
+            mut given,
         } = self;
-        let none = Vec::new(alloc);
-        OpenWorld::new(alloc, of_world, world, home, none, number)
+        hand_out(alloc, number, &world, owners, &mut home, &mut given);
+        let open = OpenWorld::new(alloc, of_world, spawned, world, home, queues, number);
+        (open, given)
+    }
+}
+
+/// A world that is open, as what several owners can have.
+fn shared_world(
+    alloc: Global,
+    world: ent_world::World,
+    count: usize,
+) -> Result<(Arc<ent_world::OpenWorld, Global>, Vec<Reserver>), ent_world::World>
+    requires flushed { world.allocator.asked ≡ 0 }
+    requires some { 0 < count }
+    requires few { count ≤ 1024 }
+    ensures shared { IfOk result (λ made. ((arc_value made.0).shared.start ≡ world.allocator)
+        × ((arc_value made.0).shared.count ≡ count)) }
+    ensures world { IfOk result (λ made. ((arc_value made.0).phase ≡ world.phase)
+        × ((arc_value made.0).entities ≡ world.entities)) }
+    ensures own { IfOk result (λ made. All (IsOf (arc_value made.0).shared) made.1.items) }
+    ensures count { IfOk result (λ made. length made.1.items ≡ count) }
+    ensures home { IfOk result (λ made.
+        records_of made.1.items ≡ opened_records world.allocator 0 count) }
+    ensures unused { IfOk result (λ made. All (λ r. r.own.entries ≡ []) made.1.items) }
+    ensures err { IfErr result (λ refused. refused ≡ world) }
+{
+    let (opened, home) = match world.open(count) {
+        Ok(made) => made,
+        Err((world, _)) => return Err(world),
+    };
+    match Arc::new(alloc, opened) {
+        Ok(world) => Ok((world, home)),
+        Err(refused) => Err(refused.value.close(home)),
     }
 }

@@ -43,4 +43,6 @@ loop-one-preserved g c =
       of = left_have yielded old rest x front P i.of;
       room = omega (arith, less, p.len, p.capacity, i.room);
       queue_room = omega (arith, less, q.len, q.capacity, i.queue_room);
+      capacity = p.capacity ∙ i.capacity;
+      queue_capacity = q.capacity ∙ i.queue_capacity;
     }

@@ -15,4 +15,6 @@ invariant-loop-one g l = record {
   room : vec_len l.home + length l.one-iterator.rest.items ≤ vec_capacity l.home;
   queue_room : vec_len l.queues_home + length l.one-iterator.rest.items
       ≤ vec_capacity l.queues_home;
+  capacity : vec_capacity l.home ≡ vec_capacity l.initial.home;
+  queue_capacity : vec_capacity l.queues_home ≡ vec_capacity l.initial.queues_home;
 }
