@@ -287,7 +287,9 @@ impl Names {
                 let is_other = before.is_some_and(|(other, how)| {
                     let is_one_own = other.is_none() != implemented.is_none();
                     let is_same = other == implemented && other.is_some();
-                    !(is_same || is_one_own && block.is_plain && how == receiver)
+                    // No source calls it by a point.
+                    let are_texts = forms::are_texts(other, implemented);
+                    !(is_same || are_texts || is_one_own && block.is_plain && how == receiver)
                 });
                 let is_iterator = iterators.contains(&block.of) && !is_of_std;
                 if is_other || is_iterator && receiver.is_some() && forms::is_of_std(name) {

@@ -1,5 +1,6 @@
 // Made of crates/ent_handle/src/text.rt by rust/erase. It isn't edited by hand.
 
+use crate::kit::padded;
 use crate::kit::vec::Vec;
 use crate::proved::ent_handle::decimal::{decimal_value, is_decimal};
 use crate::proved::ent_handle::handle::Handle;
@@ -113,6 +114,16 @@ impl fmt::Display for Handle {
     fn fmt(&self, f: &mut fmt::Formatter<'_>) -> fmt::Result {
         let index = self.index();
         let generation = self.generation();
-        write!(f, "{index}v{generation}")
+        padded!(f, "{index}v{generation}")
+    }
+}
+
+/// As `Display` writes it.
+impl fmt::Debug for Handle {
+    #[inline]
+    fn fmt(&self, f: &mut fmt::Formatter<'_>) -> fmt::Result {
+        let index = self.index();
+        let generation = self.generation();
+        padded!(f, "{index}v{generation}")
     }
 }
