@@ -36,7 +36,6 @@ impl Commands {
     ///
     /// `Memory`, and then nothing has changed. With `Space` and `Credit` the queue keeps the
     /// refusal, which is a fault of the sync point's report.
-    #[doc = include_str!("proved/ent_total/issuer.spawn.md")]
     #[inline]
     pub fn spawn(&mut self, components: &[(ComponentId, i64)]) -> Result<Handle, SpawnError> {
         let bundle = Bundle::of(Global, components)?;
@@ -49,7 +48,6 @@ impl Commands {
     /// # Errors
     ///
     /// As [`spawn`](Self::spawn).
-    #[doc = include_str!("proved/ent_total/issuer.spawn_many.md")]
     #[inline]
     pub fn spawn_many(
         &mut self,
@@ -65,7 +63,6 @@ impl Commands {
     /// # Errors
     ///
     /// `OutOfMemory`, and then nothing has changed.
-    #[doc = include_str!("proved/ent_total/issuer.insert.md")]
     #[inline]
     pub fn insert(
         &mut self,
@@ -81,7 +78,6 @@ impl Commands {
     /// # Errors
     ///
     /// `OutOfMemory`, and then nothing has changed.
-    #[doc = include_str!("proved/ent_total/issuer.remove.md")]
     #[inline]
     pub fn remove(&mut self, handle: Handle, id: ComponentId) -> Result<(), OutOfMemory> {
         Ok(self.proved.remove(Global, handle.proved(), id)?)
@@ -92,14 +88,12 @@ impl Commands {
     /// # Errors
     ///
     /// `OutOfMemory`, and then nothing has changed.
-    #[doc = include_str!("proved/ent_total/issuer.despawn.md")]
     #[inline]
     pub fn despawn(&mut self, handle: Handle) -> Result<(), OutOfMemory> {
         Ok(self.proved.despawn(Global, handle.proved())?)
     }
 
     /// The value of the entity's component, if the entity is alive and has it.
-    #[doc = include_str!("proved/ent_world/view.get.md")]
     #[inline]
     #[must_use]
     pub fn get(&self, handle: Handle, id: ComponentId) -> Option<i64> {
@@ -107,7 +101,6 @@ impl Commands {
     }
 
     /// When and by whom the entity was brought to life, if it is alive.
-    #[doc = include_str!("proved/ent_world/view.birth.md")]
     #[inline]
     #[must_use]
     pub fn birth(&self, handle: Handle) -> Option<Birth> {
@@ -115,7 +108,6 @@ impl Commands {
     }
 
     /// Whether the entity is alive. What the systems of the phase spawn isn't yet.
-    #[doc = include_str!("proved/ent_world/view.contains.md")]
     #[inline]
     #[must_use]
     pub fn contains(&self, handle: Handle) -> bool {
@@ -127,7 +119,6 @@ impl Commands {
     /// # Errors
     ///
     /// `OutOfMemory`: there is no memory for the list.
-    #[doc = include_str!("proved/ent_world/view.by_birth.md")]
     pub fn by_birth(&self) -> Result<Vec<Handle>, OutOfMemory> {
         Ok(all_handles(self.proved.world().view().by_birth()?))
     }
@@ -150,7 +141,6 @@ impl Commands {
     /// let queue = only.finish();
     /// only.spawn(&[]);
     /// ```
-    #[doc = include_str!("proved/ent_total/issuer.finish.md")]
     #[inline]
     #[must_use]
     pub fn finish(self) -> CommandQueue {
