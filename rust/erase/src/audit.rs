@@ -9,6 +9,7 @@
 mod changes;
 mod comments;
 mod messages;
+mod rights;
 
 use crate::forms;
 use crate::lex::Kind;
@@ -115,7 +116,7 @@ impl Audit<'_> {
             ":" if starts(&[":", "Drop", "+"]) => None,
             ":" | "+" if starts(&[":", "Drop"]) || starts(&["+", "Drop"]) => Some(at + 2),
             "Drop" if starts(&["Drop", "+"]) => Some(at + 2),
-            _ => None,
+            _ => self.right_end(),
         }
     }
 
