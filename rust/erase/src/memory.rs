@@ -76,7 +76,11 @@ fn fields(source: &Source<'_>) -> Vec<(usize, usize)> {
             let name = after_heads(source, begin);
             if is_enum && source.at(name + 1) == "{" {
                 let within = elements(source, name + 1);
-                found.extend(within.into_iter().map(|it| (name, after_heads(source, it.0))));
+                found.extend(
+                    within
+                        .into_iter()
+                        .map(|it| (name, after_heads(source, it.0))),
+                );
             } else if !is_enum && name < end {
                 found.push((at + 1, name));
             }
@@ -89,7 +93,7 @@ fn fields(source: &Source<'_>) -> Vec<(usize, usize)> {
 /// The place after the attributes and the `pub` of a field.
 fn after_heads(source: &Source<'_>, at: usize) -> usize {
     let mut at = at;
-    while source.at(at) == "#" {
+    while source.has(at, &["#", "["]) {
         at = source.partner(at + 1) + 1;
     }
     if source.at(at) == "pub" {
@@ -179,7 +183,8 @@ impl<'a> Rights<'a> {
             return Some(true);
         }
         let is_typed = |at: usize| {
-            source.has(at, &[name, ":"]) && ["(", ",", "let", "mut", "|"].contains(&source.before(at))
+            source.has(at, &[name, ":"])
+                && ["(", ",", "let", "mut", "|"].contains(&source.before(at))
         };
         range.clone().any(is_typed).then_some(false)
     }
@@ -187,7 +192,8 @@ impl<'a> Rights<'a> {
 
 /// The blocks of `impl`, each with the name of its type.
 fn owners<'a>(source: &Source<'a>) -> Vec<(Range<usize>, &'a str)> {
-    let blocks = (0..source.len()).filter(|at| source.at(*at) == "impl" && begins_item(source, *at));
+    let blocks =
+        (0..source.len()).filter(|at| source.at(*at) == "impl" && begins_item(source, *at));
     let found = blocks.filter_map(|at| {
         let body = block(source, at).ok()?;
         Some((at..source.partner(body), header(source, at).ok()?.of))
@@ -220,7 +226,7 @@ fn function(source: &Source<'_>, at: usize) -> Option<(usize, usize)> {
         let open = source.find(end, source.len(), &["{"])?;
         end = source.partner(open) + 1;
     }
-    Some((signature, source.partner(end).max(end)))
+    (end < source.len()).then(|| (signature, source.partner(end).max(end)))
 }
 
 /// Whether the function of this signature has an `rt` that hands out the right.
@@ -228,7 +234,11 @@ fn makes_rights(source: &Source<'_>, names: &Names, signature: Range<usize>) -> 
     let is_bound = signature.clone().any(|at| source.has(at, &["rt", ":"]));
     let is_made = |at: usize| {
         let hands_out = |name: &&str| *name == source.at(at);
-        names.forms.iter().flat_map(|forms| forms.hands_out_right).any(|it| hands_out(it))
+        names
+            .forms
+            .iter()
+            .flat_map(|forms| forms.hands_out_right)
+            .any(|it| hands_out(it))
     };
     is_bound && signature.into_iter().any(is_made)
 }
@@ -290,7 +300,9 @@ impl<'a> Function<'a, '_> {
         self.makes
             && self.source.at(at) == "let"
             && self.source.is_word(at + 1)
-            && self.source.has(at + 2, &["=", "rt", ".", "alloc", "(", ")", ";"])
+            && self
+                .source
+                .has(at + 2, &["=", "rt", ".", "alloc", "(", ")", ";"])
     }
 
     /// Whether a field that has the right begins at `at`, in the literal or the pattern whose brace is at `open`.
@@ -302,10 +314,11 @@ impl<'a> Function<'a, '_> {
         self.names.fields.has_of(owner, self.source.at(at))
     }
 
-    /// Whether the bracket here opens the arguments of a call.
+    /// Whether the bracket here opens the arguments of a function. The name of a variant has a capital.
     fn is_call(&self, open: usize) -> bool {
         let before = self.source.before(open);
-        before == ">" || self.source.is_word(open - 1) && !forms::KEYWORDS.contains(&before)
+        let is_name = before.starts_with(|c: char| c.is_lowercase() || c == '_');
+        before == ">" || is_name && !forms::KEYWORDS.contains(&before)
     }
 
     fn arguments(&mut self, open: usize) {

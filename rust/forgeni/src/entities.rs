@@ -5,7 +5,6 @@ use crate::errors::{
     Unshared,
 };
 use crate::handle::Handle;
-use crate::kit::alloc::Global;
 use crate::kit::vec::Vec as List;
 use crate::limits::Limits;
 use crate::proved::{ent_alloc, ent_total};
@@ -89,7 +88,7 @@ impl Entities {
     #[doc = include_str!("proved/ent_alloc/entities.new.md")]
     #[must_use]
     pub const fn with_limits(limits: Limits) -> Self {
-        Self::of(ent_alloc::Entities::new(Global, limits.proved()))
+        Self::of(ent_alloc::Entities::new(limits.proved()))
     }
 
     /// An allocator with no entities and these limits, as [`with_limits`](Self::with_limits) makes
@@ -242,7 +241,7 @@ impl Entities {
     /// `OutOfMemory`, and then nothing has changed.
     #[doc = include_str!("proved/ent_alloc/entities.flush.md")]
     pub fn flush(&mut self) -> Result<Vec<Handle>, OutOfMemory> {
-        let mut born = List::new(Global);
+        let mut born = List::new();
         self.proved.flush(&mut born)?;
         Ok(born.into())
     }
@@ -300,7 +299,7 @@ impl Entities {
     /// `OutOfMemory`, as of `flush`, and then nothing has changed and nothing is handed on.
     #[doc = include_str!("proved/ent_alloc/entities.flush.md")]
     pub fn flush_with(&mut self, each: impl FnMut(Handle)) -> Result<(), OutOfMemory> {
-        let mut born = List::new(Global);
+        let mut born = List::new();
         self.proved.flush(&mut born)?;
         born.into_iter().for_each(each);
         Ok(())

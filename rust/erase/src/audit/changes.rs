@@ -71,9 +71,12 @@ fn lists_with_ghosts(module: &Module) -> impl Iterator<Item = Change> + '_ {
         .names
         .iter()
         .flat_map(|name| module.ghost.iter().map(move |it| (it, name)));
-    pairs.map(|(ghost, name)| {
-        let from = format!("{}::{{{ghost}, {name}}}", module.path);
-        Change::of_path(&from, &format!("{}::{name}", module.to))
+    pairs.flat_map(|(ghost, name)| {
+        let lists = [format!("{ghost}, {name}"), format!("{name}, {ghost}")];
+        lists.map(|list| {
+            let from = format!("{}::{{{list}}}", module.path);
+            Change::of_path(&from, &format!("{}::{name}", module.to))
+        })
     })
 }
 

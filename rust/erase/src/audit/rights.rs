@@ -50,7 +50,9 @@ impl Audit<'_> {
         } else {
             return None;
         };
-        [",", ")", "}", "|"].contains(&source.at(end)).then_some(end)
+        [",", ")", "}", "|"]
+            .contains(&source.at(end))
+            .then_some(end)
     }
 
     /// The end of a value that is the right.
@@ -86,7 +88,8 @@ impl Audit<'_> {
             return false;
         };
         (begin..=at).any(|at| {
-            let is_bound = source.has(at, &["let", name, "="]) && self.makes_right(at + 3).is_some();
+            let is_bound =
+                source.has(at, &["let", name, "="]) && self.makes_right(at + 3).is_some();
             let is_typed = source.has(at, &[name, ":", forms::RIGHT]);
             is_bound || is_typed || source.at(at) == name && self.is_right_of_type(at)
         })
@@ -98,7 +101,8 @@ impl Audit<'_> {
         let Some(open) = self.open_before(at) else {
             return false;
         };
-        let is_part = ["{", ","].contains(&source.before(at)) && [",", "}"].contains(&source.at(at + 1));
+        let is_part =
+            ["{", ","].contains(&source.before(at)) && [",", "}"].contains(&source.at(at + 1));
         let is_of_type = match source.before(open) {
             "Self" => self.names.fields.has(name),
             owner => self.names.fields.has_of(owner, name),

@@ -1,7 +1,6 @@
 // Made of crates/ent_replay/src/by_caller.rt by rust/erase. It isn't edited by hand.
 
 use crate::proved::ent_handle::Memory;
-use crate::kit::alloc::Global;
 use crate::kit::collections::BTreeMap;
 
 /// A value for each of some callers.
@@ -12,11 +11,11 @@ pub struct ByCaller<V> {
 impl<V: Copy> ByCaller<V> {
     /// No caller has a value. It takes no memory.
     #[inline]
-    pub fn new(alloc: Global) -> Self
+    pub fn new() -> Self
         // ensures { result ≡ map.empty }
     {
         ByCaller {
-            values: BTreeMap::new(alloc),
+            values: BTreeMap::new(),
         }
     }
 

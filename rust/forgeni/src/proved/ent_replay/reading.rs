@@ -4,7 +4,6 @@ use crate::kit::vec::Vec;
 use crate::proved::ent_replay::event::Event;
 use crate::proved::ent_replay::read_fault::{Cause, ReadFault};
 use crate::proved::ent_handle::{Handle, read_decimal, split_once};
-use crate::kit::alloc::Global;
 
 /// The first line of a text, and the text after its line feed.
 #[inline]
@@ -116,7 +115,7 @@ fn read_event(line: &[u8]) -> Result<Event, Cause>
 /// `Line` with the first line that is none of these, and the first of the causes that it has;
 /// `Memory` if memory ran out.
 #[inline]
-pub fn read_schedule(alloc: Global, text: &[u8]) -> Result<Vec<Event>, ReadFault>
+pub fn read_schedule(text: &[u8]) -> Result<Vec<Event>, ReadFault>
     // The events are spelled by the text.
     // ensures found { IfOk result (λ events. AreEvents events.items × Spells events.items text.now) }
     // A spelled schedule is never refused but for memory.
@@ -128,7 +127,7 @@ pub fn read_schedule(alloc: Global, text: &[u8]) -> Result<Vec<Event>, ReadFault
     // All of it, as a function of the text.
     // ensures exact { ReadsAsSchedule result (schedule_of text.now) }
 {
-    let mut events = Vec::new(alloc);
+    let mut events = Vec::new();
     let mut rest = text;
     while !rest.is_empty() {
         let (line, following) = first_line(rest);

@@ -3,7 +3,6 @@
 use crate::proved::ent_storage::pairs::search;
 use crate::proved::ent_handle::{ComponentId, Memory};
 use crate::kit::smallvec::SmallVec;
-use crate::kit::alloc::Global;
 
 /// Components and their values, by strictly rising number. Contracts see the list of them.
 ///
@@ -15,11 +14,11 @@ pub struct Bundle<const INLINE: usize> {
 impl<const INLINE: usize> Bundle<INLINE> {
     /// A bundle with no components.
     #[inline]
-    pub fn new(alloc: Global) -> Self
+    pub fn new() -> Self
         // ensures { result ≡ [] }
     {
         Bundle {
-            items: SmallVec::new(alloc),
+            items: SmallVec::new(),
         }
     }
 
@@ -29,12 +28,12 @@ impl<const INLINE: usize> Bundle<INLINE> {
     ///
     /// `Memory`, which needs a count of more than `INLINE`.
     #[inline]
-    pub fn with_capacity(alloc: Global, count: usize) -> Result<Self, Memory>
+    pub fn with_capacity(count: usize) -> Result<Self, Memory>
         // ensures ok { IfOk result (λ bundle. bundle ≡ []) }
         // ensures memory { OnErr result (INLINE < count) }
     {
         Ok(Bundle {
-            items: SmallVec::with_capacity(alloc, count)?,
+            items: SmallVec::with_capacity(count)?,
         })
     }
 
@@ -45,13 +44,13 @@ impl<const INLINE: usize> Bundle<INLINE> {
     ///
     /// `Memory`, which needs more than `INLINE` different components. Nothing is left behind.
     #[inline]
-    pub fn of(alloc: Global, items: &[(ComponentId, i64)]) -> Result<Self, Memory>
+    pub fn of(items: &[(ComponentId, i64)]) -> Result<Self, Memory>
         // ensures ok { IfOk result (λ bundle. bundle ≡ bundle_of items.now) }
         // ensures last { IfOk result (λ bundle. (id : Id) →
         //     find component_cmp id bundle ≡ find component_cmp id (reverse items.now)) }
         // ensures memory { OnErr result (INLINE < length (bundle_of items.now)) }
     {
-        let mut bundle = Bundle::new(alloc);
+        let mut bundle = Bundle::new();
         for (id, value) in items {
             bundle.put(*id, *value)?;
         }

@@ -14,7 +14,6 @@ pub use crate::proved::ent_storage::handle_map::iter::Iter;
 use crate::proved::ent_storage::handle_map::retaining::retain_slots;
 use crate::proved::ent_storage::handle_map::slot::{Slot, make_slot};
 use crate::proved::ent_handle::{Handle, Memory};
-use crate::kit::alloc::Global;
 use core::mem;
 
 /// A value for each of some handles, at most one for each slot.
@@ -29,11 +28,11 @@ pub struct HandleMap<T> {
 impl<T> HandleMap<T> {
     /// A map without values. It takes no memory.
     #[inline]
-    pub const fn new(alloc: Global) -> Self
+    pub const fn new() -> Self
         // ensures { result ≡ record { values = map.empty; room = 0 } }
     {
         HandleMap {
-            slots: Vec::new(alloc),
+            slots: Vec::new(),
             len: 0,
         }
     }
@@ -44,13 +43,13 @@ impl<T> HandleMap<T> {
     ///
     /// `Memory` if there is not that much.
     #[inline]
-    pub fn with_capacity(alloc: Global, slots: usize) -> Result<Self, Memory>
+    pub fn with_capacity(slots: usize) -> Result<Self, Memory>
         // ensures empty { IfOk result (λ m. m.values ≡ map.empty) }
         // ensures room { IfOk result (λ m. m.room ≡ slots) }
         // ensures memory { OnErr result (0 < slots) }
     {
         Ok(HandleMap {
-            slots: Vec::with_capacity(alloc, slots)?,
+            slots: Vec::with_capacity(slots)?,
             len: 0,
         })
     }

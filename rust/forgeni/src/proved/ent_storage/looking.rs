@@ -93,8 +93,8 @@ impl Storage {
         // ensures ok { IfOk result (λ handles. ListsAll self.now.entities handles.items) }
         // ensures memory { OnErr result (self.now.entities ≢ map.empty) }
     {
-        let births = self.living.births(self.alloc)?;
-        Ok(handles_in_order(self.alloc, births)?)
+        let births = self.living.births()?;
+        Ok(handles_in_order(births)?)
     }
 
     /// The handle of the entity that was brought to life there and then, if there is one. If
@@ -137,7 +137,7 @@ impl Storage {
         // ensures memory { OnErr result
         //     ((handle : Handle) × IsSome (value_of self.now.entities handle id)) }
     {
-        let births = self.living.births_at(self.alloc, self.living.pairs(id))?;
-        Ok(handles_in_order(self.alloc, births)?)
+        let births = self.living.births_at(self.living.pairs(id))?;
+        Ok(handles_in_order(births)?)
     }
 }

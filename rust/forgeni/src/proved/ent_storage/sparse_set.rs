@@ -2,7 +2,7 @@
 
 use crate::kit::vec::Vec;
 use super::places::MOST_PLACES;
-use crate::kit::alloc::{AllocError, Global};
+use crate::kit::alloc::AllocError;
 
 /// The values of one component, by the places of the entities that have it.
 ///
@@ -17,12 +17,12 @@ pub struct SparseSet {
 impl SparseSet {
     /// A set of no values, without room.
     #[inline]
-    pub fn new(alloc: Global) -> Self
+    pub fn new() -> Self
         // ensures { result ≡ no_column }
     {
         SparseSet {
-            dense: Vec::new(alloc),
-            sparse: Vec::new(alloc),
+            dense: Vec::new(),
+            sparse: Vec::new(),
         }
     }
 

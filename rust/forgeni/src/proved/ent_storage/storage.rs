@@ -4,7 +4,6 @@ use super::fault::StorageFault;
 use super::index::Index;
 use super::living::Living;
 use crate::proved::ent_handle::{Birth, ComponentId, Handle, Memory};
-use crate::kit::alloc::Global;
 
 /// The living entities: a finite map from handles to births and components.
 ///
@@ -15,21 +14,19 @@ use crate::kit::alloc::Global;
 pub struct Storage {
     pub(super) living: Living,
     pub(super) index: Index,
-    pub(super) alloc: Global,
 }
 
 impl Storage {
     /// A storage without entities. It takes no memory.
     #[inline]
-    pub fn new(alloc: Global) -> Self
+    pub fn new() -> Self
         // ensures entities { result.entities ≡ map.empty }
         // ensures spare { result.spare ≡ 0 }
         // ensures places { result.places ≡ [] }
     {
         Storage {
-            living: Living::new(alloc),
-            index: Index::new(alloc),
-            alloc,
+            living: Living::new(),
+            index: Index::new(),
         }
     }
 

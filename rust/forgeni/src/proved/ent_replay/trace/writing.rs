@@ -8,7 +8,6 @@ use crate::proved::ent_replay::trace::reply::{AllocReply, FlushReply, FreeReply,
 use crate::proved::ent_alloc::State;
 use crate::proved::ent_handle::{Handle, Memory};
 use crate::kit::itoa::Buffer;
-use crate::kit::alloc::Global;
 
 #[inline]
 fn append(out: &mut Vec<u8>, text: &[u8]) -> Result<(), Memory>
@@ -47,12 +46,12 @@ fn append_handle(out: &mut Vec<u8>, handle: Handle) -> Result<(), Memory>
 ///
 /// `Memory`: memory ran out. `out` is as it was.
 #[inline]
-pub fn append_handles(alloc: Global, out: &mut Vec<u8>, handles: &[Handle]) -> Result<(), Memory>
+pub fn append_handles(out: &mut Vec<u8>, handles: &[Handle]) -> Result<(), Memory>
     // ensures ok { OnOk result (out.new.items
     //     ≡ out.old.items ++ spaced (map handle_text handles.now)) }
     // ensures err { OnErr result (out.new.items ≡ out.old.items) }
 {
-    let mut text = Vec::new(alloc);
+    let mut text = Vec::new();
     put_handles(&mut text, handles)?;
     append(out, &text)
 }
@@ -154,11 +153,11 @@ fn write_reserve(out: &mut Vec<u8>, reservation: &Reservation) -> Result<(), Mem
 ///
 /// `Memory`: memory ran out. `out` is as it was.
 #[inline]
-pub fn append_answer(alloc: Global, out: &mut Vec<u8>, line: &Line) -> Result<(), Memory>
+pub fn append_answer(out: &mut Vec<u8>, line: &Line) -> Result<(), Memory>
     // ensures ok { OnOk result (out.new.items ≡ out.old.items ++ spaced (answer_words line.now)) }
     // ensures err { OnErr result (out.new.items ≡ out.old.items) }
 {
-    let mut text = Vec::new(alloc);
+    let mut text = Vec::new();
     put_answer(&mut text, line)?;
     append(out, &text)
 }
@@ -185,11 +184,11 @@ fn put_answer(out: &mut Vec<u8>, line: &Line) -> Result<(), Memory>
 ///
 /// `Memory`: memory ran out. `out` is as it was.
 #[inline]
-pub fn write_line(alloc: Global, out: &mut Vec<u8>, line: &Line) -> Result<(), Memory>
+pub fn write_line(out: &mut Vec<u8>, line: &Line) -> Result<(), Memory>
     // ensures ok { OnOk result (out.new.items ≡ out.old.items ++ line_text line.now) }
     // ensures err { OnErr result (out.new.items ≡ out.old.items) }
 {
-    let mut text = Vec::new(alloc);
+    let mut text = Vec::new();
     put_line(&mut text, line)?;
     append(out, &text)
 }
