@@ -79,6 +79,7 @@ impl Names {
                     members.extend(own);
                 }
                 "enum" if source.is_word(at + 1) => self.add_variants(source, at)?,
+                "use" if source.before(at) == "pub" => self.add_other_names(source, at)?,
                 "ghost" if is_declared_member(source, at) => {
                     self.members.insert(source.at(at + 1).to_owned());
                 }
@@ -159,6 +160,23 @@ impl Names {
             &mut self.items
         };
         known.insert(name.to_owned());
+        Ok(())
+    }
+
+    /// Adds the other names under which a source passes on items of another crate.
+    fn add_other_names(&mut self, source: &Source<'_>, at: usize) -> Result<(), Fault> {
+        let end = source.find(at, source.len(), &[";"]).unwrap_or(at);
+        if !self.crates.contains_key(source.at(at + 1)) {
+            return Ok(());
+        }
+        for at in at..end {
+            if source.before(at) == "as" {
+                if self.is_taken(source.at(at)) {
+                    return Err(taken(source, at));
+                }
+                self.items.insert(source.at(at).to_owned());
+            }
+        }
         Ok(())
     }
 
@@ -295,7 +313,9 @@ impl Names {
                 let is_other = before.is_some_and(|(other, how)| {
                     let is_one_own = other.is_none() != implemented.is_none();
                     let is_same = other == implemented && other.is_some();
-                    !(is_same || is_one_own && block.is_plain && how == receiver)
+                    // No source calls it by a point.
+                    let are_texts = forms::are_texts(other, implemented);
+                    !(is_same || are_texts || is_one_own && block.is_plain && how == receiver)
                 });
                 let is_iterator = iterators.contains(&block.of) && !is_of_std;
                 if is_other || is_iterator && receiver.is_some() && forms::is_of_std(name) {

@@ -4,7 +4,6 @@ use crate::component::{Birth, ComponentId};
 use crate::errors::OutOfMemory;
 use crate::handle::Handle;
 use crate::kit::alloc::Global;
-use crate::lists::all_handles;
 use crate::numbers::Numbers;
 use crate::proved::ent_handle::Memory;
 use crate::proved::ent_queue::{self, Bundle};
@@ -39,7 +38,7 @@ impl Commands {
     #[inline]
     pub fn spawn(&mut self, components: &[(ComponentId, i64)]) -> Result<Handle, SpawnError> {
         let bundle = Bundle::of(Global, components)?;
-        Ok(Handle::of(self.proved.spawn(Global, &bundle)?))
+        Ok(self.proved.spawn(Global, &bundle)?)
     }
 
     /// Reserves `count` handles at once, each of which is to have the components. It takes time for each
@@ -55,7 +54,7 @@ impl Commands {
         components: &[(ComponentId, i64)],
     ) -> Result<Vec<Handle>, SpawnError> {
         let bundle = Bundle::of(Global, components)?;
-        Ok(all_handles(self.proved.spawn_many(Global, count, &bundle)?))
+        Ok(self.proved.spawn_many(Global, count, &bundle)?.into())
     }
 
     /// Gives the entity the components, instead of those that it has under the same numbers.
@@ -70,7 +69,7 @@ impl Commands {
         components: &[(ComponentId, i64)],
     ) -> Result<(), OutOfMemory> {
         let bundle = Bundle::of(Global, components)?;
-        Ok(self.proved.insert(Global, handle.proved(), &bundle)?)
+        Ok(self.proved.insert(Global, handle, &bundle)?)
     }
 
     /// Takes the component out of the entity, if it has it.
@@ -80,7 +79,7 @@ impl Commands {
     /// `OutOfMemory`, and then nothing has changed.
     #[inline]
     pub fn remove(&mut self, handle: Handle, id: ComponentId) -> Result<(), OutOfMemory> {
-        Ok(self.proved.remove(Global, handle.proved(), id)?)
+        Ok(self.proved.remove(Global, handle, id)?)
     }
 
     /// Takes the entity out of the world.
@@ -90,28 +89,28 @@ impl Commands {
     /// `OutOfMemory`, and then nothing has changed.
     #[inline]
     pub fn despawn(&mut self, handle: Handle) -> Result<(), OutOfMemory> {
-        Ok(self.proved.despawn(Global, handle.proved())?)
+        Ok(self.proved.despawn(Global, handle)?)
     }
 
     /// The value of the entity's component, if the entity is alive and has it.
     #[inline]
     #[must_use]
     pub fn get(&self, handle: Handle, id: ComponentId) -> Option<i64> {
-        self.proved.world().view().get(handle.proved(), id)
+        self.proved.world().view().get(handle, id)
     }
 
     /// When and by whom the entity was brought to life, if it is alive.
     #[inline]
     #[must_use]
     pub fn birth(&self, handle: Handle) -> Option<Birth> {
-        self.proved.world().view().birth(handle.proved())
+        self.proved.world().view().birth(handle)
     }
 
     /// Whether the entity is alive. What the systems of the phase spawn isn't yet.
     #[inline]
     #[must_use]
     pub fn contains(&self, handle: Handle) -> bool {
-        self.proved.world().view().contains(handle.proved())
+        self.proved.world().view().contains(handle)
     }
 
     /// The handles of all entities, by birth and then by handle.
@@ -120,7 +119,7 @@ impl Commands {
     ///
     /// `OutOfMemory`: there is no memory for the list.
     pub fn by_birth(&self) -> Result<Vec<Handle>, OutOfMemory> {
-        Ok(all_handles(self.proved.world().view().by_birth()?))
+        Ok(self.proved.world().view().by_birth()?.into())
     }
 
     /// Which of the systems it is: its position in the list that

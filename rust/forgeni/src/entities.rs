@@ -8,7 +8,6 @@ use crate::handle::Handle;
 use crate::kit::alloc::Global;
 use crate::kit::vec::Vec as List;
 use crate::limits::Limits;
-use crate::lists::{all_handles, proved_room};
 use crate::proved::{ent_alloc, ent_total};
 use crate::sharing::{Reserver, Shared};
 use alloc::vec::Vec;
@@ -57,9 +56,7 @@ pub struct Freed {
 impl Freed {
     #[inline]
     pub(crate) fn of(proved: ent_alloc::Freed) -> Self {
-        Self {
-            next: proved.next.map(Handle::of),
-        }
+        Self { next: proved.next }
     }
 }
 
@@ -116,7 +113,7 @@ impl Entities {
     /// `NeedsFlush`, `Space` or `Memory`, and then nothing has changed.
     #[inline]
     pub fn alloc(&mut self) -> Result<Handle, AllocError> {
-        Ok(Handle::of(self.proved.alloc()?))
+        Ok(self.proved.alloc()?)
     }
 
     /// Gives `n` handles that are alive at once: those of `n` calls of [`alloc`](Self::alloc), in
@@ -175,7 +172,7 @@ impl Entities {
     // Where it isn't inlined, its result goes through memory: a fifth more for `alloc` with `free`.
     #[inline(always)]
     pub fn free(&mut self, handle: Handle) -> Result<Freed, FreeError> {
-        Ok(Freed::of(self.proved.free(handle.proved())?))
+        Ok(Freed::of(self.proved.free(handle)?))
     }
 
     /// Requests a handle, which the next [`flush`](Self::flush) brings to life. Until then `alloc`
@@ -187,7 +184,7 @@ impl Entities {
     /// if 2^50 were requested since the last flush.
     #[inline]
     pub fn request(&mut self) -> Result<Handle, RequestError> {
-        Ok(Handle::of(ent_total::request(&mut self.proved)?))
+        Ok(ent_total::request(&mut self.proved)?)
     }
 
     /// Requests `n` handles at once, all of them or none. They stand in the order in which
@@ -242,15 +239,14 @@ impl Entities {
     pub fn flush(&mut self) -> Result<Vec<Handle>, OutOfMemory> {
         let mut born = List::new(Global);
         self.proved.flush(&mut born)?;
-        Ok(all_handles(born))
+        Ok(born.into())
     }
 
     /// [`flush`](Self::flush), which appends the handles to this list. It takes time for each handle
     /// that it appends, however long the list is.
     ///
-    /// If the list has no handles but room for these, and no slot is new, the call takes no memory. So a
-    /// list that is cleared and used again takes none in the end. If the list has handles already, the
-    /// call first lists what comes to life apart.
+    /// If the list has room for these handles, and no slot is new, the call takes no memory. So a list
+    /// that is cleared and used again takes none in the end.
     ///
     /// ```
     /// use forgeni::Entities;
@@ -273,13 +269,9 @@ impl Entities {
     ///
     /// `OutOfMemory`, and then nothing has changed, and the list has the same handles.
     pub fn flush_into(&mut self, born: &mut Vec<Handle>) -> Result<(), OutOfMemory> {
-        if !born.is_empty() {
-            born.try_reserve(self.reserved() as usize)?;
-            return self.flush_with(|handle| born.push(handle));
-        }
-        let mut list = proved_room(mem::take(born));
+        let mut list = List::from(mem::take(born));
         let flushed = self.proved.flush(&mut list);
-        *born = all_handles(list);
+        *born = list.into();
         Ok(flushed?)
     }
 
@@ -303,7 +295,7 @@ impl Entities {
     pub fn flush_with(&mut self, each: impl FnMut(Handle)) -> Result<(), OutOfMemory> {
         let mut born = List::new(Global);
         self.proved.flush(&mut born)?;
-        born.into_iter().map(Handle::of).for_each(each);
+        born.into_iter().for_each(each);
         Ok(())
     }
 
@@ -348,7 +340,7 @@ impl Entities {
     #[inline]
     #[must_use]
     pub fn state(&self, handle: Handle) -> State {
-        State::of(self.proved.state(handle.proved()))
+        State::of(self.proved.state(handle))
     }
 
     /// Whether the entity is alive or reserved, as `contains` of Bevy and of hecs says it. It takes
@@ -374,7 +366,7 @@ impl Entities {
     #[inline]
     #[must_use]
     pub fn is_alive(&self, handle: Handle) -> bool {
-        self.proved.is_alive(handle.proved())
+        self.proved.is_alive(handle)
     }
 
     /// The handles of the living entities, by rising slot. It takes no memory. The time is that of a
@@ -402,7 +394,7 @@ impl Entities {
     #[inline]
     #[must_use]
     pub fn row(&self, handle: Handle) -> Option<u32> {
-        self.proved.row(handle.proved())
+        self.proved.row(handle)
     }
 
     /// Keeps a row with a living entity until it is freed, in place of the row that was set before.
@@ -430,7 +422,7 @@ impl Entities {
         if !self.is_alive(handle) {
             return Err(Absent);
         }
-        self.proved.set_row(handle.proved(), row);
+        self.proved.set_row(handle, row);
         Ok(())
     }
 
@@ -536,7 +528,7 @@ impl Iterator for Living<'_> {
 
     #[inline]
     fn next(&mut self) -> Option<Handle> {
-        self.proved.next().map(Handle::of)
+        self.proved.next()
     }
 
     #[inline]

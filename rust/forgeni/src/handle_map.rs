@@ -157,21 +157,21 @@ impl<T> HandleMap<T> {
     #[inline]
     #[must_use]
     pub fn contains(&self, handle: Handle) -> bool {
-        self.proved.contains(handle.proved())
+        self.proved.contains(handle)
     }
 
     /// The value of the handle, if it has one. It takes constant time.
     #[inline]
     #[must_use]
     pub fn get(&self, handle: Handle) -> Option<&T> {
-        self.proved.get(handle.proved())
+        self.proved.get(handle)
     }
 
     /// The value of the handle, if it has one, to be changed. It takes constant time.
     #[inline]
     #[must_use]
     pub fn get_mut(&mut self, handle: Handle) -> Option<&mut T> {
-        self.proved.get_mut(handle.proved())
+        self.proved.get_mut(handle)
     }
 
     /// Gives the handle a value, and returns the one that it had. If an earlier occupant of the slot
@@ -210,13 +210,13 @@ impl<T> HandleMap<T> {
                 error: InsertionError::Limit,
             });
         }
-        Ok(self.proved.insert(handle.proved(), value)?)
+        Ok(self.proved.insert(handle, value)?)
     }
 
     /// Takes the value of the handle out, if it has one. It takes constant time and no memory.
     #[inline]
     pub fn remove(&mut self, handle: Handle) -> Option<T> {
-        self.proved.remove(handle.proved())
+        self.proved.remove(handle)
     }
 
     /// Drops all values. The room stays.
@@ -251,7 +251,7 @@ impl<T> HandleMap<T> {
     #[inline]
     pub fn retain(&mut self, mut keep: impl FnMut(Handle, &mut T) -> bool) {
         self.proved
-            .retain(|handle, value: &mut T| keep(Handle::of(handle), value));
+            .retain(|handle, value: &mut T| keep(handle, value));
     }
 
     /// Calls `change` on each value once, by rising slot.
@@ -421,7 +421,7 @@ impl<'a, T> Iterator for Iter<'a, T> {
     #[inline]
     fn next(&mut self) -> Option<(Handle, &'a T)> {
         let (handle, value) = self.proved.next()?;
-        Some((Handle::of(handle), value))
+        Some((handle, value))
     }
 
     #[inline]

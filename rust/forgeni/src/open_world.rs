@@ -6,7 +6,6 @@ use crate::errors::OutOfMemory;
 use crate::handle::Handle;
 use crate::kit::alloc::Global;
 use crate::kit::vec::Vec as List;
-use crate::lists::all_handles;
 use crate::numbers::{next_number, Numbers};
 use crate::proved::ent_total::{self, FinishFault, NumberedWorld, ShareFault};
 use crate::sync::Queues;
@@ -91,21 +90,21 @@ impl OpenWorld {
     #[inline]
     #[must_use]
     pub fn get(&self, handle: Handle, id: ComponentId) -> Option<i64> {
-        self.proved.world().view().get(handle.proved(), id)
+        self.proved.world().view().get(handle, id)
     }
 
     /// When and by whom the entity was brought to life, if it is alive.
     #[inline]
     #[must_use]
     pub fn birth(&self, handle: Handle) -> Option<Birth> {
-        self.proved.world().view().birth(handle.proved())
+        self.proved.world().view().birth(handle)
     }
 
     /// Whether the entity is alive. What the systems spawn isn't yet.
     #[inline]
     #[must_use]
     pub fn contains(&self, handle: Handle) -> bool {
-        self.proved.world().view().contains(handle.proved())
+        self.proved.world().view().contains(handle)
     }
 
     /// The handles of all entities, by birth and then by handle.
@@ -114,7 +113,7 @@ impl OpenWorld {
     ///
     /// `OutOfMemory`: there is no memory for the list.
     pub fn by_birth(&self) -> Result<Vec<Handle>, OutOfMemory> {
-        Ok(all_handles(self.proved.world().view().by_birth()?))
+        Ok(self.proved.world().view().by_birth()?.into())
     }
 
     /// How many systems the phase has.

@@ -122,7 +122,7 @@ impl Shared {
     #[inline]
     #[must_use]
     pub fn is_alive(&self, handle: Handle) -> bool {
-        self.proved.is_alive(handle.proved())
+        self.proved.is_alive(handle)
     }
 
     /// The row that was set with the entity ([`Entities::set_row`]), as the phase was opened. `None`
@@ -130,7 +130,7 @@ impl Shared {
     #[inline]
     #[must_use]
     pub fn row(&self, handle: Handle) -> Option<u32> {
-        self.proved.row(handle.proved())
+        self.proved.row(handle)
     }
 
     /// One of the reservers that are at home, or `None` if none is. It takes no memory.
@@ -237,7 +237,7 @@ struct Listing<'a>(&'a mut Vec<Handle>);
 impl ent_total::Sink for Listing<'_> {
     #[inline]
     fn take(&mut self, handle: ent_handle::Handle) {
-        self.0.push(Handle::of(handle));
+        self.0.push(handle);
     }
 }
 
@@ -278,7 +278,7 @@ impl Reserver {
     /// of it, and then nothing has changed.
     #[inline]
     pub fn reserve(&mut self) -> Result<Handle, Refused> {
-        Ok(Handle::of(self.proved.reserve()?))
+        Ok(self.proved.reserve()?)
     }
 
     /// Reserves `n` handles at once, by one atomic step: all of them or none. They stand in the
@@ -337,14 +337,14 @@ impl Reserver {
     #[inline]
     #[must_use]
     pub fn is_alive(&self, handle: Handle) -> bool {
-        self.proved.is_alive(handle.proved())
+        self.proved.is_alive(handle)
     }
 
     /// The row of the entity as the phase was opened, as [`Shared::row`] tells it.
     #[inline]
     #[must_use]
     pub fn row(&self, handle: Handle) -> Option<u32> {
-        self.proved.row(handle.proved())
+        self.proved.row(handle)
     }
 
     /// Which of the reservers it is: its position in the list that [`Entities::share`] gave, from

@@ -5,7 +5,6 @@ use crate::component::ComponentId;
 use crate::errors::OutOfMemory;
 use crate::handle::Handle;
 use crate::kit::alloc::Global;
-use crate::lists::all_handles;
 use crate::proved::ent_queue::{self, Bundle};
 use alloc::vec::Vec;
 use core::fmt;
@@ -33,7 +32,7 @@ impl<'a, 'w> SystemCommands<'a, 'w> {
     #[inline]
     pub fn spawn(&mut self, components: &[(ComponentId, i64)]) -> Result<Handle, SpawnError> {
         let bundle = Bundle::of(Global, components)?;
-        Ok(Handle::of(self.proved.spawn(&bundle)?))
+        Ok(self.proved.spawn(&bundle)?)
     }
 
     /// Reserves `count` handles at once, each of which is to have the components. It takes time for each
@@ -49,7 +48,7 @@ impl<'a, 'w> SystemCommands<'a, 'w> {
         components: &[(ComponentId, i64)],
     ) -> Result<Vec<Handle>, SpawnError> {
         let bundle = Bundle::of(Global, components)?;
-        Ok(all_handles(self.proved.spawn_many(count, &bundle)?))
+        Ok(self.proved.spawn_many(count, &bundle)?.into())
     }
 
     /// Gives the entity the components, instead of those that it has under the same numbers.
@@ -64,7 +63,7 @@ impl<'a, 'w> SystemCommands<'a, 'w> {
         components: &[(ComponentId, i64)],
     ) -> Result<(), OutOfMemory> {
         let bundle = Bundle::of(Global, components)?;
-        Ok(self.proved.insert(handle.proved(), &bundle)?)
+        Ok(self.proved.insert(handle, &bundle)?)
     }
 
     /// Takes the component out of the entity, if it has it.
@@ -74,7 +73,7 @@ impl<'a, 'w> SystemCommands<'a, 'w> {
     /// `OutOfMemory`, and then nothing has changed.
     #[inline]
     pub fn remove(&mut self, handle: Handle, id: ComponentId) -> Result<(), OutOfMemory> {
-        Ok(self.proved.remove(handle.proved(), id)?)
+        Ok(self.proved.remove(handle, id)?)
     }
 
     /// Takes the entity out of the world.
@@ -84,7 +83,7 @@ impl<'a, 'w> SystemCommands<'a, 'w> {
     /// `OutOfMemory`, and then nothing has changed.
     #[inline]
     pub fn despawn(&mut self, handle: Handle) -> Result<(), OutOfMemory> {
-        Ok(self.proved.despawn(handle.proved())?)
+        Ok(self.proved.despawn(handle)?)
     }
 }
 

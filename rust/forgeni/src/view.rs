@@ -3,7 +3,6 @@
 use crate::component::{Birth, ComponentId};
 use crate::errors::OutOfMemory;
 use crate::handle::Handle;
-use crate::lists::all_handles;
 use crate::proved::ent_world;
 use alloc::vec::Vec;
 use core::fmt;
@@ -23,21 +22,21 @@ impl<'a> View<'a> {
     #[inline]
     #[must_use]
     pub fn contains(self, handle: Handle) -> bool {
-        self.proved.contains(handle.proved())
+        self.proved.contains(handle)
     }
 
     /// The value of the entity's component, if the entity is alive and has it.
     #[inline]
     #[must_use]
     pub fn get(self, handle: Handle, id: ComponentId) -> Option<i64> {
-        self.proved.get(handle.proved(), id)
+        self.proved.get(handle, id)
     }
 
     /// When and by whom the entity was brought to life, if it is alive.
     #[inline]
     #[must_use]
     pub fn birth(self, handle: Handle) -> Option<Birth> {
-        self.proved.birth(handle.proved())
+        self.proved.birth(handle)
     }
 
     /// The handles of the entities that have the component, by birth and then by handle. It takes the time
@@ -47,7 +46,7 @@ impl<'a> View<'a> {
     ///
     /// `OutOfMemory`: there is no memory for the list.
     pub fn with(self, id: ComponentId) -> Result<Vec<Handle>, OutOfMemory> {
-        Ok(all_handles(self.proved.with(id)?))
+        Ok(self.proved.with(id)?.into())
     }
 
     /// The handles of all entities, by birth and then by handle. The time is that of a sort.
@@ -56,7 +55,7 @@ impl<'a> View<'a> {
     ///
     /// `OutOfMemory`: there is no memory for the list.
     pub fn by_birth(self) -> Result<Vec<Handle>, OutOfMemory> {
-        Ok(all_handles(self.proved.by_birth()?))
+        Ok(self.proved.by_birth()?.into())
     }
 
     /// The handle of the entity with that birth, if there is one. If several entities have the
@@ -64,7 +63,7 @@ impl<'a> View<'a> {
     /// each entity.
     #[must_use]
     pub fn of_birth(self, birth: Birth) -> Option<Handle> {
-        self.proved.of_birth(birth).map(Handle::of)
+        self.proved.of_birth(birth)
     }
 
     /// How often the world was flushed before the frame.

@@ -7,7 +7,6 @@ use crate::errors::{AllocError, FreeError, OutOfMemory};
 use crate::handle::Handle;
 use crate::kit::alloc::Global;
 use crate::limits::Limits;
-use crate::lists::all_handles;
 use crate::numbers::next_number;
 use crate::open_world::{OpenWorld, Unopened};
 use crate::proved::ent_queue::Bundle;
@@ -140,7 +139,7 @@ impl World {
         components: &[(ComponentId, i64)],
     ) -> Result<Handle, AllocError> {
         let bundle = Bundle::of(Global, components)?;
-        Ok(Handle::of(self.proved.world.spawn(birth, &bundle)?))
+        Ok(self.proved.world.spawn(birth, &bundle)?)
     }
 
     /// Takes a living entity out, with all its components.
@@ -150,28 +149,28 @@ impl World {
     /// `NeedsFlush`, `NotAlive` or `Memory`, and then nothing has changed.
     #[inline]
     pub fn despawn(&mut self, handle: Handle) -> Result<Freed, FreeError> {
-        Ok(Freed::of(self.proved.world.despawn(handle.proved())?))
+        Ok(Freed::of(self.proved.world.despawn(handle)?))
     }
 
     /// The value of the entity's component, if the entity is alive and has it.
     #[inline]
     #[must_use]
     pub fn get(&self, handle: Handle, id: ComponentId) -> Option<i64> {
-        self.proved.world.get(handle.proved(), id)
+        self.proved.world.get(handle, id)
     }
 
     /// When and by whom the entity was brought to life, if it is alive.
     #[inline]
     #[must_use]
     pub fn birth(&self, handle: Handle) -> Option<Birth> {
-        self.proved.world.birth(handle.proved())
+        self.proved.world.birth(handle)
     }
 
     /// Whether the entity is alive.
     #[inline]
     #[must_use]
     pub fn contains(&self, handle: Handle) -> bool {
-        self.proved.world.contains(handle.proved())
+        self.proved.world.contains(handle)
     }
 
     /// The entity's components and their values, by rising number, if it is alive.
@@ -179,7 +178,7 @@ impl World {
     /// If memory runs out for the list, the process ends, as with `Vec`.
     #[must_use]
     pub fn items(&self, handle: Handle) -> Option<Vec<(ComponentId, i64)>> {
-        let items = self.proved.world.items(handle.proved())?;
+        let items = self.proved.world.items(handle)?;
         Some(items.collect())
     }
 
@@ -189,7 +188,7 @@ impl World {
     ///
     /// `OutOfMemory`: there is no memory for the list.
     pub fn by_birth(&self) -> Result<Vec<Handle>, OutOfMemory> {
-        Ok(all_handles(self.proved.world.by_birth()?))
+        Ok(self.proved.world.by_birth()?.into())
     }
 
     /// How many entities are alive.

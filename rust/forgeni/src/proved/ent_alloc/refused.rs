@@ -1,21 +1,22 @@
-// Made of crates/ent_shared/src/refused.rt by rust/erase. It isn't edited by hand.
+// Made of crates/ent_alloc/src/refused.rt by rust/erase. It isn't edited by hand.
 
-use crate::proved::ent_alloc::Space;
+use crate::proved::ent_alloc::space::Space;
 
-/// Why a request gave no handle.
-#[derive(Clone, Copy, Debug, PartialEq, Eq)]
+/// Why a request or a reservation gave no handle.
+#[derive(Clone, Copy, Debug, PartialEq, Eq, Hash)]
 pub enum Refused {
-    /// The pool had fewer handles than were requested. The request is taken from the reserver's
-    /// credit, and the pool gives no more until the next flush.
+    /// Fewer handles were left than were requested. The request counts all the same, and no handle
+    /// is given until the next flush.
     Space {
         /// How many handles were requested.
         wanted: u32,
-        /// How many the pool still had.
+        /// How many were left.
         left: u32,
     },
-    /// The request was above the reserver's credit. Nothing has changed.
+    /// More handles were requested than the quota still allows: that of a reserver, or that of an
+    /// allocator, which is 2^50 between two flushes. Nothing has changed.
     Quota {
-        /// The credit that is left.
+        /// How many the quota still allows.
         left: u64,
     },
 }
