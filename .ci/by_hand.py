@@ -3,8 +3,8 @@
 
     .ci/by_hand.py
 
-Comments, blank lines and test modules aren't counted. A branch is `if`, `match`, `while`, `for` or `loop`, also in a closure of the function.
-Each function with one is a row of the table of docs/BY_HAND.md, which says why it is by hand, and each row is such a function. Missing rows
+Comments, blank lines and test modules aren't counted. A branch is `if`, `match`, `while`, `for` or `loop`, also in a closure. Each function
+with one is a row of the table of docs/BY_HAND.md, which says why it is by hand, and each row is such a function. Missing rows
 are printed as they have to be written there. The script fails if the table isn't right, or if there is more than MOST allows.
 """
 
@@ -17,7 +17,8 @@ MOST = {"lines of code": 1500, "functions with a branch": 30}
 BRANCHES, ITEMS = {"if", "match", "while", "for", "loop"}, {"impl", "trait", "mod"}
 ROW = re.compile(r"^\| `([^`]+)` \| `([^`]+)` \|(.*)\|$", re.MULTILINE)
 TOKEN = re.compile(
-    r"""(?P<gap>\s+ | //[^\n]* | /\*.*?\*/) | b?r(?P<marks>\#*)".*?"(?P=marks) | b?"(?:\\.|[^"\\])*" | b?'(?:\\[^']*.|[^'\\])' | '\w+ | \w+ | .""",
+    r"""(?P<gap>\s+ | //[^\n]* | /\*.*?\*/) | b?r(?P<marks>\#*)".*?"(?P=marks) | b?"(?:\\.|[^"\\])*" | b?'(?:\\[^']*.|[^'\\])'
+    | '\w+ | \w+ | .""",
     re.VERBOSE | re.DOTALL,
 )
 

@@ -11,7 +11,8 @@ impl Audit<'_> {
         let wanted = comments(self.source);
         let mut clauses = String::new();
         let mut next = 0;
-        for line in self.lines(&comments(self.result)[1..])? {
+        let of_result = comments(self.result);
+        for line in self.lines(of_result.get(1..).unwrap_or_default())? {
             let text = match line {
                 Line::Comment(text) => text,
                 Line::Clause(text) => {
