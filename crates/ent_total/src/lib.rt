@@ -3,7 +3,6 @@
 #![tactic(auto)]
 
 mod applying;
-mod caller;
 mod closing;
 mod finishing;
 mod framing;
@@ -13,9 +12,10 @@ mod issuer;
 mod numbered_world;
 mod numbering;
 mod opening;
-mod phase;
 mod queues;
 mod requesting;
+mod reserver;
+mod shared;
 mod sink;
 mod stop;
 mod stopped;
@@ -26,20 +26,20 @@ mod world_opening;
 mod world_phase;
 
 pub use applying::{Unapplied, Ungone};
-pub use caller::{Caller, OtherPhase};
 pub use framing::Unframed;
 pub use issued::Issued;
 pub use issuer::Issuer;
 pub use numbered_world::NumberedWorld;
 pub use numbering::Numbering;
-pub use opening::{Opening, ShareFault, Unshared, share};
-pub use phase::Phase;
+pub use opening::{Opening, ShareError, Unshared, share};
 pub use queues::Queues;
 pub use requesting::{RequestFault, request};
+pub use reserver::{OtherPhase, Reserver};
+pub use shared::Shared;
 pub use sink::Sink;
 pub use stop::Stop;
 pub use stopped::Stopped;
-pub use unclosed::{CloseFault, Unclosed};
+pub use unclosed::{CloseError, Unclosed};
 pub use unfinished::{FinishFault, Unfinished};
 pub use world_opening::{Unopened, WorldOpening, open};
 pub use world_phase::WorldPhase;

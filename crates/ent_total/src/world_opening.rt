@@ -2,11 +2,11 @@ ghost use Rattle.std.specs.Prelude.{◌≡◌, ◌<◌, ◌≤◌, ◌↔◌, �
 ghost use Rattle.ent_shared.specs.Phase.{records_of};
 ghost use Rattle.ent_shared.specs.Record.{opened_records};
 ghost use Rattle.ent_total.specs.Faults.{IsErrWith};
-ghost use Rattle.ent_total.specs.declared.opening.ShareFault.TheVariants.{NeedsFlush, Count};
+ghost use Rattle.ent_total.specs.declared.opening.ShareError.TheVariants.{NeedsFlush, Count};
 
 use crate::numbered_world::NumberedWorld;
 use crate::numbering::Numbering;
-use crate::opening::{CALLERS, ShareFault};
+use crate::opening::{CALLERS, ShareError};
 use crate::world_phase::WorldPhase;
 use ent_queue::CommandQueue;
 use ent_shared::Reserver;
@@ -21,7 +21,7 @@ pub struct Unopened {
     /// The world as it was.
     pub world: NumberedWorld,
     /// Why it was not opened.
-    pub why: ShareFault,
+    pub why: ShareError,
 }
 
 /// A phase of a world that has no number yet, with all its reservers.
@@ -58,7 +58,7 @@ impl Model for WorldOpening {
 /// # Errors
 ///
 /// [`Unopened`] says why, and has the world as it was. It is the first of these that holds:
-/// [`ShareFault::NeedsFlush`], [`ShareFault::Count`], [`ShareFault::Memory`].
+/// [`ShareError::NeedsFlush`], [`ShareError::Count`], [`ShareError::Memory`].
 pub fn open(alloc: Global, world: NumberedWorld, count: usize) -> Result<WorldOpening, Unopened>
     ensures of_world { IfOk result (λ o. o.of_world ≡ world.number) }
     ensures shared { IfOk result (λ o. (o.world.shared.start ≡ world.world.allocator)
@@ -76,13 +76,13 @@ pub fn open(alloc: Global, world: NumberedWorld, count: usize) -> Result<WorldOp
     if world.world.needs_flush() {
         return Err(Unopened {
             world,
-            why: ShareFault::NeedsFlush,
+            why: ShareError::NeedsFlush,
         });
     }
     if count == 0 || count > CALLERS {
         return Err(Unopened {
             world,
-            why: ShareFault::Count,
+            why: ShareError::Count,
         });
     }
     let NumberedWorld { world, number } = world;
@@ -90,7 +90,7 @@ pub fn open(alloc: Global, world: NumberedWorld, count: usize) -> Result<WorldOp
         Ok(opening) => Ok(opening),
         Err(world) => Err(Unopened {
             world: NumberedWorld { world, number },
-            why: ShareFault::Memory,
+            why: ShareError::Memory,
         }),
     }
 }
