@@ -52,7 +52,7 @@ impl Walk<'_> {
                 if !is_ghost && !["#", "const", "fn", "pub", "use"].contains(&self.source.at(end)) {
                     return Err(self.source.fault(at, "an attribute of code"));
                 }
-                self.attribute(at, end, false)?;
+                self.attribute(at, end, false, &[])?;
                 Ok(end)
             }
             ".." => self.range(at),
@@ -217,7 +217,10 @@ impl Walk<'_> {
     fn macro_call(&mut self, at: usize) -> Next {
         let name = self.source.at(at);
         let mut lists = self.names.forms.iter();
-        if let Some(import) = lists.find_map(|forms| imported(forms.macros, name)) {
+        if name == "write" && forms::is_padded(self.krate, self.source.path) {
+            self.replace(at, at + 1, "padded");
+            self.import(at, forms::PADDING)?;
+        } else if let Some(import) = lists.find_map(|forms| imported(forms.macros, name)) {
             self.import(at, import)?;
         } else if !self
             .names

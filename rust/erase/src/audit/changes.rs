@@ -1,7 +1,7 @@
 //! What may stand in the result in place of what.
 
 use super::{has, pieces, Audit};
-use crate::forms::{Module, Renamed};
+use crate::forms::{self, Module, Renamed};
 use crate::names::Names;
 use crate::walk::OWN_ONLY;
 
@@ -31,13 +31,16 @@ impl Change {
 }
 
 /// The list of all that may stand in the result in place of what, but for derives.
-pub(super) fn changes(krate: &str, names: &Names) -> Vec<Change> {
+pub(super) fn changes(krate: &str, path: &str, names: &Names) -> Vec<Change> {
     let mut changes = vec![
         Change::new("pub(crate)", OWN_ONLY),
         Change::new("fmt<W: fmt::Write>(", "fmt("),
         Change::new("fmt::Formatter<W>", "fmt::Formatter<'_>"),
         Change::of_path("crate::", &format!("{}::", names.crates[krate])),
     ];
+    if forms::is_padded(krate, path) {
+        changes.push(Change::new("write!(", "padded!("));
+    }
     for (name, path) in &names.crates {
         changes.push(Change::of_path(&format!("{name}::"), &format!("{path}::")));
     }

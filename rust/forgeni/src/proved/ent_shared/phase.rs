@@ -17,7 +17,7 @@ use crate::kit::alloc::Global;
 ///
 /// [`Memory`], with the allocator as it was.
 #[inline]
-pub fn share(
+pub(crate) fn share(
     alloc: Global,
     entities: Entities,
     n: usize,
