@@ -12,7 +12,7 @@ use Rattle.ent_alloc.specs.declared.refused.Refused.TheVariants.{Space, Quota}
 use Rattle.ent_shared.specs.Record.{requested_by}
 use Rattle.ent_shared.specs.Phase.{Shared, Reserver, reserver_code, IsOf, records_of, after_loss}
 use Rattle.ent_queue.specs.Command.{Command}
-use Rattle.ent_alloc.specs.declared.reserve_error.ReserveError.{ReserveError as QueueFault}
+use Rattle.ent_alloc.specs.declared.reserve_error.ReserveError.{ReserveError}
 use Rattle.ent_alloc.specs.declared.reserve_error.ReserveError.TheVariants as fault
 use Rattle.ent_queue.specs.Reserving.{Gains, IsReturned}
 use Rattle.ent_queue.specs.contracts.queue.CommandQueue as queued
@@ -86,7 +86,7 @@ pub record Extends (before after : Commands) : Type 0 where
   pub gains : Gains before.reserver.own added after.reserver.own
 
 -- A refusal is the result of a request for n handles, unless memory ran out before.
-abbrev pub IsRefused : Shared → Reserver → Reserver → ℕ → QueueFault → Type 0
+abbrev pub IsRefused : Shared → Reserver → Reserver → ℕ → ReserveError → Type 0
 IsRefused shared before after n (fault.Space wanted left) =
     IsReturned shared before after n (Err (Space wanted left))
 IsRefused shared before after n (fault.Quota left) =

@@ -13,8 +13,8 @@ ghost use Rattle.ent_queue.specs.Reserving.{IsReturned, refused_by};
 use crate::command_queue::CommandQueue;
 use crate::numbering::Numbering;
 use crate::open_world::OpenWorld;
+use ent_alloc::ReserveError;
 use ent_handle::{Birth, ComponentId, Handle, Memory};
-use ent_queue::QueueFault;
 use ent_shared::Reserver;
 use ent_world::View;
 use std::alloc::Global;
@@ -107,13 +107,13 @@ impl<J: Numbering> Commands<J> {
         &mut self,
         alloc: Global,
         components: &[(ComponentId, i64)],
-    ) -> Result<Handle, QueueFault>
+    ) -> Result<Handle, ReserveError>
         ensures extends { Extends self.old self.new }
         ensures ok { IfOk result (λ handle. self.new.queue
             ≡ self.old.queue ++ Spawn handle (bundle_of components.now) ∷ []) }
         ensures refused { IfErr result (λ fault.
             self.new.queue ≡ self.old.queue ++ refused_by 1 fault) }
-        ensures memory { IsErrOf result QueueFault.Memory → self.new ≡ self.old }
+        ensures memory { IsErrOf result ReserveError.Memory → self.new ≡ self.old }
         ensures given { IfOk result (λ handle.
             IsReturned self.old.world.shared self.old.reserver self.new.reserver 1
             (Ok (handle ∷ []))) }
@@ -145,14 +145,14 @@ impl<J: Numbering> Commands<J> {
         alloc: Global,
         n: u32,
         components: &[(ComponentId, i64)],
-    ) -> Result<Vec<Handle>, QueueFault>
+    ) -> Result<Vec<Handle>, ReserveError>
         ensures extends { Extends self.old self.new }
         ensures ok { IfOk result (λ handles. self.new.queue
             ≡ self.old.queue ++ SpawnMany handles.items (bundle_of components.now) ∷ []) }
         ensures length { IfOk result (λ handles. length handles.items ≡ n) }
         ensures refused { IfErr result (λ fault.
             self.new.queue ≡ self.old.queue ++ refused_by n fault) }
-        ensures memory { IsErrOf result QueueFault.Memory → self.new ≡ self.old }
+        ensures memory { IsErrOf result ReserveError.Memory → self.new ≡ self.old }
         ensures given { IfOk result (λ handles.
             IsReturned self.old.world.shared self.old.reserver self.new.reserver n
             (Ok handles.items)) }

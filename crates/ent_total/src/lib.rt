@@ -3,7 +3,6 @@
 #![tactic(auto)]
 
 mod applying;
-mod caller;
 mod closing;
 mod command_queue;
 mod commands;
@@ -16,9 +15,10 @@ mod homecoming;
 mod numbering;
 mod open_world;
 mod opening;
-mod phase;
 mod queues;
 mod requesting;
+mod reserver;
+mod shared;
 mod sink;
 mod stop;
 mod stopped;
@@ -30,22 +30,22 @@ mod world;
 mod world_homecoming;
 mod world_opening;
 
-pub use caller::{Caller, OtherPhase};
 pub use command_queue::CommandQueue;
 pub use commands::Commands;
 pub use frame_error::FrameError;
 pub use go_on_error::GoOnError;
 pub use numbering::Numbering;
 pub use open_world::OpenWorld;
-pub use opening::{Opening, ShareFault, Unshared, share};
-pub use phase::Phase;
+pub use opening::{Opening, ShareError, Unshared, share};
 pub use queues::Queues;
 pub use requesting::{RequestFault, request};
+pub use reserver::{OtherPhase, Reserver};
+pub use shared::Shared;
 pub use sink::Sink;
 pub use stop::Stop;
 pub use stopped::Stopped;
 pub use sync_error::SyncError;
-pub use unclosed::{CloseFault, Unclosed};
+pub use unclosed::{CloseError, Unclosed};
 pub use unfinished::{FinishError, Unfinished};
 pub use unopened::Unopened;
 pub use world::World;

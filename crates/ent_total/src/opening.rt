@@ -2,12 +2,11 @@ ghost use Rattle.std.specs.Prelude.{◌≡◌, ◌<◌, ◌≤◌, ◌↔◌, �
 ghost use Rattle.ent_shared.specs.Phase.{records_of};
 ghost use Rattle.ent_shared.specs.Record.{opened_records};
 ghost use Rattle.ent_total.specs.Faults.{IsErrWith};
-ghost use Rattle.ent_total.specs.declared.opening.ShareFault.TheVariants.{NeedsFlush, Count};
+ghost use Rattle.ent_total.specs.declared.opening.ShareError.TheVariants.{NeedsFlush, Count};
 
 use crate::numbering::Numbering;
-use crate::phase::Phase;
+use crate::shared::Shared;
 use ent_alloc::Entities;
-use ent_shared::{Reserver, Shared};
 use std::alloc::Global;
 use std::marker::Model;
 use std::sync::Arc;
@@ -18,7 +17,7 @@ pub(crate) const CALLERS: usize = 1024;
 
 /// Why an allocator or a world was not shared.
 #[derive(Clone, Copy, Debug, PartialEq, Eq, Error)]
-pub enum ShareFault {
+pub enum ShareError {
     /// Handles were requested since the last flush, even if the request was refused.
     #[error("a flush is needed first")]
     NeedsFlush,
@@ -36,15 +35,15 @@ pub struct Unshared {
     /// The allocator as it was.
     pub entities: Entities,
     /// Why it was not shared.
-    pub why: ShareFault,
+    pub error: ShareError,
 }
 
 /// A phase that has no number yet, with all its reservers.
 #[derive(Drop)]
 pub struct Opening {
     alloc: Global,
-    shared: Arc<Shared, Global>,
-    home: Vec<Reserver>,
+    shared: Arc<ent_shared::Shared, Global>,
+    home: Vec<ent_shared::Reserver>,
 }
 
 impl Model for Opening {
@@ -70,35 +69,35 @@ impl Model for Opening {
 /// # Errors
 ///
 /// [`Unshared`] says why, and has the allocator as it was. It is the first of these that holds:
-/// [`ShareFault::NeedsFlush`], [`ShareFault::Count`], [`ShareFault::Memory`].
+/// [`ShareError::NeedsFlush`], [`ShareError::Count`], [`ShareError::Memory`].
 pub fn share(alloc: Global, entities: Entities, count: usize) -> Result<Opening, Unshared>
     ensures start { IfOk result (λ o. o.shared.start ≡ entities.allocator) }
     ensures rows { IfOk result (λ o. o.shared.rows ≡ entities.rows) }
     ensures count { IfOk result (λ o. o.shared.count ≡ count) }
     ensures home { IfOk result (λ o. records_of o.home ≡ opened_records entities.allocator 0 count) }
-    ensures needs_flush { IsErrWith result (λ u. u.why ≡ NeedsFlush)
+    ensures needs_flush { IsErrWith result (λ u. u.error ≡ NeedsFlush)
         ↔ (0 < entities.allocator.asked) }
-    ensures no_count { IsErrWith result (λ u. u.why ≡ Count)
+    ensures no_count { IsErrWith result (λ u. u.error ≡ Count)
         ↔ ((entities.allocator.asked ≡ 0) × ((count ≡ 0) ⊎ (1024 < count))) }
     ensures handed_back { IfErr result (λ u. u.entities ≡ entities) }
 {
     if entities.needs_flush() {
         return Err(Unshared {
             entities,
-            why: ShareFault::NeedsFlush,
+            error: ShareError::NeedsFlush,
         });
     }
     if count == 0 || count > CALLERS {
         return Err(Unshared {
             entities,
-            why: ShareFault::Count,
+            error: ShareError::Count,
         });
     }
     match Opening::new(alloc, entities, count) {
         Ok(opening) => Ok(opening),
         Err(entities) => Err(Unshared {
             entities,
-            why: ShareFault::Memory,
+            error: ShareError::Memory,
         }),
     }
 }
@@ -131,7 +130,7 @@ impl Opening {
     }
 
     /// The phase, under a number by which it is told from all others. All its reservers are at home.
-    pub fn numbered<J: Numbering>(self, number: u64) -> Phase<J>
+    pub fn numbered<J: Numbering>(self, number: u64) -> Shared<J>
         requires stands_for { J.shared_of number ≡ self.shared }
         ensures { result ≡ record { number = number; shared = self.shared; home = self.home } }
     {
@@ -140,6 +139,6 @@ impl Opening {
             shared,
             home,
         } = self;
-        Phase::new(alloc, shared, home, number)
+        Shared::new(alloc, shared, home, number)
     }
 }

@@ -1,26 +1,26 @@
-use crate::caller::Caller;
 use crate::numbering::Numbering;
-use crate::phase::Phase;
+use crate::reserver::Reserver;
+use crate::shared::Shared;
 use thiserror::Error;
 
 /// Why a phase was not closed.
 #[derive(Clone, Copy, Debug, PartialEq, Eq, Error)]
-pub enum CloseFault {
-    /// One of the callers is of another phase. All of them are handed back.
-    #[error("a caller is of another phase")]
+pub enum CloseError {
+    /// One of the reservers is of another phase. All of them are handed back.
+    #[error("a reserver is of another phase")]
     OtherPhase,
     /// Callers are missing. Those that came are handed back.
-    #[error("missing callers: {count}")]
+    #[error("missing reservers: {count}")]
     Missing {
         /// How many.
         count: usize,
     },
-    /// More callers came than the phase has. All of them are handed back. No contract says that
-    /// this can't be, since none counts the callers that exist.
-    #[error("too many callers")]
+    /// More reservers came than the phase has. All of them are handed back. No contract says that
+    /// this can't be, since none counts the reservers that exist.
+    #[error("too many reservers")]
     TooMany,
-    /// A caller that was not handed in still exists. Those that came are at home in the phase now.
-    #[error("a caller is still in use")]
+    /// A reserver that was not handed in still exists. Those that came are at home in the phase now.
+    #[error("a reserver is still in use")]
     InUse,
 }
 
@@ -28,9 +28,9 @@ pub enum CloseFault {
 #[derive(Drop)]
 pub struct Unclosed<J: Numbering> {
     /// The phase.
-    pub phase: Phase<J>,
-    /// The callers that are handed back.
-    pub callers: Vec<Caller<J>>,
+    pub shared: Shared<J>,
+    /// The reservers that are handed back.
+    pub reservers: Vec<Reserver<J>>,
     /// Why it was not closed.
-    pub why: CloseFault,
+    pub error: CloseError,
 }

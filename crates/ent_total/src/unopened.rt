@@ -1,6 +1,6 @@
 ghost use Rattle.std.specs.Prelude.{◌≡◌};
 
-use crate::opening::ShareFault;
+use crate::opening::ShareError;
 use crate::world::World;
 
 /// A world that was not opened.
@@ -9,13 +9,13 @@ pub struct Unopened {
     /// The world as it was.
     pub world: World,
     /// Why it was not opened.
-    pub error: ShareFault,
+    pub error: ShareError,
 }
 
 impl Unopened {
     /// The world, and why it was not opened.
     #[must_use]
-    pub fn into_parts(self) -> (World, ShareFault)
+    pub fn into_parts(self) -> (World, ShareError)
         ensures { result ≡ (self.world, self.error) }
     {
         (self.world, self.error)

@@ -5,13 +5,13 @@ ghost use Rattle.ent_shared.specs.Phase.{IsOf, records_of};
 ghost use Rattle.ent_shared.specs.Record.{opened_records};
 ghost use Rattle.ent_total.specs.Faults.{IsErrWith};
 ghost use Rattle.ent_total.specs.Issuing.{new_commands};
-ghost use Rattle.ent_total.specs.declared.opening.ShareFault.TheVariants.{NeedsFlush, Count};
+ghost use Rattle.ent_total.specs.declared.opening.ShareError.TheVariants.{NeedsFlush, Count};
 
 use crate::commands::Commands;
 use crate::handing_out::{hand_out, owners_of};
 use crate::numbering::Numbering;
 use crate::open_world::OpenWorld;
-use crate::opening::{CALLERS, ShareFault};
+use crate::opening::{CALLERS, ShareError};
 use crate::unopened::Unopened;
 use crate::world::World;
 use ent_shared::Reserver;
@@ -73,7 +73,7 @@ impl<J: Numbering> Model for WorldOpening<J> {
 /// # Errors
 ///
 /// [`Unopened`] says why, and has the world as it was. It is the first of these that holds:
-/// [`ShareFault::NeedsFlush`], [`ShareFault::Count`], [`ShareFault::Memory`].
+/// [`ShareError::NeedsFlush`], [`ShareError::Count`], [`ShareError::Memory`].
 pub fn open<J: Numbering>(
     alloc: Global,
     world: World,
@@ -102,13 +102,13 @@ pub fn open<J: Numbering>(
     if world.needs_flush() {
         return Err(Unopened {
             world,
-            error: ShareFault::NeedsFlush,
+            error: ShareError::NeedsFlush,
         });
     }
     if count == 0 || count > CALLERS {
         return Err(Unopened {
             world,
-            error: ShareFault::Count,
+            error: ShareError::Count,
         });
     }
     let World {
@@ -124,7 +124,7 @@ pub fn open<J: Numbering>(
                 number,
                 spawned,
             },
-            error: ShareFault::Memory,
+            error: ShareError::Memory,
         }),
     }
 }

@@ -8,35 +8,34 @@ ghost use Rattle.std.specs.Arc.{arc_value};
 ghost use Rattle.ent_shared.specs.Phase.{IsOf};
 ghost use Rattle.ent_total.specs.Sharing.{AreOf, all_home};
 
-use crate::caller::Caller;
 use crate::homecoming::bring_home;
 use crate::numbering::Numbering;
+use crate::reserver::Reserver;
 use ent_handle::{Handle, Memory};
-use ent_shared::{Reserver, Shared};
 use std::alloc::Global;
 use std::marker::{Model, PhantomData};
 use std::sync::Arc;
 
-/// An allocator that is shared, with the reservers that no caller has.
+/// An allocator that is shared, with the reservers that are at home.
 #[derive(Drop)]
-pub struct Phase<J: Numbering> {
+pub struct Shared<J: Numbering> {
     alloc: Global,
-    shared: Arc<Shared, Global>,
-    home: Vec<Reserver>,
+    shared: Arc<ent_shared::Shared, Global>,
+    home: Vec<ent_shared::Reserver>,
     number: u64,
     of: PhantomData<J>,
 }
 
-impl<J: Numbering> Model for Phase<J> {
+impl<J: Numbering> Model for Shared<J> {
     ghost use Rattle.std.specs.Prelude.{All, ◌≤◌, ◌≡◌};
     ghost use Rattle.std.specs.Vec.{vec_capacity};
     ghost use Rattle.std.specs.Arc.{arc_value};
     ghost use Rattle.ent_shared.specs.Phase.{IsOf};
-    ghost use Rattle.ent_total.specs.Sharing.{Phase, phase_code};
+    ghost use Rattle.ent_total.specs.Sharing.{Shared, shared_code};
 
-    ghost Value = { Phase };
+    ghost Value = { Shared };
 
-    ghost coded = { phase_code };
+    ghost coded = { shared_code };
 
     ghost view = { λ p. record {
       number = p.number;
@@ -51,11 +50,11 @@ impl<J: Numbering> Model for Phase<J> {
         × ((arc_value p.shared).count ≤ vec_capacity p.home) };
 }
 
-impl<J: Numbering> Phase<J> {
+impl<J: Numbering> Shared<J> {
     pub(crate) fn new(
         alloc: Global,
-        shared: Arc<Shared, Global>,
-        home: Vec<Reserver>,
+        shared: Arc<ent_shared::Shared, Global>,
+        home: Vec<ent_shared::Reserver>,
         number: u64,
     ) -> Self
         requires stands_for { J.shared_of number ≡ arc_value shared }
@@ -64,7 +63,7 @@ impl<J: Numbering> Phase<J> {
         ensures { result
             ≡ record { number = number; shared = arc_value shared; home = home.items } }
     {
-        Phase {
+        Shared {
             alloc,
             shared,
             home,
@@ -73,7 +72,7 @@ impl<J: Numbering> Phase<J> {
         }
     }
 
-    /// How many callers it has, whether they exist, are at home or were lost.
+    /// How many reservers it has, whether they exist, are at home or were lost.
     pub fn count(&self) -> usize
         ensures { result ≡ self.now.shared.count }
     {
@@ -111,13 +110,13 @@ impl<J: Numbering> Phase<J> {
         self.number
     }
 
-    /// A caller with the last of the reservers at home, or `None` if none is.
+    /// The last of the reservers at home, or `None` if none is.
     ///
     /// # Errors
     ///
     /// `Memory` if a reserver is at home, but there is no room for another owner of the phase. Then
     /// nothing has changed.
-    pub fn caller(&mut self) -> Result<Option<Caller<J>>, Memory>
+    pub fn reserver(&mut self) -> Result<Option<Reserver<J>>, Memory>
         ensures given { IfOk result (λ found. IfSome found (λ c.
             (c.number ≡ self.old.number) × (c.shared ≡ self.old.shared)
             × (self.old ≡ record self.new { home = self.new.home ++ c.reserver ∷ [] }))) }
@@ -135,7 +134,7 @@ impl<J: Numbering> Phase<J> {
         let Some(reserver) = self.home.pop() else {
             unreachable!()
         };
-        Ok(Some(Caller {
+        Ok(Some(Reserver {
             shared,
             reserver,
             number: self.number,
@@ -143,22 +142,22 @@ impl<J: Numbering> Phase<J> {
         }))
     }
 
-    /// Takes callers home, which needs no memory.
-    pub(crate) fn take_home(&mut self, callers: Vec<Caller<J>>)
-        requires own { AreOf self.old.number callers.items }
-        requires few { length (all_home self.old callers.items) ≤ self.old.shared.count }
-        ensures { self.new ≡ record self.old { home = all_home self.old callers.items } }
+    /// Takes reservers home, which needs no memory.
+    pub(crate) fn take_home(&mut self, reservers: Vec<Reserver<J>>)
+        requires own { AreOf self.old.number reservers.items }
+        requires few { length (all_home self.old reservers.items) ≤ self.old.shared.count }
+        ensures { self.new ≡ record self.old { home = all_home self.old reservers.items } }
     {
-        bring_home(&mut self.home, &self.shared, self.number, callers);
+        bring_home(&mut self.home, &self.shared, self.number, reservers);
     }
 
-    /// The allocator with the reservers that are at home, if no caller owns it too.
-    pub(crate) fn end(self) -> Result<(Shared, Vec<Reserver>), Self>
+    /// The allocator with the reservers that are at home, if no other reserver owns it too.
+    pub(crate) fn end(self) -> Result<(ent_shared::Shared, Vec<ent_shared::Reserver>), Self>
         ensures ok { IfOk result (λ parts. (parts.0 ≡ self.shared) × (parts.1.items ≡ self.home)) }
         ensures own { IfOk result (λ parts. All (IsOf parts.0) parts.1.items) }
-        ensures err { IfErr result (λ phase. phase ≡ self) }
+        ensures err { IfErr result (λ shared. shared ≡ self) }
     {
-        let Phase {
+        let Shared {
             alloc,
             shared,
             home,
@@ -167,12 +166,12 @@ impl<J: Numbering> Phase<J> {
         } = self;
         match Arc::try_unwrap(shared) {
             Ok(shared) => Ok((shared, home)),
-            Err(shared) => Err(Phase::new(alloc, shared, home, number)),
+            Err(shared) => Err(Shared::new(alloc, shared, home, number)),
         }
     }
 
-    /// A list without callers.
-    pub(crate) fn no_callers(&self) -> Vec<Caller<J>>
+    /// A list without reservers.
+    pub(crate) fn no_reservers(&self) -> Vec<Reserver<J>>
         ensures { result.items ≡ [] }
     {
         Vec::new(self.alloc)

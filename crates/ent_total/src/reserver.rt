@@ -10,11 +10,11 @@ ghost use Rattle.ent_shared.specs.Phase.{IsOf, IsBelow};
 ghost use Rattle.ent_total.specs.Faults.{IfSpace, IfQuota};
 
 use crate::numbering::Numbering;
-use crate::phase::Phase;
+use crate::shared::Shared;
 use crate::sink::Sink;
 use ent_alloc::Reserved;
 use ent_handle::Handle;
-use ent_shared::{Refused, Reserver, Shared};
+use ent_shared::Refused;
 use std::alloc::Global;
 use std::marker::{Model, PhantomData};
 use std::sync::Arc;
@@ -31,28 +31,28 @@ fn give_all<S: Sink>(sink: &mut S, handles: Reserved<'_>)
 
 /// The two are of two phases. Nothing has changed.
 #[derive(Clone, Copy, Debug, PartialEq, Eq, Error)]
-#[error("the caller is of another phase")]
+#[error("the reserver is of another phase")]
 pub struct OtherPhase;
 
-/// One caller of a phase: its reserver, with the allocator that it reserves from. It may go to a
+/// One reserver of a phase, with the allocator that it reserves from. It may go to a
 /// thread of its own.
 #[derive(Drop)]
-pub struct Caller<J: Numbering> {
-    pub(crate) shared: Arc<Shared, Global>,
-    pub(crate) reserver: Reserver,
+pub struct Reserver<J: Numbering> {
+    pub(crate) shared: Arc<ent_shared::Shared, Global>,
+    pub(crate) reserver: ent_shared::Reserver,
     pub(crate) number: u64,
     pub(crate) of: PhantomData<J>,
 }
 
-impl<J: Numbering> Model for Caller<J> {
+impl<J: Numbering> Model for Reserver<J> {
     ghost use Rattle.std.specs.Prelude.{◌≡◌};
     ghost use Rattle.std.specs.Arc.{arc_value};
     ghost use Rattle.ent_shared.specs.Phase.{IsOf};
-    ghost use Rattle.ent_total.specs.Sharing.{Caller, caller_code};
+    ghost use Rattle.ent_total.specs.Sharing.{Reserver, reserver_code};
 
-    ghost Value = { Caller };
+    ghost Value = { Reserver };
 
-    ghost coded = { caller_code };
+    ghost coded = { reserver_code };
 
     ghost view = { λ c. record {
       number = c.number;
@@ -65,7 +65,7 @@ impl<J: Numbering> Model for Caller<J> {
         × IsOf (arc_value c.shared) c.reserver };
 }
 
-impl<J: Numbering> Caller<J> {
+impl<J: Numbering> Reserver<J> {
     ghost use Rattle.ent_total.specs.Sharing.{MakesReservation, GivesReply};
 
     /// Whether the handle was alive when the phase was opened. It takes constant time.
@@ -89,7 +89,7 @@ impl<J: Numbering> Caller<J> {
     ///
     /// # Errors
     ///
-    /// As [`Shared::reserve`].
+    /// As [`ent_shared::Shared::reserve`].
     pub fn reserve(&mut self) -> Result<Handle, Refused>
         ensures quota { self.old.reserver.own.left ≡ 0
             → (result ≡ Err (Quota 0)) × (self.new ≡ self.old) }
@@ -111,20 +111,20 @@ impl<J: Numbering> Caller<J> {
     ///
     /// # Errors
     ///
-    /// As [`Shared::reserve_many`]. The sink is given nothing then.
+    /// As [`ent_shared::Shared::reserve_many`]. The sink is given nothing then.
     pub fn reserve_many<S: Sink>(&mut self, sink: &mut S, n: u32) -> Result<(), Refused>
         ensures given { OnOk result
             (0 < n → GivesReply self.old self.new n (S.given sink.old) (S.given sink.new)) }
         ensures nothing { n ≡ 0 → OnOk result
             ((self.new ≡ self.old) × (S.given sink.new ≡ S.given sink.old)) }
         ensures served { n ≡ 0 → IsOk result }
-        ensures space { IfErr result (λ why. IfSpace why
-            (MakesReservation self.old self.new n (Err why))) }
+        ensures space { IfErr result (λ error. IfSpace error
+            (MakesReservation self.old self.new n (Err error))) }
         ensures quota { IsErrOf result (Quota self.old.reserver.own.left)
             ↔ (self.old.reserver.own.left < n) }
-        ensures quota_left { IfErr result (λ why. IfQuota why
+        ensures quota_left { IfErr result (λ error. IfQuota error
             (λ said. said ≡ self.old.reserver.own.left)) }
-        ensures unchanged { IfErr result (λ why. IfQuota why (λ _. self.new ≡ self.old)) }
+        ensures unchanged { IfErr result (λ error. IfQuota error (λ _. self.new ≡ self.old)) }
         ensures unheard { OnErr result (S.given sink.new ≡ S.given sink.old) }
         ensures unrecorded { OnErr result
             (handles_given self.new.reserver.own ≡ handles_given self.old.reserver.own) }
@@ -134,13 +134,13 @@ impl<J: Numbering> Caller<J> {
         Ok(())
     }
 
-    /// Orders two callers: every later reservation by this one comes after everything that the
+    /// Orders two reservers: every later reservation by this one comes after everything that the
     /// other one has reserved or learned of so far. It takes no memory and waits for nobody.
     ///
     /// # Errors
     ///
     /// [`OtherPhase`] if they are of two phases. Nothing has changed then.
-    pub fn meet(&mut self, other: &mut Caller<J>) -> Result<(), OtherPhase>
+    pub fn meet(&mut self, other: &mut Reserver<J>) -> Result<(), OtherPhase>
         ensures same_phase { OnOk result (self.old.number ≡ other.old.number) }
         ensures other_phase { OnErr result (self.old.number ≢ other.old.number) }
         ensures meets { OnOk result (self.new ≡ record self.old {
@@ -163,7 +163,7 @@ impl<J: Numbering> Caller<J> {
         Ok(())
     }
 
-    /// Which of the callers of its phase it is, from 0.
+    /// Which of the reservers of its phase it is, from 0.
     pub fn number(&self) -> usize
         ensures { result ≡ self.now.reserver.own.number }
     {
@@ -178,7 +178,7 @@ impl<J: Numbering> Caller<J> {
         self.reserver.left()
     }
 
-    /// How many callers the phase has.
+    /// How many reservers the phase has.
     pub fn count(&self) -> usize
         ensures { result ≡ self.now.shared.count }
     {
@@ -186,10 +186,10 @@ impl<J: Numbering> Caller<J> {
     }
 
     /// Whether it is of this phase.
-    pub fn is_of(&self, phase: &Phase<J>) -> bool
-        ensures number { IsTrue result ↔ (self.now.number ≡ phase.now.number) }
-        ensures shared { IsTrue result → self.now.shared ≡ phase.now.shared }
+    pub fn is_of(&self, shared: &Shared<J>) -> bool
+        ensures number { IsTrue result ↔ (self.now.number ≡ shared.now.number) }
+        ensures shared { IsTrue result → self.now.shared ≡ shared.now.shared }
     {
-        self.number == phase.number()
+        self.number == shared.number()
     }
 }

@@ -3,15 +3,15 @@ use Rattle.ent_shared.specs.Phase.{Reserver}
 use Rattle.ent_shared.specs.Order.{handles_given}
 use Rattle.ent_total.specs.Sharing.{all_home}
 use Rattle.ent_total.proofs.Refusals.{first_reason}
-use Rattle.ent_total.proofs.phase.Phase.close_lost.Goals as goal
+use Rattle.ent_total.proofs.shared.Shared.close_lost.Goals as goal
 
 pub returns-in-Ok-clause-given : goal.returns-in-Ok-clause-given
 returns-in-Ok-clause-given g c =
-    let all : c.in-Ok.home.items ≡ all_home c.args.self c.args.callers.items = search rules in
+    let all : c.in-Ok.home.items ≡ all_home c.args.self c.args.reservers.items = search rules in
     subst (λ (rs : List Reserver).
     All (λ (r : Reserver). All (Contains c.close_lost.result.allocator.taken) (handles_given r.own))
     rs) all c.close_lost.ensures.given
 
 pub returns-in-Err-clause-other_phase : goal.returns-in-Err-clause-other_phase
 returns-in-Err-clause-other_phase g c =
-    first_reason _ _ (λ e. cc) c.in-Err.why (rw c.deref.ensures.value at c.in-Err.ensures.why)
+    first_reason _ _ (λ e. cc) c.in-Err.error (rw c.deref.ensures.value at c.in-Err.ensures.error)
