@@ -1,3 +1,4 @@
+pub mod Handing
 pub mod OneHandle
 pub mod Recorded
 pub mod Replied

@@ -7,7 +7,7 @@ use std::marker::Model;
 
 /// The commands of one system, in the order of issue. [`OpenWorld::close`] and
 /// [`OpenWorld::close_lost`] take it.
-#[must_use = "`OpenWorld::close` takes it"]
+#[must_use]
 #[derive(Drop)]
 pub struct CommandQueue<J: Numbering> {
     pub(crate) commands: Commands<J>,

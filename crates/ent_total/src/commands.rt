@@ -27,7 +27,7 @@ use std::sync::Arc;
 ///
 /// A spawn reserves its handle at once, so a system knows what it will have spawned. The world can
 /// be read, as it was when it was opened.
-#[must_use = "`finish` gives the queue"]
+#[must_use]
 #[derive(Drop)]
 pub struct Commands<J: Numbering> {
     pub(crate) world: Arc<ent_world::OpenWorld, Global>,

@@ -48,5 +48,5 @@ pub use sync_error::SyncError;
 pub use unclosed::{CloseError, Unclosed};
 pub use unfinished::{FinishError, Unfinished};
 pub use unopened::Unopened;
-pub use world::World;
+pub use world::{World, new_world};
 pub use world_opening::{WorldOpening, open};

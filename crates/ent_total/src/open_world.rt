@@ -21,7 +21,7 @@ use std::sync::Arc;
 /// [`close`](OpenWorld::close).
 ///
 /// It may go to another thread, and so may the [`Commands`](crate::Commands) of its systems.
-#[must_use = "the world comes back by `close`"]
+#[must_use]
 #[derive(Drop)]
 pub struct OpenWorld<J: Numbering> {
     alloc: Global,

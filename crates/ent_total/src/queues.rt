@@ -4,7 +4,7 @@ use std::marker::Model;
 
 /// The queues of a phase or of a frame, in the order of their effect, for one
 /// [`apply`](crate::World::apply) of the world whose phase it was.
-#[must_use = "`World::apply` lets them take effect"]
+#[must_use]
 #[derive(Drop)]
 pub struct Queues {
     world: u64,

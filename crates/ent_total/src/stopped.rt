@@ -10,7 +10,7 @@ use std::marker::Model;
 /// the queues, which [`go_on`](Stopped::go_on) takes up from there.
 ///
 /// All births have taken effect, and of the commands just those before the one that is named.
-#[must_use = "`go_on` does the rest"]
+#[must_use]
 #[derive(Drop)]
 pub struct Stopped {
     queues: Queues,

@@ -64,21 +64,20 @@ pub struct World {
     pub(crate) spawned: u32,
 }
 
+/// A world without entities, with these limits. It takes no memory. The number is its own: by it
+/// queues know their world.
+pub fn new_world(alloc: Global, limits: Limits, number: u64) -> World
+    ensures { result ≡ record { world = first_world limits; number = number; spawned = 0 } }
+{
+    World {
+        world: ent_world::World::new(alloc, limits),
+        number,
+        spawned: 0,
+    }
+}
+
 impl World {
     ghost use Rattle.ent_total.specs.Births.{next_birth};
-
-    /// A world without entities, with these limits. It takes no memory. The number is its own: its
-    /// queues know it by that.
-    pub fn with_limits(alloc: Global, limits: Limits, number: u64) -> Self
-        ensures { result
-            ≡ record { world = first_world limits; number = number; spawned = 0 } }
-    {
-        World {
-            world: ent_world::World::new(alloc, limits),
-            number,
-            spawned: 0,
-        }
-    }
 
     /// Brings an entity to life at once, with these components, in any order. Of a component that
     /// stands there twice the last value counts.
