@@ -33,6 +33,7 @@ mod world_opening;
 pub use command_queue::CommandQueue;
 pub use commands::Commands;
 pub use frame_error::FrameError;
+pub use framing::run_frame;
 pub use go_on_error::GoOnError;
 pub use numbering::Numbering;
 pub use open_world::OpenWorld;
