@@ -2,11 +2,12 @@ ghost use Rattle.std.specs.Prelude.{◌≡◌, ◌<◌, ◌≤◌, ◌↔◌, �
 ghost use Rattle.ent_shared.specs.Phase.{records_of};
 ghost use Rattle.ent_shared.specs.Record.{opened_records};
 ghost use Rattle.ent_total.specs.Faults.{IsErrWith};
-ghost use Rattle.ent_total.specs.declared.opening.ShareError.TheVariants.{NeedsFlush, Count};
+ghost use Rattle.ent_total.specs.declared.unshared.ShareError.TheVariants.{NeedsFlush, Count};
 
 use crate::numbered_world::NumberedWorld;
 use crate::numbering::Numbering;
-use crate::opening::{CALLERS, ShareError};
+use crate::opening::CALLERS;
+use crate::unshared::ShareError;
 use crate::world_phase::WorldPhase;
 use ent_queue::CommandQueue;
 use ent_shared::Reserver;
