@@ -1,4 +1,4 @@
-ghost use Rattle.std.specs.Prelude.{◌≡◌, ◌≢◌, ◌↔◌, length, AllPairs};
+ghost use Rattle.std.specs.Prelude.{◌≡◌, ◌≢◌, ◌↔◌, ◌<◌, length, AllPairs};
 ghost use Rattle.std.specs.Prelude.{OnOk, OnErr, OnSome, IsTrue, true};
 ghost use Rattle.std.specs.FinSet as set;
 ghost use Rattle.std.specs.FinMap as map;
