@@ -1,5 +1,5 @@
 -- What contracts see of a phase and of its reservers.
-use Rattle.std.specs.Prelude.{◌≡◌, ℕ, List, ◌++◌, length, map, Result, Ok, refl}
+use Rattle.std.specs.Prelude.{◌≡◌, ℕ, ◌≤◌, List, ◌++◌, length, map, Result, Ok, refl}
 use Rattle.std.specs.List.{All}
 use Rattle.std.specs.Coded.{Coded, code_by, coded×, coded_ℕ, coded_list}
 use Rattle.ent_handle.specs.Handle.{Handle}
@@ -38,14 +38,23 @@ AreOf number reservers = All (λ (r : Reserver). r.number ≡ number) reservers
 abbrev pub all_home : Shared → List Reserver → List inner.Reserver
 all_home s reservers = s.home ++ reservers_of reservers
 
+-- They are all of this phase, and with those at home no more than it has.
+abbrev pub MayComeHome : Shared → List Reserver → Type 0
+MayComeHome s reservers =
+    AreOf s.number reservers × (length (all_home s reservers) ≤ s.shared.count)
+
+-- The quota has so many handles, and the pool had so many when the phase was opened.
+abbrev pub MayBeServed : Reserver → ℕ → Type 0
+MayBeServed r n = (n ≤ r.reserver.own.left) × (n ≤ length r.shared.start.pool)
+
 -- The reserver has made one more reservation, of n handles, and nothing else has changed.
 pub record MakesReservation (before after : Reserver) (n : ℕ)
     (returned : Result (List Handle) Refused) : Type 0 where
   pub same : after ≡ record before { reserver = after.reserver }
   pub reserves : Reserves before.shared before.reserver after.reserver n returned
 
--- So many handles were reserved. The sink has them after those that it had before, and the reserver's
--- record after those that the reserver got before.
+-- So many handles were reserved. The list has them after those that it had before, and the
+-- reserver's record after those that the reserver was given before.
 pub record GivesReply (before after : Reserver) (n : ℕ) (old new : List Handle) : Type 0 where
   pub given : List Handle
   pub behind : new ≡ old ++ given

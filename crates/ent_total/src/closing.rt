@@ -1,6 +1,6 @@
 //! A phase ends, and gives the allocator back.
 ghost use Rattle.std.specs.Prelude.{◌≡◌, ◌≢◌, ◌↔◌, ◌⊎◌, ◌+◌, ◌*◌, ◌<◌, ◌≤◌, ◌≤ℤ◌, ◌<ℤ◌, [], ◌∷◌};
-ghost use Rattle.std.specs.Prelude.{length, sum_by, All, AllPairs, Contains, IfOk, OnOk, IfErr};
+ghost use Rattle.std.specs.Prelude.{length, sum_by, All, AllPairs, Contains, IfOk, OnOk, IfErr, IsSome, IfSome};
 ghost use Rattle.ent_handle.specs.Handle.{Handle as HandleValue};
 ghost use Rattle.ent_alloc.specs.Limits.{credit};
 ghost use Rattle.ent_alloc.specs.Sequential.{cursor, after_flush};
@@ -11,9 +11,9 @@ ghost use Rattle.ent_shared.specs.Record.{requested_by};
 ghost use Rattle.ent_shared.specs.Phase.{IsOf, records_of, after_loss};
 ghost use Rattle.ent_shared.specs.Order.{reservations_of, history_of, handles_given, Respects};
 ghost use Rattle.ent_total.specs.Faults.{IsErrWith};
-ghost use Rattle.ent_total.specs.Sharing.{AreOf, all_home};
+ghost use Rattle.ent_total.specs.Sharing.{MayComeHome, all_home};
 ghost use Rattle.ent_total.specs.Closing.{IsMissing, count_missing};
-ghost use Rattle.ent_total.specs.declared.unclosed.CloseError.TheVariants.{OtherPhase, TooMany, InUse};
+ghost use Rattle.ent_total.specs.declared.unclosed.CloseError.TheVariants.{OtherPhase, InUse};
 
 use crate::homecoming::are_of;
 use crate::numbering::Numbering;
@@ -24,14 +24,20 @@ use ent_alloc::Entities;
 
 impl<J: Numbering> Shared<J> {
     /// Ends the phase with all its reservers: those that are at home, and these. The allocator is as
-    /// if their reservations had been made one by one, in the order of their atomic steps, and a
-    /// flush brings to life what they were given. It takes no memory.
+    /// if their reservations had been made one by one, in the order of their atomic steps, and
+    /// [`flush`](Entities::flush) brings to life what they were given. It takes no memory.
+    ///
+    /// ```compile_fail
+    /// let (shared, mut reservers) = forgeni::Entities::new().share(1).unwrap();
+    /// let entities = shared.close(reservers).unwrap();
+    /// reservers[0].reserve(); // they were moved
+    /// ```
     ///
     /// # Errors
     ///
-    /// [`Unclosed`] says why, and has the phase, which goes on. It is the first of these that
-    /// holds: [`CloseError::OtherPhase`], [`CloseError::TooMany`], [`CloseError::Missing`], and
-    /// then all reservers are handed back; [`CloseError::InUse`], and then they are at home.
+    /// [`Unclosed`] has the error, and the `Shared`, which goes on. The error is the first of these
+    /// that holds: [`CloseError::OtherPhase`] and [`CloseError::Missing`], with all reservers
+    /// handed back; [`CloseError::InUse`], and then those that came are at home.
     pub fn close(mut self, reservers: Vec<Reserver<J>>) -> Result<Entities, Unclosed<J>>
         // All reservations stand in one history that is legal and respects every reserver.
         ensures legal { OnOk result (IsLegal self.shared.start
@@ -62,14 +68,13 @@ impl<J: Numbering> Shared<J> {
             IsLive (after_flush entities.allocator) h ↔ (IsLive self.shared.start h
             ⊎ Contains (given_in (history_of (records_of (all_home self reservers.items)))) h)) }
 
-        // When it is refused, and what stands then.
+        // When it succeeds, when it is refused, and what stands then.
+        ensures home { OnOk result (MayComeHome self reservers.items) }
+        ensures all { OnOk result (length (all_home self reservers.items) ≡ self.shared.count) }
         ensures other_phase { IsErrWith result (λ u. u.error ≡ OtherPhase)
-            ↔ ¬ (AreOf self.number reservers.items) }
-        ensures too_many { IsErrWith result (λ u. u.error ≡ TooMany)
-            ↔ (AreOf self.number reservers.items
-            × (self.shared.count < length (all_home self reservers.items))) }
+            ↔ ¬ (MayComeHome self reservers.items) }
         ensures missing { IsErrWith result (λ u. IsMissing u.error)
-            ↔ (AreOf self.number reservers.items
+            ↔ (MayComeHome self reservers.items
             × (length (all_home self reservers.items) < self.shared.count)) }
         ensures how_many { IfErr result (λ u. IsMissing u.error
             → length (all_home self reservers.items) + count_missing u.error ≡ self.shared.count) }
@@ -79,22 +84,11 @@ impl<J: Numbering> Shared<J> {
             → (u.shared ≡ record self { home = all_home self reservers.items })
             × (u.reservers.items ≡ [])) }
     {
-        let missing = match self.missing(&reservers) {
-            Ok(missing) => missing,
-            Err(error) => {
-                return Err(Unclosed {
-                    shared: self,
-                    reservers,
-                    error,
-                });
-            }
+        let Some(missing) = self.missing(&reservers) else {
+            return Err(self.unclosed(reservers, CloseError::OtherPhase));
         };
         if missing > 0 {
-            return Err(Unclosed {
-                shared: self,
-                reservers,
-                error: CloseError::Missing { count: missing },
-            });
+            return Err(self.unclosed(reservers, CloseError::Missing { count: missing }));
         }
         self.take_home(reservers);
         match self.end() {
@@ -103,17 +97,20 @@ impl<J: Numbering> Shared<J> {
         }
     }
 
-    /// Ends the phase although some reservers are lost: with those that are at home, and these.
+    /// Ends the phase although some reservers are lost: they were dropped, as by a thread that
+    /// panicked. It takes no memory.
     ///
-    /// The cursor tells how many handles were requested in all, but not which of the lost reservers'
-    /// requests were refused. So the front of the pool counts as reserved, as far as it goes, also
-    /// those handles that nobody got. It takes no memory.
+    /// Which of their requests were refused is lost too. So the front of the pool counts as
+    /// reserved, as far as requests went, and [`flush`](Entities::flush) also brings to life those
+    /// handles that nobody got.
     ///
     /// # Errors
     ///
-    /// [`Unclosed`] says why, and has the phase, which goes on. It is the first of these that
-    /// holds: [`CloseError::OtherPhase`], [`CloseError::TooMany`], and then all reservers are handed
-    /// back; [`CloseError::InUse`], and then they are at home.
+    /// [`Unclosed`] has the error, and the `Shared`, which goes on. The error is the first of these
+    /// that holds: [`CloseError::OtherPhase`], with all reservers handed back;
+    /// [`CloseError::InUse`], and then those that came are at home. As long as a reserver that
+    /// wasn't handed in exists, it is `InUse`. One that was given to [`core::mem::forget`] exists
+    /// for good.
     pub fn close_lost(mut self, reservers: Vec<Reserver<J>>) -> Result<Entities, Unclosed<J>>
         ensures after { IfOk result (λ entities.
             entities.allocator ≡ after_loss self.shared.start entities.allocator.asked) }
@@ -147,12 +144,10 @@ impl<J: Numbering> Shared<J> {
             All (λ r. All (Contains entities.allocator.taken) (handles_given r.own))
             (all_home self reservers.items)) }
 
-        // When it is refused, and what stands then.
+        // When it succeeds, when it is refused, and what stands then.
+        ensures home { OnOk result (MayComeHome self reservers.items) }
         ensures other_phase { IsErrWith result (λ u. u.error ≡ OtherPhase)
-            ↔ ¬ (AreOf self.number reservers.items) }
-        ensures too_many { IsErrWith result (λ u. u.error ≡ TooMany)
-            ↔ (AreOf self.number reservers.items
-            × (self.shared.count < length (all_home self reservers.items))) }
+            ↔ ¬ (MayComeHome self reservers.items) }
         ensures no_missing { IfErr result (λ u. ¬ (IsMissing u.error)) }
         ensures handed_back { IfErr result (λ u. u.error ≢ InUse
             → (u.shared ≡ self) × (u.reservers.items ≡ reservers.items)) }
@@ -160,12 +155,8 @@ impl<J: Numbering> Shared<J> {
             → (u.shared ≡ record self { home = all_home self reservers.items })
             × (u.reservers.items ≡ [])) }
     {
-        if let Err(error) = self.missing(&reservers) {
-            return Err(Unclosed {
-                shared: self,
-                reservers,
-                error,
-            });
+        if self.missing(&reservers).is_none() {
+            return Err(self.unclosed(reservers, CloseError::OtherPhase));
         }
         self.take_home(reservers);
         match self.end() {
@@ -175,37 +166,42 @@ impl<J: Numbering> Shared<J> {
     }
 
     /// How many reservers are missing beside those at home and these, if these may come home.
-    fn missing(&self, reservers: &[Reserver<J>]) -> Result<usize, CloseError>
-        ensures own { OnOk result (AreOf self.now.number reservers.now) }
-        ensures count { IfOk result (λ missing.
+    fn missing(&self, reservers: &[Reserver<J>]) -> Option<usize>
+        ensures home { IsSome result ↔ MayComeHome self.now reservers.now }
+        ensures count { IfSome result (λ missing.
             length (all_home self.now reservers.now) + missing ≡ self.now.shared.count) }
-        ensures error { IfErr result (λ error. ((error ≡ OtherPhase)
-            × ¬ (AreOf self.now.number reservers.now))
-            ⊎ ((error ≡ TooMany) × AreOf self.now.number reservers.now
-            × (self.now.shared.count < length (all_home self.now reservers.now)))) }
     {
         if !are_of(self.number(), reservers) {
-            return Err(CloseError::OtherPhase);
+            return None;
         }
         let most = self.count();
         let home = self.at_home();
         if home > most || reservers.len() > most - home {
-            return Err(CloseError::TooMany);
+            return None;
         }
-        Ok(most - home - reservers.len())
+        Some(most - home - reservers.len())
     }
 
-    /// That somebody else has a part of the phase.
+    /// The phase goes on, and hands these back.
+    fn unclosed(self, reservers: Vec<Reserver<J>>, error: CloseError) -> Unclosed<J>
+        ensures shared { result.shared ≡ self }
+        ensures reservers { result.reservers.items ≡ reservers.items }
+        ensures error { result.error ≡ error }
+    {
+        Unclosed {
+            shared: self,
+            reservers,
+            error,
+        }
+    }
+
+    /// Somebody else owns a part of the phase.
     fn in_use(self) -> Unclosed<J>
         ensures shared { result.shared ≡ self }
         ensures reservers { result.reservers.items ≡ [] }
         ensures error { result.error ≡ InUse }
     {
-        let reservers = self.no_reservers();
-        Unclosed {
-            shared: self,
-            reservers,
-            error: CloseError::InUse,
-        }
+        let none = self.no_reservers();
+        self.unclosed(none, CloseError::InUse)
     }
 }

@@ -1,43 +1,38 @@
-ghost use Rattle.std.specs.Prelude.{◌≡◌, ◌≢◌, ◌↔◌, ◌<◌, [], ◌∷◌, ◌++◌, Err, IfOk, IfErr};
-ghost use Rattle.std.specs.Prelude.{OnOk, OnErr, OnSome, IsOk, IsErrOf, IsTrue, true};
+ghost use Rattle.std.specs.Prelude.{◌≡◌, ◌≢◌, ◌↔◌, ◌<◌, length, AllPairs};
+ghost use Rattle.std.specs.Prelude.{OnOk, OnErr, OnSome, IsTrue, true};
 ghost use Rattle.std.specs.FinSet as set;
 ghost use Rattle.std.specs.FinMap as map;
-ghost use Rattle.ent_alloc.specs.Sequential.{listed_alone};
-ghost use Rattle.ent_alloc.specs.declared.refused.Refused.TheVariants.{Quota};
 ghost use Rattle.ent_shared.specs.Moves.{after_meeting};
-ghost use Rattle.ent_shared.specs.Order.{handles_given};
-ghost use Rattle.ent_shared.specs.Phase.{IsOf, IsBelow};
-ghost use Rattle.ent_total.specs.Faults.{IfSpace, IfQuota};
+ghost use Rattle.ent_shared.specs.Phase.{IsBelow};
 
 use crate::numbering::Numbering;
+use crate::other_phase::OtherPhase;
 use crate::shared::Shared;
-use crate::sink::Sink;
-use ent_alloc::Reserved;
+use ent_alloc::LivingHandles;
 use ent_handle::Handle;
-use ent_shared::Refused;
 use std::alloc::Global;
 use std::marker::{Model, PhantomData};
 use std::sync::Arc;
-use thiserror::Error;
 
-/// Gives the handles to a sink.
-fn give_all<S: Sink>(sink: &mut S, handles: Reserved<'_>)
-    ensures { S.given sink.new ≡ S.given sink.old ++ handles.entry }
-{
-    for handle in handles {
-        sink.take(handle);
-    }
-}
-
-/// The two are of two phases. Nothing has changed.
-#[derive(Clone, Copy, Debug, PartialEq, Eq, Error)]
-#[error("the reserver is of another phase")]
-pub struct OtherPhase;
-
-/// One reserver of a phase, with the allocator that it reserves from. It may go to a
-/// thread of its own.
+/// The right of one caller to reserve from a shared allocator.
+///
+/// It may go to a thread of its own. A reservation makes one atomic step and waits for nobody. The
+/// handle is what the allocator would have given to one caller at that moment, so no two callers
+/// are given the same one. It comes to life after the phase, by the next flush.
+///
+/// Two threads can't reserve by one reserver at once:
+///
+/// ```compile_fail
+/// let (shared, mut reservers) = forgeni::Entities::new().share(1).unwrap();
+/// let only = &mut reservers[0];
+/// std::thread::scope(|scope| {
+///     scope.spawn(|| only.reserve());
+///     scope.spawn(|| only.reserve());
+/// });
+/// ```
 #[derive(Drop)]
 pub struct Reserver<J: Numbering> {
+    pub(crate) alloc: Global,
     pub(crate) shared: Arc<ent_shared::Shared, Global>,
     pub(crate) reserver: ent_shared::Reserver,
     pub(crate) number: u64,
@@ -54,92 +49,25 @@ impl<J: Numbering> Model for Reserver<J> {
 
     ghost coded = { reserver_code };
 
-    ghost view = { λ c. record {
-      number = c.number;
-      shared = arc_value c.shared;
-      reserver = c.reserver;
+    ghost view = { λ r. record {
+      number = r.number;
+      shared = arc_value r.shared;
+      reserver = r.reserver;
     } };
 
     // The number stands for the allocator, and the reserver came with it.
-    ghost invariant = { λ c. (J.shared_of c.number ≡ arc_value c.shared)
-        × IsOf (arc_value c.shared) c.reserver };
+    ghost invariant = { λ r. (J.shared_of r.number ≡ arc_value r.shared)
+        × IsOf (arc_value r.shared) r.reserver };
 }
 
 impl<J: Numbering> Reserver<J> {
-    ghost use Rattle.ent_total.specs.Sharing.{MakesReservation, GivesReply};
-
-    /// Whether the handle was alive when the phase was opened. It takes constant time.
-    pub fn is_alive(&self, handle: Handle) -> bool
-        ensures { result ≡ set.contains self.now.shared.start.live handle }
-    {
-        self.shared.is_alive(handle)
-    }
-
-    /// The row that the program kept with the entity when the phase was opened. `None` if the
-    /// handle was not alive then, or if no row was set since it came to life. It takes constant
-    /// time.
-    pub fn row(&self, handle: Handle) -> Option<u32>
-        ensures value { result ≡ map.get self.now.shared.rows handle }
-        ensures alive { OnSome result (set.contains self.now.shared.start.live handle ≡ true) }
-    {
-        self.shared.row(handle)
-    }
-
-    /// Reserves one handle, by one atomic step. It takes no memory and waits for nobody.
+    /// Each later reservation of this one comes after everything that the other one has reserved or
+    /// learned of so far. Without a meeting nothing is promised on the order of two reservers. It
+    /// takes no memory and waits for nobody.
     ///
     /// # Errors
     ///
-    /// As [`ent_shared::Shared::reserve`].
-    pub fn reserve(&mut self) -> Result<Handle, Refused>
-        ensures quota { self.old.reserver.own.left ≡ 0
-            → (result ≡ Err (Quota 0)) × (self.new ≡ self.old) }
-        ensures gains { 0 < self.old.reserver.own.left
-            → MakesReservation self.old self.new 1 (listed_alone result) }
-
-        // What was given is recorded.
-        ensures given { IfOk result (λ handle. handles_given self.new.reserver.own
-            ≡ handles_given self.old.reserver.own ++ handle ∷ []) }
-        ensures refused { OnErr result
-            (handles_given self.new.reserver.own ≡ handles_given self.old.reserver.own) }
-    {
-        self.shared.reserve(&mut self.reserver)
-    }
-
-    /// Reserves `n` handles at once, by one atomic step, and gives them to the sink, in their order.
-    /// It takes no memory of its own and waits for nobody. A request of 0 makes no step and is
-    /// always served.
-    ///
-    /// # Errors
-    ///
-    /// As [`ent_shared::Shared::reserve_many`]. The sink is given nothing then.
-    pub fn reserve_many<S: Sink>(&mut self, sink: &mut S, n: u32) -> Result<(), Refused>
-        ensures given { OnOk result
-            (0 < n → GivesReply self.old self.new n (S.given sink.old) (S.given sink.new)) }
-        ensures nothing { n ≡ 0 → OnOk result
-            ((self.new ≡ self.old) × (S.given sink.new ≡ S.given sink.old)) }
-        ensures served { n ≡ 0 → IsOk result }
-        ensures space { IfErr result (λ error. IfSpace error
-            (MakesReservation self.old self.new n (Err error))) }
-        ensures quota { IsErrOf result (Quota self.old.reserver.own.left)
-            ↔ (self.old.reserver.own.left < n) }
-        ensures quota_left { IfErr result (λ error. IfQuota error
-            (λ said. said ≡ self.old.reserver.own.left)) }
-        ensures unchanged { IfErr result (λ error. IfQuota error (λ _. self.new ≡ self.old)) }
-        ensures unheard { OnErr result (S.given sink.new ≡ S.given sink.old) }
-        ensures unrecorded { OnErr result
-            (handles_given self.new.reserver.own ≡ handles_given self.old.reserver.own) }
-    {
-        let given = self.shared.reserve_many(&mut self.reserver, n)?;
-        give_all(sink, given);
-        Ok(())
-    }
-
-    /// Orders two reservers: every later reservation by this one comes after everything that the
-    /// other one has reserved or learned of so far. It takes no memory and waits for nobody.
-    ///
-    /// # Errors
-    ///
-    /// [`OtherPhase`] if they are of two phases. Nothing has changed then.
+    /// [`OtherPhase`] if they are not of one phase. Nothing has changed then.
     pub fn meet(&mut self, other: &mut Reserver<J>) -> Result<(), OtherPhase>
         ensures same_phase { OnOk result (self.old.number ≡ other.old.number) }
         ensures other_phase { OnErr result (self.old.number ≢ other.old.number) }
@@ -163,7 +91,7 @@ impl<J: Numbering> Reserver<J> {
         Ok(())
     }
 
-    /// Which of the reservers of its phase it is, from 0.
+    /// Which of the reservers it is: its position in the list in which they were given out, from 0.
     pub fn number(&self) -> usize
         ensures { result ≡ self.now.reserver.own.number }
     {
@@ -172,7 +100,7 @@ impl<J: Numbering> Reserver<J> {
 
     /// How many handles it may still request in this phase: 2^40 less what it has requested, served
     /// or not.
-    pub fn left(&self) -> u64
+    pub fn quota_left(&self) -> u64
         ensures { result ≡ self.now.reserver.own.left }
     {
         self.reserver.left()
@@ -191,5 +119,29 @@ impl<J: Numbering> Reserver<J> {
         ensures shared { IsTrue result → self.now.shared ≡ shared.now.shared }
     {
         self.number == shared.number()
+    }
+
+    /// Whether the entity was alive when the phase was opened, as [`Shared::is_alive`] says it.
+    pub fn is_alive(&self, handle: Handle) -> bool
+        ensures { result ≡ set.contains self.now.shared.start.live handle }
+    {
+        self.shared.is_alive(handle)
+    }
+
+    /// The row of the entity when the phase was opened, as [`Shared::row`] says it.
+    pub fn row(&self, handle: Handle) -> Option<u32>
+        ensures value { result ≡ map.get self.now.shared.rows handle }
+        ensures alive { OnSome result (set.contains self.now.shared.start.live handle ≡ true) }
+    {
+        self.shared.row(handle)
+    }
+
+    /// The entities that were alive when the phase was opened, as [`Shared::iter`] has them.
+    pub fn iter(&self) -> LivingHandles<'_>
+        ensures living { set.from_list result ≡ self.now.shared.start.live }
+        ensures rising { AllPairs (λ g h. g.index < h.index) result }
+        ensures count { length result ≡ set.len self.now.shared.start.live }
+    {
+        self.shared.iter()
     }
 }

@@ -2,7 +2,6 @@ use Rattle.std.proofs.Common.{rules, ◌≡◌, All, List, Contains, subst}
 use Rattle.ent_shared.specs.Phase.{Reserver}
 use Rattle.ent_shared.specs.Order.{handles_given}
 use Rattle.ent_total.specs.Sharing.{all_home}
-use Rattle.ent_total.proofs.Refusals.{first_reason}
 use Rattle.ent_total.proofs.shared.Shared.close_lost.Goals as goal
 
 pub returns-in-Ok-clause-given : goal.returns-in-Ok-clause-given
@@ -11,7 +10,3 @@ returns-in-Ok-clause-given g c =
     subst (λ (rs : List Reserver).
     All (λ (r : Reserver). All (Contains c.close_lost.result.allocator.taken) (handles_given r.own))
     rs) all c.close_lost.ensures.given
-
-pub returns-in-Err-clause-other_phase : goal.returns-in-Err-clause-other_phase
-returns-in-Err-clause-other_phase g c =
-    first_reason _ _ (λ e. cc) c.in-Err.error (rw c.deref.ensures.value at c.in-Err.ensures.error)
