@@ -1,4 +1,3 @@
-pub mod Handing
 pub mod OneHandle
 pub mod Recorded
 pub mod Replied

@@ -20,13 +20,12 @@ use Rattle.ent_world.specs.OpenWorld.{OpenWorld as Opened, open_world_code as op
 use Rattle.ent_world.specs.World.{World, IsWorld}
 
 -- the number of the world and how many entities were spawned in it since the last flush, the world
--- that is open, all its reservers, and how many systems can be given out
+-- that is open, and all its reservers
 pub record WorldOpening : Type 0 where
   pub of_world : ℕ
   pub spawned : ℕ
   pub world : Opened
   pub home : List Reserver
-  pub owners : ℕ
 
 -- the number by which phases are told apart, the number of the world and how many entities were
 -- spawned in it since the last flush, the world that is open, the reservers that no system has, and
@@ -51,6 +50,11 @@ abbrev pub new_commands : ℕ → Opened → Reserver → Commands
 new_commands number world reserver =
     record { number = number; world = world; reserver = reserver; queue = [] }
 
+-- all of them are of this phase, and have issued nothing
+abbrev pub AreNew : ℕ → Opened → List Commands → Type 0
+AreNew number world systems =
+    All (λ (c : Commands). c ≡ new_commands number world c.reserver) systems
+
 -- all of them are of the phase of this number
 abbrev pub AreCommandsOf : ℕ → List Commands → Type 0
 AreCommandsOf number all = All (λ (i : Commands). i.number ≡ number) all
@@ -68,6 +72,11 @@ reservers_home p all = p.home ++ issuing all
 
 abbrev pub queues_home : OpenWorld → List Commands → List (List Command)
 queues_home p all = p.queues ++ issued all
+
+-- They are all of this phase, and with those at home no more than it has.
+abbrev pub MayComeHome : OpenWorld → List Commands → Type 0
+MayComeHome p all =
+    AreCommandsOf p.number all × (length (reservers_home p all) ≤ p.world.shared.count)
 
 abbrev pub with_home : OpenWorld → List Commands → OpenWorld
 with_home p all = record p {
@@ -146,17 +155,10 @@ pub record IsClosedLost (opened : Opened) (home : List Reserver) (after : World)
 -- each is stored as the tuple of its parts
 abbrev pub world_opening_code : Coded WorldOpening
 world_opening_code =
-    code_by (ℕ × (ℕ × (Opened × (List Reserver × ℕ))))
-    (coded× coded_ℕ (coded× coded_ℕ (coded× opened_code (coded× (coded_list reserver_code)
-    coded_ℕ))))
-    (λ o. (o.of_world, (o.spawned, (o.world, (o.home, o.owners)))))
-    (λ t. record {
-      of_world = t.0;
-      spawned = t.1.0;
-      world = t.1.1.0;
-      home = t.1.1.1.0;
-      owners = t.1.1.1.1;
-    }) (λ _. refl)
+    code_by (ℕ × (ℕ × (Opened × List Reserver)))
+    (coded× coded_ℕ (coded× coded_ℕ (coded× opened_code (coded_list reserver_code))))
+    (λ o. (o.of_world, (o.spawned, (o.world, o.home))))
+    (λ t. record { of_world = t.0; spawned = t.1.0; world = t.1.1.0; home = t.1.1.1 }) (λ _. refl)
 
 abbrev pub open_world_code : Coded OpenWorld
 open_world_code =

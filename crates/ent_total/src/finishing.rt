@@ -1,9 +1,9 @@
 //! A phase of a world ends, and gives the world back, with the queues of its systems.
-ghost use Rattle.std.specs.Prelude.{◌≡◌, ◌≢◌, ◌↔◌, ◌⊎◌, ◌+◌, ◌<◌, ◌≤◌, ◌^◌, [], All, IfOk, IfErr, length};
-ghost use Rattle.std.specs.Prelude.{IfSome, IfNone, OnSome};
+ghost use Rattle.std.specs.Prelude.{◌≡◌, ◌≢◌, ◌↔◌, ◌+◌, ◌<◌, ◌≤◌, ◌^◌, [], All, IfOk, IfErr, length};
+ghost use Rattle.std.specs.Prelude.{IfSome, IsSome, OnOk};
 ghost use Rattle.ent_shared.specs.Phase.{IsOf};
 ghost use Rattle.ent_total.specs.Faults.{IsErrWith};
-ghost use Rattle.ent_total.specs.Issuing.{AreCommandsOf, reservers_home, queues_home, with_home};
+ghost use Rattle.ent_total.specs.Issuing.{MayComeHome, reservers_home, queues_home, with_home};
 ghost use Rattle.ent_total.specs.Issuing.{IsClosed, IsClosedLost};
 ghost use Rattle.ent_total.specs.Finishing.{AreMissing, queues_missing};
 ghost use Rattle.ent_total.specs.declared.unfinished.FinishError.TheVariants.{OtherPhase, InUse};
@@ -37,12 +37,14 @@ impl<J: Numbering> OpenWorld<J> {
         ensures queues { IfOk result (λ made.
             made.1 ≡ record { world = self.of_world; queues = queues_home self queues.items }) }
 
-        // When it is refused, and what stands then.
+        // When it succeeds, when it is refused, and what stands then.
+        ensures home { OnOk result (MayComeHome self queues.items) }
+        ensures all { OnOk result
+            (length (reservers_home self queues.items) ≡ self.world.shared.count) }
         ensures other_phase { IsErrWith result (λ u. u.error ≡ OtherPhase)
-            ↔ (¬ (AreCommandsOf self.number queues.items)
-            ⊎ (self.world.shared.count < length (reservers_home self queues.items))) }
+            ↔ ¬ (MayComeHome self queues.items) }
         ensures missing { IsErrWith result (λ u. AreMissing u.error)
-            ↔ (AreCommandsOf self.number queues.items
+            ↔ (MayComeHome self queues.items
             × (length (reservers_home self queues.items) < self.world.shared.count)) }
         ensures how_many { IfErr result (λ u. AreMissing u.error
             → length (reservers_home self queues.items) + queues_missing u.error
@@ -52,9 +54,8 @@ impl<J: Numbering> OpenWorld<J> {
         ensures at_home { IfErr result (λ u. u.error ≡ InUse
             → (u.open ≡ with_home self queues.items) × (u.queues.items ≡ [])) }
     {
-        let missing = match self.missing(&queues) {
-            Some(missing) => missing,
-            None => return Err(self.unfinished(queues, FinishError::OtherPhase)),
+        let Some(missing) = self.missing(&queues) else {
+            return Err(self.unfinished(queues, FinishError::OtherPhase));
         };
         if missing > 0 {
             return Err(self.unfinished(queues, FinishError::Missing { count: missing }));
@@ -92,10 +93,10 @@ impl<J: Numbering> OpenWorld<J> {
         ensures queues { IfOk result (λ made.
             made.1 ≡ record { world = self.of_world; queues = queues_home self queues.items }) }
 
-        // When it is refused, and what stands then.
+        // When it succeeds, when it is refused, and what stands then.
+        ensures home { OnOk result (MayComeHome self queues.items) }
         ensures other_phase { IsErrWith result (λ u. u.error ≡ OtherPhase)
-            ↔ (¬ (AreCommandsOf self.number queues.items)
-            ⊎ (self.world.shared.count < length (reservers_home self queues.items))) }
+            ↔ ¬ (MayComeHome self queues.items) }
         ensures no_missing { IfErr result (λ u. ¬ (AreMissing u.error)) }
         ensures handed_back { IfErr result (λ u. u.error ≢ InUse
             → (u.open ≡ self) × (u.queues.items ≡ queues.items)) }
@@ -114,12 +115,10 @@ impl<J: Numbering> OpenWorld<J> {
 
     /// How many systems are missing beside those at home and these, if these may come home.
     fn missing(&self, queues: &[CommandQueue<J>]) -> Option<usize>
-        ensures own { OnSome result (AreCommandsOf self.now.number queues.now) }
+        ensures home { IsSome result ↔ MayComeHome self.now queues.now }
         ensures count { IfSome result (λ missing.
             length (reservers_home self.now queues.now) + missing
             ≡ self.now.world.shared.count) }
-        ensures none { IfNone result (¬ (AreCommandsOf self.now.number queues.now)
-            ⊎ (self.now.world.shared.count < length (reservers_home self.now queues.now))) }
     {
         if !are_of(self.number(), queues) {
             return None;

@@ -1,13 +1,15 @@
-ghost use Rattle.std.specs.Prelude.{◌≡◌, ◌≢◌, ◌↔◌, ◌+◌, ◌<◌, ◌≤◌, [], All, IfOk, IfErr, OnErr, length};
+ghost use Rattle.std.specs.Prelude.{◌≡◌, ◌≢◌, ◌+◌, ◌≤◌, [], ◌∷◌, ◌++◌, All, length, reverse};
+ghost use Rattle.std.specs.Prelude.{IfOk, IfErr, IfSome, IfNone, OnErr};
 ghost use Rattle.std.specs.FinMap as map;
 ghost use Rattle.std.specs.Arc.{arc_value};
-ghost use Rattle.std.specs.Vec.{vec_capacity};
+ghost use Rattle.std.specs.Vec.{vec_capacity, vec_len};
 ghost use Rattle.ent_shared.specs.Phase.{IsOf};
 ghost use Rattle.ent_storage.specs.EntityMap.{birth_of, value_of};
 ghost use Rattle.ent_storage.specs.BirthOrder.{ListsAll};
-ghost use Rattle.ent_total.specs.Issuing.{AreCommandsOf, reservers_home, with_home};
+ghost use Rattle.ent_total.specs.Issuing.{AreNew, MayComeHome, issuing, new_commands, with_home};
 
 use crate::command_queue::CommandQueue;
+use crate::commands::Commands;
 use crate::numbering::Numbering;
 use crate::world_homecoming::bring_home;
 use ent_handle::{Birth, ComponentId, Handle, Memory};
@@ -182,11 +184,50 @@ impl<J: Numbering> OpenWorld<J> {
         self.number
     }
 
+    /// A system with the last of the reservers that are at home, or `None` if none is.
+    ///
+    /// # Errors
+    ///
+    /// `Memory` if the owners of the phase can't be counted any more. Then nothing has changed.
+    fn next_system(&mut self) -> Result<Option<Commands<J>>, Memory>
+        requires { self.old.queues ≡ [] }
+        ensures given { IfOk result (λ found. IfSome found (λ c.
+            (c ≡ new_commands self.old.number self.old.world c.reserver)
+            × (self.old ≡ record self.new { home = self.new.home ++ c.reserver ∷ [] }))) }
+        ensures none { IfOk result (λ found. IfNone found (self.new ≡ self.old)) }
+        ensures err { OnErr result (self.new ≡ self.old) }
+    {
+        if self.home.is_empty() {
+            return Ok(None);
+        }
+        let Ok(world) = Arc::try_clone(&self.world) else {
+            return Err(Memory);
+        };
+        let Some(reserver) = self.home.pop() else {
+            unreachable!()
+        };
+        Ok(Some(Commands::new(self.alloc, world, reserver, self.number)))
+    }
+
+    /// Gives out the systems of the reservers at home, the last one first, to a list that has room
+    /// for them. One whose owner can't be counted stays at home, and so do the others.
+    pub(crate) fn give_out(&mut self, systems: &mut Vec<Commands<J>>)
+        requires queues { self.old.queues ≡ [] }
+        requires room { vec_len systems.old + length self.old.home ≤ vec_capacity systems.old }
+        requires new { AreNew self.old.number self.old.world systems.old.items }
+        ensures new { AreNew self.old.number self.old.world systems.new.items }
+        ensures given { issuing systems.new.items ++ reverse self.new.home
+            ≡ issuing systems.old.items ++ reverse self.old.home }
+        ensures phase { self.new ≡ record self.old { home = self.new.home } }
+    {
+        while let Ok(Some(system)) = self.next_system() {
+            systems.push_reserved(system);
+        }
+    }
+
     /// Takes systems home, in their order, which needs no memory.
     pub(crate) fn take_home(&mut self, queues: Vec<CommandQueue<J>>)
-        requires own { AreCommandsOf self.old.number queues.items }
-        requires few { length (reservers_home self.old queues.items)
-            ≤ self.old.world.shared.count }
+        requires { MayComeHome self.old queues.items }
         ensures { self.new ≡ with_home self.old queues.items }
     {
         bring_home(

@@ -1,6 +1,6 @@
 ghost use Rattle.std.specs.Prelude.{◌≡◌};
 
-use crate::opening::ShareError;
+use crate::unshared::ShareError;
 use crate::world::World;
 
 /// A world that was not opened.

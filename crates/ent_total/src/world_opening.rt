@@ -1,25 +1,24 @@
-ghost use Rattle.std.specs.Prelude.{◌≡◌, ◌+◌, ◌<◌, ◌≤◌, ◌↔◌, ◌⊎◌, [], All, IfOk, IfErr, IfSome, length, map};
-ghost use Rattle.std.specs.Arc.{arc_value};
-ghost use Rattle.std.specs.Vec.{vec_capacity};
-ghost use Rattle.ent_shared.specs.Phase.{IsOf, records_of};
+//! A world is opened.
+ghost use Rattle.std.specs.Prelude.{◌≡◌, ◌<◌, ◌≤◌, ◌↔◌, ◌⊎◌, ◌++◌, [], All, IfOk, IfErr, reverse};
+ghost use Rattle.ent_shared.specs.Phase.{records_of};
 ghost use Rattle.ent_shared.specs.Record.{opened_records};
 ghost use Rattle.ent_total.specs.Faults.{IsErrWith};
-ghost use Rattle.ent_total.specs.Issuing.{new_commands};
-ghost use Rattle.ent_total.specs.declared.opening.ShareError.TheVariants.{NeedsFlush, Count};
+ghost use Rattle.ent_total.specs.Issuing.{AreNew, issuing};
+ghost use Rattle.ent_total.specs.declared.unshared.ShareError.TheVariants.{NeedsFlush, Count};
 
 use crate::commands::Commands;
-use crate::handing_out::{hand_out, owners_of};
 use crate::numbering::Numbering;
 use crate::open_world::OpenWorld;
-use crate::opening::{CALLERS, ShareError};
+use crate::opening::CALLERS;
 use crate::unopened::Unopened;
+use crate::unshared::ShareError;
 use crate::world::World;
 use ent_shared::Reserver;
 use std::alloc::Global;
-use std::marker::{Model, PhantomData};
+use std::marker::Model;
 use std::sync::Arc;
 
-/// A world that is open for its systems, and has no number yet. It holds all memory that its phase
+/// A world that is open for its systems, and has no number yet. It has all memory that its phase
 /// needs.
 #[derive(Drop)]
 pub struct WorldOpening<J: Numbering> {
@@ -28,9 +27,8 @@ pub struct WorldOpening<J: Numbering> {
     spawned: u32,
     world: Arc<ent_world::OpenWorld, Global>,
     home: Vec<Reserver>,
-    owners: Vec<Arc<ent_world::OpenWorld, Global>>,
     queues: Vec<ent_queue::CommandQueue>,
-    given: Vec<Commands<J>>,
+    systems: Vec<Commands<J>>,
 }
 
 impl<J: Numbering> Model for WorldOpening<J> {
@@ -38,7 +36,6 @@ impl<J: Numbering> Model for WorldOpening<J> {
     ghost use Rattle.std.specs.Arc.{arc_value};
     ghost use Rattle.std.specs.Vec.{vec_capacity};
     ghost use Rattle.ent_shared.specs.Phase.{IsOf};
-    ghost use Rattle.ent_world.specs.OpenWorld.{OpenWorld as Opened};
     ghost use Rattle.ent_total.specs.Issuing.{WorldOpening, world_opening_code};
 
     ghost Value = { WorldOpening };
@@ -50,21 +47,18 @@ impl<J: Numbering> Model for WorldOpening<J> {
       spawned = o.spawned;
       world = arc_value o.world;
       home = o.home.items;
-      owners = length o.owners.items;
     } };
 
     ghost invariant = { λ o. record {
-      -- the reservers came with this world, and each owner is one of it
+      -- the reservers came with this world
       own : All (IsOf (arc_value o.world).shared) o.home.items;
-      same : All (λ a. arc_value a ≡ arc_value o.world) o.owners.items;
-      each : length o.owners.items ≤ length o.home.items;
       -- there are at most 1,024 systems, and there is room for all of them
       few : (arc_value o.world).shared.count ≤ 1024;
       home_room : (arc_value o.world).shared.count ≤ vec_capacity o.home;
       queue_room : (arc_value o.world).shared.count ≤ vec_capacity o.queues;
-      room : length o.owners.items ≤ vec_capacity o.given;
+      room : length o.home.items ≤ vec_capacity o.systems;
       no_queue : o.queues.items ≡ [];
-      none_given : o.given.items ≡ [];
+      no_system : o.systems.items ≡ [];
     } };
 }
 
@@ -72,7 +66,7 @@ impl<J: Numbering> Model for WorldOpening<J> {
 ///
 /// # Errors
 ///
-/// [`Unopened`] says why, and has the world as it was. It is the first of these that holds:
+/// [`Unopened`] has the error, and the world as it was. It is the first of these that holds:
 /// [`ShareError::NeedsFlush`], [`ShareError::Count`], [`ShareError::Memory`].
 pub fn open<J: Numbering>(
     alloc: Global,
@@ -87,12 +81,6 @@ pub fn open<J: Numbering>(
         × (o.world.entities ≡ world.world.entities)) }
     ensures home { IfOk result (λ o.
         records_of o.home ≡ opened_records world.world.allocator 0 count) }
-
-    // All systems can be given out, or none: only if the world could have no more owners, and this
-    // one could not be told to be the last.
-    ensures owners { IfOk result (λ o. (o.owners ≡ count) ⊎ (o.owners ≡ 0)) }
-
-    // When it is refused, and what stands then.
     ensures needs_flush { IsErrWith result (λ u. u.error ≡ NeedsFlush)
         ↔ (0 < world.world.allocator.asked) }
     ensures no_count { IsErrWith result (λ u. u.error ≡ Count)
@@ -149,37 +137,37 @@ impl<J: Numbering> WorldOpening<J> {
             × (o.world.entities ≡ world.entities)) }
         ensures home { IfOk result (λ o.
             records_of o.home ≡ opened_records world.allocator 0 count) }
-        ensures owners { IfOk result (λ o. (o.owners ≡ count) ⊎ (o.owners ≡ 0)) }
         ensures err { IfErr result (λ refused. refused ≡ world) }
     {
         let Ok(queues) = Vec::with_capacity(alloc, count) else {
             return Err(world);
         };
-        let Ok(given) = Vec::with_capacity(alloc, count) else {
+        let Ok(systems) = Vec::with_capacity(alloc, count) else {
             return Err(world);
         };
-        let (world, home) = shared_world(alloc, world, count)?;
-        let (world, owners) = match owners_of(alloc, &world, count) {
-            Some(owners) => (world, owners),
-            None => match Arc::try_unwrap(world) {
-                Ok(opened) => return Err(opened.close(home)),
-                Err(world) => (world, Vec::new(alloc)),
-            },
+        let (opened, home) = match world.open(count) {
+            Ok(made) => made,
+            Err((world, _)) => return Err(world),
         };
-        Ok(WorldOpening {
-            alloc,
-            of_world,
-            spawned,
-            world,
-            home,
-            owners,
-            queues,
-            given,
-        })
+        match Arc::new(alloc, opened) {
+            Ok(world) => Ok(WorldOpening {
+                alloc,
+                of_world,
+                spawned,
+                world,
+                home,
+                queues,
+                systems,
+            }),
+            Err(refused) => Err(refused.value.close(home)),
+        }
     }
 
-    /// The phase, under a number by which it is told from all others, and its systems, in the order
-    /// of their numbers. It takes no memory.
+    /// The phase, under a number by which it is told from all others, and all its systems, in the
+    /// order of their numbers. It takes no memory.
+    ///
+    /// A system whose owner can't be counted stays at home, with those after it. That takes more
+    /// owners than there can be, but no contract of `Arc` says so.
     pub fn numbered(self, number: u64) -> (OpenWorld<J>, Vec<Commands<J>>)
         requires stands_for { J.world_of number ≡ self.world }
         ensures open { result.0 ≡ record {
@@ -190,11 +178,8 @@ impl<J: Numbering> WorldOpening<J> {
           home = result.0.home;
           queues = [];
         } }
-        ensures all { self.owners ≡ length self.home
-            → (result.1.items ≡ map (new_commands number self.world) self.home)
-            × (result.0.home ≡ []) }
-        ensures none { self.owners ≡ 0
-            → (result.1.items ≡ []) × (result.0.home ≡ self.home) }
+        ensures systems { AreNew number self.world result.1.items }
+        ensures given { issuing result.1.items ++ reverse result.0.home ≡ self.home }
     {
         let WorldOpening {
             alloc,
@@ -202,42 +187,12 @@ impl<J: Numbering> WorldOpening<J> {
             spawned,
             world,
             mut home,
-            owners,
             queues,
-            mut given,
+            mut systems,
         } = self;
-        hand_out(alloc, number, &world, owners, &mut home, &mut given);
-        let open = OpenWorld::new(alloc, of_world, spawned, world, home, queues, number);
-        (open, given)
-    }
-}
-
-/// A world that is open, as what several owners can have.
-fn shared_world(
-    alloc: Global,
-    world: ent_world::World,
-    count: usize,
-) -> Result<(Arc<ent_world::OpenWorld, Global>, Vec<Reserver>), ent_world::World>
-    requires flushed { world.allocator.asked ≡ 0 }
-    requires some { 0 < count }
-    requires few { count ≤ 1024 }
-    ensures shared { IfOk result (λ made. ((arc_value made.0).shared.start ≡ world.allocator)
-        × ((arc_value made.0).shared.count ≡ count)) }
-    ensures world { IfOk result (λ made. ((arc_value made.0).phase ≡ world.phase)
-        × ((arc_value made.0).entities ≡ world.entities)) }
-    ensures own { IfOk result (λ made. All (IsOf (arc_value made.0).shared) made.1.items) }
-    ensures count { IfOk result (λ made. length made.1.items ≡ count) }
-    ensures home { IfOk result (λ made.
-        records_of made.1.items ≡ opened_records world.allocator 0 count) }
-    ensures unused { IfOk result (λ made. All (λ r. r.own.entries ≡ []) made.1.items) }
-    ensures err { IfErr result (λ refused. refused ≡ world) }
-{
-    let (opened, home) = match world.open(count) {
-        Ok(made) => made,
-        Err((world, _)) => return Err(world),
-    };
-    match Arc::new(alloc, opened) {
-        Ok(world) => Ok((world, home)),
-        Err(refused) => Err(refused.value.close(home)),
+        home.reverse();
+        let mut open = OpenWorld::new(alloc, of_world, spawned, world, home, queues, number);
+        open.give_out(&mut systems);
+        (open, systems)
     }
 }

@@ -1,6 +1,6 @@
 use Rattle.std.proofs.Common.{rules}
 use Rattle.ent_total.proofs.Unused.{nothing-reserved}
-use Rattle.ent_total.proofs.world_opening.shared_world.Goals as goal
+use Rattle.ent_total.proofs.world_opening.WorldOpening.new.Goals as goal
 
 pub returns-in-Err-new-clause-err : goal.returns-in-Err-new-clause-err
 returns-in-Err-new-clause-err c = search (rules, nothing-reserved)
