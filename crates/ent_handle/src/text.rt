@@ -15,10 +15,10 @@ use thiserror::Error;
 #[derive(Clone, Copy, Debug, PartialEq, Eq, Hash, Error)]
 pub enum TextFault {
     /// The text does not have the form.
-    #[error("not of the form")]
+    #[error("not of the form of a handle, as 0v1")]
     Shape,
     /// The text has the form, but a number in it is out of range.
-    #[error("a number out of range")]
+    #[error("no handle has these numbers")]
     Range,
 }
 
