@@ -370,10 +370,11 @@ impl Entities {
         ensures allocator { self.new.allocator ≡ self.old.allocator }
         ensures rows_of_living { HasRowsOfLiving self.new }
     {
-        if !self.slots.is_alive(handle) {
-            return Err(Absent);
+        if self.slots.is_alive(handle) {
+            self.set_row(handle, row);
+            Ok(())
+        } else {
+            Err(Absent)
         }
-        self.set_row(handle, row);
-        Ok(())
     }
 }

@@ -56,10 +56,7 @@ impl Limits {
     pub fn default_limits() -> Self
         ensures { result ≡ record { slots = 2 ^ 32 - 1; generations = 2 ^ 31 - 1 } }
     {
-        Limits {
-            slots: u32::MAX,
-            generations: (1 << 31) - 1,
-        }
+        Limits::GREATEST
     }
 
     /// The limits of an allocator that never gives the greatest handle, 4294967294v2147483647: one

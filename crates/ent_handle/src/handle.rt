@@ -45,10 +45,12 @@ impl Model for Handle {
 
     ghost inverse_ok = { λ h is i.
         let same = word_of-handle_of_bits h.bits.value h.bits.ok in
-        record { bits = record {
-          value = same i;
-          ok = same_proof same (word_of-positive (handle_of_bits h.bits.value)) h.bits.ok i;
-        } } };
+        record {
+          bits = record {
+            value = same i;
+            ok = same_proof same (word_of-positive (handle_of_bits h.bits.value)) h.bits.ok i;
+          };
+        } };
 }
 
 impl Handle {
@@ -117,7 +119,7 @@ impl Handle {
             (nat_cmp self.now.generation other.now.generation)
             (nat_cmp self.now.index other.now.index) }
     {
-        self.bits.get().cmp(&other.bits.get())
+        self.to_bits().cmp(&other.to_bits())
     }
 
     /// The handle that has these bits, or `None` if no handle has them.

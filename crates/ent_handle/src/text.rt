@@ -115,8 +115,8 @@ impl fmt::Display for Handle {
 /// As `Display` writes it.
 impl fmt::Debug for Handle {
     fn fmt<W: fmt::Write>(&self, f: &mut fmt::Formatter<W>) -> fmt::Result {
-        let index = self.index();
-        let generation = self.generation();
-        write!(f, "{index}v{generation}")
+        let slot = self.index();
+        let occupant = self.generation();
+        write!(f, "{slot}v{occupant}")
     }
 }
