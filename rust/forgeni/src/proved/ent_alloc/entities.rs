@@ -24,7 +24,7 @@ pub struct Entities {
 impl Entities {
     /// An allocator with no entities. It takes no memory, whatever the limits are.
     #[inline]
-    pub const fn new(limits: Limits) -> Self
+    pub const fn with_limits(limits: Limits) -> Self
         // ensures allocator { result.allocator ≡ opening limits }
         // ensures rows { result.rows ≡ map.empty }
         // ensures rows_of_living { HasRowsOfLiving result }

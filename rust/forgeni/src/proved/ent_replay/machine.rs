@@ -43,7 +43,7 @@ impl Machine {
     pub fn new(limits: Limits) -> Result<Self, Memory>
         // ensures { result ≡ Ok (starting limits) }
     {
-        let entities = Entities::new(limits);
+        let entities = Entities::with_limits(limits);
         prove_eq!(entities.cursor(), 0);
         Ok(Machine {
             entities,

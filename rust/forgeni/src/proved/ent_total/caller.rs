@@ -1,12 +1,10 @@
 // Made of crates/ent_total/src/caller.rt by rust/erase. It isn't edited by hand.
 
-use crate::proved::ent_total::numbering::Numbering;
 use crate::proved::ent_total::phase::Phase;
 use crate::proved::ent_total::sink::Sink;
 use crate::proved::ent_alloc::Reserved;
 use crate::proved::ent_handle::Handle;
 use crate::proved::ent_shared::{Refused, Reserver, Shared};
-use core::marker::PhantomData;
 use crate::kit::sync::Arc;
 
 /// Gives the handles to a sink.
@@ -33,14 +31,13 @@ impl core::error::Error for OtherPhase {}
 
 /// One caller of a phase: its reserver, with the allocator that it reserves from. It may go to a
 /// thread of its own.
-pub struct Caller<J: Numbering> {
+pub struct Caller {
     pub(super) shared: Arc<Shared>,
     pub(super) reserver: Reserver,
     pub(super) number: u64,
-    pub(super) of: PhantomData<J>,
 }
 
-impl<J: Numbering> Caller<J> {
+impl Caller {
     /// Whether the handle was alive when the phase was opened. It takes constant time.
     #[inline]
     pub fn is_alive(&self, handle: Handle) -> bool
@@ -118,7 +115,7 @@ impl<J: Numbering> Caller<J> {
     ///
     /// [`OtherPhase`] if they are of two phases. Nothing has changed then.
     #[inline]
-    pub fn meet(&mut self, other: &mut Caller<J>) -> Result<(), OtherPhase>
+    pub fn meet(&mut self, other: &mut Caller) -> Result<(), OtherPhase>
         // ensures same_phase { OnOk result (self.old.number ≡ other.old.number) }
         // ensures other_phase { OnErr result (self.old.number ≢ other.old.number) }
         // ensures meets { OnOk result (self.new ≡ record self.old {
@@ -168,7 +165,7 @@ impl<J: Numbering> Caller<J> {
 
     /// Whether it is of this phase.
     #[inline]
-    pub fn is_of(&self, phase: &Phase<J>) -> bool
+    pub fn is_of(&self, phase: &Phase) -> bool
         // ensures number { IsTrue result ↔ (self.now.number ≡ phase.now.number) }
         // ensures shared { IsTrue result → self.now.shared ≡ phase.now.shared }
     {

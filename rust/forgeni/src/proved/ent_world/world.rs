@@ -28,7 +28,7 @@ impl World {
         // ensures value { result ≡ first_world limits }
         // ensures world { IsWorld result }
     {
-        let entities = Entities::new(limits);
+        let entities = Entities::with_limits(limits);
         // Whatever the limits are, it begins in a sound state, as `cursor` promises.
         prove_eq!(entities.cursor(), 0);
         World {

@@ -34,7 +34,7 @@ impl Checker {
         // ensures { result ≡ record { allocator = opening limits; run = [] } }
     {
         Checker {
-            entities: Entities::new(limits),
+            entities: Entities::with_limits(limits),
             run: Vec::new(),
             latest: ByCaller::new(),
             wanted: 0,
