@@ -4,13 +4,16 @@
 //! side. Where they differ, the source's have to be ghost, or one of the two has to be in the short
 //! list of what is put in place of what. So nothing can be lost, as code that went into a comment,
 //! nor be added. Then it does the same with the comments: those of the result are those of the source,
-//! but for what stood at ghost items, and the clauses.
+//! but for what stood at ghost items, and the clauses. A clause in docs is one of the next function. And no
+//! more than the package itself may call a function with a condition.
 
 mod changes;
 mod comments;
+mod docs;
 mod ghost_types;
 mod messages;
 mod rights;
+mod visible;
 
 use crate::forms;
 use crate::lex::Kind;
@@ -39,6 +42,7 @@ pub fn audit(
         out: 0,
         is_ghost: vec![false; source.len()],
         is_clause: vec![false; source.len()],
+        contracts: Vec::new(),
     };
     while audit.at < source.len() || audit.out < result.len() {
         audit.step()?;
@@ -61,6 +65,8 @@ struct Audit<'a> {
     is_ghost: Vec<bool>,
     /// Those of them that are clauses.
     is_clause: Vec<bool>,
+    /// For each clause its first token, and the token of the result that comes after it.
+    contracts: Vec<(usize, usize)>,
 }
 
 impl Audit<'_> {
@@ -82,6 +88,9 @@ impl Audit<'_> {
             self.at += len;
             self.out += len;
             return Ok(());
+        }
+        if self.has_to_be_narrow() {
+            return self.narrowed();
         }
         if let Some((from, to)) = self.changed() {
             self.at += from;
@@ -112,6 +121,7 @@ impl Audit<'_> {
                 let open = source.find(at, source.len(), &["{"])?;
                 let end = source.partner(open) + 1;
                 self.is_clause[at..end].fill(true);
+                self.contracts.push((at, self.out));
                 Some(end)
             }
             "impl" => self.ghost_impl_end(),

@@ -66,6 +66,7 @@ pub const KEPT_ATTRIBUTES: &[&str] = &[
     "inline(always)",
     "inline(never)",
     "must_use",
+    "non_exhaustive",
     "test",
 ];
 
@@ -346,7 +347,7 @@ pub struct Renamed {
 }
 
 /// A type whose layout in memory the package chooses. The kit has no word for it, and no contract
-/// speaks of it.
+/// speaks of it. A line whose type isn't there is an error.
 pub struct Layout {
     /// The crate that declares the type.
     pub krate: &'static str,

@@ -245,6 +245,7 @@ impl Walk<'_> {
         }
         self.signature(at + 1, body)?;
         let end = self.source.partner(body);
+        self.is_public_trait = scope == Scope::Trait && self.source.before(at) == "pub";
         self.items(body + 1, end, scope)?;
         Ok(end + 1)
     }

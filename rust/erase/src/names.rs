@@ -4,6 +4,7 @@
 //! that of its slice. So no source may give one of these names another meaning, and a method must be the same one
 //! however it is looked up.
 
+use crate::conditions::has_condition;
 use crate::forms::{self, Forms};
 use crate::ghost_types;
 use crate::memory::Fields;
@@ -35,6 +36,8 @@ pub struct Names {
     pub methods: BTreeMap<String, bool>,
     /// The ghost members that their traits declare.
     pub members: BTreeSet<String>,
+    /// Their free functions, by file and name: whether those of that name have a condition.
+    conditions: BTreeMap<(String, String), BTreeSet<bool>>,
     /// Their fields.
     pub(crate) fields: Fields,
     /// The names of std and of the kit that they may use.
@@ -87,6 +90,7 @@ impl Names {
                     members.extend(own);
                 }
                 "enum" if source.is_word(at + 1) => self.add_variants(source, at)?,
+                "use" if source.before(at) == "pub" => self.add_other_names(source, at)?,
                 "ghost" if is_declared_member(source, at) => {
                     self.members.insert(source.at(at + 1).to_owned());
                 }
@@ -155,6 +159,11 @@ impl Names {
             }
             "type" if !is_member => drop(self.aliases.insert(name.to_owned())),
             "fn" => {
+                if !is_member {
+                    let key = (source.path.to_owned(), name.to_owned());
+                    let all = self.conditions.entry(key).or_default();
+                    all.insert(has_condition(source, at));
+                }
                 if let Some(receiver) = receiver(source, at) {
                     // A slice's method takes a range without an end.
                     let end = source.find(at, source.len(), &["{", ";"]).unwrap_or(at);
@@ -175,6 +184,23 @@ impl Names {
             &mut self.items
         };
         known.insert(name.to_owned());
+        Ok(())
+    }
+
+    /// Adds the other names under which a source passes on items of another crate.
+    fn add_other_names(&mut self, source: &Source<'_>, at: usize) -> Result<(), Fault> {
+        let end = source.find(at, source.len(), &[";"]).unwrap_or(at);
+        if !self.crates.contains_key(source.at(at + 1)) {
+            return Ok(());
+        }
+        for at in at..end {
+            if source.before(at) == "as" {
+                if self.is_taken(source.at(at)) {
+                    return Err(taken(source, at));
+                }
+                self.items.insert(source.at(at).to_owned());
+            }
+        }
         Ok(())
     }
 
@@ -336,9 +362,32 @@ impl Names {
         forms::GHOST_TRAITS.contains(&name) || self.ghost_traits.contains(name)
     }
 
+    /// Whether this crate declares a struct or an enum of this name.
+    pub fn has_type(&self, krate: &str, name: &str) -> bool {
+        let folder = format!("crates/{krate}/");
+        let mut files = self.types.get(name).into_iter().flatten();
+        files.any(|file| file.starts_with(&folder))
+    }
+
     /// Whether this is another name for a type, which may be a type of std.
     pub fn is_alias(&self, name: &str) -> bool {
         self.aliases.contains(name) && !self.types.contains_key(name)
+    }
+
+    /// Whether the free functions of this name have a condition, those of this file, or of all files of
+    /// this folder. There is no answer if some have one and others don't.
+    pub(crate) fn has_condition(&self, place: &str, name: &str) -> Option<bool> {
+        let is_there = |path: &str| path == place || path.starts_with(&format!("{place}/"));
+        let all = self.conditions.iter();
+        let all = all.filter(|((path, own), _)| own == name && is_there(path));
+        let all: BTreeSet<bool> = all.flat_map(|(_, all)| all).copied().collect();
+        (all.len() < 2).then(|| all.contains(&true))
+    }
+
+    /// Whether a file of the sources has a free function of this name.
+    pub(crate) fn has_function(&self, path: &str, name: &str) -> bool {
+        let key = (path.to_owned(), name.to_owned());
+        self.conditions.contains_key(&key)
     }
 
     /// Whether a path may lead to the name.

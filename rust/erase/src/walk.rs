@@ -42,6 +42,8 @@ pub struct Walk<'a> {
     pub(crate) is_signature: bool,
     /// Whether the place is in a module within the file.
     pub(crate) is_module: bool,
+    /// Whether the place is in a trait that the package may show.
+    pub(crate) is_public_trait: bool,
     /// Where imports may go: the first byte of the first `use` that stays.
     pub(crate) first_use: Option<usize>,
     /// The first byte of the first item that stays.
@@ -74,6 +76,7 @@ impl<'a> Walk<'a> {
             bound: bound(source),
             is_signature: false,
             is_module: false,
+            is_public_trait: false,
             first_use: None,
             first_item: None,
         };

@@ -89,8 +89,8 @@ fn clauses_become_comments() {
 #[test]
 fn clauses_after_bounds() {
     gives(
-        "pub fn a<R>(b: &R)\nwhere\n    R: Clone,\n    requires { c }\n{\n}\n",
-        "#[inline]\npub fn a<R>(b: &R)\nwhere\n    R: Clone,\n    // requires { c }\n{\n}\n",
+        "fn a<R>(b: &R)\nwhere\n    R: Clone,\n    requires { c }\n{\n}\n",
+        "#[inline]\nfn a<R>(b: &R)\nwhere\n    R: Clone,\n    // requires { c }\n{\n}\n",
     );
 }
 
@@ -122,6 +122,86 @@ fn clauses_of_closures() {
     );
 }
 
+/// The docs of a contract with these lines, below a doc comment with the same margin.
+fn shown(margin: &str, clauses: &[&str]) -> String {
+    let head = [
+        "",
+        "<details><summary>Contract</summary>",
+        "",
+        "In the words of the folder `specs/` of crate `ent_here`:",
+        "",
+        "```text",
+    ];
+    let lines = head.iter().chain(clauses).chain(&["```", "", "</details>"]);
+    let lines = lines.map(|line| format!("/// {line}"));
+    let lines = lines.map(|line| format!("{margin}{}\n", line.trim_end()));
+    lines.collect()
+}
+
+#[test]
+fn clauses_of_what_the_package_shows_go_to_its_docs() {
+    let contract = shown(
+        "    ",
+        &["// Why.", "ensures b { c", "    ≡ d }", "", "ensures { e }"],
+    );
+    gives(
+        "impl A {\n    /// Of a.\n    #[must_use]\n    pub fn a(&self) -> u8\n        // Why.\n        \
+         ensures b { c\n            ≡ d }\n\n        ensures { e }\n    {\n        1\n    }\n}\n",
+        &format!(
+            "impl A {{\n    /// Of a.\n{contract}    #[must_use]\n    #[inline]\n    pub fn a(&self) -> u8 {{\n        \
+             1\n    }}\n}}\n"
+        ),
+    );
+    let contract = shown("", &["ensures { c }"]);
+    gives(
+        "/// Of a.\n#[tactic(auto)]\npub fn a<T>(b: T)\nwhere\n    T: Copy,\n    ensures { c }\n{\n}\n",
+        &format!(
+            "/// Of a.\n{contract}#[inline]\npub fn a<T>(b: T)\nwhere\n    T: Copy,\n{{\n}}\n"
+        ),
+    );
+    gives(
+        "/// Of a.\npub fn a() ensures { c } {\n}\n",
+        &format!("/// Of a.\n{contract}#[inline]\npub fn a() {{\n}}\n"),
+    );
+}
+
+#[test]
+fn clauses_of_a_trait_that_the_package_shows_go_to_its_docs() {
+    let contract = shown("    ", &["requires { b }", "ensures { c }"]);
+    gives(
+        "/// Of A.\npub trait A {\n    /// Of a.\n    fn a(&self) -> u8\n        requires { b }\n        \
+         ensures { c };\n}\n",
+        &format!(
+            "/// Of A.\npub trait A {{\n    /// Of a.\n{contract}    fn a(&self) -> u8;\n}}\n"
+        ),
+    );
+}
+
+#[test]
+fn without_docs_the_clauses_of_a_public_call_stay_comments() {
+    gives(
+        "// Why.\npub fn a()\n    ensures { c }\n{\n}\n",
+        "// Why.\n#[inline]\npub fn a()\n    // ensures { c }\n{\n}\n",
+    );
+}
+
+#[test]
+fn who_may_call_a_function_with_a_condition() {
+    gives(
+        "/// Of A.\nimpl A {\n    /// Of a.\n    pub fn a(&self)\n        ensures { b }\n        \
+         requires { c }\n    {\n    }\n}\n\n/// Of d.\npub const fn d()\n    requires { c }\n{\n}\n",
+        "/// Of A.\nimpl A {\n    /// Of a.\n    #[inline]\n    pub(crate) fn a(&self)\n        // ensures { b }\n        \
+         // requires { c }\n    {\n    }\n}\n\n/// Of d.\n#[inline]\npub(crate) const fn d()\n    \
+         // requires { c }\n{\n}\n",
+    );
+    gives(
+        "pub use b::a;\npub use b::{C, d};\n\nmod b {\n    pub fn a()\n        requires { c }\n    {\n    }\n\n    \
+         pub fn d() {}\n\n    pub struct C;\n}\n",
+        "pub(crate) use b::a;\npub use b::{C, d};\n\nmod b {\n    #[inline]\n    pub(crate) fn a()\n        \
+         // requires { c }\n    {\n    }\n\n    #[inline]\n    pub fn d() {}\n\n    pub struct C;\n}\n",
+    );
+}
+
 #[test]
 fn attributes_for_the_prover() {
     gives(
@@ -142,6 +222,7 @@ fn drop_in_derives() {
         "#[derive(Debug)]\nstruct A;\n",
     );
     stays("#[derive(Clone, Copy, Debug, Default, PartialEq, Eq, Hash)]\nstruct A;\n");
+    stays("#[non_exhaustive]\n#[must_use]\nenum A {\n    B,\n}\n");
 }
 
 #[test]

@@ -33,7 +33,6 @@ impl Commands {
     ///
     /// `Memory`, and then nothing has changed. With `Space` and `Credit` the queue keeps the
     /// refusal, which is a fault of the sync point's report.
-    #[doc = include_str!("proved/ent_total/issuer.spawn.md")]
     #[inline]
     pub fn spawn(&mut self, components: &[(ComponentId, i64)]) -> Result<Handle, SpawnError> {
         let bundle = Bundle::of(components)?;
@@ -46,7 +45,6 @@ impl Commands {
     /// # Errors
     ///
     /// As [`spawn`](Self::spawn).
-    #[doc = include_str!("proved/ent_total/issuer.spawn_many.md")]
     #[inline]
     pub fn spawn_many(
         &mut self,
@@ -62,7 +60,6 @@ impl Commands {
     /// # Errors
     ///
     /// `OutOfMemory`, and then nothing has changed.
-    #[doc = include_str!("proved/ent_total/issuer.insert.md")]
     #[inline]
     pub fn insert(
         &mut self,
@@ -78,7 +75,6 @@ impl Commands {
     /// # Errors
     ///
     /// `OutOfMemory`, and then nothing has changed.
-    #[doc = include_str!("proved/ent_total/issuer.remove.md")]
     #[inline]
     pub fn remove(&mut self, handle: Handle, id: ComponentId) -> Result<(), OutOfMemory> {
         Ok(self.proved.remove(handle, id)?)
@@ -89,14 +85,12 @@ impl Commands {
     /// # Errors
     ///
     /// `OutOfMemory`, and then nothing has changed.
-    #[doc = include_str!("proved/ent_total/issuer.despawn.md")]
     #[inline]
     pub fn despawn(&mut self, handle: Handle) -> Result<(), OutOfMemory> {
         Ok(self.proved.despawn(handle)?)
     }
 
     /// The value of the entity's component, if the entity is alive and has it.
-    #[doc = include_str!("proved/ent_world/view.get.md")]
     #[inline]
     #[must_use]
     pub fn get(&self, handle: Handle, id: ComponentId) -> Option<i64> {
@@ -104,7 +98,6 @@ impl Commands {
     }
 
     /// When and by whom the entity was brought to life, if it is alive.
-    #[doc = include_str!("proved/ent_world/view.birth.md")]
     #[inline]
     #[must_use]
     pub fn birth(&self, handle: Handle) -> Option<Birth> {
@@ -112,7 +105,6 @@ impl Commands {
     }
 
     /// Whether the entity is alive. What the systems of the phase spawn isn't yet.
-    #[doc = include_str!("proved/ent_world/view.contains.md")]
     #[inline]
     #[must_use]
     pub fn contains(&self, handle: Handle) -> bool {
@@ -124,7 +116,6 @@ impl Commands {
     /// # Errors
     ///
     /// `OutOfMemory`: there is no memory for the list.
-    #[doc = include_str!("proved/ent_world/view.by_birth.md")]
     pub fn by_birth(&self) -> Result<Vec<Handle>, OutOfMemory> {
         Ok(self.proved.world().view().by_birth()?.into())
     }
@@ -147,7 +138,6 @@ impl Commands {
     /// let queue = only.finish();
     /// only.spawn(&[]);
     /// ```
-    #[doc = include_str!("proved/ent_total/issuer.finish.md")]
     #[inline]
     #[must_use]
     pub fn finish(self) -> CommandQueue {

@@ -85,7 +85,6 @@ impl Entities {
     }
 
     /// An allocator with no entities and these limits. It takes no memory.
-    #[doc = include_str!("proved/ent_alloc/entities.with_limits.md")]
     #[must_use]
     pub const fn with_limits(limits: Limits) -> Self {
         Self::of(ent_alloc::Entities::with_limits(limits.proved()))
@@ -111,7 +110,6 @@ impl Entities {
     /// # Errors
     ///
     /// `NeedsFlush`, `Space` or `Memory`, and then nothing has changed.
-    #[doc = include_str!("proved/ent_alloc/entities.alloc.md")]
     #[inline]
     pub fn alloc(&mut self) -> Result<Handle, AllocError> {
         Ok(self.proved.alloc()?)
@@ -170,7 +168,6 @@ impl Entities {
     /// # Errors
     ///
     /// `NeedsFlush`, `NotAlive` or `Memory`, and then nothing has changed.
-    #[doc = include_str!("proved/ent_alloc/entities.free.md")]
     // Where it isn't inlined, its result goes through memory: a fifth more for `alloc` with `free`.
     #[inline(always)]
     pub fn free(&mut self, handle: Handle) -> Result<Freed, FreeError> {
@@ -184,7 +181,6 @@ impl Entities {
     ///
     /// `Space` if no handle is left: every request is refused then until the next flush. `Credit`
     /// if 2^50 were requested since the last flush.
-    #[doc = include_str!("proved/ent_total/requesting.request.md")]
     #[inline]
     pub fn request(&mut self) -> Result<Handle, RequestError> {
         Ok(ent_total::request(&mut self.proved)?)
@@ -239,7 +235,6 @@ impl Entities {
     /// # Errors
     ///
     /// `OutOfMemory`, and then nothing has changed.
-    #[doc = include_str!("proved/ent_alloc/entities.flush.md")]
     pub fn flush(&mut self) -> Result<Vec<Handle>, OutOfMemory> {
         let mut born = List::new();
         self.proved.flush(&mut born)?;
@@ -272,7 +267,6 @@ impl Entities {
     /// # Errors
     ///
     /// `OutOfMemory`, and then nothing has changed, and the list has the same handles.
-    #[doc = include_str!("proved/ent_alloc/entities.flush.md")]
     pub fn flush_into(&mut self, born: &mut Vec<Handle>) -> Result<(), OutOfMemory> {
         let mut list = List::from(mem::take(born));
         let flushed = self.proved.flush(&mut list);
@@ -297,7 +291,6 @@ impl Entities {
     /// # Errors
     ///
     /// `OutOfMemory`, as of `flush`, and then nothing has changed and nothing is handed on.
-    #[doc = include_str!("proved/ent_alloc/entities.flush.md")]
     pub fn flush_with(&mut self, each: impl FnMut(Handle)) -> Result<(), OutOfMemory> {
         let mut born = List::new();
         self.proved.flush(&mut born)?;
@@ -338,13 +331,11 @@ impl Entities {
     ///
     /// Rust's `Arc` ends the process if memory runs out. So as much memory is asked for before, and the
     /// process ends only if another thread takes it in between.
-    #[doc = include_str!("proved/ent_total/opening.share.md")]
     pub fn share(self, callers: usize) -> Result<(Shared, Vec<Reserver>), Unshared> {
         Shared::open(self.proved, callers)
     }
 
     /// What became of a handle: whether it is alive, reserved, or neither. It takes constant time.
-    #[doc = include_str!("proved/ent_alloc/entities.state.md")]
     #[inline]
     #[must_use]
     pub fn state(&self, handle: Handle) -> State {
@@ -371,7 +362,6 @@ impl Entities {
     }
 
     /// Whether the entity is alive. It takes constant time.
-    #[doc = include_str!("proved/ent_alloc/entities.is_alive.md")]
     #[inline]
     #[must_use]
     pub fn is_alive(&self, handle: Handle) -> bool {
@@ -390,7 +380,6 @@ impl Entities {
     /// assert!(entities.iter().eq([all[0], all[2]]));
     /// # Ok::<(), Box<dyn std::error::Error + Send + Sync>>(())
     /// ```
-    #[doc = include_str!("proved/ent_alloc/entities.iter.md")]
     #[inline]
     pub fn iter(&self) -> Living<'_> {
         Living {
@@ -401,7 +390,6 @@ impl Entities {
     /// The row that was set with a living entity: a number that a program keeps with it, as where
     /// its components stand. `None` if the handle isn't alive, or if no row was set since it came to
     /// life. It takes constant time.
-    #[doc = include_str!("proved/ent_alloc/entities.row.md")]
     #[inline]
     #[must_use]
     pub fn row(&self, handle: Handle) -> Option<u32> {
@@ -427,7 +415,6 @@ impl Entities {
     /// # Errors
     ///
     /// [`Absent`] if the handle isn't alive, and then nothing has changed.
-    #[doc = include_str!("proved/ent_alloc/entities.set_row.md")]
     #[inline]
     pub fn set_row(&mut self, handle: Handle, row: u32) -> Result<(), Absent> {
         // The proved code requires a living entity.
@@ -439,7 +426,6 @@ impl Entities {
     }
 
     /// How many entities are alive.
-    #[doc = include_str!("proved/ent_alloc/entities.len.md")]
     #[inline]
     #[must_use]
     pub fn len(&self) -> u32 {
@@ -447,7 +433,6 @@ impl Entities {
     }
 
     /// Whether no entity is alive.
-    #[doc = include_str!("proved/ent_alloc/entities.is_empty.md")]
     #[inline]
     #[must_use]
     pub fn is_empty(&self) -> bool {
@@ -455,7 +440,6 @@ impl Entities {
     }
 
     /// How many slots were made. A retired slot counts for good.
-    #[doc = include_str!("proved/ent_alloc/entities.total.md")]
     #[inline]
     #[must_use]
     pub fn total(&self) -> u32 {
@@ -463,7 +447,6 @@ impl Entities {
     }
 
     /// How many slots can still be made.
-    #[doc = include_str!("proved/ent_alloc/entities.room.md")]
     #[inline]
     #[must_use]
     pub fn room(&self) -> u32 {
@@ -471,7 +454,6 @@ impl Entities {
     }
 
     /// How many old slots wait for their next entity.
-    #[doc = include_str!("proved/ent_alloc/entities.top.md")]
     #[inline]
     #[must_use]
     pub fn waiting(&self) -> u32 {
@@ -479,7 +461,6 @@ impl Entities {
     }
 
     /// How many handles were requested since the last flush, served or refused.
-    #[doc = include_str!("proved/ent_alloc/entities.asked.md")]
     #[inline]
     #[must_use]
     pub fn asked(&self) -> u64 {
@@ -487,7 +468,6 @@ impl Entities {
     }
 
     /// How many handles the next flush brings to life.
-    #[doc = include_str!("proved/ent_alloc/entities.reserved.md")]
     #[inline]
     #[must_use]
     pub fn reserved(&self) -> u32 {
@@ -495,7 +475,6 @@ impl Entities {
     }
 
     /// Whether any handle was requested since the last flush.
-    #[doc = include_str!("proved/ent_alloc/entities.needs_flush.md")]
     #[inline]
     #[must_use]
     pub fn needs_flush(&self) -> bool {
@@ -503,7 +482,6 @@ impl Entities {
     }
 
     /// How many slots are retired: they give no handle any more.
-    #[doc = include_str!("proved/ent_alloc/entities.retired.md")]
     #[inline]
     #[must_use]
     pub fn retired(&self) -> u32 {

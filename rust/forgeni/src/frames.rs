@@ -88,7 +88,6 @@ use std::sync::{Mutex, PoisonError};
 ///
 /// With more than one worker, threads are started as [`std::thread::scope`] starts them. If memory
 /// for that runs out, it ends the process.
-#[doc = include_str!("proved/ent_total/framing.run_frame.md")]
 pub fn run_frame<S: System>(
     world: &mut World,
     systems: &[S],

@@ -63,7 +63,6 @@ impl FromStr for Handle {
     /// assert_eq!("7v02".parse::<Handle>(), Err(ParseHandleError::Shape));
     /// assert_eq!("7v0".parse::<Handle>(), Err(ParseHandleError::Range));
     /// ```
-    #[doc = include_str!("proved/ent_handle/text.read_text.md")]
     fn from_str(text: &str) -> Result<Self, ParseHandleError> {
         Ok(Self::read_text(text.as_bytes())?)
     }

@@ -86,7 +86,6 @@ impl OpenWorld {
     }
 
     /// The value of the entity's component, if the entity is alive and has it.
-    #[doc = include_str!("proved/ent_world/view.get.md")]
     #[inline]
     #[must_use]
     pub fn get(&self, handle: Handle, id: ComponentId) -> Option<i64> {
@@ -94,7 +93,6 @@ impl OpenWorld {
     }
 
     /// When and by whom the entity was brought to life, if it is alive.
-    #[doc = include_str!("proved/ent_world/view.birth.md")]
     #[inline]
     #[must_use]
     pub fn birth(&self, handle: Handle) -> Option<Birth> {
@@ -102,7 +100,6 @@ impl OpenWorld {
     }
 
     /// Whether the entity is alive. What the systems spawn isn't yet.
-    #[doc = include_str!("proved/ent_world/view.contains.md")]
     #[inline]
     #[must_use]
     pub fn contains(&self, handle: Handle) -> bool {
@@ -114,13 +111,11 @@ impl OpenWorld {
     /// # Errors
     ///
     /// `OutOfMemory`: there is no memory for the list.
-    #[doc = include_str!("proved/ent_world/view.by_birth.md")]
     pub fn by_birth(&self) -> Result<Vec<Handle>, OutOfMemory> {
         Ok(self.proved.world().view().by_birth()?.into())
     }
 
     /// How many systems the phase has.
-    #[doc = include_str!("proved/ent_total/world_phase.count.md")]
     #[inline]
     #[must_use]
     pub fn count(&self) -> usize {
@@ -128,7 +123,6 @@ impl OpenWorld {
     }
 
     /// How many queues it has already: a close that was refused took them.
-    #[doc = include_str!("proved/ent_total/world_phase.at_home.md")]
     #[inline]
     #[must_use]
     pub fn at_home(&self) -> usize {
@@ -146,7 +140,6 @@ impl OpenWorld {
     /// [`Missing`](FinishError::Missing) and [`Memory`](FinishError::Memory) all queues come back,
     /// in their order. With [`InUse`](FinishError::InUse) the phase keeps them, as
     /// [`close_lost`](Self::close_lost) does.
-    #[doc = include_str!("proved/ent_total/finishing.close.md")]
     pub fn close(self, queues: Vec<CommandQueue>) -> Result<(World, Queues), Unfinished> {
         Self::ended(self.proved.close(issued(queues)), self.next)
     }
@@ -165,7 +158,6 @@ impl OpenWorld {
     /// `Commands` or the queue of a system exists that wasn't handed in. The phase keeps those that
     /// were, and they stay before those that the next close is given. One that was given to
     /// [`core::mem::forget`] exists for good.
-    #[doc = include_str!("proved/ent_total/finishing.close_lost.md")]
     pub fn close_lost(self, queues: Vec<CommandQueue>) -> Result<(World, Queues), Unfinished> {
         Self::ended(self.proved.close_lost(issued(queues)), self.next)
     }

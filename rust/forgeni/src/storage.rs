@@ -55,7 +55,6 @@ impl Storage {
     /// # Errors
     ///
     /// `Present` or `Memory`, and then nothing has changed.
-    #[doc = include_str!("proved/ent_storage/storage.born.md")]
     #[inline(always)]
     pub fn born(&mut self, handle: Handle, birth: Birth) -> Result<(), BornError> {
         Ok(self.proved.born(handle, birth)?)
@@ -66,7 +65,6 @@ impl Storage {
     /// # Errors
     ///
     /// `Absent`, and then nothing has changed.
-    #[doc = include_str!("proved/ent_storage/storage.despawn.md")]
     #[inline]
     pub fn despawn(&mut self, handle: Handle) -> Result<(), Absent> {
         self.proved.despawn(handle).map_err(|_| Absent)
@@ -78,7 +76,6 @@ impl Storage {
     /// # Errors
     ///
     /// `Absent` or `Memory`, and then nothing has changed.
-    #[doc = include_str!("proved/ent_storage/storage.insert.md")]
     #[inline]
     pub fn insert(
         &mut self,
@@ -94,14 +91,12 @@ impl Storage {
     /// # Errors
     ///
     /// `Absent`, and then nothing has changed.
-    #[doc = include_str!("proved/ent_storage/storage.remove.md")]
     #[inline]
     pub fn remove(&mut self, handle: Handle, id: ComponentId) -> Result<Option<i64>, Absent> {
         self.proved.remove(handle, id).map_err(|_| Absent)
     }
 
     /// The value of the entity's component, if the entity is there and has it.
-    #[doc = include_str!("proved/ent_storage/looking.get.md")]
     #[inline]
     #[must_use]
     pub fn get(&self, handle: Handle, id: ComponentId) -> Option<i64> {
@@ -109,7 +104,6 @@ impl Storage {
     }
 
     /// When and by whom the entity was brought to life, if it is there.
-    #[doc = include_str!("proved/ent_storage/looking.birth.md")]
     #[inline]
     #[must_use]
     pub fn birth(&self, handle: Handle) -> Option<Birth> {
@@ -117,7 +111,6 @@ impl Storage {
     }
 
     /// Whether the entity is there.
-    #[doc = include_str!("proved/ent_storage/looking.contains.md")]
     #[inline]
     #[must_use]
     pub fn contains(&self, handle: Handle) -> bool {
@@ -127,7 +120,6 @@ impl Storage {
     /// The entity's components and their values, by rising number, if the entity is there.
     ///
     /// If memory runs out for the list, the process ends, as with `Vec`.
-    #[doc = include_str!("proved/ent_storage/looking.items.md")]
     #[must_use]
     pub fn items(&self, handle: Handle) -> Option<Vec<(ComponentId, i64)>> {
         self.proved.items(handle).map(Iterator::collect)
@@ -138,13 +130,11 @@ impl Storage {
     /// # Errors
     ///
     /// `OutOfMemory`: there is no memory for the list.
-    #[doc = include_str!("proved/ent_storage/looking.by_birth.md")]
     pub fn by_birth(&self) -> Result<Vec<Handle>, OutOfMemory> {
         Ok(self.proved.by_birth()?.into())
     }
 
     /// How many entities there are.
-    #[doc = include_str!("proved/ent_storage/storage.len.md")]
     #[inline]
     #[must_use]
     pub fn len(&self) -> usize {
@@ -152,7 +142,6 @@ impl Storage {
     }
 
     /// Whether there are none.
-    #[doc = include_str!("proved/ent_storage/storage.is_empty.md")]
     #[inline]
     #[must_use]
     pub fn is_empty(&self) -> bool {

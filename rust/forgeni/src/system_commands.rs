@@ -28,7 +28,6 @@ impl<'a, 'w> SystemCommands<'a, 'w> {
     ///
     /// `Memory`, and then nothing has changed. With `Space` and `Credit` the queue keeps the
     /// refusal, which is a fault of the frame's report, and the system may go on.
-    #[doc = include_str!("proved/ent_queue/commands.spawn.md")]
     #[inline]
     pub fn spawn(&mut self, components: &[(ComponentId, i64)]) -> Result<Handle, SpawnError> {
         let bundle = Bundle::of(components)?;
@@ -41,7 +40,6 @@ impl<'a, 'w> SystemCommands<'a, 'w> {
     /// # Errors
     ///
     /// As [`spawn`](Self::spawn).
-    #[doc = include_str!("proved/ent_queue/commands.spawn_many.md")]
     #[inline]
     pub fn spawn_many(
         &mut self,
@@ -57,7 +55,6 @@ impl<'a, 'w> SystemCommands<'a, 'w> {
     /// # Errors
     ///
     /// `OutOfMemory`, and then nothing has changed.
-    #[doc = include_str!("proved/ent_queue/commands.insert.md")]
     #[inline]
     pub fn insert(
         &mut self,
@@ -73,7 +70,6 @@ impl<'a, 'w> SystemCommands<'a, 'w> {
     /// # Errors
     ///
     /// `OutOfMemory`, and then nothing has changed.
-    #[doc = include_str!("proved/ent_queue/commands.remove.md")]
     #[inline]
     pub fn remove(&mut self, handle: Handle, id: ComponentId) -> Result<(), OutOfMemory> {
         Ok(self.proved.remove(handle, id)?)
@@ -84,7 +80,6 @@ impl<'a, 'w> SystemCommands<'a, 'w> {
     /// # Errors
     ///
     /// `OutOfMemory`, and then nothing has changed.
-    #[doc = include_str!("proved/ent_queue/commands.despawn.md")]
     #[inline]
     pub fn despawn(&mut self, handle: Handle) -> Result<(), OutOfMemory> {
         Ok(self.proved.despawn(handle)?)

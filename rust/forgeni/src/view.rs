@@ -19,7 +19,6 @@ impl<'a> View<'a> {
     }
 
     /// Whether the entity is alive. What the systems of the frame spawn isn't yet.
-    #[doc = include_str!("proved/ent_world/view.contains.md")]
     #[inline]
     #[must_use]
     pub fn contains(self, handle: Handle) -> bool {
@@ -27,7 +26,6 @@ impl<'a> View<'a> {
     }
 
     /// The value of the entity's component, if the entity is alive and has it.
-    #[doc = include_str!("proved/ent_world/view.get.md")]
     #[inline]
     #[must_use]
     pub fn get(self, handle: Handle, id: ComponentId) -> Option<i64> {
@@ -35,7 +33,6 @@ impl<'a> View<'a> {
     }
 
     /// When and by whom the entity was brought to life, if it is alive.
-    #[doc = include_str!("proved/ent_world/view.birth.md")]
     #[inline]
     #[must_use]
     pub fn birth(self, handle: Handle) -> Option<Birth> {
@@ -48,7 +45,6 @@ impl<'a> View<'a> {
     /// # Errors
     ///
     /// `OutOfMemory`: there is no memory for the list.
-    #[doc = include_str!("proved/ent_world/view.with.md")]
     pub fn with(self, id: ComponentId) -> Result<Vec<Handle>, OutOfMemory> {
         Ok(self.proved.with(id)?.into())
     }
@@ -58,7 +54,6 @@ impl<'a> View<'a> {
     /// # Errors
     ///
     /// `OutOfMemory`: there is no memory for the list.
-    #[doc = include_str!("proved/ent_world/view.by_birth.md")]
     pub fn by_birth(self) -> Result<Vec<Handle>, OutOfMemory> {
         Ok(self.proved.by_birth()?.into())
     }
@@ -66,14 +61,12 @@ impl<'a> View<'a> {
     /// The handle of the entity with that birth, if there is one. If several entities have the
     /// birth, it is the least of their handles. It takes no memory. The time is that of a look at
     /// each entity.
-    #[doc = include_str!("proved/ent_world/view.of_birth.md")]
     #[must_use]
     pub fn of_birth(self, birth: Birth) -> Option<Handle> {
         self.proved.of_birth(birth)
     }
 
     /// How often the world was flushed before the frame.
-    #[doc = include_str!("proved/ent_world/view.phase.md")]
     #[inline]
     #[must_use]
     pub fn phase(self) -> u64 {

@@ -20,12 +20,20 @@ pub struct Handle {
 
 impl Handle {
     /// The handle of these numbers, or `None` if one of them is out of range.
+    ///
+    /// <details><summary>Contract</summary>
+    ///
+    /// In the words of the folder `specs/` of crate `ent_handle`:
+    ///
+    /// ```text
+    /// ensures in_range { IsSome result
+    ///     ↔ IsHandle (record { index = index; generation = generation }) }
+    /// ensures value { IfSome result (λ h. h ≡ record { index = index; generation = generation }) }
+    /// ```
+    ///
+    /// </details>
     #[inline]
-    pub const fn new(index: u32, generation: u32) -> Option<Self>
-        // ensures in_range { IsSome result
-        //     ↔ IsHandle (record { index = index; generation = generation }) }
-        // ensures value { IfSome result (λ h. h ≡ record { index = index; generation = generation }) }
-    {
+    pub const fn new(index: u32, generation: u32) -> Option<Self> {
         if index < u32::MAX && 1 <= generation && generation < 1 << 31 {
             Some(Handle::from_parts(index, generation))
         } else {
@@ -37,7 +45,7 @@ impl Handle {
     /// generation 1 to 2,147,483,647. It tests nothing when it runs, so it is for a caller that
     /// keeps such numbers. `new` tests them.
     #[inline]
-    pub const fn from_parts(index: u32, generation: u32) -> Self
+    pub(crate) const fn from_parts(index: u32, generation: u32) -> Self
         // requires { IsHandle (record { index = index; generation = generation }) }
         // ensures { result ≡ record { index = index; generation = generation } }
     {
@@ -51,37 +59,69 @@ impl Handle {
     }
 
     /// Which slot it is: 0 to 4,294,967,294.
+    ///
+    /// <details><summary>Contract</summary>
+    ///
+    /// In the words of the folder `specs/` of crate `ent_handle`:
+    ///
+    /// ```text
+    /// ensures { result ≡ self.index }
+    /// ```
+    ///
+    /// </details>
     #[inline]
-    pub const fn index(self) -> u32
-        // ensures { result ≡ self.index }
-    {
+    pub const fn index(self) -> u32 {
         (self.bits.get() & 0xffff_ffff) as u32
     }
 
     /// Which occupant of the slot it is: 1 to 2,147,483,647.
+    ///
+    /// <details><summary>Contract</summary>
+    ///
+    /// In the words of the folder `specs/` of crate `ent_handle`:
+    ///
+    /// ```text
+    /// ensures { result ≡ self.generation }
+    /// ```
+    ///
+    /// </details>
     #[inline]
-    pub const fn generation(self) -> u32
-        // ensures { result ≡ self.generation }
-    {
+    pub const fn generation(self) -> u32 {
         (self.bits.get() >> 32) as u32
     }
 
     /// The handle as one number: the generation times 2^32, plus the index.
+    ///
+    /// <details><summary>Contract</summary>
+    ///
+    /// In the words of the folder `specs/` of crate `ent_handle`:
+    ///
+    /// ```text
+    /// ensures bits { result ≡ bits self }
+    /// ensures in_range { IsHandle self }
+    /// ```
+    ///
+    /// </details>
     #[inline]
-    pub const fn to_bits(self) -> u64
-        // ensures bits { result ≡ bits self }
-        // ensures in_range { IsHandle self }
-    {
+    pub const fn to_bits(self) -> u64 {
         self.bits.get()
     }
 
     /// The handle that has these bits, or `None` if no handle has them.
+    ///
+    /// <details><summary>Contract</summary>
+    ///
+    /// In the words of the folder `specs/` of crate `ent_handle`:
+    ///
+    /// ```text
+    /// ensures found { IfSome result (λ h. bits h ≡ of) }
+    /// ensures in_range { IfSome result IsHandle }
+    /// ensures none { IfNone result ((h : Handle) → IsHandle h → bits h ≢ of) }
+    /// ```
+    ///
+    /// </details>
     #[inline]
-    pub const fn from_bits(of: u64) -> Option<Self>
-        // ensures found { IfSome result (λ h. bits h ≡ of) }
-        // ensures in_range { IfSome result IsHandle }
-        // ensures none { IfNone result ((h : Handle) → IsHandle h → bits h ≢ of) }
-    {
+    pub const fn from_bits(of: u64) -> Option<Self> {
         Handle::new((of & 0xffff_ffff) as u32, (of >> 32) as u32)
     }
 }

@@ -39,10 +39,18 @@ impl Machine {
     /// # Errors
     ///
     /// None: it takes no memory.
+    ///
+    /// <details><summary>Contract</summary>
+    ///
+    /// In the words of the folder `specs/` of crate `ent_replay`:
+    ///
+    /// ```text
+    /// ensures { result ≡ Ok (starting limits) }
+    /// ```
+    ///
+    /// </details>
     #[inline]
-    pub fn new(limits: Limits) -> Result<Self, Memory>
-        // ensures { result ≡ Ok (starting limits) }
-    {
+    pub fn new(limits: Limits) -> Result<Self, Memory> {
         let entities = Entities::with_limits(limits);
         prove_eq!(entities.cursor(), 0);
         Ok(Machine {
@@ -67,15 +75,23 @@ impl Machine {
     /// - `Memory`: tested last, and only if the event makes a slot, frees a handle whose slot isn't
     ///   retired, brings handles to life, opens a call or lists the handles of a reply. A reply and
     ///   a flush ask for their whole list before they list a handle.
+    ///
+    /// <details><summary>Contract</summary>
+    ///
+    /// In the words of the folder `specs/` of crate `ent_replay`:
+    ///
+    /// ```text
+    /// ensures outcome { ¬ (result ≡ Err ReplayFault.Memory) → result ≡ outcome_of self.old event }
+    /// ensures state { ¬ (result ≡ Err ReplayFault.Memory)
+    ///     → self.new ≡ after_event self.old event }
+    /// ensures memory { result ≡ Err ReplayFault.Memory → self.new ≡ self.old }
+    /// ensures grows { result ≡ Err ReplayFault.Memory
+    ///     → event_takes_memory self.old (outcome_of self.old event) ≡ true }
+    /// ```
+    ///
+    /// </details>
     #[inline]
-    pub fn step(&mut self, event: Event) -> Result<Outcome, ReplayFault>
-        // ensures outcome { ¬ (result ≡ Err ReplayFault.Memory) → result ≡ outcome_of self.old event }
-        // ensures state { ¬ (result ≡ Err ReplayFault.Memory)
-        //     → self.new ≡ after_event self.old event }
-        // ensures memory { result ≡ Err ReplayFault.Memory → self.new ≡ self.old }
-        // ensures grows { result ≡ Err ReplayFault.Memory
-        //     → event_takes_memory self.old (outcome_of self.old event) ≡ true }
-    {
+    pub fn step(&mut self, event: Event) -> Result<Outcome, ReplayFault> {
         match event {
             Event::Alloc => self.alloc(),
             Event::Free(handle) => self.free(handle),
@@ -97,21 +113,29 @@ impl Machine {
     /// `RunMemory` if memory ran out. The first `done` events stand, and no later one was applied.
     /// Either the event at `done` would have taken memory, or `done` is 0 and there was no room to
     /// list the outcomes.
+    ///
+    /// <details><summary>Contract</summary>
+    ///
+    /// In the words of the folder `specs/` of crate `ent_replay`:
+    ///
+    /// ```text
+    /// ensures outcomes { IfOk result (λ outcomes.
+    ///     outcomes.items ≡ outcomes_of self.old events.now) }
+    /// ensures state { OnOk result (self.new ≡ after_events self.old events.now) }
+    /// ensures history { IfOk result (λ outcomes. IsAtRest self.old
+    ///     → StandInHistory (new_phase self.old) self.old events.now outcomes.items) }
+    /// ensures given_once { IfOk result (λ outcomes.
+    ///     AreGivenOnce (given_by_all outcomes.items)) }
+    ///
+    /// ensures cut { IfErr result (λ memory. memory.done < length events.now) }
+    /// ensures cut_state { IfErr result (λ memory.
+    ///     self.new ≡ after_events self.old (take memory.done events.now)) }
+    /// ensures grows { IfErr result (λ memory. RunsOutAt self.old events.now memory.done) }
+    /// ```
+    ///
+    /// </details>
     #[inline]
-    pub fn run(&mut self, events: &[Event]) -> Result<Vec<Result<Outcome, ReplayFault>>, RunMemory>
-        // ensures outcomes { IfOk result (λ outcomes.
-        //     outcomes.items ≡ outcomes_of self.old events.now) }
-        // ensures state { OnOk result (self.new ≡ after_events self.old events.now) }
-        // ensures history { IfOk result (λ outcomes. IsAtRest self.old
-        //     → StandInHistory (new_phase self.old) self.old events.now outcomes.items) }
-        // ensures given_once { IfOk result (λ outcomes.
-        //     AreGivenOnce (given_by_all outcomes.items)) }
-
-        // ensures cut { IfErr result (λ memory. memory.done < length events.now) }
-        // ensures cut_state { IfErr result (λ memory.
-        //     self.new ≡ after_events self.old (take memory.done events.now)) }
-        // ensures grows { IfErr result (λ memory. RunsOutAt self.old events.now memory.done) }
-    {
+    pub fn run(&mut self, events: &[Event]) -> Result<Vec<Result<Outcome, ReplayFault>>, RunMemory> {
         let Ok(mut outcomes) = Vec::with_capacity(events.len()) else {
             return Err(RunMemory { done: 0 });
         };

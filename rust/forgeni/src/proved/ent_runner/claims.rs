@@ -23,7 +23,7 @@ impl Claims {
     ///
     /// [`Memory`] if there is no memory for them. Nothing is left of them then.
     #[inline]
-    pub fn open(
+    pub(crate) fn open(
         numbers: usize,
         workers: usize,
     ) -> Result<(Claims, Vec<Claimer>), Memory>
@@ -50,7 +50,7 @@ impl Claims {
     /// no number is left, and the claimer has ended: from then on it returns `None` without a step.
     /// It takes no memory and waits for nobody.
     #[inline]
-    pub fn next(&self, claimer: &mut Claimer) -> Option<usize>
+    pub(crate) fn next(&self, claimer: &mut Claimer) -> Option<usize>
         // requires { IsClaimerOf self.now claimer.old }
         // ensures stays { IsClaimerOf self.now claimer.new }
 
@@ -79,7 +79,7 @@ impl Claims {
 
     /// Ends the claiming, with all its claimers. It takes no memory.
     #[inline]
-    pub fn close(self, claimers: Vec<Claimer>)
+    pub(crate) fn close(self, claimers: Vec<Claimer>)
         // requires all { length claimers.items ≡ self.workers }
         // requires own { All (IsClaimerOf self) claimers.items }
 

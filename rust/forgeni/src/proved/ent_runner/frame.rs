@@ -39,7 +39,7 @@ use crate::kit::thread::Threads;
 ///   [`World::apply`] does the sync point. If it stopped at a command, [`World::apply_from`] goes
 ///   on there. Both end as this frame would have.
 #[inline]
-pub fn run_frame<R, S, G>(
+pub(crate) fn run_frame<R, S, G>(
     rt: &R,
     world: &mut World,
     systems: &[S],

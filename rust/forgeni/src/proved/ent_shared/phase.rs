@@ -16,7 +16,7 @@ use crate::proved::ent_handle::Memory;
 ///
 /// [`Memory`], with the allocator as it was.
 #[inline]
-pub fn share(
+pub(crate) fn share(
     entities: Entities,
     n: usize,
 ) -> Result<(Shared, Vec<Reserver>), (Entities, Memory)>

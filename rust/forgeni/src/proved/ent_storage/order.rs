@@ -7,13 +7,21 @@ use crate::proved::ent_handle::{Birth, Handle};
 use crate::kit::alloc::AllocError;
 
 /// The handles, by birth and then by handle. It takes no memory for nobody.
+///
+/// <details><summary>Contract</summary>
+///
+/// In the words of the folder `specs/` of crate `ent_storage`:
+///
+/// ```text
+/// ensures ok { IfOk result (λ handles. IsInOrder births.items handles.items) }
+/// ensures memory { OnErr result (0 < length births.items) }
+/// ```
+///
+/// </details>
 #[inline]
 pub fn handles_in_order(
     mut births: Vec<(Birth, Handle)>,
-) -> Result<Vec<Handle>, AllocError>
-    // ensures ok { IfOk result (λ handles. IsInOrder births.items handles.items) }
-    // ensures memory { OnErr result (0 < length births.items) }
-{
+) -> Result<Vec<Handle>, AllocError> {
     if births.is_empty() {
         return Ok(Vec::new());
     }
@@ -48,11 +56,19 @@ fn handles(births: &[(Birth, Handle)]) -> Result<Vec<Handle>, AllocError>
 }
 
 /// The least handle of a resident with that birth, if there is one.
+///
+/// <details><summary>Contract</summary>
+///
+/// In the words of the folder `specs/` of crate `ent_storage`:
+///
+/// ```text
+/// ensures { IsLeastOf birth (map (λ resident. (resident.birth, resident.handle)) residents.now)
+///     result }
+/// ```
+///
+/// </details>
 #[inline]
-pub fn least_of_birth(residents: &[Resident], birth: Birth) -> Option<Handle>
-    // ensures { IsLeastOf birth (map (λ resident. (resident.birth, resident.handle)) residents.now)
-    //     result }
-{
+pub fn least_of_birth(residents: &[Resident], birth: Birth) -> Option<Handle> {
     let mut least = None;
     for resident in residents {
         if resident.birth == birth {

@@ -52,18 +52,26 @@ pub struct Opening {
 ///
 /// [`Unshared`] says why, and has the allocator as it was. It is the first of these that holds:
 /// [`ShareFault::NeedsFlush`], [`ShareFault::Count`], [`ShareFault::Memory`].
+///
+/// <details><summary>Contract</summary>
+///
+/// In the words of the folder `specs/` of crate `ent_total`:
+///
+/// ```text
+/// ensures start { IfOk result (λ o. o.shared.start ≡ entities.allocator) }
+/// ensures rows { IfOk result (λ o. o.shared.rows ≡ entities.rows) }
+/// ensures count { IfOk result (λ o. o.shared.count ≡ count) }
+/// ensures home { IfOk result (λ o. records_of o.home ≡ opened_records entities.allocator 0 count) }
+/// ensures needs_flush { IsErrWith result (λ u. u.why ≡ NeedsFlush)
+///     ↔ (0 < entities.allocator.asked) }
+/// ensures no_count { IsErrWith result (λ u. u.why ≡ Count)
+///     ↔ ((entities.allocator.asked ≡ 0) × ((count ≡ 0) ⊎ (1024 < count))) }
+/// ensures handed_back { IfErr result (λ u. u.entities ≡ entities) }
+/// ```
+///
+/// </details>
 #[inline]
-pub fn share(entities: Entities, count: usize) -> Result<Opening, Unshared>
-    // ensures start { IfOk result (λ o. o.shared.start ≡ entities.allocator) }
-    // ensures rows { IfOk result (λ o. o.shared.rows ≡ entities.rows) }
-    // ensures count { IfOk result (λ o. o.shared.count ≡ count) }
-    // ensures home { IfOk result (λ o. records_of o.home ≡ opened_records entities.allocator 0 count) }
-    // ensures needs_flush { IsErrWith result (λ u. u.why ≡ NeedsFlush)
-    //     ↔ (0 < entities.allocator.asked) }
-    // ensures no_count { IsErrWith result (λ u. u.why ≡ Count)
-    //     ↔ ((entities.allocator.asked ≡ 0) × ((count ≡ 0) ⊎ (1024 < count))) }
-    // ensures handed_back { IfErr result (λ u. u.entities ≡ entities) }
-{
+pub fn share(entities: Entities, count: usize) -> Result<Opening, Unshared> {
     if entities.needs_flush() {
         return Err(Unshared {
             entities,
@@ -114,7 +122,7 @@ impl Opening {
 
     /// The phase, under a number by which it is told from all others. All its reservers are at home.
     #[inline]
-    pub fn numbered(self, number: u64) -> Phase
+    pub(crate) fn numbered(self, number: u64) -> Phase
         // requires stands_for { J.shared_of number ≡ self.shared }
         // ensures { result ≡ record { number = number; shared = self.shared; home = self.home } }
     {

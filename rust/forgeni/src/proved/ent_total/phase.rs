@@ -35,37 +35,69 @@ impl Phase {
     }
 
     /// How many callers it has, whether they exist, are at home or were lost.
+    ///
+    /// <details><summary>Contract</summary>
+    ///
+    /// In the words of the folder `specs/` of crate `ent_total`:
+    ///
+    /// ```text
+    /// ensures { result ≡ self.now.shared.count }
+    /// ```
+    ///
+    /// </details>
     #[inline]
-    pub fn count(&self) -> usize
-        // ensures { result ≡ self.now.shared.count }
-    {
+    pub fn count(&self) -> usize {
         self.shared.count()
     }
 
     /// How many of them are at home.
+    ///
+    /// <details><summary>Contract</summary>
+    ///
+    /// In the words of the folder `specs/` of crate `ent_total`:
+    ///
+    /// ```text
+    /// ensures { result ≡ length self.now.home }
+    /// ```
+    ///
+    /// </details>
     #[inline]
-    pub fn at_home(&self) -> usize
-        // ensures { result ≡ length self.now.home }
-    {
+    pub fn at_home(&self) -> usize {
         self.home.len()
     }
 
     /// Whether the handle was alive when the phase was opened. It takes constant time.
+    ///
+    /// <details><summary>Contract</summary>
+    ///
+    /// In the words of the folder `specs/` of crate `ent_total`:
+    ///
+    /// ```text
+    /// ensures { result ≡ set.contains self.now.shared.start.live handle }
+    /// ```
+    ///
+    /// </details>
     #[inline]
-    pub fn is_alive(&self, handle: Handle) -> bool
-        // ensures { result ≡ set.contains self.now.shared.start.live handle }
-    {
+    pub fn is_alive(&self, handle: Handle) -> bool {
         self.shared.is_alive(handle)
     }
 
     /// The row that the program kept with the entity when the phase was opened. `None` if the
     /// handle was not alive then, or if no row was set since it came to life. It takes constant
     /// time.
+    ///
+    /// <details><summary>Contract</summary>
+    ///
+    /// In the words of the folder `specs/` of crate `ent_total`:
+    ///
+    /// ```text
+    /// ensures value { result ≡ map.get self.now.shared.rows handle }
+    /// ensures alive { OnSome result (set.contains self.now.shared.start.live handle ≡ true) }
+    /// ```
+    ///
+    /// </details>
     #[inline]
-    pub fn row(&self, handle: Handle) -> Option<u32>
-        // ensures value { result ≡ map.get self.now.shared.rows handle }
-        // ensures alive { OnSome result (set.contains self.now.shared.start.live handle ≡ true) }
-    {
+    pub fn row(&self, handle: Handle) -> Option<u32> {
         self.shared.row(handle)
     }
 
@@ -83,16 +115,24 @@ impl Phase {
     ///
     /// `Memory` if a reserver is at home, but there is no room for another owner of the phase. Then
     /// nothing has changed.
+    ///
+    /// <details><summary>Contract</summary>
+    ///
+    /// In the words of the folder `specs/` of crate `ent_total`:
+    ///
+    /// ```text
+    /// ensures given { IfOk result (λ found. IfSome found (λ c.
+    ///     (c.number ≡ self.old.number) × (c.shared ≡ self.old.shared)
+    ///     × (self.old ≡ record self.new { home = self.new.home ++ c.reserver ∷ [] }))) }
+    /// ensures none { IfOk result (λ found. IfNone found
+    ///     ((self.old.home ≡ []) × (self.new ≡ self.old))) }
+    /// ensures none_home { (result ≡ Ok None) ↔ (self.old.home ≡ []) }
+    /// ensures err { OnErr result (self.new ≡ self.old) }
+    /// ```
+    ///
+    /// </details>
     #[inline]
-    pub fn caller(&mut self) -> Result<Option<Caller>, Memory>
-        // ensures given { IfOk result (λ found. IfSome found (λ c.
-        //     (c.number ≡ self.old.number) × (c.shared ≡ self.old.shared)
-        //     × (self.old ≡ record self.new { home = self.new.home ++ c.reserver ∷ [] }))) }
-        // ensures none { IfOk result (λ found. IfNone found
-        //     ((self.old.home ≡ []) × (self.new ≡ self.old))) }
-        // ensures none_home { (result ≡ Ok None) ↔ (self.old.home ≡ []) }
-        // ensures err { OnErr result (self.new ≡ self.old) }
-    {
+    pub fn caller(&mut self) -> Result<Option<Caller>, Memory> {
         if self.home.is_empty() {
             return Ok(None);
         }

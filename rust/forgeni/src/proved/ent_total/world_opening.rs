@@ -30,21 +30,29 @@ pub struct WorldOpening {
 ///
 /// [`Unopened`] says why, and has the world as it was. It is the first of these that holds:
 /// [`ShareFault::NeedsFlush`], [`ShareFault::Count`], [`ShareFault::Memory`].
+///
+/// <details><summary>Contract</summary>
+///
+/// In the words of the folder `specs/` of crate `ent_total`:
+///
+/// ```text
+/// ensures of_world { IfOk result (λ o. o.of_world ≡ world.number) }
+/// ensures shared { IfOk result (λ o. (o.world.shared.start ≡ world.world.allocator)
+///     × (o.world.shared.count ≡ count)) }
+/// ensures world { IfOk result (λ o. (o.world.phase ≡ world.world.phase)
+///     × (o.world.entities ≡ world.world.entities)) }
+/// ensures home { IfOk result (λ o.
+///     records_of o.home ≡ opened_records world.world.allocator 0 count) }
+/// ensures needs_flush { IsErrWith result (λ u. u.why ≡ NeedsFlush)
+///     ↔ (0 < world.world.allocator.asked) }
+/// ensures no_count { IsErrWith result (λ u. u.why ≡ Count)
+///     ↔ ((world.world.allocator.asked ≡ 0) × ((count ≡ 0) ⊎ (1024 < count))) }
+/// ensures handed_back { IfErr result (λ u. u.world ≡ world) }
+/// ```
+///
+/// </details>
 #[inline]
-pub fn open(world: NumberedWorld, count: usize) -> Result<WorldOpening, Unopened>
-    // ensures of_world { IfOk result (λ o. o.of_world ≡ world.number) }
-    // ensures shared { IfOk result (λ o. (o.world.shared.start ≡ world.world.allocator)
-    //     × (o.world.shared.count ≡ count)) }
-    // ensures world { IfOk result (λ o. (o.world.phase ≡ world.world.phase)
-    //     × (o.world.entities ≡ world.world.entities)) }
-    // ensures home { IfOk result (λ o.
-    //     records_of o.home ≡ opened_records world.world.allocator 0 count) }
-    // ensures needs_flush { IsErrWith result (λ u. u.why ≡ NeedsFlush)
-    //     ↔ (0 < world.world.allocator.asked) }
-    // ensures no_count { IsErrWith result (λ u. u.why ≡ Count)
-    //     ↔ ((world.world.allocator.asked ≡ 0) × ((count ≡ 0) ⊎ (1024 < count))) }
-    // ensures handed_back { IfErr result (λ u. u.world ≡ world) }
-{
+pub fn open(world: NumberedWorld, count: usize) -> Result<WorldOpening, Unopened> {
     if world.world.needs_flush() {
         return Err(Unopened {
             world,
@@ -100,7 +108,7 @@ impl WorldOpening {
     /// The phase, under a number by which it is told from all others. All its reservers are at home,
     /// and no queue is.
     #[inline]
-    pub fn numbered(self, number: u64) -> WorldPhase
+    pub(crate) fn numbered(self, number: u64) -> WorldPhase
         // requires stands_for { J.world_of number ≡ self.world }
         // ensures { result ≡ record {
         //   number = number;

@@ -56,26 +56,50 @@ impl WorldPhase {
     }
 
     /// How many systems it has, whether they issue, are at home or were lost.
+    ///
+    /// <details><summary>Contract</summary>
+    ///
+    /// In the words of the folder `specs/` of crate `ent_total`:
+    ///
+    /// ```text
+    /// ensures { result ≡ self.now.world.shared.count }
+    /// ```
+    ///
+    /// </details>
     #[inline]
-    pub fn count(&self) -> usize
-        // ensures { result ≡ self.now.world.shared.count }
-    {
+    pub fn count(&self) -> usize {
         self.world.shared().count()
     }
 
     /// How many of them are at home.
+    ///
+    /// <details><summary>Contract</summary>
+    ///
+    /// In the words of the folder `specs/` of crate `ent_total`:
+    ///
+    /// ```text
+    /// ensures { result ≡ length self.now.home }
+    /// ```
+    ///
+    /// </details>
     #[inline]
-    pub fn at_home(&self) -> usize
-        // ensures { result ≡ length self.now.home }
-    {
+    pub fn at_home(&self) -> usize {
         self.home.len()
     }
 
     /// The world that is open. Its `view` shows it as it was opened.
+    ///
+    /// <details><summary>Contract</summary>
+    ///
+    /// In the words of the folder `specs/` of crate `ent_total`:
+    ///
+    /// ```text
+    /// ensures { result.now ≡ self.now.world }
+    /// ```
+    ///
+    /// </details>
     #[inline]
-    pub fn world(&self) -> &OpenWorld
-        // ensures { result.now ≡ self.now.world }
-    {
+    pub fn world(&self) -> &OpenWorld {
         &self.world
     }
 
@@ -94,16 +118,24 @@ impl WorldPhase {
     ///
     /// `Memory` if a reserver is at home, but there is no room for another owner of the phase. Then
     /// nothing has changed.
+    ///
+    /// <details><summary>Contract</summary>
+    ///
+    /// In the words of the folder `specs/` of crate `ent_total`:
+    ///
+    /// ```text
+    /// ensures given { IfOk result (λ found. IfSome found (λ i.
+    ///     (i.number ≡ self.old.number) × (i.world ≡ self.old.world) × (i.queue ≡ [])
+    ///     × (self.old ≡ record self.new { home = self.new.home ++ i.reserver ∷ [] }))) }
+    /// ensures none { IfOk result (λ found. IfNone found
+    ///     ((self.old.home ≡ []) × (self.new ≡ self.old))) }
+    /// ensures none_home { (result ≡ Ok None) ↔ (self.old.home ≡ []) }
+    /// ensures err { OnErr result (self.new ≡ self.old) }
+    /// ```
+    ///
+    /// </details>
     #[inline]
-    pub fn issuer(&mut self) -> Result<Option<Issuer>, Memory>
-        // ensures given { IfOk result (λ found. IfSome found (λ i.
-        //     (i.number ≡ self.old.number) × (i.world ≡ self.old.world) × (i.queue ≡ [])
-        //     × (self.old ≡ record self.new { home = self.new.home ++ i.reserver ∷ [] }))) }
-        // ensures none { IfOk result (λ found. IfNone found
-        //     ((self.old.home ≡ []) × (self.new ≡ self.old))) }
-        // ensures none_home { (result ≡ Ok None) ↔ (self.old.home ≡ []) }
-        // ensures err { OnErr result (self.new ≡ self.old) }
-    {
+    pub fn issuer(&mut self) -> Result<Option<Issuer>, Memory> {
         if self.home.is_empty() {
             return Ok(None);
         }

@@ -31,26 +31,42 @@ impl OpenWorld {
     }
 
     /// The allocator from which callers reserve, each with a [`Reserver`] of its own.
+    ///
+    /// <details><summary>Contract</summary>
+    ///
+    /// In the words of the folder `specs/` of crate `ent_world`:
+    ///
+    /// ```text
+    /// ensures { result.now ≡ self.now.shared }
+    /// ```
+    ///
+    /// </details>
     #[inline]
-    pub fn shared(&self) -> &Shared
-        // ensures { result.now ≡ self.now.shared }
-    {
+    pub fn shared(&self) -> &Shared {
         &self.shared
     }
 
     /// The world as it was opened.
+    ///
+    /// <details><summary>Contract</summary>
+    ///
+    /// In the words of the folder `specs/` of crate `ent_world`:
+    ///
+    /// ```text
+    /// ensures phase { result.phase ≡ self.now.phase }
+    /// ensures entities { result.entities ≡ self.now.entities }
+    /// ```
+    ///
+    /// </details>
     #[inline]
-    pub fn view(&self) -> View<'_>
-        // ensures phase { result.phase ≡ self.now.phase }
-        // ensures entities { result.entities ≡ self.now.entities }
-    {
+    pub fn view(&self) -> View<'_> {
         View::new(&self.storage, self.phase)
     }
 
     /// Ends the phase with all its reservers, as [`Shared::close`] does. Nothing of the world but
     /// its allocator changes. It takes no memory.
     #[inline]
-    pub fn close(self, reservers: Vec<Reserver>) -> World
+    pub(crate) fn close(self, reservers: Vec<Reserver>) -> World
         // requires all { length reservers.items ≡ self.shared.count }
         // requires own { All (IsOf self.shared) reservers.items }
         // ensures phase { result.phase ≡ self.phase }
@@ -95,7 +111,7 @@ impl OpenWorld {
     /// Ends the phase although some reservers may be lost, as [`Shared::close_lost`] does. Nothing
     /// of the world but its allocator changes. It takes no memory.
     #[inline]
-    pub fn close_lost(self, reservers: Vec<Reserver>) -> World
+    pub(crate) fn close_lost(self, reservers: Vec<Reserver>) -> World
         // requires { All (IsOf self.shared) reservers.items }
         // ensures phase { result.phase ≡ self.phase }
         // ensures entities { result.entities ≡ self.entities }

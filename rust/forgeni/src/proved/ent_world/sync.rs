@@ -28,7 +28,7 @@ impl World {
     ///   That command would there give an entity components, free a handle or list a fault: no
     ///   other takes memory. All births stand, and of the commands just those before.
     #[inline]
-    pub fn apply(&mut self, queues: &[CommandQueue]) -> Result<SyncReport, SyncFault>
+    pub(crate) fn apply(&mut self, queues: &[CommandQueue]) -> Result<SyncReport, SyncFault>
         // requires { length queues.now ≤ 2 ^ 16 }
         // ensures ok { OnOk result (self.new ≡ (sync queues.now self.old).world) }
         // ensures born { IfOk result (λ report. report.born.items ≡ born self.old.allocator) }
@@ -78,7 +78,7 @@ impl World {
     /// `Memory`: it stopped again, there or later, and can go on from there. Of the commands just
     /// those before have taken effect.
     #[inline]
-    pub fn apply_from(
+    pub(crate) fn apply_from(
         &mut self,
         queues: &[CommandQueue],
         system: usize,

@@ -29,10 +29,18 @@ pub struct Checker {
 
 impl Checker {
     /// A checker that has taken no line. It takes no memory.
+    ///
+    /// <details><summary>Contract</summary>
+    ///
+    /// In the words of the folder `specs/` of crate `ent_replay`:
+    ///
+    /// ```text
+    /// ensures { result ≡ record { allocator = opening limits; run = [] } }
+    /// ```
+    ///
+    /// </details>
     #[inline]
-    pub fn new(limits: Limits) -> Self
-        // ensures { result ≡ record { allocator = opening limits; run = [] } }
-    {
+    pub fn new(limits: Limits) -> Self {
         Checker {
             entities: Entities::with_limits(limits),
             run: Vec::new(),
@@ -51,16 +59,24 @@ impl Checker {
     /// - `TooMany`: it is a reservation, and with it more than 2^50 handles were requested since
     ///   the last flush.
     /// - `Memory`: memory ran out.
+    ///
+    /// <details><summary>Contract</summary>
+    ///
+    /// In the words of the folder `specs/` of crate `ent_replay`:
+    ///
+    /// ```text
+    /// ensures follows { IfOk result (λ next. Follows self line next) }
+    /// ensures reaches { IfOk result (λ next. Reaches self line next) }
+    /// ensures differs { IfErr result (λ stop.
+    ///     OnDiffers stop (Shows self number (line ∷ []))) }
+    /// ensures none { IfErr result (λ stop. OnDiffers stop (λ d. NoneFollows self line)) }
+    /// ensures too_many { IfErr result (λ stop. OnTooMany stop (IsTooMany self line)) }
+    /// ensures few { OnOk result (¬ (IsTooMany self line)) }
+    /// ```
+    ///
+    /// </details>
     #[inline]
-    pub fn take(self, number: u64, line: Line) -> Result<Self, Stop>
-        // ensures follows { IfOk result (λ next. Follows self line next) }
-        // ensures reaches { IfOk result (λ next. Reaches self line next) }
-        // ensures differs { IfErr result (λ stop.
-        //     OnDiffers stop (Shows self number (line ∷ []))) }
-        // ensures none { IfErr result (λ stop. OnDiffers stop (λ d. NoneFollows self line)) }
-        // ensures too_many { IfErr result (λ stop. OnTooMany stop (IsTooMany self line)) }
-        // ensures few { OnOk result (¬ (IsTooMany self line)) }
-    {
+    pub fn take(self, number: u64, line: Line) -> Result<Self, Stop> {
         if let Line::Reserve(reservation) = line {
             return self.add(reservation);
         }
@@ -72,14 +88,22 @@ impl Checker {
     /// # Errors
     ///
     /// `Differs` or `Memory`, as `take`.
+    ///
+    /// <details><summary>Contract</summary>
+    ///
+    /// In the words of the folder `specs/` of crate `ent_replay`:
+    ///
+    /// ```text
+    /// ensures settled { IfOk result (λ next. IsSettled self next.allocator × (next.run ≡ [])) }
+    /// ensures agrees { OnOk result (AgreesWith self []) }
+    /// ensures differs { IfErr result (λ stop. OnDiffers stop (Shows self 0 [])) }
+    /// ensures none { IfErr result (λ stop. OnDiffers stop (λ d. AgreesWith self [] → ⊥)) }
+    /// ensures counted { IfErr result (λ stop. OnTooMany stop ⊥) }
+    /// ```
+    ///
+    /// </details>
     #[inline]
-    pub fn finish(self) -> Result<Self, Stop>
-        // ensures settled { IfOk result (λ next. IsSettled self next.allocator × (next.run ≡ [])) }
-        // ensures agrees { OnOk result (AgreesWith self []) }
-        // ensures differs { IfErr result (λ stop. OnDiffers stop (Shows self 0 [])) }
-        // ensures none { IfErr result (λ stop. OnDiffers stop (λ d. AgreesWith self [] → ⊥)) }
-        // ensures counted { IfErr result (λ stop. OnTooMany stop ⊥) }
-    {
+    pub fn finish(self) -> Result<Self, Stop> {
         self.settle()
     }
 

@@ -127,11 +127,19 @@ fn read_call(number: u64, word: &[u8], text: &[u8]) -> Result<Line, ReadFault>
 ///
 /// `Cause` if the line is no call with its answer, with the first of the causes that it has;
 /// `Memory` if memory ran out.
+///
+/// <details><summary>Contract</summary>
+///
+/// In the words of the folder `specs/` of crate `ent_replay`:
+///
+/// ```text
+/// // All of it, as a function of the words.
+/// ensures exact { ReadsAs result (line_of number (words_of line.now)) }
+/// ```
+///
+/// </details>
 #[inline]
-pub fn read_line(number: u64, line: &[u8]) -> Result<Option<Line>, ReadFault>
-    // All of it, as a function of the words.
-    // ensures exact { ReadsAs result (line_of number (words_of line.now)) }
-{
+pub fn read_line(number: u64, line: &[u8]) -> Result<Option<Line>, ReadFault> {
     match first_word(before_comment(line)) {
         None => Ok(None),
         Some((word, others)) => Ok(Some(read_call(number, word, others)?)),

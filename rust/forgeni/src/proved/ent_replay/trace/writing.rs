@@ -45,12 +45,20 @@ fn append_handle(out: &mut Vec<u8>, handle: Handle) -> Result<(), Memory>
 /// # Errors
 ///
 /// `Memory`: memory ran out. `out` is as it was.
+///
+/// <details><summary>Contract</summary>
+///
+/// In the words of the folder `specs/` of crate `ent_replay`:
+///
+/// ```text
+/// ensures ok { OnOk result (out.new.items
+///     ≡ out.old.items ++ spaced (map handle_text handles.now)) }
+/// ensures err { OnErr result (out.new.items ≡ out.old.items) }
+/// ```
+///
+/// </details>
 #[inline]
-pub fn append_handles(out: &mut Vec<u8>, handles: &[Handle]) -> Result<(), Memory>
-    // ensures ok { OnOk result (out.new.items
-    //     ≡ out.old.items ++ spaced (map handle_text handles.now)) }
-    // ensures err { OnErr result (out.new.items ≡ out.old.items) }
-{
+pub fn append_handles(out: &mut Vec<u8>, handles: &[Handle]) -> Result<(), Memory> {
     let mut text = Vec::new();
     put_handles(&mut text, handles)?;
     append(out, &text)
@@ -152,11 +160,19 @@ fn write_reserve(out: &mut Vec<u8>, reservation: &Reservation) -> Result<(), Mem
 /// # Errors
 ///
 /// `Memory`: memory ran out. `out` is as it was.
+///
+/// <details><summary>Contract</summary>
+///
+/// In the words of the folder `specs/` of crate `ent_replay`:
+///
+/// ```text
+/// ensures ok { OnOk result (out.new.items ≡ out.old.items ++ spaced (answer_words line.now)) }
+/// ensures err { OnErr result (out.new.items ≡ out.old.items) }
+/// ```
+///
+/// </details>
 #[inline]
-pub fn append_answer(out: &mut Vec<u8>, line: &Line) -> Result<(), Memory>
-    // ensures ok { OnOk result (out.new.items ≡ out.old.items ++ spaced (answer_words line.now)) }
-    // ensures err { OnErr result (out.new.items ≡ out.old.items) }
-{
+pub fn append_answer(out: &mut Vec<u8>, line: &Line) -> Result<(), Memory> {
     let mut text = Vec::new();
     put_answer(&mut text, line)?;
     append(out, &text)
@@ -183,11 +199,19 @@ fn put_answer(out: &mut Vec<u8>, line: &Line) -> Result<(), Memory>
 /// # Errors
 ///
 /// `Memory`: memory ran out. `out` is as it was.
+///
+/// <details><summary>Contract</summary>
+///
+/// In the words of the folder `specs/` of crate `ent_replay`:
+///
+/// ```text
+/// ensures ok { OnOk result (out.new.items ≡ out.old.items ++ line_text line.now) }
+/// ensures err { OnErr result (out.new.items ≡ out.old.items) }
+/// ```
+///
+/// </details>
 #[inline]
-pub fn write_line(out: &mut Vec<u8>, line: &Line) -> Result<(), Memory>
-    // ensures ok { OnOk result (out.new.items ≡ out.old.items ++ line_text line.now) }
-    // ensures err { OnErr result (out.new.items ≡ out.old.items) }
-{
+pub fn write_line(out: &mut Vec<u8>, line: &Line) -> Result<(), Memory> {
     let mut text = Vec::new();
     put_line(&mut text, line)?;
     append(out, &text)
