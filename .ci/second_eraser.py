@@ -33,6 +33,7 @@ TABLE = {
     "collect_in": (2, "Rust's `Iterator` has a `collect` without an allocator"),
     "formatter": (6, "the kit's `Formatter<W>` writes to a `W`, Rust's to a `dyn Write`; each use is `write_str` or `write!`"),
     "visibility": (217, "`pub(crate)` would open a module to the whole package; too narrow a word fails to compile"),
+    "condition": (69, "a function with a `requires` may be called by proved code alone, which the package's own is; so it isn't `pub`"),
     "inline": (605, "a hint to the compiler, on each function with a body and without a hint of its own"),
     "layout": (1, "`Handle` is laid out as its word, so that an `Option` of it is; no source reads a layout"),
     "equality": (2, "`impl PartialEq` and `impl Eq` of `Handle`, which compare its one field, are derived, so that a constant is a pattern"),
@@ -41,7 +42,6 @@ TABLE = {
     "ghost trait": (16, "a trait with ghost members alone, its imports and impls, and a module of nothing else"),
     "ghost type": (79, "a type parameter that such a trait bounds, as an argument, and in a `PhantomData`"),
     "with_limits": (4, "the allocator's `new(limits)`: in Rust `new()` has no parameter"),
-    "condition": (69, "`pub` of a function with a `requires` is `pub(crate)`: too narrow a word fails to compile"),
     "const": (12, "what makes an allocator without memory may be called in a constant: CONSTANT lists them"),
 }
 
@@ -159,6 +159,7 @@ class Unit:
 
     def __init__(self, crates, packages):
         self.crates, self.packages, self.others, self.uses = crates, packages, set(), []
+        self.conditions = set()
         self.counts, self.functions, self.facts = collections.Counter(), collections.defaultdict(set), set()
 
     def learn(self, notes):
@@ -171,7 +172,7 @@ class Unit:
     def collect(self, notes):
         self.counts.update(name for kind, name, _ in notes if kind == "count")
         self.others |= {name for kind, name, _ in notes if kind == "other"}
-        self.uses += [it for it in notes if it[0] not in ("count", "other", "function", "add", "fact", "requires")]
+        self.uses += [it for it in notes if it[0] not in ("count", "other", "function", "add", "fact")]
         for _, name, of in (it for it in notes if it[0] == "function"):
             self.functions[name].add(of)
 
@@ -198,7 +199,7 @@ class Reader:
     def __init__(self, text, result, unit, first=None):
         self.text, self.unit, self.result, self.crate = text, unit, result.removesuffix(".rs"), result.split("/")[0]
         self.at, self.far, self.out, self.log, self.imports_at, self.owner, self.no_struct = 0, 0, [], [], None, "", False
-        self.error, self.errs, self.fields, self.arms, self.declared, self.of = "", False, [], "", "", ""
+        self.error, self.errs, self.fields, self.arms, self.declared, self.of, self.requires = "", False, [], "", "", "", False
         self.tag, self.target, self.variant, self.bounds = "", "", "", {}
         self.names, self.imports = ([first.names[0]], first.imports) if first else ([set()], {})
 
@@ -430,10 +431,6 @@ class Reader:
         inside = self.result.removesuffix("/mod") + "/" + self.declared
         self.gone(mark, "ghost trait") if self.knows("empty", inside) else None
 
-    def after_contract(self, _, notes):
-        self.fact("condition", "") if any(it[0] == "requires" for it in self.log[notes:]) else None
-        self.log[notes:] = [it for it in self.log[notes:] if it[0] != "requires"]
-
     def after_path(self, mark, _):
         words = self.texts(mark)
         own = self.target == RENAMED[1] and self.crate == RENAMED[0] and words[-3:-2] == ["Self"]
@@ -491,7 +488,7 @@ class Reader:
     def is_prefix(self):
         """What stands before the names that are imported."""
         words, after = self.words()
-        self.prefix, self.left, self.narrow = words if after == "::" else words[:-1], [], []
+        self.prefix, self.left, self.taken = words if after == "::" else words[:-1], [], []
         kit = next((it for it in PATHS if "::".join([*words, ""]).startswith(it + "::")), None)
         if kit == "::".join(words) and after != "::":
             self.set("at", self.look(2 * len(self.prefix) - 1).end)
@@ -507,24 +504,39 @@ class Reader:
         old, new = self.out[mark].text, self.out[-1].text
         whole = "::".join([*self.prefix, old])
         foreign = (self.prefix or [""])[0] in self.unit.packages - self.unit.crates
+        self.taken.append(old)
         if new in self.unit.packages | PRELUDE:
             self.use("refused", f"an import named `{new}`")
         self.imports[new] = whole if foreign else ""
         is_ghost = not foreign and self.knows("ghost", old)
         self.note("count", "ghost trait") if is_ghost else None
         self.left.append(not (foreign and whole in GHOST_IMPORTS or is_ghost))
-        self.narrow.append(self.knows("condition", (self.crate, (self.prefix or [""])[-1], old)))
         self.cut(mark) if not self.left[-1] else foreign and self.use("import", whole)
 
     def after_use(self, mark, notes):
         if not any(self.left):
             self.out[mark:], self.log[notes:] = [], [it for it in self.log[notes:] if it[1] == "ghost trait"]
             return
-        if all(self.narrow) and self.texts(mark)[:2] == ["pub", "use"]:
-            self.narrowed(mark)
         if not all(self.left):
             self.out += [it for it in self.cut(mark) if it.text not in ("{", ",", "}")]
         self.imports_at = mark if self.imports_at is None else self.imports_at
+        found = [self.has_condition(it) for it in self.taken]
+        if any(found) and self.out[mark].text == "pub":
+            self.narrow(mark) if all(found) else self.use("refused", "a `pub use` of which a part has a condition")
+
+    def has_condition(self, name):
+        """Whether an imported name is that of a function with a condition: in the file that the path leads to, or else in the crate."""
+        first, *rest = self.prefix or [""]
+        crate = self.crate if first == "crate" else first if first in self.unit.crates else None
+        path = "/".join([crate, *rest] if crate else [self.result.removesuffix("/mod"), *self.prefix])
+        return any(it == name and (file == path or file.startswith(path + "/")) for file, it in self.unit.conditions)
+
+    def narrow(self, mark):
+        """`pub` becomes `pub(crate)`, where nothing else says more."""
+        at = next(at for at in range(mark, len(self.out)) if self.out[at].text in ("pub", "fn"))
+        if self.out[at].text == "pub" and self.out[at + 1].text != "(":
+            rest = self.cut(at + 1)
+            self.out += rest if self.add("(crate)", "condition") else []
 
     def is_method(self):
         name = self.look().text
@@ -544,12 +556,6 @@ class Reader:
         if self.sees("const"):
             return self.take()
         return (self.result, self.look(1).text) in CONSTANT and self.add("const", "const")
-
-    def narrowed(self, mark):
-        """A `pub` that is the package's alone."""
-        rest = self.cut(mark + 1)
-        self.add("(crate)", "condition")
-        self.out += rest
 
     def is_aligned(self):
         if (self.result, self.look(1).text, self.look(2).text) == (WORD_TYPE[0], "struct", WORD_TYPE[1]):
@@ -633,23 +639,19 @@ class Reader:
         self.log[at] = ("function", self.log[at][1], (self.owner, receiver))
 
     def after_function(self, mark, notes):
-        head = mark
-        while self.out[head].text == "#":
-            head = next(at for at in range(head, len(self.out)) if self.out[at].text == "]") + 1
-        has_condition = ("fact", "condition", "") in self.log[notes:]
         name = next(name for kind, name, _ in self.log[notes:] if kind == "function")
-        if has_condition and self.owner == "":
-            self.fact("condition", (self.crate, self.result.split("/")[-1], name))
-        if has_condition and self.out[head].text == "pub" and self.out[head + 1].text != "(":
-            self.narrowed(head)
         if (self.crate, self.target, name, self.owner) == (*RENAMED[:3], "impl"):
             at = self.texts(mark).index("fn") + mark + 1
             rest = self.cut(at)
             self.add(RENAMED[3], RENAMED[3])
             self.out += rest[1:]
-        if self.out[-1].text == "}" and not {"inline", "cold"} & {it.text for it in self.out[mark:head]}:
-            body = self.cut(head)
-            self.out += body if self.add("#[inline]", "inline") else []
+        if self.requires:
+            self.unit.conditions |= set() if self.owner else {(self.result, name)}
+            self.narrow(mark)
+        at = next(at for at in range(mark, len(self.out)) if self.out[at].text in ("pub", "const", "fn"))
+        if self.out[-1].text == "}" and not {"inline", "cold"} & {it.text for it in self.out[mark:at]}:
+            rest = self.cut(at)
+            self.out += rest if self.add("#[inline]", "inline") else []
 
 
 # The grammar: `-` reads and writes nothing, `&` and `!` look ahead, `%` is a list with commas, a word in capitals is one of WORDS or `is_..`.
@@ -664,8 +666,9 @@ use       = visible? 'use' PREFIX ('{' leaf% '}' | leaf) ';'
 leaf      = NAME ('as' NAME)?
 module    = visible? 'mod' DECLARED ';'
 constant  = visible? 'const' CONSTANT ':' type ('=' expression)? ';'
-attribute = -('#' '[' ('tactic' | 'cycle') group ']') | '#' '[' 'derive' DERIVES ']' | -('#' '[' 'error' '(' ERROR ')' ']') | hint
-hint      = '#' '[' ('inline' ('(' ('always' | 'never') ')')? | 'cold' | 'must_use' ('=' STR)? | 'non_exhaustive') ']'
+attribute = -('#' '[' ('tactic' | 'cycle') group ']') | '#' '[' 'derive' DERIVES ']' | -('#' '[' 'error' '(' ERROR ')' ']') | hint | lint
+hint      = '#' '[' ('inline' ('(' ('always' | 'never') ')')? | 'cold') ']'
+lint      = '#' '[' ('must_use' | 'non_exhaustive') ']'
 visible   = 'pub' ('(' SCOPE ')')?
 struct    = attribute* ALIGNED visible? 'struct' DECLARED generics ('{' named '}' | ('(' unnamed% ')')? ';')
 enum      = attribute* visible? 'enum' DECLARED generics '{' variant% '}'
@@ -678,8 +681,7 @@ trait     = attribute* visible? 'trait' DECLARED generics bounds where TRAIT_OWN
 members   = '{' member* '}'
 alias     = visible? 'type' CONSTANT generics ('=' type)? ';'
 member    = ghost | alias | constant | function
-function  = attribute* visible? CONST? 'fn' FUNCTION (writer | generics) '(' receiver? parameter% ')' arrow? where contract (block | ';')
-contract  = clause*
+function  = attribute* visible? CONST? 'fn' FUNCTION (writer | generics) '(' receiver? parameter% ')' arrow? where clause* (block | ';')
 writer    = -('<' 'W' ':' 'fmt' '::' 'Write' '>')
 receiver  = '&'? LIFE? 'mut'? 'self' (',' | &')')
 parameter = pattern ':' type
@@ -743,7 +745,7 @@ WORDS = {it.upper(): lambda r, it=it: r.look().kind == it and r.take() for it in
     "NAME": lambda r: r.look().kind == "id" and r.look().text not in KEYWORDS and r.take(),
     "UNTIL_SEMICOLON": lambda r: r.set("at", r.text.text.index(";", r.at)),
     "CLAUSE": lambda r: r.sees("{") and r.set("at", r.text.after_clause(r.look().start)),
-    "CLAUSE_WORD": lambda r: r.sees("requires", "ensures") and (r.sees("ensures") or r.note("requires", "")) and r.take(),
+    "CLAUSE_WORD": lambda r: r.sees("requires", "ensures") and r.set("requires", r.requires or r.sees("requires")) and r.take(),
     "SCOPE": lambda r: r.sees("crate", "super") and r.add("super", "visibility" if r.drop().text == "crate" else None),
     "FORMATTER": lambda r: r.imports.get("fmt") == "std::fmt" and r.add("'_"),
     "BIND": lambda r: r.word("NAME") and (r.names[-1].add(r.out[-1].text) or True),
@@ -766,7 +768,8 @@ WORDS = {it.upper(): lambda r, it=it: r.look().kind == it and r.take() for it in
 # The rules whose names are their own, those that are read in another state, and what is noted of a form.
 SCOPES = set("module struct enum impl trait function closure arm block".split())
 STATES = {"condition": {"no_struct": True}, "inner": {"no_struct": False}, "block": {"no_struct": False, "owner": ""}}
-STATES |= {"tagged": {"tag": ""}, "struct_of": {"tag": ""}, "impl": {"owner": "", "of": "", "target": ""}, "trait": {"owner": ""}, "variant": {"error": "", "fields": []}}
+STATES |= {it: {"requires": False} for it in ("function", "closure")} | {it: {"tag": ""} for it in ("tagged", "struct_of")}
+STATES |= {"impl": {"owner": "", "of": "", "target": ""}, "trait": {"owner": ""}, "variant": {"error": "", "fields": []}}
 STATES |= {it: {"arms": "", "error": "", "errs": False} for it in ("struct", "enum")}
 NOTES = {"writer": ("count", "formatter"), "ghost": ("count", "(ghost members and imports)")}
 NOTES |= {"clause": ("count", "(clauses)"), "proves": ("add", "prove_eq")}

@@ -84,13 +84,13 @@ impl Audit<'_> {
             self.out = end;
             return Ok(());
         }
+        if self.has_to_be_narrow() {
+            return self.narrowed();
+        }
         if let Some(len) = self.renamed(self.out) {
             self.at += len;
             self.out += len;
             return Ok(());
-        }
-        if self.has_to_be_narrow() {
-            return self.narrowed();
         }
         if let Some((from, to)) = self.changed() {
             self.at += from;

@@ -357,16 +357,16 @@ impl Names {
         Ok(())
     }
 
-    /// Whether each `impl` of the trait is ghost as a whole.
-    pub(crate) fn is_ghost_trait(&self, name: &str) -> bool {
-        forms::GHOST_TRAITS.contains(&name) || self.ghost_traits.contains(name)
-    }
-
     /// Whether this crate declares a struct or an enum of this name.
     pub fn has_type(&self, krate: &str, name: &str) -> bool {
         let folder = format!("crates/{krate}/");
         let mut files = self.types.get(name).into_iter().flatten();
         files.any(|file| file.starts_with(&folder))
+    }
+
+    /// Whether each `impl` of the trait is ghost as a whole.
+    pub(crate) fn is_ghost_trait(&self, name: &str) -> bool {
+        forms::GHOST_TRAITS.contains(&name) || self.ghost_traits.contains(name)
     }
 
     /// Whether this is another name for a type, which may be a type of std.
