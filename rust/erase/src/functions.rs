@@ -3,6 +3,7 @@
 use crate::edit::{Change, Edit};
 use crate::forms;
 use crate::items::Scope;
+use crate::memory::owners;
 use crate::source::Fault;
 use crate::walk::{Next, Walk};
 
@@ -59,7 +60,8 @@ impl Walk<'_> {
         if !self.test_runtime(start, visible, next)? {
             self.signature(next + 1, close)?;
         }
-        let end = self.rest_of_function(close + 1)?;
+        let is_shown = self.narrow(visible, at, scope) && self.is_documented(start);
+        let end = self.rest_of_function(close + 1, is_shown.then_some(start))?;
         let has_body = self.source.before(end) == "}";
         if has_body && scope != Scope::Trait && !self.has_inline(start, visible) {
             let indent = self.indent(visible)?;
@@ -68,10 +70,44 @@ impl Walk<'_> {
         if self.source.before(at) != "const" && self.is_constant(at) {
             self.insert(at, "const ".to_owned());
         }
+        self.rename_function(at, scope);
         if self.is_program(at, scope) {
             self.insert(at, "pub ".to_owned());
         }
         Ok(end)
+    }
+
+    /// Puts the package's name of the function in the place of its name, if they differ.
+    fn rename_function(&mut self, at: usize, scope: Scope) {
+        let mut all = forms::RENAMED_FUNCTIONS.iter();
+        let renamed = all.find(|it| it.krate == self.krate && it.from == self.source.at(at + 1));
+        let Some(renamed) = renamed.filter(|it| scope == Scope::Impl && self.own_type(at) == it.of)
+        else {
+            return;
+        };
+        self.replace(at + 1, at + 2, renamed.to);
+    }
+
+    /// Puts the package's name in the place of the name here, if it is the last one of the path of such a function.
+    pub(crate) fn rename_call(&mut self, at: usize) {
+        let of = match at.checked_sub(2).map(|of| self.source.at(of)) {
+            Some("Self") => self.own_type(at),
+            Some(name) if self.source.before(at) == "::" => name,
+            _ => return,
+        };
+        let mut all = forms::RENAMED_FUNCTIONS.iter();
+        let name = self.source.at(at);
+        if let Some(renamed) = all.find(|it| it.of == of && it.from == name) {
+            self.replace(at, at + 1, renamed.to);
+        }
+    }
+
+    /// The type of the `impl` around this place.
+    fn own_type(&self, at: usize) -> &str {
+        let owner = owners(self.source)
+            .into_iter()
+            .find(|it| it.0.contains(&at));
+        owner.map_or("", |it| it.1)
     }
 
     /// Whether the function is `const` in the package.
@@ -119,9 +155,11 @@ impl Walk<'_> {
             .fault(at, "another signature of `fmt` than the kit's"))
     }
 
-    /// What a function returns, its bounds, its contract, and its body or `;`.
-    fn rest_of_function(&mut self, at: usize) -> Next {
+    /// What a function returns, its bounds, its contract, and its body or `;`. The docs above `item`
+    /// show the contract, if that is there.
+    fn rest_of_function(&mut self, at: usize, item: Option<usize>) -> Next {
         let mut at = at;
+        let mut has_bounds = false;
         loop {
             let token = self.source.at(at);
             if token == ";" {
@@ -137,7 +175,10 @@ impl Walk<'_> {
                 return Err(self.source.fault(at, "a body is missing"));
             }
             if forms::CLAUSES.contains(&token) {
-                at = self.contract(at)?;
+                at = match item {
+                    Some(item) => self.shown_contract(item, at, has_bounds)?,
+                    None => self.contract(at)?,
+                };
                 if !["{", ";", ""].contains(&self.source.at(at)) {
                     return Err(self.unknown_clause(at));
                 }
@@ -146,6 +187,7 @@ impl Walk<'_> {
             if self.source.is_word(at) && token != "where" && self.is_after_type(at) {
                 return Err(self.unknown_clause(at));
             }
+            has_bounds |= token == "where" && !self.source.has(at + 2, &[":", "Drop", ","]);
             let end = match token {
                 "(" | "[" => self.source.partner(at) + 1,
                 _ => at + 1,
@@ -179,10 +221,7 @@ impl Walk<'_> {
     /// All clauses of a contract, of which the first begins here. They become comments. The place
     /// after them is that of the body, or of a `;`, which goes up to the signature.
     pub(crate) fn contract(&mut self, at: usize) -> Next {
-        let mut end = at;
-        while forms::CLAUSES.contains(&self.source.at(end)) {
-            end = self.after_clause(end)?;
-        }
+        let end = self.after_clauses(at)?;
         let from = self.source.token(at - 1).to;
         let mut to = self.source.token(end - 1).to;
         let mut text = String::new();
@@ -206,6 +245,15 @@ impl Walk<'_> {
         Ok(end)
     }
 
+    /// The place after the clauses of which the first begins here.
+    pub(crate) fn after_clauses(&self, at: usize) -> Next {
+        let mut end = at;
+        while forms::CLAUSES.contains(&self.source.at(end)) {
+            end = self.after_clause(end)?;
+        }
+        Ok(end)
+    }
+
     /// The place after the clause that begins here: `requires NAME { .. }`, perhaps with a star or
     /// without a name.
     fn after_clause(&self, at: usize) -> Next {
@@ -221,7 +269,7 @@ impl Walk<'_> {
     }
 
     /// How many blanks stand before the first code of the line of this token.
-    fn first_column(&self, at: usize) -> usize {
+    pub(crate) fn first_column(&self, at: usize) -> usize {
         let from = self.source.token(at).from;
         let line = self.source.text[..from].rfind('\n').map_or(0, |at| at + 1);
         let text = &self.source.text[line..];

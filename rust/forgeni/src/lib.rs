@@ -170,12 +170,10 @@ pub mod handle_map;
 mod kit;
 mod lent;
 mod limits;
-mod lists;
 mod numbers;
 mod open_world;
 mod phase;
 #[rustfmt::skip]
-#[allow(missing_docs)]
 mod proved;
 mod report;
 #[cfg(feature = "std")]

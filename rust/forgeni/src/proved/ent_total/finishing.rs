@@ -5,7 +5,6 @@
 use crate::kit::vec::Vec;
 use crate::proved::ent_total::issued::Issued;
 use crate::proved::ent_total::numbered_world::NumberedWorld;
-use crate::proved::ent_total::numbering::Numbering;
 use crate::proved::ent_total::queues::Queues;
 use crate::proved::ent_total::unfinished::{FinishFault, Unfinished};
 use crate::proved::ent_total::world_homecoming::are_of;
@@ -13,7 +12,7 @@ use crate::proved::ent_total::world_phase::{Parts, WorldPhase};
 use crate::proved::ent_shared::Reserver;
 use crate::proved::ent_world::{OpenWorld, World};
 
-impl<J: Numbering> WorldPhase<J> {
+impl WorldPhase {
     /// Ends the phase with all its systems: those that are at home, and these. The queues stand in
     /// this order, which is that of their effect. Nothing of the world has changed but that handles
     /// are reserved.
@@ -24,32 +23,40 @@ impl<J: Numbering> WorldPhase<J> {
     /// holds: [`FinishFault::OtherPhase`], [`FinishFault::TooMany`], [`FinishFault::Missing`],
     /// [`FinishFault::Memory`], and then all queues are handed back; [`FinishFault::InUse`], and
     /// then they are at home.
+    ///
+    /// <details><summary>Contract</summary>
+    ///
+    /// In the words of the folder `specs/` of crate `ent_total`:
+    ///
+    /// ```text
+    /// ensures world { IfOk result (λ made.
+    ///     IsClosed self.world (reservers_home self queues.items) made.0.world) }
+    /// ensures number { IfOk result (λ made. made.0.number ≡ self.of_world) }
+    /// ensures queues { IfOk result (λ made.
+    ///     made.1 ≡ record { world = self.of_world; queues = queues_home self queues.items }) }
+    ///
+    /// // When it is refused, and what stands then.
+    /// ensures other_phase { IsErrWith result (λ u. u.why ≡ OtherPhase)
+    ///     ↔ ¬ (AreIssuersOf self.number queues.items) }
+    /// ensures too_many { IsErrWith result (λ u. u.why ≡ TooMany)
+    ///     ↔ (AreIssuersOf self.number queues.items
+    ///     × (self.world.shared.count < length (reservers_home self queues.items))) }
+    /// ensures missing { IsErrWith result (λ u. AreMissing u.why)
+    ///     ↔ (AreIssuersOf self.number queues.items
+    ///     × (length (reservers_home self queues.items) < self.world.shared.count)) }
+    /// ensures how_many { IfErr result (λ u. AreMissing u.why
+    ///     → length (reservers_home self queues.items) + queues_missing u.why
+    ///     ≡ self.world.shared.count) }
+    /// ensures memory { IfErr result (λ u. u.why ≡ Memory → 0 < length queues.items) }
+    /// ensures handed_back { IfErr result (λ u. u.why ≢ InUse
+    ///     → (u.phase ≡ self) × (u.queues.items ≡ queues.items)) }
+    /// ensures at_home { IfErr result (λ u. u.why ≡ InUse
+    ///     → (u.phase ≡ with_home self queues.items) × (u.queues.items ≡ [])) }
+    /// ```
+    ///
+    /// </details>
     #[inline]
-    pub fn close(mut self, queues: Vec<Issued<J>>) -> Result<(NumberedWorld, Queues), Unfinished<J>>
-        // ensures world { IfOk result (λ made.
-        //     IsClosed self.world (reservers_home self queues.items) made.0.world) }
-        // ensures number { IfOk result (λ made. made.0.number ≡ self.of_world) }
-        // ensures queues { IfOk result (λ made.
-        //     made.1 ≡ record { world = self.of_world; queues = queues_home self queues.items }) }
-
-        // When it is refused, and what stands then.
-        // ensures other_phase { IsErrWith result (λ u. u.why ≡ OtherPhase)
-        //     ↔ ¬ (AreIssuersOf self.number queues.items) }
-        // ensures too_many { IsErrWith result (λ u. u.why ≡ TooMany)
-        //     ↔ (AreIssuersOf self.number queues.items
-        //     × (self.world.shared.count < length (reservers_home self queues.items))) }
-        // ensures missing { IsErrWith result (λ u. AreMissing u.why)
-        //     ↔ (AreIssuersOf self.number queues.items
-        //     × (length (reservers_home self queues.items) < self.world.shared.count)) }
-        // ensures how_many { IfErr result (λ u. AreMissing u.why
-        //     → length (reservers_home self queues.items) + queues_missing u.why
-        //     ≡ self.world.shared.count) }
-        // ensures memory { IfErr result (λ u. u.why ≡ Memory → 0 < length queues.items) }
-        // ensures handed_back { IfErr result (λ u. u.why ≢ InUse
-        //     → (u.phase ≡ self) × (u.queues.items ≡ queues.items)) }
-        // ensures at_home { IfErr result (λ u. u.why ≡ InUse
-        //     → (u.phase ≡ with_home self queues.items) × (u.queues.items ≡ [])) }
-    {
+    pub fn close(mut self, queues: Vec<Issued>) -> Result<(NumberedWorld, Queues), Unfinished> {
         let missing = match self.missing(&queues) {
             Ok(missing) => missing,
             Err(why) => return Err(self.unfinished(queues, why)),
@@ -77,30 +84,38 @@ impl<J: Numbering> WorldPhase<J> {
     /// [`Unfinished`] says why, and has the phase, which goes on. It is the first of these that
     /// holds: [`FinishFault::OtherPhase`], [`FinishFault::TooMany`], [`FinishFault::Memory`], and
     /// then all queues are handed back; [`FinishFault::InUse`], and then they are at home.
+    ///
+    /// <details><summary>Contract</summary>
+    ///
+    /// In the words of the folder `specs/` of crate `ent_total`:
+    ///
+    /// ```text
+    /// ensures world { IfOk result (λ made.
+    ///     IsClosedLost self.world (reservers_home self queues.items) made.0.world) }
+    /// ensures number { IfOk result (λ made. made.0.number ≡ self.of_world) }
+    /// ensures queues { IfOk result (λ made.
+    ///     made.1 ≡ record { world = self.of_world; queues = queues_home self queues.items }) }
+    ///
+    /// // When it is refused, and what stands then.
+    /// ensures other_phase { IsErrWith result (λ u. u.why ≡ OtherPhase)
+    ///     ↔ ¬ (AreIssuersOf self.number queues.items) }
+    /// ensures too_many { IsErrWith result (λ u. u.why ≡ TooMany)
+    ///     ↔ (AreIssuersOf self.number queues.items
+    ///     × (self.world.shared.count < length (reservers_home self queues.items))) }
+    /// ensures no_missing { IfErr result (λ u. ¬ (AreMissing u.why)) }
+    /// ensures memory { IfErr result (λ u. u.why ≡ Memory → 0 < length queues.items) }
+    /// ensures handed_back { IfErr result (λ u. u.why ≢ InUse
+    ///     → (u.phase ≡ self) × (u.queues.items ≡ queues.items)) }
+    /// ensures at_home { IfErr result (λ u. u.why ≡ InUse
+    ///     → (u.phase ≡ with_home self queues.items) × (u.queues.items ≡ [])) }
+    /// ```
+    ///
+    /// </details>
     #[inline]
     pub fn close_lost(
         mut self,
-        queues: Vec<Issued<J>>,
-    ) -> Result<(NumberedWorld, Queues), Unfinished<J>>
-        // ensures world { IfOk result (λ made.
-        //     IsClosedLost self.world (reservers_home self queues.items) made.0.world) }
-        // ensures number { IfOk result (λ made. made.0.number ≡ self.of_world) }
-        // ensures queues { IfOk result (λ made.
-        //     made.1 ≡ record { world = self.of_world; queues = queues_home self queues.items }) }
-
-        // When it is refused, and what stands then.
-        // ensures other_phase { IsErrWith result (λ u. u.why ≡ OtherPhase)
-        //     ↔ ¬ (AreIssuersOf self.number queues.items) }
-        // ensures too_many { IsErrWith result (λ u. u.why ≡ TooMany)
-        //     ↔ (AreIssuersOf self.number queues.items
-        //     × (self.world.shared.count < length (reservers_home self queues.items))) }
-        // ensures no_missing { IfErr result (λ u. ¬ (AreMissing u.why)) }
-        // ensures memory { IfErr result (λ u. u.why ≡ Memory → 0 < length queues.items) }
-        // ensures handed_back { IfErr result (λ u. u.why ≢ InUse
-        //     → (u.phase ≡ self) × (u.queues.items ≡ queues.items)) }
-        // ensures at_home { IfErr result (λ u. u.why ≡ InUse
-        //     → (u.phase ≡ with_home self queues.items) × (u.queues.items ≡ [])) }
-    {
+        queues: Vec<Issued>,
+    ) -> Result<(NumberedWorld, Queues), Unfinished> {
         if let Err(why) = self.missing(&queues) {
             return Err(self.unfinished(queues, why));
         }
@@ -115,7 +130,7 @@ impl<J: Numbering> WorldPhase<J> {
 
     /// How many systems are missing beside those at home and these, if these may come home.
     #[inline]
-    fn missing(&self, queues: &[Issued<J>]) -> Result<usize, FinishFault>
+    fn missing(&self, queues: &[Issued]) -> Result<usize, FinishFault>
         // ensures own { OnOk result (AreIssuersOf self.now.number queues.now) }
         // ensures count { IfOk result (λ missing. length (reservers_home self.now queues.now) + missing
         //     ≡ self.now.world.shared.count) }
@@ -137,7 +152,7 @@ impl<J: Numbering> WorldPhase<J> {
 
     /// That it was not closed, and these queues are handed back.
     #[inline]
-    fn unfinished(self, queues: Vec<Issued<J>>, why: FinishFault) -> Unfinished<J>
+    fn unfinished(self, queues: Vec<Issued>, why: FinishFault) -> Unfinished
         // ensures { result ≡ record { phase = self; queues = queues; why = why } }
     {
         Unfinished {
@@ -149,7 +164,7 @@ impl<J: Numbering> WorldPhase<J> {
 
     /// That somebody else has a part of the phase.
     #[inline]
-    fn in_use(self) -> Unfinished<J>
+    fn in_use(self) -> Unfinished
         // ensures phase { result.phase ≡ self }
         // ensures queues { result.queues.items ≡ [] }
         // ensures why { result.why ≡ InUse }

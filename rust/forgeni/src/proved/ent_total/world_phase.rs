@@ -3,25 +3,20 @@
 use crate::kit::vec::Vec;
 use crate::proved::ent_total::issued::Issued;
 use crate::proved::ent_total::issuer::Issuer;
-use crate::proved::ent_total::numbering::Numbering;
 use crate::proved::ent_total::world_homecoming::bring_home;
 use crate::proved::ent_handle::Memory;
 use crate::proved::ent_queue::{CommandQueue, Commands};
 use crate::proved::ent_shared::Reserver;
 use crate::proved::ent_world::OpenWorld;
-use crate::kit::alloc::Global;
-use core::marker::PhantomData;
 use crate::kit::sync::Arc;
 
 /// A world in a phase, with the reservers that no issuer has, and the queues that came home.
-pub struct WorldPhase<J: Numbering> {
-    alloc: Global,
+pub struct WorldPhase {
     of_world: u64,
-    world: Arc<OpenWorld, Global>,
+    world: Arc<OpenWorld>,
     home: Vec<Reserver>,
     queues: Vec<CommandQueue>,
     number: u64,
-    of: PhantomData<J>,
 }
 
 /// What a phase of a world is made of, once nobody else has a part of it.
@@ -32,12 +27,11 @@ pub(super) struct Parts {
     pub(super) queues: Vec<CommandQueue>,
 }
 
-impl<J: Numbering> WorldPhase<J> {
+impl WorldPhase {
     #[inline]
     pub(super) fn new(
-        alloc: Global,
         of_world: u64,
-        world: Arc<OpenWorld, Global>,
+        world: Arc<OpenWorld>,
         home: Vec<Reserver>,
         queues: Vec<CommandQueue>,
         number: u64,
@@ -53,37 +47,59 @@ impl<J: Numbering> WorldPhase<J> {
         // } }
     {
         WorldPhase {
-            alloc,
             of_world,
             world,
             home,
             queues,
             number,
-            of: PhantomData,
         }
     }
 
     /// How many systems it has, whether they issue, are at home or were lost.
+    ///
+    /// <details><summary>Contract</summary>
+    ///
+    /// In the words of the folder `specs/` of crate `ent_total`:
+    ///
+    /// ```text
+    /// ensures { result ≡ self.now.world.shared.count }
+    /// ```
+    ///
+    /// </details>
     #[inline]
-    pub fn count(&self) -> usize
-        // ensures { result ≡ self.now.world.shared.count }
-    {
+    pub fn count(&self) -> usize {
         self.world.shared().count()
     }
 
     /// How many of them are at home.
+    ///
+    /// <details><summary>Contract</summary>
+    ///
+    /// In the words of the folder `specs/` of crate `ent_total`:
+    ///
+    /// ```text
+    /// ensures { result ≡ length self.now.home }
+    /// ```
+    ///
+    /// </details>
     #[inline]
-    pub fn at_home(&self) -> usize
-        // ensures { result ≡ length self.now.home }
-    {
+    pub fn at_home(&self) -> usize {
         self.home.len()
     }
 
     /// The world that is open. Its `view` shows it as it was opened.
+    ///
+    /// <details><summary>Contract</summary>
+    ///
+    /// In the words of the folder `specs/` of crate `ent_total`:
+    ///
+    /// ```text
+    /// ensures { result.now ≡ self.now.world }
+    /// ```
+    ///
+    /// </details>
     #[inline]
-    pub fn world(&self) -> &OpenWorld
-        // ensures { result.now ≡ self.now.world }
-    {
+    pub fn world(&self) -> &OpenWorld {
         &self.world
     }
 
@@ -102,16 +118,24 @@ impl<J: Numbering> WorldPhase<J> {
     ///
     /// `Memory` if a reserver is at home, but there is no room for another owner of the phase. Then
     /// nothing has changed.
+    ///
+    /// <details><summary>Contract</summary>
+    ///
+    /// In the words of the folder `specs/` of crate `ent_total`:
+    ///
+    /// ```text
+    /// ensures given { IfOk result (λ found. IfSome found (λ i.
+    ///     (i.number ≡ self.old.number) × (i.world ≡ self.old.world) × (i.queue ≡ [])
+    ///     × (self.old ≡ record self.new { home = self.new.home ++ i.reserver ∷ [] }))) }
+    /// ensures none { IfOk result (λ found. IfNone found
+    ///     ((self.old.home ≡ []) × (self.new ≡ self.old))) }
+    /// ensures none_home { (result ≡ Ok None) ↔ (self.old.home ≡ []) }
+    /// ensures err { OnErr result (self.new ≡ self.old) }
+    /// ```
+    ///
+    /// </details>
     #[inline]
-    pub fn issuer(&mut self) -> Result<Option<Issuer<J>>, Memory>
-        // ensures given { IfOk result (λ found. IfSome found (λ i.
-        //     (i.number ≡ self.old.number) × (i.world ≡ self.old.world) × (i.queue ≡ [])
-        //     × (self.old ≡ record self.new { home = self.new.home ++ i.reserver ∷ [] }))) }
-        // ensures none { IfOk result (λ found. IfNone found
-        //     ((self.old.home ≡ []) × (self.new ≡ self.old))) }
-        // ensures none_home { (result ≡ Ok None) ↔ (self.old.home ≡ []) }
-        // ensures err { OnErr result (self.new ≡ self.old) }
-    {
+    pub fn issuer(&mut self) -> Result<Option<Issuer>, Memory> {
         if self.home.is_empty() {
             return Ok(None);
         }
@@ -121,19 +145,18 @@ impl<J: Numbering> WorldPhase<J> {
         let Some(mut reserver) = self.home.pop() else {
             unreachable!()
         };
-        let queue = Commands::new(self.alloc, world.shared(), &mut reserver).finish();
+        let queue = Commands::new(world.shared(), &mut reserver).finish();
         Ok(Some(Issuer {
             world,
             reserver,
             queue,
             number: self.number,
-            of: PhantomData,
         }))
     }
 
     /// Takes systems home, in their order. If memory runs out, they are handed back.
     #[inline]
-    pub(super) fn take_home(&mut self, queues: Vec<Issued<J>>) -> Result<(), Vec<Issued<J>>>
+    pub(super) fn take_home(&mut self, queues: Vec<Issued>) -> Result<(), Vec<Issued>>
         // requires own { AreIssuersOf self.old.number queues.items }
         // ensures ok { OnOk result (self.new ≡ with_home self.old queues.items) }
         // ensures memory { OnErr result (0 < length queues.items) }
@@ -164,13 +187,11 @@ impl<J: Numbering> WorldPhase<J> {
         // ensures err { IfErr result (λ phase. phase ≡ self) }
     {
         let WorldPhase {
-            alloc,
             of_world,
             world,
             home,
             queues,
             number,
-            of: _,
         } = self;
         match Arc::try_unwrap(world) {
             Ok(world) => Ok(Parts {
@@ -179,15 +200,15 @@ impl<J: Numbering> WorldPhase<J> {
                 home,
                 queues,
             }),
-            Err(world) => Err(WorldPhase::new(alloc, of_world, world, home, queues, number)),
+            Err(world) => Err(WorldPhase::new(of_world, world, home, queues, number)),
         }
     }
 
     /// A list without systems.
     #[inline]
-    pub(super) fn no_issued(&self) -> Vec<Issued<J>>
+    pub(super) fn no_issued(&self) -> Vec<Issued>
         // ensures { result.items ≡ [] }
     {
-        Vec::new(self.alloc)
+        Vec::new()
     }
 }
