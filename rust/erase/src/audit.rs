@@ -11,6 +11,7 @@ mod changes;
 mod comments;
 mod docs;
 mod messages;
+mod rights;
 mod visible;
 
 use crate::forms;
@@ -125,7 +126,7 @@ impl Audit<'_> {
             ":" if starts(&[":", "Drop", "+"]) => None,
             ":" | "+" if starts(&[":", "Drop"]) || starts(&["+", "Drop"]) => Some(at + 2),
             "Drop" if starts(&["Drop", "+"]) => Some(at + 2),
-            _ => None,
+            _ => self.right_end(),
         }
     }
 

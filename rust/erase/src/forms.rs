@@ -43,6 +43,15 @@ pub const GHOST_TRAITS: &[&str] = &["Model"];
 /// derives and from bounds.
 pub const DROP: &str = "Drop";
 
+/// The type of the right to allocate, which the kit's `std::alloc` has. A value of it goes, wherever it is handed on.
+pub const RIGHT: &str = "Global";
+
+/// Types of the kit whose last argument may be that type.
+pub const RIGHT_TYPES: &[&str] = &["Arc", "Table", "Vec"];
+
+/// In a list of how arguments may begin: the right to allocate, and no more.
+pub const OF_RIGHT: &[&str] = &["alloc"];
+
 /// Attributes that speak to the prover.
 pub const GHOST_ATTRIBUTES: &[&str] = &["tactic", "cycle"];
 
@@ -325,7 +334,8 @@ pub struct Import {
 pub struct Renamed {
     /// Its name in the sources.
     pub from: &'static str,
-    /// How its arguments may begin, each as tokens. A quote stands for any text.
+    /// How its arguments may begin, each as tokens. A quote stands for any text, and `OF_RIGHT` for the right to
+    /// allocate.
     pub arguments: &'static [&'static [&'static str]],
     /// Its name in the result.
     pub to: &'static str,
@@ -456,6 +466,8 @@ pub struct Forms {
     pub associated: &'static [Associated],
     /// The type that a test is handed as `rt`. Rust hands a test nothing, so it makes one.
     pub runtime: Option<&'static str>,
+    /// The types and traits of an `rt` that hands out the right to allocate.
+    pub hands_out_right: &'static [&'static str],
 }
 
 /// A module that leads to this path, without ghost names.
@@ -486,13 +498,14 @@ pub static PACKAGE: Forms = Forms {
     kept_macros: &["matches", "unreachable", "write"],
     renamed: &[Renamed {
         from: "collect",
-        arguments: &[&["alloc"]],
+        arguments: &[OF_RIGHT],
         to: "collect_in",
         import: "crate::kit::vec::CollectIn",
     }],
     methods: METHODS,
     associated: ASSOCIATED,
     runtime: None,
+    hands_out_right: &[],
 };
 
 const MODULES: &[Module] = &[
@@ -500,11 +513,12 @@ const MODULES: &[Module] = &[
     module("either", "crate::kit::either", &["Either", "Left", "Right"]),
     module("itoa", "crate::kit::itoa", &["Buffer", "Integer"]),
     module("smallvec", "crate::kit::smallvec", &["SmallVec"]),
-    module(
-        "std::alloc",
-        "crate::kit::alloc",
-        &["AllocError", "AllocFailed", "Global"],
-    ),
+    Module {
+        path: "std::alloc",
+        to: "crate::kit::alloc",
+        names: &["AllocError", "AllocFailed"],
+        ghost: &[RIGHT],
+    },
     module("std::cmp", "core::cmp", &["Ordering", "Reverse"]),
     module(
         "std::collections",

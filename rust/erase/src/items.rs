@@ -280,7 +280,10 @@ impl Walk<'_> {
     fn fields(&mut self, at: usize, end: usize) -> Result<(), Fault> {
         let mut at = at;
         while at < end {
-            let comma = self.source.find(at, end, &[","]).unwrap_or(end);
+            let mut comma = self.source.find(at, end, &[","]).unwrap_or(end);
+            while let Some(next) = self.rights.end(comma) {
+                comma = self.source.find(next, end, &[","]).unwrap_or(end);
+            }
             let start = at;
             while self.source.at(at) == "#" {
                 at = self.after_attribute(at)?;
@@ -292,6 +295,8 @@ impl Walk<'_> {
             if self.source.at(at) == "ghost" {
                 self.ghost_field(at, comma)?;
                 self.cut_item(start, (comma + 1).min(end))?;
+            } else if self.is_right(at, comma) {
+                self.cut_item(start, (comma + 1).min(end))?;
             } else {
                 self.attributes(start, visible, &[])?;
                 self.visibility(visible, Scope::File)?;
@@ -300,6 +305,12 @@ impl Walk<'_> {
             at = comma + 1;
         }
         Ok(())
+    }
+
+    /// Whether the field that begins here, up to the comma, has the right to allocate.
+    fn is_right(&self, at: usize, comma: usize) -> bool {
+        let is_imported = self.ghosts.contains(forms::RIGHT);
+        is_imported && comma == at + 3 && self.source.has(at + 1, &[":", forms::RIGHT])
     }
 
     /// `ghost NAME: { .. }` or `ghost NAME: { .. } by { .. }`, up to the comma.

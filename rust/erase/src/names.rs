@@ -6,6 +6,7 @@
 
 use crate::conditions::has_condition;
 use crate::forms::{self, Forms};
+use crate::memory::Fields;
 use crate::source::{Fault, Source};
 use std::collections::{BTreeMap, BTreeSet};
 
@@ -30,6 +31,8 @@ pub struct Names {
     pub members: BTreeSet<String>,
     /// Their free functions, by file and name: whether those of that name have a condition.
     conditions: BTreeMap<(String, String), BTreeSet<bool>>,
+    /// Their fields.
+    pub(crate) fields: Fields,
     /// The names of std and of the kit that they may use.
     pub forms: Vec<&'static Forms>,
     /// For each trait, by its name and its crate, what it has.
@@ -66,6 +69,7 @@ impl Names {
     /// A name has another meaning for the eraser, or an `impl` is for a type that isn't the sources' own.
     pub fn add(&mut self, source: &Source<'_>) -> Result<(), Fault> {
         let mut members = BTreeSet::new();
+        self.fields.add(source);
         for at in 0..source.len() {
             match source.at(at) {
                 "trait" | "impl" if begins_item(source, at) => {
@@ -297,6 +301,7 @@ impl Names {
     ///
     /// The first method that isn't: it is in two blocks, or a trait of std gives it to the type too.
     pub fn check(&self) -> Result<(), Fault> {
+        self.fields.check()?;
         let mut found = BTreeMap::new();
         let iterators: BTreeSet<_> = self
             .blocks
@@ -376,6 +381,7 @@ impl Names {
             || forms::PRIMITIVES.contains(&name)
             || forms::CRATES.contains(&name)
             || forms::GHOST_TRAITS.contains(&name)
+            || name == forms::RIGHT
             || forms::kept_trait(name).is_some()
             || self.crates.contains_key(name)
             || self.forms.iter().any(is_of)
@@ -410,7 +416,7 @@ pub(crate) struct Header<'a> {
     /// The last name of the trait that it implements, if it implements one.
     pub(crate) implemented: Option<&'a str>,
     /// The last name of its type, without `&`.
-    of: &'a str,
+    pub(crate) of: &'a str,
     /// Whether the type has no parameters.
     is_plain: bool,
     /// Whether it is for a reference to the type.

@@ -14,6 +14,7 @@ use ent_other::E;
 use std::alloc::Global;
 use std::fmt;
 use std::marker::Model;
+use std::sync::Arc;
 use thiserror::Error;
 
 /// Of F.
@@ -35,7 +36,7 @@ impl<T: Drop + Copy> From<T> for F {
     ghost from_gives = { j };
 
     /// Of k.
-    fn from(k: T, alloc: J) -> Self
+    fn from(k: T, alloc: Global) -> Self
         // Of l.
         requires l { k ≡ m }
 
@@ -71,6 +72,20 @@ impl F {
         ensures { l }
     {
         self.s();
+    }
+}
+
+struct Q {
+    alloc: Global,
+    r: Arc<u8, Global>,
+}
+
+impl Q {
+    fn s(self, t: u8, alloc: Global) -> Q {
+        let Q { alloc: _, r } = self;
+        u(t, alloc, |_: Global, v: u8| w(v));
+        let Self { r, alloc } = s(self.alloc, t);
+        Q { alloc, r }
     }
 }
 

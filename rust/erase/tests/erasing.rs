@@ -254,7 +254,7 @@ fn paths() {
          use std::cmp::Ordering;\nuse std::fmt;\nuse thiserror::Error;\npub use either::{Either, Left};\n\n\
          type F = Result<ent_other::E, std::cmp::Ordering>;\ntype G = crate::a::H<fmt::Result>;\n",
         "use crate::proved::ent_here::a::B;\nuse crate::proved::ent_here::{C, d};\n\
-         use crate::proved::ent_other::E;\nuse crate::kit::alloc::{AllocError, Global};\n\
+         use crate::proved::ent_other::E;\nuse crate::kit::alloc::AllocError;\n\
          use core::cmp::Ordering;\nuse core::fmt;\npub use crate::kit::either::{Either, Left};\n\n\
          type F = Result<crate::proved::ent_other::E, core::cmp::Ordering>;\n\
          type G = crate::proved::ent_here::a::H<fmt::Result>;\n",
@@ -280,11 +280,11 @@ fn what_the_crate_alone_sees() {
 #[test]
 fn names_of_the_kit_are_imported() {
     gives(
-        "//! A.\n\nuse super::b;\n\nfn c<F>(alloc: F, d: Vec<u8>) -> Vec<u8> {\n    prove_eq!(1, 1);\n    \
+        "//! A.\n\nuse super::b;\nuse std::alloc::Global;\n\nfn c(alloc: Global, d: Vec<u8>) -> Vec<u8> {\n    prove_eq!(1, 1);\n    \
          d.iter().collect(alloc)\n}\n",
         "//! A.\n\nuse crate::kit::prove_eq;\nuse crate::kit::vec::CollectIn;\nuse crate::kit::vec::Vec;\n\
-         use super::b;\n\n#[inline]\nfn c<F>(alloc: F, d: Vec<u8>) -> Vec<u8> {\n    prove_eq!(1, 1);\n    \
-         d.iter().collect_in(alloc)\n}\n",
+         use super::b;\n\n#[inline]\nfn c(d: Vec<u8>) -> Vec<u8> {\n    prove_eq!(1, 1);\n    \
+         d.iter().collect_in()\n}\n",
     );
     gives(
         "ghost use A.{b};\n\n/// C.\n#[derive(Drop)]\nstruct C(Vec<u8>);\n",

@@ -3,7 +3,6 @@
 use crate::component::{Birth, ComponentId};
 use crate::errors::OutOfMemory;
 use crate::handle::Handle;
-use crate::kit::alloc::Global;
 use crate::numbers::Numbers;
 use crate::proved::ent_handle::Memory;
 use crate::proved::ent_queue::{self, Bundle};
@@ -37,8 +36,8 @@ impl Commands {
     /// refusal, which is a fault of the sync point's report.
     #[inline]
     pub fn spawn(&mut self, components: &[(ComponentId, i64)]) -> Result<Handle, SpawnError> {
-        let bundle = Bundle::of(Global, components)?;
-        Ok(self.proved.spawn(Global, &bundle)?)
+        let bundle = Bundle::of(components)?;
+        Ok(self.proved.spawn(&bundle)?)
     }
 
     /// Reserves `count` handles at once, each of which is to have the components. It takes time for each
@@ -53,8 +52,8 @@ impl Commands {
         count: u32,
         components: &[(ComponentId, i64)],
     ) -> Result<Vec<Handle>, SpawnError> {
-        let bundle = Bundle::of(Global, components)?;
-        Ok(self.proved.spawn_many(Global, count, &bundle)?.into())
+        let bundle = Bundle::of(components)?;
+        Ok(self.proved.spawn_many(count, &bundle)?.into())
     }
 
     /// Gives the entity the components, instead of those that it has under the same numbers.
@@ -68,8 +67,8 @@ impl Commands {
         handle: Handle,
         components: &[(ComponentId, i64)],
     ) -> Result<(), OutOfMemory> {
-        let bundle = Bundle::of(Global, components)?;
-        Ok(self.proved.insert(Global, handle, &bundle)?)
+        let bundle = Bundle::of(components)?;
+        Ok(self.proved.insert(handle, &bundle)?)
     }
 
     /// Takes the component out of the entity, if it has it.
@@ -79,7 +78,7 @@ impl Commands {
     /// `OutOfMemory`, and then nothing has changed.
     #[inline]
     pub fn remove(&mut self, handle: Handle, id: ComponentId) -> Result<(), OutOfMemory> {
-        Ok(self.proved.remove(Global, handle, id)?)
+        Ok(self.proved.remove(handle, id)?)
     }
 
     /// Takes the entity out of the world.
@@ -89,7 +88,7 @@ impl Commands {
     /// `OutOfMemory`, and then nothing has changed.
     #[inline]
     pub fn despawn(&mut self, handle: Handle) -> Result<(), OutOfMemory> {
-        Ok(self.proved.despawn(Global, handle)?)
+        Ok(self.proved.despawn(handle)?)
     }
 
     /// The value of the entity's component, if the entity is alive and has it.

@@ -5,7 +5,6 @@ use crate::errors::{
     Unshared,
 };
 use crate::handle::Handle;
-use crate::kit::alloc::Global;
 use crate::kit::vec::Vec as List;
 use crate::limits::Limits;
 use crate::proved::{ent_alloc, ent_total};
@@ -88,7 +87,7 @@ impl Entities {
     /// An allocator with no entities and these limits. It takes no memory.
     #[must_use]
     pub const fn with_limits(limits: Limits) -> Self {
-        Self::of(ent_alloc::Entities::new(Global, limits.proved()))
+        Self::of(ent_alloc::Entities::new(limits.proved()))
     }
 
     /// An allocator with no entities and these limits, as [`with_limits`](Self::with_limits) makes
@@ -237,7 +236,7 @@ impl Entities {
     ///
     /// `OutOfMemory`, and then nothing has changed.
     pub fn flush(&mut self) -> Result<Vec<Handle>, OutOfMemory> {
-        let mut born = List::new(Global);
+        let mut born = List::new();
         self.proved.flush(&mut born)?;
         Ok(born.into())
     }
@@ -293,7 +292,7 @@ impl Entities {
     ///
     /// `OutOfMemory`, as of `flush`, and then nothing has changed and nothing is handed on.
     pub fn flush_with(&mut self, each: impl FnMut(Handle)) -> Result<(), OutOfMemory> {
-        let mut born = List::new(Global);
+        let mut born = List::new();
         self.proved.flush(&mut born)?;
         born.into_iter().for_each(each);
         Ok(())

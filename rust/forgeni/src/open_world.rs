@@ -4,7 +4,6 @@ use crate::commands::{CommandQueue, Commands};
 use crate::component::{Birth, ComponentId};
 use crate::errors::OutOfMemory;
 use crate::handle::Handle;
-use crate::kit::alloc::Global;
 use crate::kit::vec::Vec as List;
 use crate::numbers::{next_number, Numbers};
 use crate::proved::ent_total::{self, FinishFault, NumberedWorld, ShareFault};
@@ -44,7 +43,7 @@ impl OpenWorld {
                 error: OpenError::Memory,
             });
         }
-        match ent_total::open(Global, world, count) {
+        match ent_total::open(world, count) {
             Ok(opening) => Self {
                 proved: opening.numbered(next_number()),
                 next,
@@ -77,7 +76,7 @@ impl OpenWorld {
 
     /// Memory ran out on the way, and no system has begun: the world is as it was.
     fn undo(self) -> Unopened {
-        match self.proved.close_lost(List::new(Global)) {
+        match self.proved.close_lost(List::new()) {
             Ok((world, _)) => Unopened {
                 world: World::of(world, self.next),
                 error: OpenError::Memory,

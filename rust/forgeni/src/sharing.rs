@@ -3,7 +3,6 @@
 use crate::entities::Entities;
 use crate::errors::{CloseError, OtherPhase, OutOfMemory, Refused, ShareError, Unclosed, Unshared};
 use crate::handle::Handle;
-use crate::kit::alloc::Global;
 use crate::kit::vec::Vec as List;
 use crate::numbers::{next_number, Numbers};
 use crate::proved::{ent_alloc, ent_handle, ent_total};
@@ -43,7 +42,7 @@ impl Shared {
             });
         };
         let pool = u64::from(entities.top()) + u64::from(entities.room());
-        let opening = ent_total::share(Global, entities, callers)?;
+        let opening = ent_total::share(entities, callers)?;
         let shared = Self {
             proved: opening.numbered(next_number()),
             room,
@@ -79,7 +78,7 @@ impl Shared {
 
     /// Memory ran out on the way, and nobody has reserved: the allocator is as it was.
     fn undo(phase: Phase) -> Unshared {
-        match phase.close_lost(List::new(Global)) {
+        match phase.close_lost(List::new()) {
             Ok(entities) => Unshared {
                 entities: Entities::of(entities),
                 error: ShareError::Memory,

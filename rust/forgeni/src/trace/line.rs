@@ -5,7 +5,6 @@ use super::reply::{AllocReply, FlushReply, FreeReply, ReserveReply};
 use crate::entities::State;
 use crate::errors::OutOfMemory;
 use crate::handle::Handle;
-use crate::kit::alloc::Global;
 use crate::kit::vec::Vec as List;
 use crate::limits::Limits;
 use crate::proved::ent_replay::trace::{self, Line};
@@ -134,7 +133,7 @@ impl ReserveReply {
 
 /// A copy of the handles.
 fn proved_list(handles: &[Handle]) -> Result<HandleList, OutOfMemory> {
-    let mut list: List<ent_handle::Handle> = List::with_capacity(Global, handles.len())?;
+    let mut list: List<ent_handle::Handle> = List::with_capacity(handles.len())?;
     for handle in handles {
         list.push_reserved(*handle);
     }

@@ -9,7 +9,6 @@ use crate::proved::ent_alloc::slot_record::Occupancy;
 use crate::proved::ent_alloc::slots::Slots;
 use crate::proved::ent_alloc::state::State;
 use crate::proved::ent_handle::{Handle, Memory};
-use crate::kit::alloc::Global;
 
 /// Gives out the handles of entities and knows which are alive, as Bevy's `Entities` does.
 ///
@@ -37,9 +36,9 @@ impl Entities {
     ///
     /// </details>
     #[inline]
-    pub const fn new(alloc: Global, limits: Limits) -> Self {
+    pub const fn new(limits: Limits) -> Self {
         Entities {
-            slots: Slots::new(alloc, limits),
+            slots: Slots::new(limits),
             requests: Requests::none(),
         }
     }

@@ -9,7 +9,6 @@ use crate::proved::ent_queue::writing::{
 use crate::proved::ent_alloc::ReserveError as QueueFault;
 use crate::proved::ent_handle::{ComponentId, Handle, Memory};
 use crate::proved::ent_shared::{Reserver, Shared};
-use crate::kit::alloc::Global;
 
 /// How many bytes a refusal has.
 const REFUSAL: usize = 14;
@@ -25,11 +24,11 @@ pub struct CommandQueue {
 
 impl CommandQueue {
     #[inline]
-    pub(super) fn new(alloc: Global) -> Self
+    pub(super) fn new() -> Self
         // ensures { result ≡ [] }
     {
         CommandQueue {
-            bytes: Vec::new(alloc),
+            bytes: Vec::new(),
             count: 0,
         }
     }
@@ -152,7 +151,6 @@ impl CommandQueue {
     #[inline]
     pub(super) fn spawn_many(
         &mut self,
-        alloc: Global,
         shared: &Shared,
         reserver: &mut Reserver,
         n: u32,
@@ -170,7 +168,7 @@ impl CommandQueue {
         //     → as_list result ≡ queued reply
         //     → IsReturned shared.now reserver.old reserver.new n reply }
     {
-        let mut handles = Vec::with_capacity(alloc, n as usize)?;
+        let mut handles = Vec::with_capacity(n as usize)?;
         let own = 7 + 8 * n as usize + 9 * items.len();
         self.bytes.reserve(own.max(REFUSAL))?;
         match shared.reserve_many(reserver, n) {

@@ -4,7 +4,6 @@ use crate::kit::vec::Vec;
 use crate::proved::ent_replay::event::Event;
 use crate::proved::ent_replay::read_fault::{Cause, ReadFault};
 use crate::proved::ent_handle::{Handle, read_decimal, split_once};
-use crate::kit::alloc::Global;
 
 /// The first line of a text, and the text after its line feed.
 #[inline]
@@ -135,8 +134,8 @@ fn read_event(line: &[u8]) -> Result<Event, Cause>
 ///
 /// </details>
 #[inline]
-pub fn read_schedule(alloc: Global, text: &[u8]) -> Result<Vec<Event>, ReadFault> {
-    let mut events = Vec::new(alloc);
+pub fn read_schedule(text: &[u8]) -> Result<Vec<Event>, ReadFault> {
+    let mut events = Vec::new();
     let mut rest = text;
     while !rest.is_empty() {
         let (line, following) = first_line(rest);

@@ -14,7 +14,6 @@ pub use crate::proved::ent_storage::handle_map::iter::Iter;
 use crate::proved::ent_storage::handle_map::retaining::retain_slots;
 use crate::proved::ent_storage::handle_map::slot::{Slot, make_slot};
 use crate::proved::ent_handle::{Handle, Memory};
-use crate::kit::alloc::Global;
 use core::mem;
 
 /// A value for each of some handles, at most one for each slot.
@@ -39,9 +38,9 @@ impl<T> HandleMap<T> {
     ///
     /// </details>
     #[inline]
-    pub const fn new(alloc: Global) -> Self {
+    pub const fn new() -> Self {
         HandleMap {
-            slots: Vec::new(alloc),
+            slots: Vec::new(),
             len: 0,
         }
     }
@@ -64,9 +63,9 @@ impl<T> HandleMap<T> {
     ///
     /// </details>
     #[inline]
-    pub fn with_capacity(alloc: Global, slots: usize) -> Result<Self, Memory> {
+    pub fn with_capacity(slots: usize) -> Result<Self, Memory> {
         Ok(HandleMap {
-            slots: Vec::with_capacity(alloc, slots)?,
+            slots: Vec::with_capacity(slots)?,
             len: 0,
         })
     }

@@ -6,7 +6,7 @@ use super::living::{Living, has_handle_at};
 use super::places::MOST_PLACES;
 use super::slot::{at_slot, is_gap, search_slot};
 use crate::proved::ent_handle::Handle;
-use crate::kit::alloc::{AllocError, Global};
+use crate::kit::alloc::AllocError;
 
 /// The place of each entity, and places of entities that are gone. The pairs are in the order of
 /// handles, so that a look-up is a binary search at most. If each slot has one pair, as with an
@@ -36,9 +36,9 @@ impl Index {
     ///
     /// </details>
     #[inline]
-    pub fn new(alloc: Global) -> Self {
+    pub fn new() -> Self {
         Index {
-            pairs: Vec::new(alloc),
+            pairs: Vec::new(),
         }
     }
 

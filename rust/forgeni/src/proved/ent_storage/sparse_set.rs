@@ -2,7 +2,7 @@
 
 use crate::kit::vec::Vec;
 use super::places::MOST_PLACES;
-use crate::kit::alloc::{AllocError, Global};
+use crate::kit::alloc::AllocError;
 
 /// The values of one component, by the places of the entities that have it.
 ///
@@ -27,10 +27,10 @@ impl SparseSet {
     ///
     /// </details>
     #[inline]
-    pub fn new(alloc: Global) -> Self {
+    pub fn new() -> Self {
         SparseSet {
-            dense: Vec::new(alloc),
-            sparse: Vec::new(alloc),
+            dense: Vec::new(),
+            sparse: Vec::new(),
         }
     }
 

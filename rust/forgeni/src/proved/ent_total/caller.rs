@@ -6,7 +6,6 @@ use crate::proved::ent_total::sink::Sink;
 use crate::proved::ent_alloc::Reserved;
 use crate::proved::ent_handle::Handle;
 use crate::proved::ent_shared::{Refused, Reserver, Shared};
-use crate::kit::alloc::Global;
 use core::marker::PhantomData;
 use crate::kit::sync::Arc;
 
@@ -35,7 +34,7 @@ impl core::error::Error for OtherPhase {}
 /// One caller of a phase: its reserver, with the allocator that it reserves from. It may go to a
 /// thread of its own.
 pub struct Caller<J: Numbering> {
-    pub(super) shared: Arc<Shared, Global>,
+    pub(super) shared: Arc<Shared>,
     pub(super) reserver: Reserver,
     pub(super) number: u64,
     pub(super) of: PhantomData<J>,

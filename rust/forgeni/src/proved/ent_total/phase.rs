@@ -6,14 +6,12 @@ use crate::proved::ent_total::homecoming::bring_home;
 use crate::proved::ent_total::numbering::Numbering;
 use crate::proved::ent_handle::{Handle, Memory};
 use crate::proved::ent_shared::{Reserver, Shared};
-use crate::kit::alloc::Global;
 use core::marker::PhantomData;
 use crate::kit::sync::Arc;
 
 /// An allocator that is shared, with the reservers that no caller has.
 pub struct Phase<J: Numbering> {
-    alloc: Global,
-    shared: Arc<Shared, Global>,
+    shared: Arc<Shared>,
     home: Vec<Reserver>,
     number: u64,
     of: PhantomData<J>,
@@ -22,8 +20,7 @@ pub struct Phase<J: Numbering> {
 impl<J: Numbering> Phase<J> {
     #[inline]
     pub(super) fn new(
-        alloc: Global,
-        shared: Arc<Shared, Global>,
+        shared: Arc<Shared>,
         home: Vec<Reserver>,
         number: u64,
     ) -> Self
@@ -34,7 +31,6 @@ impl<J: Numbering> Phase<J> {
         //     ≡ record { number = number; shared = arc_value shared; home = home.items } }
     {
         Phase {
-            alloc,
             shared,
             home,
             number,
@@ -176,7 +172,6 @@ impl<J: Numbering> Phase<J> {
         // ensures err { IfErr result (λ phase. phase ≡ self) }
     {
         let Phase {
-            alloc,
             shared,
             home,
             number,
@@ -184,7 +179,7 @@ impl<J: Numbering> Phase<J> {
         } = self;
         match Arc::try_unwrap(shared) {
             Ok(shared) => Ok((shared, home)),
-            Err(shared) => Err(Phase::new(alloc, shared, home, number)),
+            Err(shared) => Err(Phase::new(shared, home, number)),
         }
     }
 
@@ -193,6 +188,6 @@ impl<J: Numbering> Phase<J> {
     pub(super) fn no_callers(&self) -> Vec<Caller<J>>
         // ensures { result.items ≡ [] }
     {
-        Vec::new(self.alloc)
+        Vec::new()
     }
 }

@@ -9,15 +9,13 @@ use crate::proved::ent_handle::Memory;
 use crate::proved::ent_queue::{CommandQueue, Commands};
 use crate::proved::ent_shared::Reserver;
 use crate::proved::ent_world::OpenWorld;
-use crate::kit::alloc::Global;
 use core::marker::PhantomData;
 use crate::kit::sync::Arc;
 
 /// A world in a phase, with the reservers that no issuer has, and the queues that came home.
 pub struct WorldPhase<J: Numbering> {
-    alloc: Global,
     of_world: u64,
-    world: Arc<OpenWorld, Global>,
+    world: Arc<OpenWorld>,
     home: Vec<Reserver>,
     queues: Vec<CommandQueue>,
     number: u64,
@@ -35,9 +33,8 @@ pub(super) struct Parts {
 impl<J: Numbering> WorldPhase<J> {
     #[inline]
     pub(super) fn new(
-        alloc: Global,
         of_world: u64,
-        world: Arc<OpenWorld, Global>,
+        world: Arc<OpenWorld>,
         home: Vec<Reserver>,
         queues: Vec<CommandQueue>,
         number: u64,
@@ -53,7 +50,6 @@ impl<J: Numbering> WorldPhase<J> {
         // } }
     {
         WorldPhase {
-            alloc,
             of_world,
             world,
             home,
@@ -153,7 +149,7 @@ impl<J: Numbering> WorldPhase<J> {
         let Some(mut reserver) = self.home.pop() else {
             unreachable!()
         };
-        let queue = Commands::new(self.alloc, world.shared(), &mut reserver).finish();
+        let queue = Commands::new(world.shared(), &mut reserver).finish();
         Ok(Some(Issuer {
             world,
             reserver,
@@ -196,7 +192,6 @@ impl<J: Numbering> WorldPhase<J> {
         // ensures err { IfErr result (λ phase. phase ≡ self) }
     {
         let WorldPhase {
-            alloc,
             of_world,
             world,
             home,
@@ -211,7 +206,7 @@ impl<J: Numbering> WorldPhase<J> {
                 home,
                 queues,
             }),
-            Err(world) => Err(WorldPhase::new(alloc, of_world, world, home, queues, number)),
+            Err(world) => Err(WorldPhase::new(of_world, world, home, queues, number)),
         }
     }
 
@@ -220,6 +215,6 @@ impl<J: Numbering> WorldPhase<J> {
     pub(super) fn no_issued(&self) -> Vec<Issued<J>>
         // ensures { result.items ≡ [] }
     {
-        Vec::new(self.alloc)
+        Vec::new()
     }
 }

@@ -8,7 +8,6 @@ use crate::proved::ent_replay::trace::reply::{AllocReply, FlushReply, FreeReply,
 use crate::proved::ent_alloc::State;
 use crate::proved::ent_handle::{Handle, Memory};
 use crate::kit::itoa::Buffer;
-use crate::kit::alloc::Global;
 
 #[inline]
 fn append(out: &mut Vec<u8>, text: &[u8]) -> Result<(), Memory>
@@ -59,8 +58,8 @@ fn append_handle(out: &mut Vec<u8>, handle: Handle) -> Result<(), Memory>
 ///
 /// </details>
 #[inline]
-pub fn append_handles(alloc: Global, out: &mut Vec<u8>, handles: &[Handle]) -> Result<(), Memory> {
-    let mut text = Vec::new(alloc);
+pub fn append_handles(out: &mut Vec<u8>, handles: &[Handle]) -> Result<(), Memory> {
+    let mut text = Vec::new();
     put_handles(&mut text, handles)?;
     append(out, &text)
 }
@@ -173,8 +172,8 @@ fn write_reserve(out: &mut Vec<u8>, reservation: &Reservation) -> Result<(), Mem
 ///
 /// </details>
 #[inline]
-pub fn append_answer(alloc: Global, out: &mut Vec<u8>, line: &Line) -> Result<(), Memory> {
-    let mut text = Vec::new(alloc);
+pub fn append_answer(out: &mut Vec<u8>, line: &Line) -> Result<(), Memory> {
+    let mut text = Vec::new();
     put_answer(&mut text, line)?;
     append(out, &text)
 }
@@ -212,8 +211,8 @@ fn put_answer(out: &mut Vec<u8>, line: &Line) -> Result<(), Memory>
 ///
 /// </details>
 #[inline]
-pub fn write_line(alloc: Global, out: &mut Vec<u8>, line: &Line) -> Result<(), Memory> {
-    let mut text = Vec::new(alloc);
+pub fn write_line(out: &mut Vec<u8>, line: &Line) -> Result<(), Memory> {
+    let mut text = Vec::new();
     put_line(&mut text, line)?;
     append(out, &text)
 }
