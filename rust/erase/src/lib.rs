@@ -21,6 +21,7 @@ mod functions;
 pub mod host;
 mod items;
 pub mod lex;
+mod lists;
 mod memory;
 mod messages;
 mod names;

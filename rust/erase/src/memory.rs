@@ -59,7 +59,7 @@ impl Fields {
 }
 
 /// The named fields of a source's structs and variants: the place of each owner's name, and of the field's.
-fn fields(source: &Source<'_>) -> Vec<(usize, usize)> {
+pub(crate) fn fields(source: &Source<'_>) -> Vec<(usize, usize)> {
     let mut found = Vec::new();
     for at in 0..source.len() {
         let is_enum = source.at(at) == "enum";
@@ -191,7 +191,7 @@ impl<'a> Rights<'a> {
 }
 
 /// The blocks of `impl`, each with the name of its type.
-fn owners<'a>(source: &Source<'a>) -> Vec<(Range<usize>, &'a str)> {
+pub(crate) fn owners<'a>(source: &Source<'a>) -> Vec<(Range<usize>, &'a str)> {
     let blocks =
         (0..source.len()).filter(|at| source.at(*at) == "impl" && begins_item(source, *at));
     let found = blocks.filter_map(|at| {
