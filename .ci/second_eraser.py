@@ -57,16 +57,16 @@ IMPORTS = set(
     "std::alloc::Global std::alloc::AllocError std::alloc::AllocFailed std::collections::BTreeMap std::collections::LinkedList std::sync::Arc "
     "std::thread::Threads std::thread::join_mut std::cmp::Ordering std::error::Error std::fmt std::marker::PhantomData std::mem "
     "std::num::NonZeroU32 std::num::NonZeroU64 std::hash::Hash std::hash::Hasher atomic_table::Badge atomic_table::Join "
-    "atomic_table::Play atomic_table::Seat atomic_table::Split atomic_table::Table atomic_table::TableRule either::Either either::Left either::Right itoa::Buffer itoa::Integer "
-    "smallvec::SmallVec".split()
+    "atomic_table::Play atomic_table::Seat atomic_table::Split atomic_table::Table atomic_table::TableRule either::Either "
+    "either::Left either::Right itoa::Buffer itoa::Integer smallvec::SmallVec".split()
 )
 PRELUDE = set(
     "Some None Ok Err Option Result Vec Self self Iterator ExactSizeIterator From Default Copy Clone Send Sync Fn FnMut FnOnce Ord PartialOrd "
     "PartialEq Eq bool char str u8 u16 u32 u64 u128 usize i64".split()
 )
 ASSOCIATED = set(
-    "Arc::new Arc::try_clone Arc::try_unwrap BTreeMap::new Badge::blank Buffer::new NonZeroU32::new NonZeroU64::MIN NonZeroU64::new fmt::Debug SmallVec::new SmallVec::with_capacity "
-    "Table::of_words Vec::new Vec::with_capacity fmt::Display fmt::Formatter fmt::Result i64::from mem::replace str::from_utf8 "
+    "Arc::new Arc::try_clone Arc::try_unwrap BTreeMap::new Badge::blank Buffer::new NonZeroU32::new NonZeroU64::MIN NonZeroU64::new "
+    "SmallVec::new SmallVec::with_capacity Table::of_words Vec::new Vec::with_capacity fmt::Debug fmt::Display fmt::Formatter fmt::Result i64::from mem::replace str::from_utf8 "
     "u16::from_le_bytes u32::MAX u32::from_le_bytes u64::from u64::from_le_bytes usize::from".split()
 )
 METHODS = set(
