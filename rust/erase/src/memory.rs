@@ -128,7 +128,7 @@ fn is_end(source: &Source<'_>, at: usize) -> bool {
 pub(crate) struct Rights<'a> {
     /// The tokens that go, by the first of them: the place after the last one. A comma that parted them from others is
     /// one of them.
-    gone: BTreeMap<usize, usize>,
+    pub(crate) gone: BTreeMap<usize, usize>,
     /// The functions, each with the names in it that have the right.
     functions: Vec<(Range<usize>, BTreeSet<&'a str>)>,
 }
@@ -166,11 +166,6 @@ impl<'a> Rights<'a> {
             rights.functions.push((at..end, function.having));
         }
         rights
-    }
-
-    /// The place after what goes here, if something does.
-    pub(crate) fn end(&self, at: usize) -> Option<usize> {
-        self.gone.get(&at).copied()
     }
 
     /// Whether the name at this place has the right. If it can't be told, `None`.
@@ -218,7 +213,7 @@ fn before_angles<'a>(source: &Source<'a>, at: usize) -> &'a str {
 }
 
 /// Where the signature of the function at this place ends, and the function itself.
-fn function(source: &Source<'_>, at: usize) -> Option<(usize, usize)> {
+pub(crate) fn function(source: &Source<'_>, at: usize) -> Option<(usize, usize)> {
     let ends = ["{", ";", forms::CLAUSES[0], forms::CLAUSES[1]];
     let signature = source.find(at, source.len(), &ends)?;
     let mut end = signature;
@@ -232,14 +227,9 @@ fn function(source: &Source<'_>, at: usize) -> Option<(usize, usize)> {
 /// Whether the function of this signature has an `rt` that hands out the right.
 fn makes_rights(source: &Source<'_>, names: &Names, signature: Range<usize>) -> bool {
     let is_bound = signature.clone().any(|at| source.has(at, &["rt", ":"]));
-    let is_made = |at: usize| {
-        let hands_out = |name: &&str| *name == source.at(at);
-        names
-            .forms
-            .iter()
-            .flat_map(|forms| forms.hands_out_right)
-            .any(|it| hands_out(it))
-    };
+    let lists = names.forms.iter().flat_map(|forms| forms.hands_out_right);
+    let known: Vec<&&str> = lists.collect();
+    let is_made = |at: usize| known.contains(&&source.at(at));
     is_bound && signature.into_iter().any(is_made)
 }
 
