@@ -30,6 +30,7 @@ mod paths;
 pub mod plan;
 mod scope;
 pub mod source;
+mod types;
 mod walk;
 
 pub use erase::{erase, header};

@@ -7,9 +7,9 @@
 use crate::conditions::has_condition;
 use crate::forms::{self, Forms};
 use crate::ghost_types;
-use crate::lists::Types;
 use crate::memory::Fields;
 use crate::source::{Fault, Source};
+use crate::types::Types;
 use std::collections::{BTreeMap, BTreeSet};
 
 /// What all sources together declare, and where the result has it.
