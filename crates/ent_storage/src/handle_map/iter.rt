@@ -1,5 +1,5 @@
 ghost use Rattle.std.specs.Prelude.{◌≡◌, Some, length, IfSome};
-ghost use Rattle.std.specs.Iterator.{YieldsFirstBy, UpTo, item_count};
+ghost use Rattle.std.specs.Iterator.{YieldsFirstBy, YieldsLastBy, UpTo, item_count};
 ghost use Rattle.std.specs.Iterator.SizeHint.{IsWithinCount};
 
 use crate::handle_map::slot::Slot;
@@ -74,6 +74,22 @@ impl<'a, T> Iterator for Iter<'a, T> {
         ensures exact { result ≡ (length self.now, Some (length self.now)) }
     {
         (self.left, Some(self.left))
+    }
+}
+
+impl<'a, T> DoubleEndedIterator for Iter<'a, T> {
+    ghost next_back_gives = { YieldsLastBy (λ item. (item.0, item.1.now)) (λ rest. rest) };
+
+    fn next_back(&mut self) -> Option<(Handle, &'a T)> {
+        while let Some((slot, rest)) = self.slots.split_last() {
+            let index = (self.index + rest.len()) as u32;
+            self.slots = rest;
+            if let Slot::Occupied { generation, value } = slot {
+                self.left -= 1;
+                return Some((generation.handle(index), value));
+            }
+        }
+        None
     }
 }
 
