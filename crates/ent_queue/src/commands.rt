@@ -1,13 +1,13 @@
 ghost use Rattle.std.specs.Prelude.{◌≡◌, ◌++◌, ◌∷◌, [], length, IfOk, IfErr, IsErrOf, OnOk, OnErr};
 ghost use Rattle.std.specs.Prelude.{Result, List};
 ghost use Rattle.ent_handle.specs.Handle.{Handle as HandleValue};
-ghost use Rattle.ent_shared.specs.declared.refused.Refused.{Refused as Refusal};
+ghost use Rattle.ent_alloc.specs.declared.refused.Refused.{Refused as Refusal};
 ghost use Rattle.ent_shared.specs.Phase.{IsOf};
 ghost use Rattle.ent_alloc.specs.Sequential.{listed_alone};
 ghost use Rattle.ent_queue.specs.Command.{Spawn, SpawnMany, Insert, Remove, Despawn};
 
-use crate::fault::QueueFault;
 use crate::queue::CommandQueue;
+use ent_alloc::ReserveError as QueueFault;
 use ent_handle::{ComponentId, Handle, Memory};
 use ent_shared::{Reserver, Shared};
 use ent_storage::Bundle;

@@ -14,14 +14,13 @@ ghost use Rattle.ent_shared.specs.Moves.{after_meeting};
 ghost use Rattle.ent_shared.specs.Phase.{IsPhase, records_of};
 ghost use Rattle.ent_shared.specs.Rule.{IsClosed, least_floor};
 ghost use Rattle.ent_shared.specs.Order.{reservations_of, history_of, handles_given, Respects};
-ghost use Rattle.ent_shared.specs.declared.refused.Refused.TheVariants.{Quota};
+ghost use Rattle.ent_alloc.specs.declared.refused.Refused.TheVariants.{Quota};
 
-use crate::refused::Refused;
 use crate::reserver::Reserver;
 use crate::seats::{merge, new_seat};
 use crate::word;
 use crate::word::Word;
-use ent_alloc::{Entities, Reserved, Span};
+use ent_alloc::{Entities, Refused, Reserved, Span};
 use ent_handle::Handle;
 use std::marker::Model;
 

@@ -6,16 +6,16 @@ use Rattle.std.proofs.lemmas.Grind.{common_steps}
 use Rattle.ent_handle.specs.Handle.{Handle}
 use Rattle.ent_alloc.specs.History.{handles_in}
 use Rattle.ent_alloc.specs.Sequential.{listed_alone}
-use Rattle.ent_shared.specs.declared.refused.Refused.{Refused}
-use Rattle.ent_shared.specs.declared.refused.Refused.TheVariants.{Space, Quota}
+use Rattle.ent_alloc.specs.declared.refused.Refused.{Refused}
+use Rattle.ent_alloc.specs.declared.refused.Refused.TheVariants.{Space, Quota}
 use Rattle.ent_shared.specs.Order.{handles_given}
 use Rattle.ent_shared.specs.Phase.{Shared, Reserver}
 use Rattle.ent_shared.specs.Record.{reservation_at}
 use Rattle.ent_shared.specs.Replies.{Reserves}
 use Rattle.ent_shared.proofs.Laws.{handles_of-append}
 use Rattle.ent_shared.proofs.Records.{own-made}
-use Rattle.ent_queue.specs.declared.fault.QueueFault.{QueueFault}
-use Rattle.ent_queue.specs.declared.fault.QueueFault.TheVariants as fault
+use Rattle.ent_alloc.specs.declared.reserve_error.ReserveError.{ReserveError as QueueFault}
+use Rattle.ent_alloc.specs.declared.reserve_error.ReserveError.TheVariants as fault
 use Rattle.ent_queue.specs.Reserving.{IsReturned, queued, as_list}
 
 module _ (s : Shared) (b a : Reserver) (n : ℕ) where

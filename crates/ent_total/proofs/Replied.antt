@@ -3,11 +3,11 @@ use Rattle.std.proofs.Common.{◌≡◌, refl, [], ◌∷◌, Result, Ok, Err}
 use Rattle.std.specs.Prelude.{IfOk, IfErr}
 use Rattle.ent_handle.specs.Handle.{Handle}
 use Rattle.ent_alloc.specs.Sequential.{listed_alone}
-use Rattle.ent_shared.specs.declared.refused.Refused.{Refused}
-use Rattle.ent_shared.specs.declared.refused.Refused.TheVariants.{Space, Quota}
+use Rattle.ent_alloc.specs.declared.refused.Refused.{Refused}
+use Rattle.ent_alloc.specs.declared.refused.Refused.TheVariants.{Space, Quota}
 use Rattle.ent_shared.specs.Phase.{Shared, Reserver}
-use Rattle.ent_queue.specs.declared.fault.QueueFault.{QueueFault}
-use Rattle.ent_queue.specs.declared.fault.QueueFault.TheVariants as fault
+use Rattle.ent_alloc.specs.declared.reserve_error.ReserveError.{ReserveError as QueueFault}
+use Rattle.ent_alloc.specs.declared.reserve_error.ReserveError.TheVariants as fault
 use Rattle.ent_queue.specs.Reserving.{IsReturned, queued}
 use Rattle.ent_total.specs.Issuing.{IsRefused}
 

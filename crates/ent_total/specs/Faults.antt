@@ -1,7 +1,7 @@
 -- What is said of a refusal.
 use Rattle.std.specs.Prelude.{ℕ, Result, Ok, Err}
-use Rattle.ent_shared.specs.declared.refused.Refused.{Refused}
-use Rattle.ent_shared.specs.declared.refused.Refused.TheVariants.{Space, Quota}
+use Rattle.ent_alloc.specs.declared.refused.Refused.{Refused}
+use Rattle.ent_alloc.specs.declared.refused.Refused.TheVariants.{Space, Quota}
 
 -- it was refused, and this is true of the refusal
 abbrev pub IsErrWith : {A E : Type 0} → Result A E → (E → Type 0) → Type 0

@@ -8,12 +8,12 @@ use Rattle.ent_alloc.specs.Sequential.{Allocator, cursor, after_flush}
 use Rattle.ent_alloc.specs.History.{IsLegal, after_history, given_in}
 use Rattle.ent_alloc.specs.Sound.{IsLive}
 use Rattle.ent_shared.specs.Order.{reservations_of, history_of, handles_given, Respects}
-use Rattle.ent_shared.specs.declared.refused.Refused.TheVariants.{Space, Quota}
+use Rattle.ent_alloc.specs.declared.refused.Refused.TheVariants.{Space, Quota}
 use Rattle.ent_shared.specs.Record.{requested_by}
 use Rattle.ent_shared.specs.Phase.{Shared, Reserver, reserver_code, IsOf, records_of, after_loss}
 use Rattle.ent_queue.specs.Command.{Command}
-use Rattle.ent_queue.specs.declared.fault.QueueFault.{QueueFault}
-use Rattle.ent_queue.specs.declared.fault.QueueFault.TheVariants as fault
+use Rattle.ent_alloc.specs.declared.reserve_error.ReserveError.{ReserveError as QueueFault}
+use Rattle.ent_alloc.specs.declared.reserve_error.ReserveError.TheVariants as fault
 use Rattle.ent_queue.specs.Reserving.{Gains, IsReturned}
 use Rattle.ent_queue.specs.contracts.queue.CommandQueue as queued
 use Rattle.ent_world.specs.OpenWorld.{OpenWorld, open_world_code}

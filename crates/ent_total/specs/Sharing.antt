@@ -3,7 +3,7 @@ use Rattle.std.specs.Prelude.{◌≡◌, ℕ, List, ◌++◌, length, map, Resul
 use Rattle.std.specs.List.{All}
 use Rattle.std.specs.Coded.{Coded, code_by, coded×, coded_ℕ, coded_list}
 use Rattle.ent_handle.specs.Handle.{Handle}
-use Rattle.ent_shared.specs.declared.refused.Refused.{Refused}
+use Rattle.ent_alloc.specs.declared.refused.Refused.{Refused}
 use Rattle.ent_shared.specs.Phase.{Shared, shared_code, Reserver, reserver_code}
 use Rattle.ent_shared.specs.Order.{handles_given}
 use Rattle.ent_shared.specs.Replies.{Reserves}

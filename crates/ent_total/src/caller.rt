@@ -3,7 +3,7 @@ ghost use Rattle.std.specs.Prelude.{OnOk, OnErr, OnSome, IsOk, IsErrOf, IsTrue, 
 ghost use Rattle.std.specs.FinSet as set;
 ghost use Rattle.std.specs.FinMap as map;
 ghost use Rattle.ent_alloc.specs.Sequential.{listed_alone};
-ghost use Rattle.ent_shared.specs.declared.refused.Refused.TheVariants.{Quota};
+ghost use Rattle.ent_alloc.specs.declared.refused.Refused.TheVariants.{Quota};
 ghost use Rattle.ent_shared.specs.Moves.{after_meeting};
 ghost use Rattle.ent_shared.specs.Order.{handles_given};
 ghost use Rattle.ent_shared.specs.Phase.{IsOf, IsBelow};

@@ -4,11 +4,16 @@
 //! side. Where they differ, the source's have to be ghost, or one of the two has to be in the short
 //! list of what is put in place of what. So nothing can be lost, as code that went into a comment,
 //! nor be added. Then it does the same with the comments: those of the result are those of the source,
-//! but for what stood at ghost items, and the clauses.
+//! but for what stood at ghost items, and the clauses. A clause in docs is one of the next function. And no
+//! more than the package itself may call a function with a condition.
 
 mod changes;
 mod comments;
+mod docs;
 mod messages;
+
+mod rights;
+mod visible;
 
 use crate::forms;
 use crate::lex::Kind;
@@ -32,11 +37,12 @@ pub fn audit(
         result,
         krate,
         names,
-        changes: changes(krate, names),
+        changes: changes(krate, source.path, names),
         at: 0,
         out: 0,
         is_ghost: vec![false; source.len()],
         is_clause: vec![false; source.len()],
+        contracts: Vec::new(),
     };
     while audit.at < source.len() || audit.out < result.len() {
         audit.step()?;
@@ -59,6 +65,8 @@ struct Audit<'a> {
     is_ghost: Vec<bool>,
     /// Those of them that are clauses.
     is_clause: Vec<bool>,
+    /// For each clause its first token, and the token of the result that comes after it.
+    contracts: Vec<(usize, usize)>,
 }
 
 impl Audit<'_> {
@@ -75,6 +83,9 @@ impl Audit<'_> {
         if let Some(end) = self.added_end()? {
             self.out = end;
             return Ok(());
+        }
+        if self.has_to_be_narrow() {
+            return self.narrowed();
         }
         if let Some((from, to)) = self.changed() {
             self.at += from;
@@ -102,6 +113,7 @@ impl Audit<'_> {
                 let open = source.find(at, source.len(), &["{"])?;
                 let end = source.partner(open) + 1;
                 self.is_clause[at..end].fill(true);
+                self.contracts.push((at, self.out));
                 Some(end)
             }
             "impl" => self.ghost_impl_end(),
@@ -115,7 +127,7 @@ impl Audit<'_> {
             ":" if starts(&[":", "Drop", "+"]) => None,
             ":" | "+" if starts(&[":", "Drop"]) || starts(&["+", "Drop"]) => Some(at + 2),
             "Drop" if starts(&["Drop", "+"]) => Some(at + 2),
-            _ => None,
+            _ => self.right_end(),
         }
     }
 
@@ -135,8 +147,11 @@ impl Audit<'_> {
             .map(|import| self.at + import.len())
     }
 
-    /// The end of an `impl` of a ghost trait.
+    /// The end of an `impl` of a ghost trait, or of one that is derived in the result.
     fn ghost_impl_end(&self) -> Option<usize> {
+        if let Some(end) = self.equality_end() {
+            return Some(end);
+        }
         let open = self.source.find(self.at, self.source.len(), &["{"])?;
         let header = self.at..open;
         let is_of = |at: usize| {
@@ -146,6 +161,30 @@ impl Audit<'_> {
             .into_iter()
             .any(is_of)
             .then(|| self.source.partner(open) + 1)
+    }
+
+    /// The end of an `impl` of the equality of a struct in whose place the result has a derive. Beside ghost members
+    /// it has nothing, or the comparison of the field.
+    fn equality_end(&self) -> Option<usize> {
+        let own = forms::COMPARED.iter().filter(|it| it.krate == self.krate);
+        let mut ends = own.filter_map(|it| {
+            let trait_at = forms::EQUALITY.iter().position(|name| {
+                let header = pieces(&format!("impl {name} for {} {{", it.name));
+                has(self.source, self.at, &header)
+            });
+            let close = self.source.partner(self.at + 4);
+            let mut next = self.at + 5;
+            while trait_at.is_some() && self.source.at(next) == "ghost" {
+                next = self.source.find(next, close, &[";"])? + 1;
+            }
+            let body = pieces(&it.body());
+            let is_same = match forms::EQUALITY[trait_at?] {
+                "PartialEq" => has(self.source, next, &body) && next + body.len() == close,
+                _ => next == close,
+            };
+            is_same.then_some(close + 1)
+        });
+        ends.next()
     }
 
     /// The end of an attribute for the prover, of a message, or of a derive of which nothing stays.
@@ -160,12 +199,16 @@ impl Audit<'_> {
         is_ghost.then(|| self.source.partner(open) + 1)
     }
 
-    /// What stays of the derive whose `[` stands here in the source.
+    /// What stays of the derive whose `[` stands here in the source, and what comes to it.
     fn kept_derives(&self, open: usize) -> Vec<&str> {
         let names = (open + 3..self.source.partner(open)).map(|at| self.source.at(at));
-        names
-            .filter(|name| forms::KEPT_DERIVES.contains(name))
-            .collect()
+        let kept = names.filter(|name| forms::KEPT_DERIVES.contains(name));
+        let end = self.source.partner(open) + 1;
+        let name = end + 1 + usize::from(self.source.at(end) == "pub");
+        let is_compared = self.source.at(name - 1) == "struct"
+            && forms::compared(self.krate, self.source.at(name)).is_some();
+        let added = if is_compared { forms::EQUALITY } else { &[] };
+        kept.chain(added.iter().copied()).collect()
     }
 
     /// The end of what was added to the result here, if something was.
@@ -235,7 +278,9 @@ impl Audit<'_> {
                 .map(|import| import.path);
             named.chain(forms.renamed.iter().map(|renamed| renamed.import))
         });
+        let padding = forms::is_padded(self.krate, self.source.path).then_some(forms::PADDING);
         imports
+            .chain(padding)
             .map(|path| pieces(&format!("use {path};")))
             .find(|line| has(self.result, self.out, line))
             .map(|line| line.len())

@@ -35,6 +35,10 @@ impl Walk<'_> {
 
     /// One token of code, and what belongs to it.
     pub(crate) fn code_token(&mut self, at: usize) -> Next {
+        if let Some(end) = self.rights.end(at) {
+            self.take_out_part(at, end);
+            return Ok(end);
+        }
         let token = self.source.at(at);
         match self.source.token(at).kind {
             Kind::Word => return self.word(at),
@@ -52,7 +56,7 @@ impl Walk<'_> {
                 if !is_ghost && !["#", "const", "fn", "pub", "use"].contains(&self.source.at(end)) {
                     return Err(self.source.fault(at, "an attribute of code"));
                 }
-                self.attribute(at, end, false)?;
+                self.attribute(at, end, false, &[])?;
                 Ok(end)
             }
             ".." => self.range(at),
@@ -217,7 +221,10 @@ impl Walk<'_> {
     fn macro_call(&mut self, at: usize) -> Next {
         let name = self.source.at(at);
         let mut lists = self.names.forms.iter();
-        if let Some(import) = lists.find_map(|forms| imported(forms.macros, name)) {
+        if name == "write" && forms::is_padded(self.krate, self.source.path) {
+            self.replace(at, at + 1, "padded");
+            self.import(at, forms::PADDING)?;
+        } else if let Some(import) = lists.find_map(|forms| imported(forms.macros, name)) {
             self.import(at, import)?;
         } else if !self
             .names
@@ -270,6 +277,7 @@ impl Walk<'_> {
     fn name(&mut self, at: usize) -> Next {
         let name = self.source.at(at);
         if !["::", "."].contains(&self.source.before(at)) {
+            self.check_right(at)?;
             self.need(at)?;
             let is_field = self.source.at(at + 1) == ":";
             if !is_field && !self.is_known(name) {
@@ -277,6 +285,21 @@ impl Walk<'_> {
             }
         }
         Ok(at + 1)
+    }
+
+    /// The right to allocate is handed on in known forms alone.
+    fn check_right(&self, at: usize) -> Result<(), Fault> {
+        let name = self.source.at(at);
+        let has_right = match self.rights.has(self.source, at) {
+            _ if name == forms::RIGHT => true,
+            None => self.names.fields.has(name) || name == "alloc",
+            Some(has_right) => has_right,
+        };
+        if has_right {
+            let what = format!("an unknown form of the right to allocate: `{name}`");
+            return Err(self.source.fault(at, what));
+        }
+        Ok(())
     }
 
     pub(crate) fn unknown_name(&self, at: usize) -> Fault {
@@ -314,10 +337,14 @@ impl Walk<'_> {
         if self.source.has(open, &["::", "<"]) {
             open = self.source.after_angles(open + 1)?;
         }
+        let name = self.source.at(at);
         if self.source.at(open) != "(" {
+            if self.names.fields.has(name) {
+                let what = format!("an unknown form of the right to allocate: `.{name}`");
+                return Err(self.source.fault(at, what));
+            }
             return Ok(at + 1);
         }
-        let name = self.source.at(at);
         if let Some(renamed) = self.renamed(name, open + 1) {
             self.replace(at, at + 1, renamed.to);
             self.import(at, renamed.import)?;
@@ -375,6 +402,7 @@ impl Walk<'_> {
     fn renamed(&self, name: &str, at: usize) -> Option<&'static Renamed> {
         let fits = |argument: &&[&str]| match argument {
             ["\""] => self.source.at(at).starts_with('"'),
+            _ if *argument == forms::OF_RIGHT => self.rights.end(at).is_some(),
             _ => self.source.has(at, argument),
         };
         let mut all = self.names.forms.iter().flat_map(|forms| forms.renamed);

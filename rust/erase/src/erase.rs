@@ -6,7 +6,7 @@ use crate::names::Names;
 use crate::source::{Fault, Source};
 use crate::walk::Walk;
 
-/// The result of a source: the same without what is ghost, with its clauses as comments.
+/// The result of a source: the same without what is ghost, with its clauses as comments and docs.
 ///
 /// # Errors
 ///

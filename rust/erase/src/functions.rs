@@ -59,7 +59,8 @@ impl Walk<'_> {
         if !self.test_runtime(start, visible, next)? {
             self.signature(next + 1, close)?;
         }
-        let end = self.rest_of_function(close + 1)?;
+        let is_shown = self.narrow(visible, at, scope) && self.is_documented(start);
+        let end = self.rest_of_function(close + 1, is_shown.then_some(start))?;
         let has_body = self.source.before(end) == "}";
         if has_body && scope != Scope::Trait && !self.has_inline(start, visible) {
             let indent = self.indent(visible)?;
@@ -119,9 +120,11 @@ impl Walk<'_> {
             .fault(at, "another signature of `fmt` than the kit's"))
     }
 
-    /// What a function returns, its bounds, its contract, and its body or `;`.
-    fn rest_of_function(&mut self, at: usize) -> Next {
+    /// What a function returns, its bounds, its contract, and its body or `;`. The docs above `item`
+    /// show the contract, if that is there.
+    fn rest_of_function(&mut self, at: usize, item: Option<usize>) -> Next {
         let mut at = at;
+        let mut has_bounds = false;
         loop {
             let token = self.source.at(at);
             if token == ";" {
@@ -137,7 +140,10 @@ impl Walk<'_> {
                 return Err(self.source.fault(at, "a body is missing"));
             }
             if forms::CLAUSES.contains(&token) {
-                at = self.contract(at)?;
+                at = match item {
+                    Some(item) => self.shown_contract(item, at, has_bounds)?,
+                    None => self.contract(at)?,
+                };
                 if !["{", ";", ""].contains(&self.source.at(at)) {
                     return Err(self.unknown_clause(at));
                 }
@@ -146,6 +152,7 @@ impl Walk<'_> {
             if self.source.is_word(at) && token != "where" && self.is_after_type(at) {
                 return Err(self.unknown_clause(at));
             }
+            has_bounds |= token == "where" && !self.source.has(at + 2, &[":", "Drop", ","]);
             let end = match token {
                 "(" | "[" => self.source.partner(at) + 1,
                 _ => at + 1,
@@ -179,10 +186,7 @@ impl Walk<'_> {
     /// All clauses of a contract, of which the first begins here. They become comments. The place
     /// after them is that of the body, or of a `;`, which goes up to the signature.
     pub(crate) fn contract(&mut self, at: usize) -> Next {
-        let mut end = at;
-        while forms::CLAUSES.contains(&self.source.at(end)) {
-            end = self.after_clause(end)?;
-        }
+        let end = self.after_clauses(at)?;
         let from = self.source.token(at - 1).to;
         let mut to = self.source.token(end - 1).to;
         let mut text = String::new();
@@ -206,6 +210,15 @@ impl Walk<'_> {
         Ok(end)
     }
 
+    /// The place after the clauses of which the first begins here.
+    pub(crate) fn after_clauses(&self, at: usize) -> Next {
+        let mut end = at;
+        while forms::CLAUSES.contains(&self.source.at(end)) {
+            end = self.after_clause(end)?;
+        }
+        Ok(end)
+    }
+
     /// The place after the clause that begins here: `requires NAME { .. }`, perhaps with a star or
     /// without a name.
     fn after_clause(&self, at: usize) -> Next {
@@ -221,7 +234,7 @@ impl Walk<'_> {
     }
 
     /// How many blanks stand before the first code of the line of this token.
-    fn first_column(&self, at: usize) -> usize {
+    pub(crate) fn first_column(&self, at: usize) -> usize {
         let from = self.source.token(at).from;
         let line = self.source.text[..from].rfind('\n').map_or(0, |at| at + 1);
         let text = &self.source.text[line..];

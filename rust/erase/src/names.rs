@@ -4,7 +4,9 @@
 //! that of its slice. So no source may give one of these names another meaning, and a method must be the same one
 //! however it is looked up.
 
+use crate::conditions::has_condition;
 use crate::forms::{self, Forms};
+use crate::memory::Fields;
 use crate::source::{Fault, Source};
 use std::collections::{BTreeMap, BTreeSet};
 
@@ -27,6 +29,10 @@ pub struct Names {
     pub methods: BTreeMap<String, bool>,
     /// The ghost members that their traits declare.
     pub members: BTreeSet<String>,
+    /// Their free functions, by file and name: whether those of that name have a condition.
+    conditions: BTreeMap<(String, String), BTreeSet<bool>>,
+    /// Their fields.
+    pub(crate) fields: Fields,
     /// The names of std and of the kit that they may use.
     pub forms: Vec<&'static Forms>,
     /// For each trait, by its name and its crate, what it has.
@@ -63,6 +69,7 @@ impl Names {
     /// A name has another meaning for the eraser, or an `impl` is for a type that isn't the sources' own.
     pub fn add(&mut self, source: &Source<'_>) -> Result<(), Fault> {
         let mut members = BTreeSet::new();
+        self.fields.add(source);
         for at in 0..source.len() {
             match source.at(at) {
                 "trait" | "impl" if begins_item(source, at) => {
@@ -76,6 +83,7 @@ impl Names {
                     members.extend(own);
                 }
                 "enum" if source.is_word(at + 1) => self.add_variants(source, at)?,
+                "use" if source.before(at) == "pub" => self.add_other_names(source, at)?,
                 "ghost" if is_declared_member(source, at) => {
                     self.members.insert(source.at(at + 1).to_owned());
                 }
@@ -131,6 +139,11 @@ impl Names {
             "trait" => drop(self.traits.insert(name.to_owned())),
             "type" if !is_member => drop(self.aliases.insert(name.to_owned())),
             "fn" => {
+                if !is_member {
+                    let key = (source.path.to_owned(), name.to_owned());
+                    let all = self.conditions.entry(key).or_default();
+                    all.insert(has_condition(source, at));
+                }
                 if let Some(receiver) = receiver(source, at) {
                     // A slice's method takes a range without an end.
                     let end = source.find(at, source.len(), &["{", ";"]).unwrap_or(at);
@@ -151,6 +164,23 @@ impl Names {
             &mut self.items
         };
         known.insert(name.to_owned());
+        Ok(())
+    }
+
+    /// Adds the other names under which a source passes on items of another crate.
+    fn add_other_names(&mut self, source: &Source<'_>, at: usize) -> Result<(), Fault> {
+        let end = source.find(at, source.len(), &[";"]).unwrap_or(at);
+        if !self.crates.contains_key(source.at(at + 1)) {
+            return Ok(());
+        }
+        for at in at..end {
+            if source.before(at) == "as" {
+                if self.is_taken(source.at(at)) {
+                    return Err(taken(source, at));
+                }
+                self.items.insert(source.at(at).to_owned());
+            }
+        }
         Ok(())
     }
 
@@ -271,6 +301,7 @@ impl Names {
     ///
     /// The first method that isn't: it is in two blocks, or a trait of std gives it to the type too.
     pub fn check(&self) -> Result<(), Fault> {
+        self.fields.check()?;
         let mut found = BTreeMap::new();
         let iterators: BTreeSet<_> = self
             .blocks
@@ -287,7 +318,9 @@ impl Names {
                 let is_other = before.is_some_and(|(other, how)| {
                     let is_one_own = other.is_none() != implemented.is_none();
                     let is_same = other == implemented && other.is_some();
-                    !(is_same || is_one_own && block.is_plain && how == receiver)
+                    // No source calls it by a point.
+                    let are_texts = forms::are_texts(other, implemented);
+                    !(is_same || are_texts || is_one_own && block.is_plain && how == receiver)
                 });
                 let is_iterator = iterators.contains(&block.of) && !is_of_std;
                 if is_other || is_iterator && receiver.is_some() && forms::is_of_std(name) {
@@ -300,9 +333,32 @@ impl Names {
         Ok(())
     }
 
+    /// Whether this crate declares a struct or an enum of this name.
+    pub fn has_type(&self, krate: &str, name: &str) -> bool {
+        let folder = format!("crates/{krate}/");
+        let mut files = self.types.get(name).into_iter().flatten();
+        files.any(|file| file.starts_with(&folder))
+    }
+
     /// Whether this is another name for a type, which may be a type of std.
     pub fn is_alias(&self, name: &str) -> bool {
         self.aliases.contains(name) && !self.types.contains_key(name)
+    }
+
+    /// Whether the free functions of this name have a condition, those of this file, or of all files of
+    /// this folder. There is no answer if some have one and others don't.
+    pub(crate) fn has_condition(&self, place: &str, name: &str) -> Option<bool> {
+        let is_there = |path: &str| path == place || path.starts_with(&format!("{place}/"));
+        let all = self.conditions.iter();
+        let all = all.filter(|((path, own), _)| own == name && is_there(path));
+        let all: BTreeSet<bool> = all.flat_map(|(_, all)| all).copied().collect();
+        (all.len() < 2).then(|| all.contains(&true))
+    }
+
+    /// Whether a file of the sources has a free function of this name.
+    pub(crate) fn has_function(&self, path: &str, name: &str) -> bool {
+        let key = (path.to_owned(), name.to_owned());
+        self.conditions.contains_key(&key)
     }
 
     /// Whether a path may lead to the name.
@@ -325,6 +381,7 @@ impl Names {
             || forms::PRIMITIVES.contains(&name)
             || forms::CRATES.contains(&name)
             || forms::GHOST_TRAITS.contains(&name)
+            || name == forms::RIGHT
             || forms::kept_trait(name).is_some()
             || self.crates.contains_key(name)
             || self.forms.iter().any(is_of)
@@ -359,7 +416,7 @@ pub(crate) struct Header<'a> {
     /// The last name of the trait that it implements, if it implements one.
     pub(crate) implemented: Option<&'a str>,
     /// The last name of its type, without `&`.
-    of: &'a str,
+    pub(crate) of: &'a str,
     /// Whether the type has no parameters.
     is_plain: bool,
     /// Whether it is for a reference to the type.

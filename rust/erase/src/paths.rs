@@ -39,6 +39,7 @@ impl<'a> Walk<'a> {
                 .fault(at + 1, format!("an unknown crate: `{first}`")));
         }
         self.check_import(at + 1, end - 1)?;
+        self.narrow_import(at, end)?;
         if scope == Scope::File {
             let begin = self.begin_of_item(start)?;
             self.first_use.get_or_insert(begin);

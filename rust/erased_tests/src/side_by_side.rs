@@ -3,7 +3,6 @@
 //!
 //! The variable `SPAWNRUN` names the program that the kit has made of `crates/spawnrun`.
 
-use crate::kit::alloc::Global;
 use crate::kit::vec::Vec;
 use crate::proved::ent_alloc::Limits;
 use crate::proved::ent_handle::Handle;
@@ -55,7 +54,7 @@ impl Schedule {
     fn of(seed: u64) -> Self {
         let mut random = Random(seed);
         let limits = Limits::new(random.of(&SLOTS), random.of(&GENERATIONS)).expect("limits");
-        let mut machine = Machine::new(Global, limits).expect("it takes no memory");
+        let mut machine = Machine::new(limits).expect("it takes no memory");
         let (mut given, mut open) = (std::vec::Vec::new(), 0);
         let mut text = String::new();
         for _ in 0..random.below(MOST_EVENTS) {
@@ -84,16 +83,16 @@ impl Schedule {
 
     /// What the erased code gives.
     fn erased(&self) -> std::vec::Vec<u8> {
-        let events = match read_schedule(Global, self.text.as_bytes()) {
+        let events = match read_schedule(self.text.as_bytes()) {
             Ok(events) => events,
             Err(ReadFault::Line { line, cause }) => {
                 return format!("refused line {line} {}\n", cause.text()).into_bytes();
             }
             Err(ReadFault::Memory) => panic!("out of memory"),
         };
-        let mut machine = Machine::new(Global, self.limits).expect("it takes no memory");
+        let mut machine = Machine::new(self.limits).expect("it takes no memory");
         let outcomes = machine.run(&events).expect("memory");
-        let mut text = Vec::new(Global);
+        let mut text = Vec::new();
         for outcome in &outcomes {
             write_outcome(outcome, &mut text).expect("memory");
         }

@@ -5,10 +5,8 @@ use crate::errors::{
     Unshared,
 };
 use crate::handle::Handle;
-use crate::kit::alloc::Global;
 use crate::kit::vec::Vec as List;
 use crate::limits::Limits;
-use crate::lists::{all_handles, proved_room};
 use crate::proved::{ent_alloc, ent_total};
 use crate::sharing::{Reserver, Shared};
 use alloc::vec::Vec;
@@ -57,9 +55,7 @@ pub struct Freed {
 impl Freed {
     #[inline]
     pub(crate) fn of(proved: ent_alloc::Freed) -> Self {
-        Self {
-            next: proved.next.map(Handle::of),
-        }
+        Self { next: proved.next }
     }
 }
 
@@ -89,10 +85,9 @@ impl Entities {
     }
 
     /// An allocator with no entities and these limits. It takes no memory.
-    #[doc = include_str!("proved/ent_alloc/entities.new.md")]
     #[must_use]
     pub const fn with_limits(limits: Limits) -> Self {
-        Self::of(ent_alloc::Entities::new(Global, limits.proved()))
+        Self::of(ent_alloc::Entities::new(limits.proved()))
     }
 
     /// An allocator with no entities and these limits, as [`with_limits`](Self::with_limits) makes
@@ -115,10 +110,9 @@ impl Entities {
     /// # Errors
     ///
     /// `NeedsFlush`, `Space` or `Memory`, and then nothing has changed.
-    #[doc = include_str!("proved/ent_alloc/entities.alloc.md")]
     #[inline]
     pub fn alloc(&mut self) -> Result<Handle, AllocError> {
-        Ok(Handle::of(self.proved.alloc()?))
+        Ok(self.proved.alloc()?)
     }
 
     /// Gives `n` handles that are alive at once: those of `n` calls of [`alloc`](Self::alloc), in
@@ -174,11 +168,10 @@ impl Entities {
     /// # Errors
     ///
     /// `NeedsFlush`, `NotAlive` or `Memory`, and then nothing has changed.
-    #[doc = include_str!("proved/ent_alloc/entities.free.md")]
     // Where it isn't inlined, its result goes through memory: a fifth more for `alloc` with `free`.
     #[inline(always)]
     pub fn free(&mut self, handle: Handle) -> Result<Freed, FreeError> {
-        Ok(Freed::of(self.proved.free(handle.proved())?))
+        Ok(Freed::of(self.proved.free(handle)?))
     }
 
     /// Requests a handle, which the next [`flush`](Self::flush) brings to life. Until then `alloc`
@@ -188,10 +181,9 @@ impl Entities {
     ///
     /// `Space` if no handle is left: every request is refused then until the next flush. `Credit`
     /// if 2^50 were requested since the last flush.
-    #[doc = include_str!("proved/ent_total/requesting.request.md")]
     #[inline]
     pub fn request(&mut self) -> Result<Handle, RequestError> {
-        Ok(Handle::of(ent_total::request(&mut self.proved)?))
+        Ok(ent_total::request(&mut self.proved)?)
     }
 
     /// Requests `n` handles at once, all of them or none. They stand in the order in which
@@ -243,19 +235,17 @@ impl Entities {
     /// # Errors
     ///
     /// `OutOfMemory`, and then nothing has changed.
-    #[doc = include_str!("proved/ent_alloc/entities.flush.md")]
     pub fn flush(&mut self) -> Result<Vec<Handle>, OutOfMemory> {
-        let mut born = List::new(Global);
+        let mut born = List::new();
         self.proved.flush(&mut born)?;
-        Ok(all_handles(born))
+        Ok(born.into())
     }
 
     /// [`flush`](Self::flush), which appends the handles to this list. It takes time for each handle
     /// that it appends, however long the list is.
     ///
-    /// If the list has no handles but room for these, and no slot is new, the call takes no memory. So a
-    /// list that is cleared and used again takes none in the end. If the list has handles already, the
-    /// call first lists what comes to life apart.
+    /// If the list has room for these handles, and no slot is new, the call takes no memory. So a list
+    /// that is cleared and used again takes none in the end.
     ///
     /// ```
     /// use forgeni::Entities;
@@ -277,15 +267,10 @@ impl Entities {
     /// # Errors
     ///
     /// `OutOfMemory`, and then nothing has changed, and the list has the same handles.
-    #[doc = include_str!("proved/ent_alloc/entities.flush.md")]
     pub fn flush_into(&mut self, born: &mut Vec<Handle>) -> Result<(), OutOfMemory> {
-        if !born.is_empty() {
-            born.try_reserve(self.reserved() as usize)?;
-            return self.flush_with(|handle| born.push(handle));
-        }
-        let mut list = proved_room(mem::take(born));
+        let mut list = List::from(mem::take(born));
         let flushed = self.proved.flush(&mut list);
-        *born = all_handles(list);
+        *born = list.into();
         Ok(flushed?)
     }
 
@@ -306,11 +291,10 @@ impl Entities {
     /// # Errors
     ///
     /// `OutOfMemory`, as of `flush`, and then nothing has changed and nothing is handed on.
-    #[doc = include_str!("proved/ent_alloc/entities.flush.md")]
     pub fn flush_with(&mut self, each: impl FnMut(Handle)) -> Result<(), OutOfMemory> {
-        let mut born = List::new(Global);
+        let mut born = List::new();
         self.proved.flush(&mut born)?;
-        born.into_iter().map(Handle::of).for_each(each);
+        born.into_iter().for_each(each);
         Ok(())
     }
 
@@ -347,17 +331,15 @@ impl Entities {
     ///
     /// Rust's `Arc` ends the process if memory runs out. So as much memory is asked for before, and the
     /// process ends only if another thread takes it in between.
-    #[doc = include_str!("proved/ent_total/opening.share.md")]
     pub fn share(self, callers: usize) -> Result<(Shared, Vec<Reserver>), Unshared> {
         Shared::open(self.proved, callers)
     }
 
     /// What became of a handle: whether it is alive, reserved, or neither. It takes constant time.
-    #[doc = include_str!("proved/ent_alloc/entities.state.md")]
     #[inline]
     #[must_use]
     pub fn state(&self, handle: Handle) -> State {
-        State::of(self.proved.state(handle.proved()))
+        State::of(self.proved.state(handle))
     }
 
     /// Whether the entity is alive or reserved, as `contains` of Bevy and of hecs says it. It takes
@@ -380,11 +362,10 @@ impl Entities {
     }
 
     /// Whether the entity is alive. It takes constant time.
-    #[doc = include_str!("proved/ent_alloc/entities.is_alive.md")]
     #[inline]
     #[must_use]
     pub fn is_alive(&self, handle: Handle) -> bool {
-        self.proved.is_alive(handle.proved())
+        self.proved.is_alive(handle)
     }
 
     /// The handles of the living entities, by rising slot. It takes no memory. The time is that of a
@@ -399,7 +380,6 @@ impl Entities {
     /// assert!(entities.iter().eq([all[0], all[2]]));
     /// # Ok::<(), Box<dyn std::error::Error + Send + Sync>>(())
     /// ```
-    #[doc = include_str!("proved/ent_alloc/entities.iter.md")]
     #[inline]
     pub fn iter(&self) -> Living<'_> {
         Living {
@@ -410,11 +390,10 @@ impl Entities {
     /// The row that was set with a living entity: a number that a program keeps with it, as where
     /// its components stand. `None` if the handle isn't alive, or if no row was set since it came to
     /// life. It takes constant time.
-    #[doc = include_str!("proved/ent_alloc/entities.row.md")]
     #[inline]
     #[must_use]
     pub fn row(&self, handle: Handle) -> Option<u32> {
-        self.proved.row(handle.proved())
+        self.proved.row(handle)
     }
 
     /// Keeps a row with a living entity until it is freed, in place of the row that was set before.
@@ -436,19 +415,17 @@ impl Entities {
     /// # Errors
     ///
     /// [`Absent`] if the handle isn't alive, and then nothing has changed.
-    #[doc = include_str!("proved/ent_alloc/entities.set_row.md")]
     #[inline]
     pub fn set_row(&mut self, handle: Handle, row: u32) -> Result<(), Absent> {
         // The proved code requires a living entity.
         if !self.is_alive(handle) {
             return Err(Absent);
         }
-        self.proved.set_row(handle.proved(), row);
+        self.proved.set_row(handle, row);
         Ok(())
     }
 
     /// How many entities are alive.
-    #[doc = include_str!("proved/ent_alloc/entities.len.md")]
     #[inline]
     #[must_use]
     pub fn len(&self) -> u32 {
@@ -456,7 +433,6 @@ impl Entities {
     }
 
     /// Whether no entity is alive.
-    #[doc = include_str!("proved/ent_alloc/entities.is_empty.md")]
     #[inline]
     #[must_use]
     pub fn is_empty(&self) -> bool {
@@ -464,7 +440,6 @@ impl Entities {
     }
 
     /// How many slots were made. A retired slot counts for good.
-    #[doc = include_str!("proved/ent_alloc/entities.total.md")]
     #[inline]
     #[must_use]
     pub fn total(&self) -> u32 {
@@ -472,7 +447,6 @@ impl Entities {
     }
 
     /// How many slots can still be made.
-    #[doc = include_str!("proved/ent_alloc/entities.room.md")]
     #[inline]
     #[must_use]
     pub fn room(&self) -> u32 {
@@ -480,7 +454,6 @@ impl Entities {
     }
 
     /// How many old slots wait for their next entity.
-    #[doc = include_str!("proved/ent_alloc/entities.top.md")]
     #[inline]
     #[must_use]
     pub fn waiting(&self) -> u32 {
@@ -488,7 +461,6 @@ impl Entities {
     }
 
     /// How many handles were requested since the last flush, served or refused.
-    #[doc = include_str!("proved/ent_alloc/entities.asked.md")]
     #[inline]
     #[must_use]
     pub fn asked(&self) -> u64 {
@@ -496,7 +468,6 @@ impl Entities {
     }
 
     /// How many handles the next flush brings to life.
-    #[doc = include_str!("proved/ent_alloc/entities.reserved.md")]
     #[inline]
     #[must_use]
     pub fn reserved(&self) -> u32 {
@@ -504,7 +475,6 @@ impl Entities {
     }
 
     /// Whether any handle was requested since the last flush.
-    #[doc = include_str!("proved/ent_alloc/entities.needs_flush.md")]
     #[inline]
     #[must_use]
     pub fn needs_flush(&self) -> bool {
@@ -512,7 +482,6 @@ impl Entities {
     }
 
     /// How many slots are retired: they give no handle any more.
-    #[doc = include_str!("proved/ent_alloc/entities.retired.md")]
     #[inline]
     #[must_use]
     pub fn retired(&self) -> u32 {
@@ -558,7 +527,7 @@ impl Iterator for Living<'_> {
 
     #[inline]
     fn next(&mut self) -> Option<Handle> {
-        self.proved.next().map(Handle::of)
+        self.proved.next()
     }
 
     #[inline]

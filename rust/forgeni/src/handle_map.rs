@@ -2,7 +2,6 @@
 
 use crate::errors::OutOfMemory;
 use crate::handle::Handle;
-use crate::kit::alloc::Global;
 use crate::proved::ent_storage::handle_map::{self, InsertFault};
 use alloc::alloc::handle_alloc_error;
 use alloc::vec::{self, Vec};
@@ -77,7 +76,6 @@ pub struct HandleMap<T> {
 
 impl<T> HandleMap<T> {
     /// A map without values, and without a limit. It takes no memory.
-    #[doc = include_str!("proved/ent_storage/handle_map.new.md")]
     #[must_use]
     pub const fn new() -> Self {
         Self::with_limit(u32::MAX)
@@ -89,7 +87,7 @@ impl<T> HandleMap<T> {
     #[must_use]
     pub const fn with_limit(slots: u32) -> Self {
         Self {
-            proved: handle_map::HandleMap::new(Global),
+            proved: handle_map::HandleMap::new(),
             end: end_of(slots),
         }
     }
@@ -116,16 +114,14 @@ impl<T> HandleMap<T> {
     /// # Errors
     ///
     /// `OutOfMemory` if there is not that much.
-    #[doc = include_str!("proved/ent_storage/handle_map.with_capacity.md")]
     pub fn with_capacity(slots: usize) -> Result<Self, OutOfMemory> {
         Ok(Self {
-            proved: handle_map::HandleMap::with_capacity(Global, slots)?,
+            proved: handle_map::HandleMap::with_capacity(slots)?,
             ..Self::new()
         })
     }
 
     /// How many values there are. It takes constant time.
-    #[doc = include_str!("proved/ent_storage/handle_map.len.md")]
     #[inline]
     #[must_use]
     pub fn len(&self) -> usize {
@@ -133,7 +129,6 @@ impl<T> HandleMap<T> {
     }
 
     /// Whether there is no value.
-    #[doc = include_str!("proved/ent_storage/handle_map.is_empty.md")]
     #[inline]
     #[must_use]
     pub fn is_empty(&self) -> bool {
@@ -142,7 +137,6 @@ impl<T> HandleMap<T> {
 
     /// How many slots there is room for. A handle whose index is below it is inserted without
     /// memory.
-    #[doc = include_str!("proved/ent_storage/handle_map.capacity.md")]
     #[inline]
     #[must_use]
     pub fn capacity(&self) -> usize {
@@ -154,33 +148,29 @@ impl<T> HandleMap<T> {
     /// # Errors
     ///
     /// `OutOfMemory`, and then nothing has changed.
-    #[doc = include_str!("proved/ent_storage/handle_map.reserve.md")]
     pub fn reserve(&mut self, slots: usize) -> Result<(), OutOfMemory> {
         Ok(self.proved.reserve(slots)?)
     }
 
     /// Whether the handle has a value. It takes constant time.
-    #[doc = include_str!("proved/ent_storage/handle_map.contains.md")]
     #[inline]
     #[must_use]
     pub fn contains(&self, handle: Handle) -> bool {
-        self.proved.contains(handle.proved())
+        self.proved.contains(handle)
     }
 
     /// The value of the handle, if it has one. It takes constant time.
-    #[doc = include_str!("proved/ent_storage/handle_map.get.md")]
     #[inline]
     #[must_use]
     pub fn get(&self, handle: Handle) -> Option<&T> {
-        self.proved.get(handle.proved())
+        self.proved.get(handle)
     }
 
     /// The value of the handle, if it has one, to be changed. It takes constant time.
-    #[doc = include_str!("proved/ent_storage/handle_map.get_mut.md")]
     #[inline]
     #[must_use]
     pub fn get_mut(&mut self, handle: Handle) -> Option<&mut T> {
-        self.proved.get_mut(handle.proved())
+        self.proved.get_mut(handle)
     }
 
     /// Gives the handle a value, and returns the one that it had. If an earlier occupant of the slot
@@ -209,7 +199,6 @@ impl<T> HandleMap<T> {
     /// [`Uninserted`] has the value, and nothing has changed: `Limit` if the handle's slot is at or
     /// above the [`limit`](Self::limit), or if it is [`Handle::PLACEHOLDER`], which no map takes;
     /// `Later` if a later occupant of the slot has a value; `Memory`.
-    #[doc = include_str!("proved/ent_storage/handle_map.insert.md")]
     #[inline]
     pub fn insert(&mut self, handle: Handle, value: T) -> Result<Option<T>, Uninserted<T>> {
         // The second comparison implies the first one. But that one costs less, and for most handles it
@@ -220,18 +209,16 @@ impl<T> HandleMap<T> {
                 error: InsertionError::Limit,
             });
         }
-        Ok(self.proved.insert(handle.proved(), value)?)
+        Ok(self.proved.insert(handle, value)?)
     }
 
     /// Takes the value of the handle out, if it has one. It takes constant time and no memory.
-    #[doc = include_str!("proved/ent_storage/handle_map.remove.md")]
     #[inline]
     pub fn remove(&mut self, handle: Handle) -> Option<T> {
-        self.proved.remove(handle.proved())
+        self.proved.remove(handle)
     }
 
     /// Drops all values. The room stays.
-    #[doc = include_str!("proved/ent_storage/handle_map.clear.md")]
     pub fn clear(&mut self) {
         self.proved.clear();
     }
@@ -260,11 +247,10 @@ impl<T> HandleMap<T> {
     ///
     /// A panic of `keep` is handed on. The map then has the values that were kept, those that `keep`
     /// wasn't called on, and the one on which it panicked, as far as `keep` had changed it.
-    #[doc = include_str!("proved/ent_storage/handle_map.retain.md")]
     #[inline]
     pub fn retain(&mut self, mut keep: impl FnMut(Handle, &mut T) -> bool) {
         self.proved
-            .retain(|handle, value: &mut T| keep(Handle::of(handle), value));
+            .retain(|handle, value: &mut T| keep(handle, value));
     }
 
     /// Calls `change` on each value once, by rising slot.
@@ -294,7 +280,6 @@ impl<T> HandleMap<T> {
     }
 
     /// The handles and their values, by rising slot. The time is that of a look at each slot.
-    #[doc = include_str!("proved/ent_storage/handle_map.iter.md")]
     #[inline]
     pub fn iter(&self) -> Iter<'_, T> {
         Iter {
@@ -435,7 +420,7 @@ impl<'a, T> Iterator for Iter<'a, T> {
     #[inline]
     fn next(&mut self) -> Option<(Handle, &'a T)> {
         let (handle, value) = self.proved.next()?;
-        Some((Handle::of(handle), value))
+        Some((handle, value))
     }
 
     #[inline]

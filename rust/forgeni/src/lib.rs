@@ -170,7 +170,6 @@ pub mod handle_map;
 mod kit;
 mod lent;
 mod limits;
-mod lists;
 mod numbers;
 mod open_world;
 mod phase;

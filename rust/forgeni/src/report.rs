@@ -1,7 +1,6 @@
 //! What a sync point has done.
 
 use crate::handle::Handle;
-use crate::lists::all_handles;
 use crate::proved::ent_world;
 use alloc::vec::Vec;
 
@@ -27,7 +26,7 @@ pub enum FaultKind {
 impl From<ent_world::FaultKind> for FaultKind {
     fn from(kind: ent_world::FaultKind) -> Self {
         match kind {
-            ent_world::FaultKind::NotAlive(handle) => Self::NotAlive(Handle::of(handle)),
+            ent_world::FaultKind::NotAlive(handle) => Self::NotAlive(handle),
             ent_world::FaultKind::Space { wanted, left } => Self::Space { wanted, left },
             ent_world::FaultKind::Quota { left } => Self::Credit { left },
         }
@@ -68,7 +67,7 @@ impl Report {
     pub(crate) fn of(proved: ent_world::SyncReport) -> Self {
         let faults: Vec<ent_world::Fault> = proved.faults.into();
         Self {
-            born: all_handles(proved.born),
+            born: proved.born.into(),
             faults: faults.into_iter().map(Fault::from).collect(),
         }
     }

@@ -3,7 +3,6 @@
 use crate::entities::Entities;
 use crate::errors::{CloseError, OtherPhase, OutOfMemory, Refused, ShareError, Unclosed, Unshared};
 use crate::handle::Handle;
-use crate::kit::alloc::Global;
 use crate::kit::vec::Vec as List;
 use crate::numbers::{next_number, Numbers};
 use crate::proved::{ent_alloc, ent_handle, ent_total};
@@ -43,7 +42,7 @@ impl Shared {
             });
         };
         let pool = u64::from(entities.top()) + u64::from(entities.room());
-        let opening = ent_total::share(Global, entities, callers)?;
+        let opening = ent_total::share(entities, callers)?;
         let shared = Self {
             proved: opening.numbered(next_number()),
             room,
@@ -79,7 +78,7 @@ impl Shared {
 
     /// Memory ran out on the way, and nobody has reserved: the allocator is as it was.
     fn undo(phase: Phase) -> Unshared {
-        match phase.close_lost(List::new(Global)) {
+        match phase.close_lost(List::new()) {
             Ok(entities) => Unshared {
                 entities: Entities::of(entities),
                 error: ShareError::Memory,
@@ -96,7 +95,6 @@ impl Shared {
     }
 
     /// How many reservers are at home: a close that was refused took them.
-    #[doc = include_str!("proved/ent_total/phase.at_home.md")]
     #[inline]
     #[must_use]
     pub fn at_home(&self) -> usize {
@@ -120,20 +118,18 @@ impl Shared {
     /// })?;
     /// # Ok::<(), Box<dyn std::error::Error + Send + Sync>>(())
     /// ```
-    #[doc = include_str!("proved/ent_total/phase.is_alive.md")]
     #[inline]
     #[must_use]
     pub fn is_alive(&self, handle: Handle) -> bool {
-        self.proved.is_alive(handle.proved())
+        self.proved.is_alive(handle)
     }
 
     /// The row that was set with the entity ([`Entities::set_row`]), as the phase was opened. `None`
     /// if it was not alive then, or had none. Any thread may ask, and it takes constant time.
-    #[doc = include_str!("proved/ent_total/phase.row.md")]
     #[inline]
     #[must_use]
     pub fn row(&self, handle: Handle) -> Option<u32> {
-        self.proved.row(handle.proved())
+        self.proved.row(handle)
     }
 
     /// One of the reservers that are at home, or `None` if none is. It takes no memory.
@@ -141,7 +137,6 @@ impl Shared {
     /// # Errors
     ///
     /// `OutOfMemory` if the phase can't count one more owner, and then nothing has changed.
-    #[doc = include_str!("proved/ent_total/phase.caller.md")]
     pub fn reserver(&mut self) -> Result<Option<Reserver>, OutOfMemory> {
         let caller = self.proved.caller()?;
         Ok(caller.map(|proved| Reserver::of(proved, self.pool)))
@@ -161,7 +156,6 @@ impl Shared {
     ///
     /// [`Unclosed`] says why, and has the `Shared` and the reservers. It takes no memory, unless a
     /// close before was refused with [`InUse`](CloseError::InUse): then it may end as `Vec` does.
-    #[doc = include_str!("proved/ent_total/closing.close.md")]
     pub fn close(self, reservers: Vec<Reserver>) -> Result<Entities, Unclosed> {
         self.end(reservers, Phase::close)
     }
@@ -177,7 +171,6 @@ impl Shared {
     ///
     /// [`Unclosed`] says why. As long as a reserver that wasn't handed in exists, it is `InUse`.
     /// One that was given to [`core::mem::forget`] exists for good.
-    #[doc = include_str!("proved/ent_total/closing.close_lost.md")]
     pub fn close_lost(self, reservers: Vec<Reserver>) -> Result<Entities, Unclosed> {
         self.end(reservers, Phase::close_lost)
     }
@@ -243,7 +236,7 @@ struct Listing<'a>(&'a mut Vec<Handle>);
 impl ent_total::Sink for Listing<'_> {
     #[inline]
     fn take(&mut self, handle: ent_handle::Handle) {
-        self.0.push(Handle::of(handle));
+        self.0.push(handle);
     }
 }
 
@@ -282,10 +275,9 @@ impl Reserver {
     ///
     /// `Space` if the pool is empty, which is taken from the quota too. `Quota` if nothing is left
     /// of it, and then nothing has changed.
-    #[doc = include_str!("proved/ent_total/caller.reserve.md")]
     #[inline]
     pub fn reserve(&mut self) -> Result<Handle, Refused> {
-        Ok(Handle::of(self.proved.reserve()?))
+        Ok(self.proved.reserve()?)
     }
 
     /// Reserves `n` handles at once, by one atomic step: all of them or none. They stand in the
@@ -302,7 +294,6 @@ impl Reserver {
     /// The list is allocated before the atomic step, and only that step tells what the pool has. So if
     /// others have left too few handles, the error may be `Memory`. A request for more than the pool had
     /// when the phase was opened takes no memory, and returns `Space`.
-    #[doc = include_str!("proved/ent_total/caller.reserve_many.md")]
     #[inline]
     pub fn reserve_many(&mut self, n: u32) -> Result<Vec<Handle>, Refused> {
         let mut handles = Vec::new();
@@ -316,7 +307,6 @@ impl Reserver {
     /// # Errors
     ///
     /// As of [`reserve_many`](Self::reserve_many), and then the list is as it was.
-    #[doc = include_str!("proved/ent_total/caller.reserve_many.md")]
     #[inline]
     pub fn reserve_into(&mut self, handles: &mut Vec<Handle>, n: u32) -> Result<(), Refused> {
         if self.may_give(n) && handles.try_reserve(n as usize).is_err() {
@@ -337,31 +327,27 @@ impl Reserver {
     /// # Errors
     ///
     /// [`OtherPhase`] if they are not of one phase, and then nothing has changed.
-    #[doc = include_str!("proved/ent_total/caller.meet.md")]
     #[inline]
     pub fn meet(&mut self, other: &mut Reserver) -> Result<(), OtherPhase> {
         self.proved.meet(&mut other.proved).map_err(|_| OtherPhase)
     }
 
     /// Whether the entity was alive as the phase was opened, as [`Shared::is_alive`] tells it.
-    #[doc = include_str!("proved/ent_total/caller.is_alive.md")]
     #[inline]
     #[must_use]
     pub fn is_alive(&self, handle: Handle) -> bool {
-        self.proved.is_alive(handle.proved())
+        self.proved.is_alive(handle)
     }
 
     /// The row of the entity as the phase was opened, as [`Shared::row`] tells it.
-    #[doc = include_str!("proved/ent_total/caller.row.md")]
     #[inline]
     #[must_use]
     pub fn row(&self, handle: Handle) -> Option<u32> {
-        self.proved.row(handle.proved())
+        self.proved.row(handle)
     }
 
     /// Which of the reservers it is: its position in the list that [`Entities::share`] gave, from
     /// 0.
-    #[doc = include_str!("proved/ent_total/caller.number.md")]
     #[inline]
     #[must_use]
     pub fn number(&self) -> usize {
@@ -370,7 +356,6 @@ impl Reserver {
 
     /// How many handles it may still request in this phase: 2^40 less what it has requested, served
     /// or not.
-    #[doc = include_str!("proved/ent_total/caller.left.md")]
     #[inline]
     #[must_use]
     pub fn quota_left(&self) -> u64 {
@@ -385,7 +370,6 @@ impl Reserver {
     }
 
     /// Whether it is of this phase.
-    #[doc = include_str!("proved/ent_total/caller.is_of.md")]
     #[inline]
     #[must_use]
     pub fn is_of(&self, shared: &Shared) -> bool {

@@ -3,8 +3,6 @@
 use crate::component::{Birth, ComponentId};
 use crate::errors::{Absent, BornError, InsertError, OutOfMemory};
 use crate::handle::Handle;
-use crate::kit::alloc::Global;
-use crate::lists::all_handles;
 use crate::proved::ent_storage;
 use alloc::vec::Vec;
 use core::fmt;
@@ -39,7 +37,7 @@ impl Storage {
     #[must_use]
     pub fn new() -> Self {
         Self {
-            proved: ent_storage::Storage::new(Global),
+            proved: ent_storage::Storage::new(),
         }
     }
 
@@ -57,10 +55,9 @@ impl Storage {
     /// # Errors
     ///
     /// `Present` or `Memory`, and then nothing has changed.
-    #[doc = include_str!("proved/ent_storage/storage.born.md")]
     #[inline(always)]
     pub fn born(&mut self, handle: Handle, birth: Birth) -> Result<(), BornError> {
-        Ok(self.proved.born(handle.proved(), birth)?)
+        Ok(self.proved.born(handle, birth)?)
     }
 
     /// Takes the entity out, with all its components. It takes no memory.
@@ -68,10 +65,9 @@ impl Storage {
     /// # Errors
     ///
     /// `Absent`, and then nothing has changed.
-    #[doc = include_str!("proved/ent_storage/storage.despawn.md")]
     #[inline]
     pub fn despawn(&mut self, handle: Handle) -> Result<(), Absent> {
-        self.proved.despawn(handle.proved()).map_err(|_| Absent)
+        self.proved.despawn(handle).map_err(|_| Absent)
     }
 
     /// Sets each of the components, and leaves the entity's others as they are. If a component
@@ -80,14 +76,13 @@ impl Storage {
     /// # Errors
     ///
     /// `Absent` or `Memory`, and then nothing has changed.
-    #[doc = include_str!("proved/ent_storage/storage.insert.md")]
     #[inline]
     pub fn insert(
         &mut self,
         handle: Handle,
         components: &[(ComponentId, i64)],
     ) -> Result<(), InsertError> {
-        Ok(self.proved.insert(handle.proved(), components)?)
+        Ok(self.proved.insert(handle, components)?)
     }
 
     /// Takes the component out of the entity, and returns the value that it had, or `None` if the
@@ -96,43 +91,38 @@ impl Storage {
     /// # Errors
     ///
     /// `Absent`, and then nothing has changed.
-    #[doc = include_str!("proved/ent_storage/storage.remove.md")]
     #[inline]
     pub fn remove(&mut self, handle: Handle, id: ComponentId) -> Result<Option<i64>, Absent> {
-        self.proved.remove(handle.proved(), id).map_err(|_| Absent)
+        self.proved.remove(handle, id).map_err(|_| Absent)
     }
 
     /// The value of the entity's component, if the entity is there and has it.
-    #[doc = include_str!("proved/ent_storage/looking.get.md")]
     #[inline]
     #[must_use]
     pub fn get(&self, handle: Handle, id: ComponentId) -> Option<i64> {
-        self.proved.get(handle.proved(), id)
+        self.proved.get(handle, id)
     }
 
     /// When and by whom the entity was brought to life, if it is there.
-    #[doc = include_str!("proved/ent_storage/looking.birth.md")]
     #[inline]
     #[must_use]
     pub fn birth(&self, handle: Handle) -> Option<Birth> {
-        self.proved.birth(handle.proved())
+        self.proved.birth(handle)
     }
 
     /// Whether the entity is there.
-    #[doc = include_str!("proved/ent_storage/looking.contains.md")]
     #[inline]
     #[must_use]
     pub fn contains(&self, handle: Handle) -> bool {
-        self.proved.contains(handle.proved())
+        self.proved.contains(handle)
     }
 
     /// The entity's components and their values, by rising number, if the entity is there.
     ///
     /// If memory runs out for the list, the process ends, as with `Vec`.
-    #[doc = include_str!("proved/ent_storage/looking.items.md")]
     #[must_use]
     pub fn items(&self, handle: Handle) -> Option<Vec<(ComponentId, i64)>> {
-        self.proved.items(handle.proved()).map(Iterator::collect)
+        self.proved.items(handle).map(Iterator::collect)
     }
 
     /// The handles of all entities, by birth and then by handle. The time is that of a sort.
@@ -140,13 +130,11 @@ impl Storage {
     /// # Errors
     ///
     /// `OutOfMemory`: there is no memory for the list.
-    #[doc = include_str!("proved/ent_storage/looking.by_birth.md")]
     pub fn by_birth(&self) -> Result<Vec<Handle>, OutOfMemory> {
-        Ok(all_handles(self.proved.by_birth()?))
+        Ok(self.proved.by_birth()?.into())
     }
 
     /// How many entities there are.
-    #[doc = include_str!("proved/ent_storage/storage.len.md")]
     #[inline]
     #[must_use]
     pub fn len(&self) -> usize {
@@ -154,7 +142,6 @@ impl Storage {
     }
 
     /// Whether there are none.
-    #[doc = include_str!("proved/ent_storage/storage.is_empty.md")]
     #[inline]
     #[must_use]
     pub fn is_empty(&self) -> bool {

@@ -147,10 +147,8 @@ fn slots_and_lists() {
         into.clear();
         into.resize(before, handle(9, 9));
         into.reserve_exact(BYTES);
-        // Behind a handle they are listed apart.
-        let list = if before == 0 { 0 } else { HANDLE };
         let flush = || entities.flush_into(&mut into).expect("memory");
-        exactly((list + SLOT) * BYTES, flush);
+        exactly(SLOT * BYTES, flush);
         assert_eq!(into.len(), before + BYTES);
     }
 

@@ -1,16 +1,16 @@
 //! Lists of copies.
 
-use crate::kit::alloc::{AllocError, Global};
+use crate::kit::alloc::AllocError;
 use crate::kit::vec::Vec;
 
 /// `to_vec` that is handed the right to allocate.
 pub trait ToKitVec<T> {
-    fn to_kit_vec(&self, alloc: Global) -> Result<Vec<T>, AllocError>;
+    fn to_kit_vec(&self) -> Result<Vec<T>, AllocError>;
 }
 
 impl<T: Copy> ToKitVec<T> for [T] {
-    fn to_kit_vec(&self, alloc: Global) -> Result<Vec<T>, AllocError> {
-        Vec::from_slice(alloc, self)
+    fn to_kit_vec(&self) -> Result<Vec<T>, AllocError> {
+        Vec::from_slice(self)
     }
 }
 

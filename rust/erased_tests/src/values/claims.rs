@@ -1,6 +1,5 @@
 //! Claimers that claim in turn, and threads that claim side by side.
 
-use crate::kit::alloc::Global;
 use crate::kit::vec::Vec;
 use crate::proved::ent_runner::{Claimer, Claims};
 use std::sync::Barrier;
@@ -8,7 +7,7 @@ use std::thread;
 
 /// The numbers below that one, for so many workers.
 fn opened(numbers: usize, workers: usize) -> (Claims, Vec<Claimer>) {
-    Claims::open(Global, numbers, workers).expect("memory for the claimers")
+    Claims::open(numbers, workers).expect("memory for the claimers")
 }
 
 /// The last claimer of a list.

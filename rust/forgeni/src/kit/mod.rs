@@ -16,6 +16,7 @@ pub mod atomic_table;
 pub mod collections;
 pub mod either;
 pub mod itoa;
+pub mod padding;
 #[cfg(test)]
 mod refusing;
 pub mod smallvec;
@@ -31,4 +32,5 @@ macro_rules! prove_eq {
         debug_assert_eq!($($part)*)
     };
 }
+pub(crate) use padding::padded;
 pub(crate) use prove_eq;

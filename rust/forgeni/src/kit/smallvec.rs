@@ -2,7 +2,7 @@
 //!
 //! The contracts are those of the kit's `smallvec/src/small_vec.rt` and `edits.rt`.
 
-use super::alloc::{AllocError, AllocFailed, Global};
+use super::alloc::{AllocError, AllocFailed};
 use super::vec::Vec;
 use core::ops::{Deref, DerefMut};
 
@@ -18,7 +18,7 @@ pub enum SmallVec<T, const N: usize> {
 impl<T: Copy + Default, const N: usize> SmallVec<T, N> {
     /// The contract: no items. It takes no memory.
     #[inline]
-    pub fn new(_alloc: Global) -> Self {
+    pub fn new() -> Self {
         SmallVec::Inline {
             len: 0,
             items: [T::default(); N],
@@ -27,11 +27,11 @@ impl<T: Copy + Default, const N: usize> SmallVec<T, N> {
 
     /// The contract: no items, and room for that many. It succeeds if `count` is at most `N`.
     #[inline]
-    pub fn with_capacity(alloc: Global, count: usize) -> Result<Self, AllocError> {
+    pub fn with_capacity(count: usize) -> Result<Self, AllocError> {
         if count <= N {
-            return Ok(SmallVec::new(alloc));
+            return Ok(SmallVec::new());
         }
-        Ok(SmallVec::Heap(Vec::with_capacity(alloc, count)?))
+        Ok(SmallVec::Heap(Vec::with_capacity(count)?))
     }
 
     #[inline]
@@ -63,7 +63,7 @@ impl<T: Copy + Default, const N: usize> SmallVec<T, N> {
 /// The items with the value among them, in a list with room for as many more.
 #[cold]
 fn spill<T: Copy>(items: &[T], at: usize, value: T) -> Option<Vec<T>> {
-    let mut list = Vec::with_capacity(Global, 2 * items.len() + 1).ok()?;
+    let mut list = Vec::with_capacity(2 * items.len() + 1).ok()?;
     list.extend_from_slice(items).ok()?;
     list.insert(at, value).ok()?;
     Some(list)
@@ -97,7 +97,7 @@ mod tests {
     use super::*;
 
     fn inline(items: &[u32]) -> SmallVec<u32, 4> {
-        let mut list = SmallVec::new(Global);
+        let mut list = SmallVec::new();
         for (at, item) in items.iter().enumerate() {
             refuse(|| list.insert(at, *item)).expect("there is room");
         }
@@ -106,13 +106,13 @@ mod tests {
 
     #[test]
     fn it_begins_empty() {
-        assert!(SmallVec::<u32, 4>::new(Global).is_empty());
-        assert!(SmallVec::<u32, 0>::new(Global).as_slice().is_empty());
+        assert!(SmallVec::<u32, 4>::new().is_empty());
+        assert!(SmallVec::<u32, 0>::new().as_slice().is_empty());
     }
 
     #[test]
     fn more_room_than_its_own_takes_memory() {
-        let of = |count| SmallVec::<u32, 4>::with_capacity(Global, count);
+        let of = |count| SmallVec::<u32, 4>::with_capacity(count);
         assert!(refuse(|| of(4)).is_ok_and(|list| list.is_empty()));
         assert!(refuse(|| of(5)).is_err());
         let mut list = of(5).expect("memory");
@@ -159,7 +159,7 @@ mod tests {
 
     #[test]
     fn without_room_of_its_own_the_first_item_takes_memory() {
-        let mut list = SmallVec::<u32, 0>::new(Global);
+        let mut list = SmallVec::<u32, 0>::new();
         assert_eq!(refuse(|| list.insert(0, 1)), Err(AllocFailed { value: 1 }));
         list.insert(0, 1).expect("memory");
         assert_eq!(list.as_slice(), [1]);

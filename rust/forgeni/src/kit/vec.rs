@@ -3,7 +3,7 @@
 //! The contracts are those of the kit's `std_alloc/src/vec/methods.rt`, `ends.rt`, `edits.rt`,
 //! `filters.rt`, `sorts.rt`, `copies.rt` and `collects.rt`.
 
-use super::alloc::{AllocError, AllocFailed, Global};
+use super::alloc::{AllocError, AllocFailed};
 use super::sorting::{merge_sort, sort_in_cycles};
 use core::fmt;
 use core::ops::{Deref, DerefMut};
@@ -26,7 +26,7 @@ impl<T> Vec<T> {
 
     /// The contract: no items, and no room. It takes no memory.
     #[inline]
-    pub const fn new(_alloc: Global) -> Self {
+    pub const fn new() -> Self {
         let () = Self::HAVE_A_SIZE;
         Vec(::alloc::vec::Vec::new())
     }
@@ -34,8 +34,8 @@ impl<T> Vec<T> {
     /// The contract: no items, and room for that many, of which none is too much. It succeeds if
     /// `count` is 0.
     #[inline]
-    pub fn with_capacity(alloc: Global, count: usize) -> Result<Self, AllocError> {
-        let mut list = Vec::new(alloc);
+    pub fn with_capacity(count: usize) -> Result<Self, AllocError> {
+        let mut list = Vec::new();
         if count > 0 {
             allow_growth()?;
             list.0.try_reserve_exact(count)?;
@@ -180,18 +180,18 @@ impl<T> Vec<T> {
 #[cfg(test)]
 impl<T> Vec<T> {
     /// The contract: the items of the array.
-    pub fn from_array<const N: usize>(alloc: Global, items: [T; N]) -> Result<Self, AllocError> {
-        let mut list = Vec::with_capacity(alloc, N)?;
+    pub fn from_array<const N: usize>(items: [T; N]) -> Result<Self, AllocError> {
+        let mut list = Vec::with_capacity(N)?;
         list.0.extend(items);
         Ok(list)
     }
 
     /// The contract: copies of the items.
-    pub fn from_slice(alloc: Global, items: &[T]) -> Result<Self, AllocError>
+    pub fn from_slice(items: &[T]) -> Result<Self, AllocError>
     where
         T: Copy,
     {
-        let mut list = Vec::with_capacity(alloc, items.len())?;
+        let mut list = Vec::with_capacity(items.len())?;
         list.extend_from_slice(items)?;
         Ok(list)
     }
@@ -286,13 +286,12 @@ pub trait CollectIn: Iterator + Sized {
     /// as many places as the iterator says that there are items. If that fails, memory may still suffice for what
     /// comes, so it asks for one place.
     #[inline]
-    fn collect_in(mut self, alloc: Global) -> Result<Vec<Self::Item>, AllocError> {
+    fn collect_in(mut self) -> Result<Vec<Self::Item>, AllocError> {
         let Some(first) = self.next() else {
-            return Ok(Vec::new(alloc));
+            return Ok(Vec::new());
         };
         let count = self.size_hint().0.saturating_add(1);
-        let mut list =
-            Vec::with_capacity(alloc, count).or_else(|_| Vec::with_capacity(alloc, 1))?;
+        let mut list = Vec::with_capacity(count).or_else(|_| Vec::with_capacity(1))?;
         list.push_reserved(first);
         for item in self {
             list.push(item)?;
@@ -314,25 +313,22 @@ mod tests {
 
     #[test]
     fn new_has_no_room_and_room_for_none_is_never_refused() {
-        assert_eq!(Vec::<u32>::new(Global).capacity(), 0);
-        let list = refuse(|| Vec::<u32>::with_capacity(Global, 0)).expect("nothing is asked for");
+        assert_eq!(Vec::<u32>::new().capacity(), 0);
+        let list = refuse(|| Vec::<u32>::with_capacity(0)).expect("nothing is asked for");
         assert_eq!((list.len(), list.capacity()), (0, 0));
     }
 
     #[test]
     fn capacity_is_what_was_asked_for() {
         for count in [1, 3, 1000] {
-            let list = Vec::<u64>::with_capacity(Global, count).expect("memory");
+            let list = Vec::<u64>::with_capacity(count).expect("memory");
             assert_eq!((list.len(), list.capacity()), (0, count));
         }
     }
 
     #[test]
     fn more_than_there_can_be_is_refused() {
-        assert_eq!(
-            Vec::<u32>::with_capacity(Global, usize::MAX),
-            Err(AllocError)
-        );
+        assert_eq!(Vec::<u32>::with_capacity(usize::MAX), Err(AllocError));
         let mut three = list(&[1, 2, 3]);
         let capacity = three.capacity();
         assert_eq!(three.reserve(usize::MAX), Err(AllocError));
@@ -341,7 +337,7 @@ mod tests {
 
     #[test]
     fn push_at_capacity_grows_or_gives_the_value_back() {
-        let mut list = Vec::with_capacity(Global, 2).expect("memory");
+        let mut list = Vec::with_capacity(2).expect("memory");
         list.push_reserved(1);
         refuse(|| list.push(2)).expect("there is room");
         assert_eq!(refuse(|| list.push(3)), Err(AllocFailed { value: 3 }));
@@ -354,12 +350,12 @@ mod tests {
     #[should_panic(expected = "no room was asked for")]
     #[cfg(debug_assertions)]
     fn push_reserved_without_room_is_found_out() {
-        Vec::new(Global).push_reserved(1);
+        Vec::new().push_reserved(1);
     }
 
     #[test]
     fn insert_at_both_ends() {
-        let mut list = Vec::with_capacity(Global, 1).expect("memory");
+        let mut list = Vec::with_capacity(1).expect("memory");
         refuse(|| list.insert(0, 2)).expect("there is room");
         assert_eq!(refuse(|| list.insert(1, 3)), Err(AllocFailed { value: 3 }));
         assert_eq!(&list[..], &[2]);
@@ -422,15 +418,15 @@ mod tests {
     #[test]
     fn collecting_keeps_the_order_and_asks_first() {
         let numbers = || 0..100;
-        assert_eq!(refuse(|| numbers().collect_in(Global)), Err(AllocError));
-        let list = numbers().collect_in(Global).expect("memory");
+        assert_eq!(refuse(|| numbers().collect_in()), Err(AllocError));
+        let list = numbers().collect_in().expect("memory");
         assert!(numbers().eq(list));
         let odd = numbers()
             .filter(|n| n % 2 == 1)
-            .collect_in(Global)
+            .collect_in()
             .expect("memory");
         assert_eq!((odd.len(), odd[0], odd[49]), (50, 1, 99));
-        let none = refuse(|| (0..0).collect_in(Global)).expect("nothing is asked for");
+        let none = refuse(|| (0..0).collect_in()).expect("nothing is asked for");
         assert!(none.is_empty());
     }
 
@@ -453,9 +449,9 @@ mod tests {
     #[test]
     fn a_wrong_hint_is_no_lack_of_memory() {
         for hint in [0, 1, 200, usize::MAX] {
-            let list = Hinting(100, hint).collect_in(Global).expect("memory");
+            let list = Hinting(100, hint).collect_in().expect("memory");
             assert!(list.into_iter().eq((0..100).rev()), "{hint}");
-            let none = refuse(|| Hinting(0, hint).collect_in(Global));
+            let none = refuse(|| Hinting(0, hint).collect_in());
             assert_eq!(none.map(|list| list.capacity()), Ok(0), "{hint}");
         }
     }
@@ -478,8 +474,8 @@ mod tests {
     #[test]
     fn the_room_is_as_much_as_was_asked_for() {
         for count in [1, 2, 3, 5, 7, 1000, 4097, 1 << 20] {
-            let bytes = Vec::<u8>::with_capacity(Global, count).expect("memory");
-            let words = Vec::<[u64; 3]>::with_capacity(Global, count).expect("memory");
+            let bytes = Vec::<u8>::with_capacity(count).expect("memory");
+            let words = Vec::<[u64; 3]>::with_capacity(count).expect("memory");
             assert_eq!((bytes.capacity(), words.capacity()), (count, count));
         }
     }

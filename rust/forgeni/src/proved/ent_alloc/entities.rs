@@ -9,7 +9,6 @@ use crate::proved::ent_alloc::slot_record::Occupancy;
 use crate::proved::ent_alloc::slots::Slots;
 use crate::proved::ent_alloc::state::State;
 use crate::proved::ent_handle::{Handle, Memory};
-use crate::kit::alloc::Global;
 
 /// Gives out the handles of entities and knows which are alive, as Bevy's `Entities` does.
 ///
@@ -24,108 +23,196 @@ pub struct Entities {
 
 impl Entities {
     /// An allocator with no entities. It takes no memory, whatever the limits are.
+    ///
+    /// <details><summary>Contract</summary>
+    ///
+    /// In the words of the folder `specs/` of crate `ent_alloc`:
+    ///
+    /// ```text
+    /// ensures allocator { result.allocator ≡ opening limits }
+    /// ensures rows { result.rows ≡ map.empty }
+    /// ensures rows_of_living { HasRowsOfLiving result }
+    /// ```
+    ///
+    /// </details>
     #[inline]
-    pub const fn new(alloc: Global, limits: Limits) -> Self
-        // ensures allocator { result.allocator ≡ opening limits }
-        // ensures rows { result.rows ≡ map.empty }
-        // ensures rows_of_living { HasRowsOfLiving result }
-    {
+    pub const fn new(limits: Limits) -> Self {
         Entities {
-            slots: Slots::new(alloc, limits),
+            slots: Slots::new(limits),
             requests: Requests::none(),
         }
     }
 
     /// How many entities are alive.
+    ///
+    /// <details><summary>Contract</summary>
+    ///
+    /// In the words of the folder `specs/` of crate `ent_alloc`:
+    ///
+    /// ```text
+    /// ensures { result ≡ set.len self.now.allocator.live }
+    /// ```
+    ///
+    /// </details>
     #[inline]
-    pub fn len(&self) -> u32
-        // ensures { result ≡ set.len self.now.allocator.live }
-    {
+    pub fn len(&self) -> u32 {
         self.slots.live()
     }
 
     /// Whether no entity is alive.
+    ///
+    /// <details><summary>Contract</summary>
+    ///
+    /// In the words of the folder `specs/` of crate `ent_alloc`:
+    ///
+    /// ```text
+    /// ensures { IsTrue result ↔ (set.len self.now.allocator.live ≡ 0) }
+    /// ```
+    ///
+    /// </details>
     #[inline]
-    pub fn is_empty(&self) -> bool
-        // ensures { IsTrue result ↔ (set.len self.now.allocator.live ≡ 0) }
-    {
+    pub fn is_empty(&self) -> bool {
         self.len() == 0
     }
 
     /// How many slots were made: each has or had an occupant. A retired slot counts for good.
+    ///
+    /// <details><summary>Contract</summary>
+    ///
+    /// In the words of the folder `specs/` of crate `ent_alloc`:
+    ///
+    /// ```text
+    /// ensures { result ≡ self.now.allocator.made }
+    /// ```
+    ///
+    /// </details>
     #[inline]
-    pub fn total(&self) -> u32
-        // ensures { result ≡ self.now.allocator.made }
-    {
+    pub fn total(&self) -> u32 {
         self.slots.made()
     }
 
     /// How many slots can still be made.
+    ///
+    /// <details><summary>Contract</summary>
+    ///
+    /// In the words of the folder `specs/` of crate `ent_alloc`:
+    ///
+    /// ```text
+    /// ensures { result ≡ self.now.allocator.limits.slots - self.now.allocator.made }
+    /// ```
+    ///
+    /// </details>
     #[inline]
-    pub fn room(&self) -> u32
-        // ensures { result ≡ self.now.allocator.limits.slots - self.now.allocator.made }
-    {
+    pub fn room(&self) -> u32 {
         self.slots.limits().slots() - self.slots.made()
     }
 
     /// How many old slots waited for their next occupant at the last `flush`, `alloc` or `free`.
     /// Requests don't change it.
+    ///
+    /// <details><summary>Contract</summary>
+    ///
+    /// In the words of the folder `specs/` of crate `ent_alloc`:
+    ///
+    /// ```text
+    /// ensures { result ≡ top self.now.allocator }
+    /// ```
+    ///
+    /// </details>
     #[inline]
-    pub fn top(&self) -> u32
-        // ensures { result ≡ top self.now.allocator }
-    {
+    pub fn top(&self) -> u32 {
         self.slots.waiting()
     }
 
     /// How many slots are retired: they were made, and give no handle any more. It takes constant
     /// time.
+    ///
+    /// <details><summary>Contract</summary>
+    ///
+    /// In the words of the folder `specs/` of crate `ent_alloc`:
+    ///
+    /// ```text
+    /// ensures value { result ≡ retired self.now.allocator }
+    ///
+    /// // Each slot that was made has a living occupant, waits for the next one, or is retired.
+    /// ensures rest { set.len self.now.allocator.live + top self.now.allocator + result
+    ///     ≡ self.now.allocator.made }
+    /// ```
+    ///
+    /// </details>
     #[inline]
-    pub fn retired(&self) -> u32
-        // ensures value { result ≡ retired self.now.allocator }
-
-        // Each slot that was made has a living occupant, waits for the next one, or is retired.
-        // ensures rest { set.len self.now.allocator.live + top self.now.allocator + result
-        //     ≡ self.now.allocator.made }
-    {
+    pub fn retired(&self) -> u32 {
         self.total() - self.slots.live() - self.slots.waiting()
     }
 
     /// The number that each request lowers by its count. It is `top` if nothing was requested since
     /// the last flush; below 0 it counts fresh slots.
+    ///
+    /// <details><summary>Contract</summary>
+    ///
+    /// In the words of the folder `specs/` of crate `ent_alloc`:
+    ///
+    /// ```text
+    /// ensures value { result ≡ cursor self.now.allocator }
+    ///
+    /// // What is true of every state, as that no slot has two handles among the living and those
+    /// // to be given.
+    /// ensures sound { IsSound self.now.allocator }
+    /// ensures rows_of_living { HasRowsOfLiving self.now }
+    /// ```
+    ///
+    /// </details>
     #[inline]
-    pub fn cursor(&self) -> i64
-        // ensures value { result ≡ cursor self.now.allocator }
-
-        // What is true of every state, as that no slot has two handles among the living and those
-        // to be given.
-        // ensures sound { IsSound self.now.allocator }
-        // ensures rows_of_living { HasRowsOfLiving self.now }
-    {
+    pub fn cursor(&self) -> i64 {
         self.slots.top() - self.asked() as i64
     }
 
     /// How many handles were requested since the last flush, at most 2^50.
+    ///
+    /// <details><summary>Contract</summary>
+    ///
+    /// In the words of the folder `specs/` of crate `ent_alloc`:
+    ///
+    /// ```text
+    /// ensures value { result ≡ self.now.allocator.asked }
+    /// ensures within { result ≤ 2 ^ 50 }
+    /// ```
+    ///
+    /// </details>
     #[inline]
-    pub fn asked(&self) -> u64
-        // ensures value { result ≡ self.now.allocator.asked }
-        // ensures within { result ≤ 2 ^ 50 }
-    {
+    pub fn asked(&self) -> u64 {
         self.requests.asked
     }
 
     /// Whether any handle was requested since the last flush.
+    ///
+    /// <details><summary>Contract</summary>
+    ///
+    /// In the words of the folder `specs/` of crate `ent_alloc`:
+    ///
+    /// ```text
+    /// ensures { IsTrue result ↔ (0 < self.now.allocator.asked) }
+    /// ```
+    ///
+    /// </details>
     #[inline]
-    pub fn needs_flush(&self) -> bool
-        // ensures { IsTrue result ↔ (0 < self.now.allocator.asked) }
-    {
+    pub fn needs_flush(&self) -> bool {
         self.asked() > 0
     }
 
     /// How many handles the next flush brings to life.
+    ///
+    /// <details><summary>Contract</summary>
+    ///
+    /// In the words of the folder `specs/` of crate `ent_alloc`:
+    ///
+    /// ```text
+    /// ensures { result ≡ length self.now.allocator.taken }
+    /// ```
+    ///
+    /// </details>
     #[inline]
-    pub fn reserved(&self) -> u32
-        // ensures { result ≡ length self.now.allocator.taken }
-    {
+    pub fn reserved(&self) -> u32 {
         self.requests.served
     }
 
@@ -137,20 +224,28 @@ impl Entities {
     /// Nothing changes. `NeedsFlush` if handles were requested since the last flush, even if the
     /// request was refused. `Space` if every slot has a living occupant or is retired. `Memory`
     /// only if no old slot waits.
+    ///
+    /// <details><summary>Contract</summary>
+    ///
+    /// In the words of the folder `specs/` of crate `ent_alloc`:
+    ///
+    /// ```text
+    /// ensures front { IfOk result (λ h. slice_get self.old.allocator.pool 0 ≡ Some h) }
+    /// ensures ok { IfOk result (λ h. self.new.allocator ≡ after_alloc self.old.allocator h) }
+    /// ensures rows { self.new.rows ≡ self.old.rows }
+    /// ensures no_row { IfOk result (λ h. map.get self.new.rows h ≡ None) }
+    /// ensures rows_of_living { HasRowsOfLiving self.new }
+    /// ensures needs_flush { IsErrOf result AllocFault.NeedsFlush
+    ///     ↔ (0 < self.old.allocator.asked) }
+    /// ensures space { IsErrOf result AllocFault.Space
+    ///     ↔ ((self.old.allocator.asked ≡ 0) × (self.old.allocator.pool ≡ [])) }
+    /// ensures memory { IsErrOf result AllocFault.Memory → top self.old.allocator ≡ 0 }
+    /// ensures err { OnErr result (self.new ≡ self.old) }
+    /// ```
+    ///
+    /// </details>
     #[inline]
-    pub fn alloc(&mut self) -> Result<Handle, AllocFault>
-        // ensures front { IfOk result (λ h. slice_get self.old.allocator.pool 0 ≡ Some h) }
-        // ensures ok { IfOk result (λ h. self.new.allocator ≡ after_alloc self.old.allocator h) }
-        // ensures rows { self.new.rows ≡ self.old.rows }
-        // ensures no_row { IfOk result (λ h. map.get self.new.rows h ≡ None) }
-        // ensures rows_of_living { HasRowsOfLiving self.new }
-        // ensures needs_flush { IsErrOf result AllocFault.NeedsFlush
-        //     ↔ (0 < self.old.allocator.asked) }
-        // ensures space { IsErrOf result AllocFault.Space
-        //     ↔ ((self.old.allocator.asked ≡ 0) × (self.old.allocator.pool ≡ [])) }
-        // ensures memory { IsErrOf result AllocFault.Memory → top self.old.allocator ≡ 0 }
-        // ensures err { OnErr result (self.new ≡ self.old) }
-    {
+    pub fn alloc(&mut self) -> Result<Handle, AllocFault> {
         if self.needs_flush() {
             Err(AllocFault::NeedsFlush)
         } else if let Some(handle) = self.slots.reuse_last() {
@@ -173,24 +268,32 @@ impl Entities {
     /// Nothing changes. `NeedsFlush` if handles were requested since the last flush, even if the
     /// request was refused; then `NotAlive`; then `Memory`, which never comes if the slot is
     /// retired.
+    ///
+    /// <details><summary>Contract</summary>
+    ///
+    /// In the words of the folder `specs/` of crate `ent_alloc`:
+    ///
+    /// ```text
+    /// ensures ok { OnOk result (self.new.allocator ≡ after_free self.old.allocator handle) }
+    /// ensures row { OnOk result (self.new.rows ≡ map.remove self.old.rows handle) }
+    /// ensures rows_of_living { HasRowsOfLiving self.new }
+    /// ensures next { IfOk result (λ freed. freed.next ≡ next self.old.allocator.limits handle) }
+    /// ensures lived { OnOk result (set.contains self.old.allocator.live handle ≡ true) }
+    /// ensures needs_flush { IsErrOf result FreeFault.NeedsFlush
+    ///     ↔ (0 < self.old.allocator.asked) }
+    /// ensures not_alive { IsErrOf result FreeFault.NotAlive
+    ///     ↔ ((self.old.allocator.asked ≡ 0)
+    ///     × (set.contains self.old.allocator.live handle ≡ false)) }
+    ///
+    /// // The slot of a handle of the last generation is retired, which takes no memory.
+    /// ensures memory { IsErrOf result FreeFault.Memory
+    ///     → handle.generation ≢ self.old.allocator.limits.generations }
+    /// ensures err { OnErr result (self.new ≡ self.old) }
+    /// ```
+    ///
+    /// </details>
     #[inline]
-    pub fn free(&mut self, handle: Handle) -> Result<Freed, FreeFault>
-        // ensures ok { OnOk result (self.new.allocator ≡ after_free self.old.allocator handle) }
-        // ensures row { OnOk result (self.new.rows ≡ map.remove self.old.rows handle) }
-        // ensures rows_of_living { HasRowsOfLiving self.new }
-        // ensures next { IfOk result (λ freed. freed.next ≡ next self.old.allocator.limits handle) }
-        // ensures lived { OnOk result (set.contains self.old.allocator.live handle ≡ true) }
-        // ensures needs_flush { IsErrOf result FreeFault.NeedsFlush
-        //     ↔ (0 < self.old.allocator.asked) }
-        // ensures not_alive { IsErrOf result FreeFault.NotAlive
-        //     ↔ ((self.old.allocator.asked ≡ 0)
-        //     × (set.contains self.old.allocator.live handle ≡ false)) }
-
-        // The slot of a handle of the last generation is retired, which takes no memory.
-        // ensures memory { IsErrOf result FreeFault.Memory
-        //     → handle.generation ≢ self.old.allocator.limits.generations }
-        // ensures err { OnErr result (self.new ≡ self.old) }
-    {
+    pub fn free(&mut self, handle: Handle) -> Result<Freed, FreeFault> {
         if self.needs_flush() {
             return Err(FreeFault::NeedsFlush);
         }
@@ -214,22 +317,30 @@ impl Entities {
     /// `Memory`, and then nothing has changed, neither here nor in `out`. All room is asked for
     /// before the first handle is listed. It never comes if `out` has room for `reserved` more
     /// handles and all of them are of old slots.
+    ///
+    /// <details><summary>Contract</summary>
+    ///
+    /// In the words of the folder `specs/` of crate `ent_alloc`:
+    ///
+    /// ```text
+    /// ensures ok { OnOk result (self.new.allocator ≡ after_flush self.old.allocator) }
+    /// ensures rows { self.new.rows ≡ self.old.rows }
+    /// ensures born { OnOk result (out.new.items ≡ out.old.items ++ born self.old.allocator) }
+    /// ensures no_rows { OnOk result
+    ///     (All (λ h. map.get self.new.rows h ≡ None) (born self.old.allocator)) }
+    /// ensures rows_of_living { HasRowsOfLiving self.new }
+    /// ensures err { OnErr result (self.new ≡ self.old) }
+    /// ensures unchanged { OnErr result (out.new.items ≡ out.old.items) }
+    /// ensures capacity { OnErr result (vec_capacity out.new ≡ vec_capacity out.old) }
+    ///
+    /// // Memory runs out only for new slots, or for a list that lacks room.
+    /// ensures memory { OnErr result ((0 < made_at_flush self.old.allocator)
+    ///     ⊎ (vec_capacity out.old < vec_len out.old + length self.old.allocator.taken)) }
+    /// ```
+    ///
+    /// </details>
     #[inline]
-    pub fn flush(&mut self, out: &mut Vec<Handle>) -> Result<(), Memory>
-        // ensures ok { OnOk result (self.new.allocator ≡ after_flush self.old.allocator) }
-        // ensures rows { self.new.rows ≡ self.old.rows }
-        // ensures born { OnOk result (out.new.items ≡ out.old.items ++ born self.old.allocator) }
-        // ensures no_rows { OnOk result
-        //     (All (λ h. map.get self.new.rows h ≡ None) (born self.old.allocator)) }
-        // ensures rows_of_living { HasRowsOfLiving self.new }
-        // ensures err { OnErr result (self.new ≡ self.old) }
-        // ensures unchanged { OnErr result (out.new.items ≡ out.old.items) }
-        // ensures capacity { OnErr result (vec_capacity out.new ≡ vec_capacity out.old) }
-
-        // Memory runs out only for new slots, or for a list that lacks room.
-        // ensures memory { OnErr result ((0 < made_at_flush self.old.allocator)
-        //     ⊎ (vec_capacity out.old < vec_len out.old + length self.old.allocator.taken)) }
-    {
+    pub fn flush(&mut self, out: &mut Vec<Handle>) -> Result<(), Memory> {
         let waiting = self.slots.waiting();
         let kept = self.requests.kept(waiting);
         let fresh = self.requests.fresh(waiting);
@@ -239,10 +350,18 @@ impl Entities {
     }
 
     /// What became of a handle. It takes constant time.
+    ///
+    /// <details><summary>Contract</summary>
+    ///
+    /// In the words of the folder `specs/` of crate `ent_alloc`:
+    ///
+    /// ```text
+    /// ensures { result ≡ state_of self.now.allocator handle }
+    /// ```
+    ///
+    /// </details>
     #[inline]
-    pub fn state(&self, handle: Handle) -> State
-        // ensures { result ≡ state_of self.now.allocator handle }
-    {
+    pub fn state(&self, handle: Handle) -> State {
         let waiting = self.slots.waiting();
         let reserved = match self.slots.occupancy_of(handle) {
             Some(Occupancy::Alive | Occupancy::AliveWithRow { .. }) => return State::Alive,
@@ -261,32 +380,56 @@ impl Entities {
     }
 
     /// Whether the handle is alive. It takes constant time.
+    ///
+    /// <details><summary>Contract</summary>
+    ///
+    /// In the words of the folder `specs/` of crate `ent_alloc`:
+    ///
+    /// ```text
+    /// ensures { result ≡ set.contains self.now.allocator.live handle }
+    /// ```
+    ///
+    /// </details>
     #[inline]
-    pub fn is_alive(&self, handle: Handle) -> bool
-        // ensures { result ≡ set.contains self.now.allocator.live handle }
-    {
+    pub fn is_alive(&self, handle: Handle) -> bool {
         self.slots.is_alive(handle)
     }
 
     /// The living handles, by rising slot. It takes no memory.
+    ///
+    /// <details><summary>Contract</summary>
+    ///
+    /// In the words of the folder `specs/` of crate `ent_alloc`:
+    ///
+    /// ```text
+    /// ensures living { set.from_list result ≡ self.now.allocator.live }
+    /// ensures rising { AllPairs (λ g h. g.index < h.index) result }
+    /// ensures count { length result ≡ set.len self.now.allocator.live }
+    /// ```
+    ///
+    /// </details>
     #[inline]
-    pub fn iter(&self) -> LivingHandles<'_>
-        // ensures living { set.from_list result ≡ self.now.allocator.live }
-        // ensures rising { AllPairs (λ g h. g.index < h.index) result }
-        // ensures count { length result ≡ set.len self.now.allocator.live }
-    {
+    pub fn iter(&self) -> LivingHandles<'_> {
         self.slots.occupants()
     }
 
     /// Where a handle stands among those that there were to give at the last flush, counted from 0
     /// in the order in which they are given. Requests don't change it. `None` if it isn't among
     /// them. It takes constant time.
+    ///
+    /// <details><summary>Contract</summary>
+    ///
+    /// In the words of the folder `specs/` of crate `ent_alloc`:
+    ///
+    /// ```text
+    /// ensures found { IfSome result (λ place.
+    ///     slice_get (available self.now.allocator) place ≡ Some handle) }
+    /// ensures none { IfNone result (stands_in (available self.now.allocator) handle ≡ false) }
+    /// ```
+    ///
+    /// </details>
     #[inline]
-    pub fn place(&self, handle: Handle) -> Option<u32>
-        // ensures found { IfSome result (λ place.
-        //     slice_get (available self.now.allocator) place ≡ Some handle) }
-        // ensures none { IfNone result (stands_in (available self.now.allocator) handle ≡ false) }
-    {
+    pub fn place(&self, handle: Handle) -> Option<u32> {
         let waiting = self.slots.waiting();
         match self.slots.occupancy_of(handle) {
             Some(Occupancy::Pending { position }) => Some(waiting - 1 - position),
@@ -303,18 +446,26 @@ impl Entities {
 
     /// The row that a program keeps with a living entity. `None` if the handle isn't alive, or if
     /// no row was set since it came to life.
+    ///
+    /// <details><summary>Contract</summary>
+    ///
+    /// In the words of the folder `specs/` of crate `ent_alloc`:
+    ///
+    /// ```text
+    /// ensures value { result ≡ map.get self.now.rows handle }
+    /// ensures alive { OnSome result (set.contains self.now.allocator.live handle ≡ true) }
+    /// ```
+    ///
+    /// </details>
     #[inline]
-    pub fn row(&self, handle: Handle) -> Option<u32>
-        // ensures value { result ≡ map.get self.now.rows handle }
-        // ensures alive { OnSome result (set.contains self.now.allocator.live handle ≡ true) }
-    {
+    pub fn row(&self, handle: Handle) -> Option<u32> {
         self.slots.row(handle)
     }
 
     /// Keeps a row with a living entity until the entity is freed. It takes the place of the row
     /// that was set before.
     #[inline]
-    pub fn set_row(&mut self, handle: Handle, row: u32)
+    pub(crate) fn set_row(&mut self, handle: Handle, row: u32)
         // requires { set.contains self.old.allocator.live handle ≡ true }
         // ensures row { self.new.rows ≡ map.insert self.old.rows handle row }
         // ensures rows_of_living { HasRowsOfLiving self.new }

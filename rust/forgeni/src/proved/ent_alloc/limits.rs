@@ -16,13 +16,21 @@ pub struct Limits {
 impl Limits {
     /// The limits of these numbers: slots from 1 to 4,294,967,295, generations from 1 to
     /// 2,147,483,647. `None` if one of them is out of its range.
+    ///
+    /// <details><summary>Contract</summary>
+    ///
+    /// In the words of the folder `specs/` of crate `ent_alloc`:
+    ///
+    /// ```text
+    /// ensures in_range { IsSome result
+    ///     ↔ AreLimits (record { slots = slots; generations = generations }) }
+    /// ensures value { IfSome result (λ limits.
+    ///     limits ≡ record { slots = slots; generations = generations }) }
+    /// ```
+    ///
+    /// </details>
     #[inline]
-    pub const fn new(slots: u32, generations: u32) -> Option<Self>
-        // ensures in_range { IsSome result
-        //     ↔ AreLimits (record { slots = slots; generations = generations }) }
-        // ensures value { IfSome result (λ limits.
-        //     limits ≡ record { slots = slots; generations = generations }) }
-    {
+    pub const fn new(slots: u32, generations: u32) -> Option<Self> {
         if 1 <= slots && 1 <= generations && generations < 1 << 31 {
             Some(Limits { slots, generations })
         } else {
@@ -31,10 +39,18 @@ impl Limits {
     }
 
     /// The greatest limits, which are Bevy's.
+    ///
+    /// <details><summary>Contract</summary>
+    ///
+    /// In the words of the folder `specs/` of crate `ent_alloc`:
+    ///
+    /// ```text
+    /// ensures { result ≡ record { slots = 2 ^ 32 - 1; generations = 2 ^ 31 - 1 } }
+    /// ```
+    ///
+    /// </details>
     #[inline]
-    pub const fn default_limits() -> Self
-        // ensures { result ≡ record { slots = 2 ^ 32 - 1; generations = 2 ^ 31 - 1 } }
-    {
+    pub const fn default_limits() -> Self {
         Limits {
             slots: u32::MAX,
             generations: (1 << 31) - 1,
@@ -42,18 +58,34 @@ impl Limits {
     }
 
     /// How many slots may be made. Every index is below it.
+    ///
+    /// <details><summary>Contract</summary>
+    ///
+    /// In the words of the folder `specs/` of crate `ent_alloc`:
+    ///
+    /// ```text
+    /// ensures { result ≡ self.slots }
+    /// ```
+    ///
+    /// </details>
     #[inline]
-    pub fn slots(self) -> u32
-        // ensures { result ≡ self.slots }
-    {
+    pub fn slots(self) -> u32 {
         self.slots
     }
 
     /// The last generation of a slot.
+    ///
+    /// <details><summary>Contract</summary>
+    ///
+    /// In the words of the folder `specs/` of crate `ent_alloc`:
+    ///
+    /// ```text
+    /// ensures { result ≡ self.generations }
+    /// ```
+    ///
+    /// </details>
     #[inline]
-    pub fn generations(self) -> u32
-        // ensures { result ≡ self.generations }
-    {
+    pub fn generations(self) -> u32 {
         self.generations
     }
 }

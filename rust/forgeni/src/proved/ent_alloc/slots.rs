@@ -6,7 +6,6 @@ use crate::proved::ent_alloc::living_handles::LivingHandles;
 use crate::proved::ent_alloc::slot_record;
 use crate::proved::ent_alloc::slot_record::{Occupancy, SlotRecord, first_occupant, make_all, reuse_all};
 use crate::proved::ent_handle::{Handle, Memory};
-use crate::kit::alloc::Global;
 
 /// The slots that were made, and those of them that wait for their next occupant.
 pub(super) struct Slots {
@@ -18,7 +17,7 @@ pub(super) struct Slots {
 
 impl Slots {
     #[inline]
-    pub(super) const fn new(alloc: Global, limits: Limits) -> Self
+    pub(super) const fn new(limits: Limits) -> Self
         // ensures value { result ≡ record {
         //   limits = limits;
         //   live = set.empty;
@@ -30,8 +29,8 @@ impl Slots {
     {
         Slots {
             limits,
-            records: Vec::new(alloc),
-            pending: Vec::new(alloc),
+            records: Vec::new(),
+            pending: Vec::new(),
             live: 0,
         }
     }

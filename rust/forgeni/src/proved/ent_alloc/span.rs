@@ -15,7 +15,7 @@ impl Span {
     /// The span of a request for `n` handles that finds the cursor at `high`, which is from -2^60
     /// to 2^60.
     #[inline]
-    pub fn new(high: i64, n: u32) -> Self
+    pub(crate) fn new(high: i64, n: u32) -> Self
         // requires least { neg_ℤ (pos (2 ^ 60)) ≤ℤ high }
         // requires greatest { high ≤ℤ pos (2 ^ 60) }
         // ensures value { result ≡ record { high = high; low = high -ℤ pos n } }

@@ -1,6 +1,8 @@
 // Made of crates/ent_handle/src/handle.rt by rust/erase. It isn't edited by hand.
 
 use core::cmp::Ordering;
+use core::hash::{Hash, Hasher};
+use core::num::NonZeroU64;
 
 /// Names one occupant of one slot: the slot's index, and a generation that tells the slot's
 /// occupants apart.
@@ -10,21 +12,28 @@ use core::cmp::Ordering;
 /// that of the one before it, so that an earlier handle does not name a later occupant. After the
 /// last generation a slot has no more occupants, where in Bevy the first one comes again. The order
 /// is this project's own: by index, then by generation. Bevy's is by generation first.
-#[derive(Clone, Copy, Debug, PartialEq, Eq, Hash)]
-#[repr(align(8))]
+#[derive(Clone, Copy, PartialEq, Eq)]
+#[repr(transparent)]
 pub struct Handle {
-    index: u32,
-    generation: u32,
+    bits: NonZeroU64,
 }
 
 impl Handle {
     /// The handle of these numbers, or `None` if one of them is out of range.
+    ///
+    /// <details><summary>Contract</summary>
+    ///
+    /// In the words of the folder `specs/` of crate `ent_handle`:
+    ///
+    /// ```text
+    /// ensures in_range { IsSome result
+    ///     ↔ IsHandle (record { index = index; generation = generation }) }
+    /// ensures value { IfSome result (λ h. h ≡ record { index = index; generation = generation }) }
+    /// ```
+    ///
+    /// </details>
     #[inline]
-    pub fn new(index: u32, generation: u32) -> Option<Self>
-        // ensures in_range { IsSome result
-        //     ↔ IsHandle (record { index = index; generation = generation }) }
-        // ensures value { IfSome result (λ h. h ≡ record { index = index; generation = generation }) }
-    {
+    pub const fn new(index: u32, generation: u32) -> Option<Self> {
         if index < u32::MAX && 1 <= generation && generation < 1 << 31 {
             Some(Handle::from_parts(index, generation))
         } else {
@@ -36,54 +45,99 @@ impl Handle {
     /// generation 1 to 2,147,483,647. It tests nothing when it runs, so it is for a caller that
     /// keeps such numbers. `new` tests them.
     #[inline]
-    pub fn from_parts(index: u32, generation: u32) -> Self
+    pub(crate) const fn from_parts(index: u32, generation: u32) -> Self
         // requires { IsHandle (record { index = index; generation = generation }) }
         // ensures { result ≡ record { index = index; generation = generation } }
     {
-        Handle { index, generation }
+        let bits = ((generation as u64) << 32) + index as u64;
+        // The bits are never 0, and to take another number for 0 costs less than a branch.
+        let bits = match NonZeroU64::new(bits) {
+            Some(bits) => bits,
+            None => NonZeroU64::MIN,
+        };
+        Handle { bits }
     }
 
     /// Which slot it is: 0 to 4,294,967,294.
+    ///
+    /// <details><summary>Contract</summary>
+    ///
+    /// In the words of the folder `specs/` of crate `ent_handle`:
+    ///
+    /// ```text
+    /// ensures { result ≡ self.index }
+    /// ```
+    ///
+    /// </details>
     #[inline]
-    pub fn index(self) -> u32
-        // ensures { result ≡ self.index }
-    {
-        self.index
+    pub const fn index(self) -> u32 {
+        (self.bits.get() & 0xffff_ffff) as u32
     }
 
     /// Which occupant of the slot it is: 1 to 2,147,483,647.
+    ///
+    /// <details><summary>Contract</summary>
+    ///
+    /// In the words of the folder `specs/` of crate `ent_handle`:
+    ///
+    /// ```text
+    /// ensures { result ≡ self.generation }
+    /// ```
+    ///
+    /// </details>
     #[inline]
-    pub fn generation(self) -> u32
-        // ensures { result ≡ self.generation }
-    {
-        self.generation
+    pub const fn generation(self) -> u32 {
+        (self.bits.get() >> 32) as u32
     }
 
     /// The handle as one number: the generation times 2^32, plus the index.
+    ///
+    /// <details><summary>Contract</summary>
+    ///
+    /// In the words of the folder `specs/` of crate `ent_handle`:
+    ///
+    /// ```text
+    /// ensures bits { result ≡ bits self }
+    /// ensures in_range { IsHandle self }
+    /// ```
+    ///
+    /// </details>
     #[inline]
-    pub fn to_bits(self) -> u64
-        // ensures bits { result ≡ bits self }
-        // ensures in_range { IsHandle self }
-    {
-        (u64::from(self.generation) << 32) + u64::from(self.index)
+    pub const fn to_bits(self) -> u64 {
+        self.bits.get()
     }
 
     /// The handle that has these bits, or `None` if no handle has them.
+    ///
+    /// <details><summary>Contract</summary>
+    ///
+    /// In the words of the folder `specs/` of crate `ent_handle`:
+    ///
+    /// ```text
+    /// ensures found { IfSome result (λ h. bits h ≡ of) }
+    /// ensures in_range { IfSome result IsHandle }
+    /// ensures none { IfNone result ((h : Handle) → IsHandle h → bits h ≢ of) }
+    /// ```
+    ///
+    /// </details>
     #[inline]
-    pub fn from_bits(of: u64) -> Option<Self>
-        // ensures found { IfSome result (λ h. bits h ≡ of) }
-        // ensures in_range { IfSome result IsHandle }
-        // ensures none { IfNone result ((h : Handle) → IsHandle h → bits h ≢ of) }
-    {
+    pub const fn from_bits(of: u64) -> Option<Self> {
         Handle::new((of & 0xffff_ffff) as u32, (of >> 32) as u32)
+    }
+}
+
+impl Hash for Handle {
+    #[inline]
+    fn hash<H: Hasher>(&self, state: &mut H) {
+        state.write_u64(self.bits.get());
     }
 }
 
 impl Ord for Handle {
     #[inline]
     fn cmp(&self, other: &Self) -> Ordering {
-        let by_index = self.index.cmp(&other.index);
-        by_index.then(self.generation.cmp(&other.generation))
+        let by_index = self.index().cmp(&other.index());
+        by_index.then(self.generation().cmp(&other.generation()))
     }
 }
 

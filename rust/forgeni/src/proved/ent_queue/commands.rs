@@ -1,12 +1,11 @@
 // Made of crates/ent_queue/src/commands.rt by rust/erase. It isn't edited by hand.
 
 use crate::kit::vec::Vec;
-use crate::proved::ent_queue::fault::QueueFault;
 use crate::proved::ent_queue::queue::CommandQueue;
+use crate::proved::ent_alloc::ReserveError as QueueFault;
 use crate::proved::ent_handle::{ComponentId, Handle, Memory};
 use crate::proved::ent_shared::{Reserver, Shared};
 use crate::proved::ent_storage::Bundle;
-use crate::kit::alloc::Global;
 
 /// Issues the commands of one system. They take effect when the queue is applied.
 ///
@@ -16,27 +15,25 @@ pub struct Commands<'a, Q = CommandQueue> {
     reserver: &'a mut Reserver,
     shared: &'a Shared,
     queue: Q,
-    alloc: Global,
 }
 
 impl<'a> Commands<'a> {
     /// Begins with an empty queue. The reserver is one of those that came with the allocator.
     #[inline]
-    pub fn new(alloc: Global, shared: &'a Shared, reserver: &'a mut Reserver) -> Self
+    pub(crate) fn new(shared: &'a Shared, reserver: &'a mut Reserver) -> Self
         // requires { IsOf shared.now reserver.old }
         // ensures same { result.reserver.ghost_name ≡ reserver.entry.ghost_name }
         // ensures reserver { reserver_of result ≡ reserver.old }
         // ensures shared { shared_of result ≡ shared.now }
         // ensures queue { queue_of result ≡ [] }
     {
-        Commands::resume(alloc, shared, reserver, CommandQueue::new(alloc))
+        Commands::resume(shared, reserver, CommandQueue::new())
     }
 
     /// Goes on with a queue that was begun before: what it has stays in front. The reserver may be
     /// another one than before, of those that came with the allocator.
     #[inline]
-    pub fn resume(
-        alloc: Global,
+    pub(crate) fn resume(
         shared: &'a Shared,
         reserver: &'a mut Reserver,
         queue: CommandQueue,
@@ -51,7 +48,6 @@ impl<'a> Commands<'a> {
             reserver,
             shared,
             queue,
-            alloc,
         }
     }
 
@@ -63,7 +59,7 @@ impl<'a> Commands<'a> {
     /// [`QueueFault::Space`] and [`QueueFault::Quota`] as [`Shared::reserve`] returns them; the
     /// queue then keeps the refusal, and [`QueueFault::or_memory`] lets a system go on.
     #[inline]
-    pub fn spawn<const INLINE: usize>(
+    pub(crate) fn spawn<const INLINE: usize>(
         &mut self,
         bundle: &Bundle<INLINE>,
     ) -> Result<Handle, QueueFault>
@@ -90,7 +86,7 @@ impl<'a> Commands<'a> {
     ///
     /// As [`Commands::spawn`], with [`Shared::reserve_many`] instead of [`Shared::reserve`].
     #[inline]
-    pub fn spawn_many<const INLINE: usize>(
+    pub(crate) fn spawn_many<const INLINE: usize>(
         &mut self,
         n: u32,
         bundle: &Bundle<INLINE>,
@@ -112,7 +108,7 @@ impl<'a> Commands<'a> {
         //     reply }
     {
         self.queue
-            .spawn_many(self.alloc, self.shared, self.reserver, n, bundle.items())
+            .spawn_many(self.shared, self.reserver, n, bundle.items())
     }
 
     /// Gives the entity the components, instead of those that it has under the same numbers.
@@ -121,7 +117,7 @@ impl<'a> Commands<'a> {
     ///
     /// `Memory`, and then nothing has changed.
     #[inline]
-    pub fn insert<const INLINE: usize>(
+    pub(crate) fn insert<const INLINE: usize>(
         &mut self,
         handle: Handle,
         bundle: &Bundle<INLINE>,
@@ -142,7 +138,7 @@ impl<'a> Commands<'a> {
     ///
     /// `Memory`, and then nothing has changed.
     #[inline]
-    pub fn remove(&mut self, handle: Handle, id: ComponentId) -> Result<(), Memory>
+    pub(crate) fn remove(&mut self, handle: Handle, id: ComponentId) -> Result<(), Memory>
         // requires { IsReady self.old }
         // ensures extends { Extends self.old self.new }
         // ensures reserver { reserver_of self.new ≡ reserver_of self.old }
@@ -158,7 +154,7 @@ impl<'a> Commands<'a> {
     ///
     /// `Memory`, and then nothing has changed.
     #[inline]
-    pub fn despawn(&mut self, handle: Handle) -> Result<(), Memory>
+    pub(crate) fn despawn(&mut self, handle: Handle) -> Result<(), Memory>
         // requires { IsReady self.old }
         // ensures extends { Extends self.old self.new }
         // ensures reserver { reserver_of self.new ≡ reserver_of self.old }
@@ -171,16 +167,23 @@ impl<'a> Commands<'a> {
 
 impl<Q> Commands<'_, Q> {
     /// Gives the queue back, and the reserver to its owner.
+    ///
+    /// <details><summary>Contract</summary>
+    ///
+    /// In the words of the folder `specs/` of crate `ent_queue`:
+    ///
+    /// ```text
+    /// ensures reserver { self.exit.0.now ≡ self.entry.reserver.now }
+    /// ensures queue { result ≡ self.entry.queue }
+    /// ```
+    ///
+    /// </details>
     #[inline]
-    pub fn finish(self) -> Q
-        // ensures reserver { self.exit.0.now ≡ self.entry.reserver.now }
-        // ensures queue { result ≡ self.entry.queue }
-    {
+    pub fn finish(self) -> Q {
         let Commands {
             reserver: _,
             shared: _,
             queue,
-            alloc: _,
         } = self;
         queue
     }

@@ -216,7 +216,7 @@ fn write_line(outcome: &Result<Outcome, ReplayFault>, out: &mut Vec<u8>) -> Resu
 ///
 /// `Memory` if there is no room for all of the line. `out` keeps its items then.
 #[inline]
-pub fn write_outcome(
+pub(crate) fn write_outcome(
     outcome: &Result<Outcome, ReplayFault>,
     out: &mut Vec<u8>,
 ) -> Result<(), Memory>

@@ -11,7 +11,6 @@ use crate::proved::ent_handle::Memory;
 use crate::proved::ent_queue::{CommandQueue, Commands};
 use crate::proved::ent_shared::{Reserver, Shared};
 use crate::proved::ent_world::View;
-use crate::kit::alloc::Global;
 use crate::kit::thread::{Threads, join_mut};
 
 /// The queue that a system has issued.
@@ -22,7 +21,6 @@ pub(super) struct SystemQueue {
 
 /// What the workers of a frame have in common.
 pub(super) struct Stage<'a, S, G> {
-    pub(super) alloc: Global,
     pub(super) shared: &'a Shared,
     pub(super) view: View<'a>,
     pub(super) systems: &'a [S],
@@ -55,8 +53,8 @@ impl<S: System, G: Gate> Stage<'_, S, G> {
         //     (SystemMayIssue S.may_leave self.now.systems.now self.now.view system result.0) }
     {
         self.gate.entered(system);
-        let mut commands = Commands::new(self.alloc, self.shared, reserver);
-        let ran = self.systems[system].run(self.alloc, &self.view, &mut commands);
+        let mut commands = Commands::new(self.shared, reserver);
+        let ran = self.systems[system].run(&self.view, &mut commands);
         (commands.finish(), ran)
     }
 }

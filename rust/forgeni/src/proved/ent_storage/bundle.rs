@@ -3,7 +3,6 @@
 use crate::proved::ent_storage::pairs::search;
 use crate::proved::ent_handle::{ComponentId, Memory};
 use crate::kit::smallvec::SmallVec;
-use crate::kit::alloc::Global;
 
 /// Components and their values, by strictly rising number. Contracts see the list of them.
 ///
@@ -14,12 +13,20 @@ pub struct Bundle<const INLINE: usize> {
 
 impl<const INLINE: usize> Bundle<INLINE> {
     /// A bundle with no components.
+    ///
+    /// <details><summary>Contract</summary>
+    ///
+    /// In the words of the folder `specs/` of crate `ent_storage`:
+    ///
+    /// ```text
+    /// ensures { result ≡ [] }
+    /// ```
+    ///
+    /// </details>
     #[inline]
-    pub fn new(alloc: Global) -> Self
-        // ensures { result ≡ [] }
-    {
+    pub fn new() -> Self {
         Bundle {
-            items: SmallVec::new(alloc),
+            items: SmallVec::new(),
         }
     }
 
@@ -28,13 +35,21 @@ impl<const INLINE: usize> Bundle<INLINE> {
     /// # Errors
     ///
     /// `Memory`, which needs a count of more than `INLINE`.
+    ///
+    /// <details><summary>Contract</summary>
+    ///
+    /// In the words of the folder `specs/` of crate `ent_storage`:
+    ///
+    /// ```text
+    /// ensures ok { IfOk result (λ bundle. bundle ≡ []) }
+    /// ensures memory { OnErr result (INLINE < count) }
+    /// ```
+    ///
+    /// </details>
     #[inline]
-    pub fn with_capacity(alloc: Global, count: usize) -> Result<Self, Memory>
-        // ensures ok { IfOk result (λ bundle. bundle ≡ []) }
-        // ensures memory { OnErr result (INLINE < count) }
-    {
+    pub fn with_capacity(count: usize) -> Result<Self, Memory> {
         Ok(Bundle {
-            items: SmallVec::with_capacity(alloc, count)?,
+            items: SmallVec::with_capacity(count)?,
         })
     }
 
@@ -44,14 +59,22 @@ impl<const INLINE: usize> Bundle<INLINE> {
     /// # Errors
     ///
     /// `Memory`, which needs more than `INLINE` different components. Nothing is left behind.
+    ///
+    /// <details><summary>Contract</summary>
+    ///
+    /// In the words of the folder `specs/` of crate `ent_storage`:
+    ///
+    /// ```text
+    /// ensures ok { IfOk result (λ bundle. bundle ≡ bundle_of items.now) }
+    /// ensures last { IfOk result (λ bundle. (id : Id) →
+    ///     find component_cmp id bundle ≡ find component_cmp id (reverse items.now)) }
+    /// ensures memory { OnErr result (INLINE < length (bundle_of items.now)) }
+    /// ```
+    ///
+    /// </details>
     #[inline]
-    pub fn of(alloc: Global, items: &[(ComponentId, i64)]) -> Result<Self, Memory>
-        // ensures ok { IfOk result (λ bundle. bundle ≡ bundle_of items.now) }
-        // ensures last { IfOk result (λ bundle. (id : Id) →
-        //     find component_cmp id bundle ≡ find component_cmp id (reverse items.now)) }
-        // ensures memory { OnErr result (INLINE < length (bundle_of items.now)) }
-    {
-        let mut bundle = Bundle::new(alloc);
+    pub fn of(items: &[(ComponentId, i64)]) -> Result<Self, Memory> {
+        let mut bundle = Bundle::new();
         for (id, value) in items {
             bundle.put(*id, *value)?;
         }
@@ -64,13 +87,21 @@ impl<const INLINE: usize> Bundle<INLINE> {
     ///
     /// `Memory`, which needs a component that is not there and at least `INLINE` that are. Nothing
     /// has changed.
+    ///
+    /// <details><summary>Contract</summary>
+    ///
+    /// In the words of the folder `specs/` of crate `ent_storage`:
+    ///
+    /// ```text
+    /// ensures ok { OnOk result (self.new ≡ put component_cmp id value self.old) }
+    /// ensures memory { OnErr result
+    ///     ((INLINE ≤ length self.old) × (find component_cmp id self.old ≡ None)) }
+    /// ensures err { OnErr result (self.new ≡ self.old) }
+    /// ```
+    ///
+    /// </details>
     #[inline]
-    pub fn put(&mut self, id: ComponentId, value: i64) -> Result<(), Memory>
-        // ensures ok { OnOk result (self.new ≡ put component_cmp id value self.old) }
-        // ensures memory { OnErr result
-        //     ((INLINE ≤ length self.old) × (find component_cmp id self.old ≡ None)) }
-        // ensures err { OnErr result (self.new ≡ self.old) }
-    {
+    pub fn put(&mut self, id: ComponentId, value: i64) -> Result<(), Memory> {
         match search(self.items.as_slice(), id) {
             Ok(index) => self.items[index].1 = value,
             Err(index) => self.items.insert(index, (id, value))?,
@@ -79,11 +110,19 @@ impl<const INLINE: usize> Bundle<INLINE> {
     }
 
     /// The components and their values, by strictly rising number.
+    ///
+    /// <details><summary>Contract</summary>
+    ///
+    /// In the words of the folder `specs/` of crate `ent_storage`:
+    ///
+    /// ```text
+    /// ensures items { result.now ≡ self.now }
+    /// ensures is { IsBundle self.now }
+    /// ```
+    ///
+    /// </details>
     #[inline]
-    pub fn items(&self) -> &[(ComponentId, i64)]
-        // ensures items { result.now ≡ self.now }
-        // ensures is { IsBundle self.now }
-    {
+    pub fn items(&self) -> &[(ComponentId, i64)] {
         self.items.as_slice()
     }
 }

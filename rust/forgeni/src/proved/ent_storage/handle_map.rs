@@ -14,7 +14,6 @@ pub use crate::proved::ent_storage::handle_map::iter::Iter;
 use crate::proved::ent_storage::handle_map::retaining::retain_slots;
 use crate::proved::ent_storage::handle_map::slot::{Slot, make_slot};
 use crate::proved::ent_handle::{Handle, Memory};
-use crate::kit::alloc::Global;
 use core::mem;
 
 /// A value for each of some handles, at most one for each slot.
@@ -28,12 +27,20 @@ pub struct HandleMap<T> {
 
 impl<T> HandleMap<T> {
     /// A map without values. It takes no memory.
+    ///
+    /// <details><summary>Contract</summary>
+    ///
+    /// In the words of the folder `specs/` of crate `ent_storage`:
+    ///
+    /// ```text
+    /// ensures { result ≡ record { values = map.empty; room = 0 } }
+    /// ```
+    ///
+    /// </details>
     #[inline]
-    pub const fn new(alloc: Global) -> Self
-        // ensures { result ≡ record { values = map.empty; room = 0 } }
-    {
+    pub const fn new() -> Self {
         HandleMap {
-            slots: Vec::new(alloc),
+            slots: Vec::new(),
             len: 0,
         }
     }
@@ -43,65 +50,121 @@ impl<T> HandleMap<T> {
     /// # Errors
     ///
     /// `Memory` if there is not that much.
+    ///
+    /// <details><summary>Contract</summary>
+    ///
+    /// In the words of the folder `specs/` of crate `ent_storage`:
+    ///
+    /// ```text
+    /// ensures empty { IfOk result (λ m. m.values ≡ map.empty) }
+    /// ensures room { IfOk result (λ m. m.room ≡ slots) }
+    /// ensures memory { OnErr result (0 < slots) }
+    /// ```
+    ///
+    /// </details>
     #[inline]
-    pub fn with_capacity(alloc: Global, slots: usize) -> Result<Self, Memory>
-        // ensures empty { IfOk result (λ m. m.values ≡ map.empty) }
-        // ensures room { IfOk result (λ m. m.room ≡ slots) }
-        // ensures memory { OnErr result (0 < slots) }
-    {
+    pub fn with_capacity(slots: usize) -> Result<Self, Memory> {
         Ok(HandleMap {
-            slots: Vec::with_capacity(alloc, slots)?,
+            slots: Vec::with_capacity(slots)?,
             len: 0,
         })
     }
 
     /// How many values there are. It takes constant time.
+    ///
+    /// <details><summary>Contract</summary>
+    ///
+    /// In the words of the folder `specs/` of crate `ent_storage`:
+    ///
+    /// ```text
+    /// ensures { result ≡ map.len self.now.values }
+    /// ```
+    ///
+    /// </details>
     #[inline]
-    pub fn len(&self) -> usize
-        // ensures { result ≡ map.len self.now.values }
-    {
+    pub fn len(&self) -> usize {
         self.len
     }
 
     /// Whether there is no value.
+    ///
+    /// <details><summary>Contract</summary>
+    ///
+    /// In the words of the folder `specs/` of crate `ent_storage`:
+    ///
+    /// ```text
+    /// ensures { IsTrue result ↔ (map.len self.now.values ≡ 0) }
+    /// ```
+    ///
+    /// </details>
     #[inline]
-    pub fn is_empty(&self) -> bool
-        // ensures { IsTrue result ↔ (map.len self.now.values ≡ 0) }
-    {
+    pub fn is_empty(&self) -> bool {
         self.len() == 0
     }
 
     /// How many slots there is room for. A handle whose index is below it is inserted without
     /// memory.
+    ///
+    /// <details><summary>Contract</summary>
+    ///
+    /// In the words of the folder `specs/` of crate `ent_storage`:
+    ///
+    /// ```text
+    /// ensures { result ≡ self.now.room }
+    /// ```
+    ///
+    /// </details>
     #[inline]
-    pub fn capacity(&self) -> usize
-        // ensures { result ≡ self.now.room }
-    {
+    pub fn capacity(&self) -> usize {
         self.slots.capacity()
     }
 
     /// Whether the handle has a value.
+    ///
+    /// <details><summary>Contract</summary>
+    ///
+    /// In the words of the folder `specs/` of crate `ent_storage`:
+    ///
+    /// ```text
+    /// ensures { result ≡ map.contains_key self.now.values handle }
+    /// ```
+    ///
+    /// </details>
     #[inline]
-    pub fn contains(&self, handle: Handle) -> bool
-        // ensures { result ≡ map.contains_key self.now.values handle }
-    {
+    pub fn contains(&self, handle: Handle) -> bool {
         self.get(handle).is_some()
     }
 
     /// The value of the handle, if it has one. It is one look-up.
+    ///
+    /// <details><summary>Contract</summary>
+    ///
+    /// In the words of the folder `specs/` of crate `ent_storage`:
+    ///
+    /// ```text
+    /// ensures { option_copied result ≡ map.get self.now.values handle }
+    /// ```
+    ///
+    /// </details>
     #[inline]
-    pub fn get(&self, handle: Handle) -> Option<&T>
-        // ensures { option_copied result ≡ map.get self.now.values handle }
-    {
+    pub fn get(&self, handle: Handle) -> Option<&T> {
         find(&self.slots, handle)
     }
 
     /// The value of the handle for writing, if it has one.
+    ///
+    /// <details><summary>Contract</summary>
+    ///
+    /// In the words of the folder `specs/` of crate `ent_storage`:
+    ///
+    /// ```text
+    /// ensures* writes_back { sem 𝓛 (lends_get T.row self.entry handle result) }
+    /// ensures value { option_copied_mut result ≡ map.get self.old.values handle }
+    /// ```
+    ///
+    /// </details>
     #[inline]
-    pub fn get_mut(&mut self, handle: Handle) -> Option<&mut T>
-        // ensures* writes_back { sem 𝓛 (lends_get T.row self.entry handle result) }
-        // ensures value { option_copied_mut result ≡ map.get self.old.values handle }
-    {
+    pub fn get_mut(&mut self, handle: Handle) -> Option<&mut T> {
         if self.contains(handle) {
             Some(self.value_mut(handle))
         } else {
@@ -124,14 +187,22 @@ impl<T> HandleMap<T> {
     /// # Errors
     ///
     /// `Memory`. Nothing has changed.
+    ///
+    /// <details><summary>Contract</summary>
+    ///
+    /// In the words of the folder `specs/` of crate `ent_storage`:
+    ///
+    /// ```text
+    /// ensures room { OnOk result (slots ≤ self.new.room) }
+    /// ensures values { self.new.values ≡ self.old.values }
+    /// ensures grows { self.old.room ≤ self.new.room }
+    /// ensures memory { OnErr result (self.old.room < slots) }
+    /// ensures err { OnErr result (self.new ≡ self.old) }
+    /// ```
+    ///
+    /// </details>
     #[inline]
-    pub fn reserve(&mut self, slots: usize) -> Result<(), Memory>
-        // ensures room { OnOk result (slots ≤ self.new.room) }
-        // ensures values { self.new.values ≡ self.old.values }
-        // ensures grows { self.old.room ≤ self.new.room }
-        // ensures memory { OnErr result (self.old.room < slots) }
-        // ensures err { OnErr result (self.new ≡ self.old) }
-    {
+    pub fn reserve(&mut self, slots: usize) -> Result<(), Memory> {
         let made = self.slots.len();
         if made < slots {
             self.slots.reserve(slots - made)?;
@@ -140,12 +211,20 @@ impl<T> HandleMap<T> {
     }
 
     /// The handles and values, by rising slot.
+    ///
+    /// <details><summary>Contract</summary>
+    ///
+    /// In the words of the folder `specs/` of crate `ent_storage`:
+    ///
+    /// ```text
+    /// ensures entries { result ≡ map.entries self.now.values }
+    /// ensures rising { AllPairs (λ a b. a.0.index < b.0.index) result }
+    /// ensures count { length result ≡ map.len self.now.values }
+    /// ```
+    ///
+    /// </details>
     #[inline]
-    pub fn iter(&self) -> Iter<'_, T>
-        // ensures entries { result ≡ map.entries self.now.values }
-        // ensures rising { AllPairs (λ a b. a.0.index < b.0.index) result }
-        // ensures count { length result ≡ map.len self.now.values }
-    {
+    pub fn iter(&self) -> Iter<'_, T> {
         Iter::new(&self.slots, self.len)
     }
 }
@@ -160,17 +239,25 @@ impl<T> HandleMap<T> {
     ///
     /// The value is handed back, and nothing has changed. `Later` if a later occupant of the slot
     /// has a value; then `Memory`.
+    ///
+    /// <details><summary>Contract</summary>
+    ///
+    /// In the words of the folder `specs/` of crate `ent_storage`:
+    ///
+    /// ```text
+    /// ensures ok { OnOk result (self.new.values
+    ///     ≡ map.insert (without_slot self.old.values handle.index) handle value) }
+    /// ensures before { IfOk result (λ before. before ≡ map.get self.old.values handle) }
+    /// ensures room { self.old.room ≤ self.new.room }
+    /// ensures later { (fault_of result ≡ Some InsertFault.Later) ↔ HasLater self.old.values handle }
+    /// ensures memory { fault_of result ≡ Some InsertFault.Memory → self.old.room ≤ handle.index }
+    /// ensures back { IfErr result (λ refused. refused.value ≡ value) }
+    /// ensures err { OnErr result (self.new ≡ self.old) }
+    /// ```
+    ///
+    /// </details>
     #[inline]
-    pub fn insert(&mut self, handle: Handle, value: T) -> Result<Option<T>, Uninserted<T>>
-        // ensures ok { OnOk result (self.new.values
-        //     ≡ map.insert (without_slot self.old.values handle.index) handle value) }
-        // ensures before { IfOk result (λ before. before ≡ map.get self.old.values handle) }
-        // ensures room { self.old.room ≤ self.new.room }
-        // ensures later { (fault_of result ≡ Some InsertFault.Later) ↔ HasLater self.old.values handle }
-        // ensures memory { fault_of result ≡ Some InsertFault.Memory → self.old.room ≤ handle.index }
-        // ensures back { IfErr result (λ refused. refused.value ≡ value) }
-        // ensures err { OnErr result (self.new ≡ self.old) }
-    {
+    pub fn insert(&mut self, handle: Handle, value: T) -> Result<Option<T>, Uninserted<T>> {
         let index = index_of(handle);
         let standing = generation_in(&self.slots, index);
         if handle.generation() < standing {
@@ -191,12 +278,20 @@ impl<T> HandleMap<T> {
     }
 
     /// Takes the value of the handle out, and returns it, if it has one.
+    ///
+    /// <details><summary>Contract</summary>
+    ///
+    /// In the words of the folder `specs/` of crate `ent_storage`:
+    ///
+    /// ```text
+    /// ensures value { result ≡ map.get self.old.values handle }
+    /// ensures map { self.new
+    ///     ≡ record self.old { values = map.remove self.old.values handle } }
+    /// ```
+    ///
+    /// </details>
     #[inline]
-    pub fn remove(&mut self, handle: Handle) -> Option<T>
-        // ensures value { result ≡ map.get self.old.values handle }
-        // ensures map { self.new
-        //     ≡ record self.old { values = map.remove self.old.values handle } }
-    {
+    pub fn remove(&mut self, handle: Handle) -> Option<T> {
         if !self.contains(handle) {
             return None;
         }
@@ -208,7 +303,7 @@ impl<T> HandleMap<T> {
     /// Calls `keep` at each value, by rising slot, and drops the values at which it returns `false`.
     /// It may write to those that stay. The room stays.
     #[inline]
-    pub fn retain<F: FnMut(Handle, &mut T) -> bool>(&mut self, keep: F)
+    pub(crate) fn retain<F: FnMut(Handle, &mut T) -> bool>(&mut self, keep: F)
         // requires { F.IsAlwaysCallable keep }
         // ensures retained { Retains F.step keep (map.entries self.old.values)
         //     (map.entries self.new.values) }
@@ -218,10 +313,18 @@ impl<T> HandleMap<T> {
     }
 
     /// Drops all values. The room stays.
+    ///
+    /// <details><summary>Contract</summary>
+    ///
+    /// In the words of the folder `specs/` of crate `ent_storage`:
+    ///
+    /// ```text
+    /// ensures { self.new ≡ record self.old { values = map.empty } }
+    /// ```
+    ///
+    /// </details>
     #[inline]
-    pub fn clear(&mut self)
-        // ensures { self.new ≡ record self.old { values = map.empty } }
-    {
+    pub fn clear(&mut self) {
         self.len = 0;
         self.slots.clear();
     }

@@ -6,7 +6,7 @@ use super::living::{Living, has_handle_at};
 use super::places::MOST_PLACES;
 use super::slot::{at_slot, is_gap, search_slot};
 use crate::proved::ent_handle::Handle;
-use crate::kit::alloc::{AllocError, Global};
+use crate::kit::alloc::AllocError;
 
 /// The place of each entity, and places of entities that are gone. The pairs are in the order of
 /// handles, so that a look-up is a binary search at most. If each slot has one pair, as with an
@@ -25,20 +25,36 @@ const NOWHERE: u32 = u32::MAX;
 
 impl Index {
     /// An index of no entities, without room.
+    ///
+    /// <details><summary>Contract</summary>
+    ///
+    /// In the words of the folder `specs/` of crate `ent_storage`:
+    ///
+    /// ```text
+    /// ensures { result ≡ record { by_handle = map.empty; room = 0 } }
+    /// ```
+    ///
+    /// </details>
     #[inline]
-    pub fn new(alloc: Global) -> Self
-        // ensures { result ≡ record { by_handle = map.empty; room = 0 } }
-    {
+    pub fn new() -> Self {
         Index {
-            pairs: Vec::new(alloc),
+            pairs: Vec::new(),
         }
     }
 
     /// The place of the entity, if it is among the living.
+    ///
+    /// <details><summary>Contract</summary>
+    ///
+    /// In the words of the folder `specs/` of crate `ent_storage`:
+    ///
+    /// ```text
+    /// ensures { result ≡ map.get (counted living.now.entities self.now.by_handle) handle }
+    /// ```
+    ///
+    /// </details>
     #[inline(always)]
-    pub fn place(&self, living: &Living, handle: Handle) -> Option<usize>
-        // ensures { result ≡ map.get (counted living.now.entities self.now.by_handle) handle }
-    {
+    pub fn place(&self, living: &Living, handle: Handle) -> Option<usize> {
         let found = search_slot(&self.pairs, handle);
         place_found(&self.pairs, living, handle, found)
     }
@@ -49,7 +65,7 @@ impl Index {
     /// An allocator's handles come behind the pair of their slot's last occupant, or behind all. So
     /// these two places are tried first, and only then is the handle looked for.
     #[inline(always)]
-    pub fn put(&mut self, living: &Living, handle: Handle) -> bool
+    pub(crate) fn put(&mut self, living: &Living, handle: Handle) -> bool
         // requires room { length living.now.entities < self.old.room }
         // ensures new { result
         //     ≡ is_none (map.get (counted living.now.entities self.old.by_handle) handle) }
@@ -94,7 +110,7 @@ impl Index {
 
     /// Changes the place of an entity that is there.
     #[inline(always)]
-    pub fn set_place(&mut self, handle: Handle, place: usize)
+    pub(crate) fn set_place(&mut self, handle: Handle, place: usize)
         // requires there { IsSome (map.get self.old.by_handle handle) }
         // requires room { place < self.old.room }
         // ensures { self.new
@@ -106,33 +122,57 @@ impl Index {
     }
 
     /// Forgets the place of an entity that has gone, if its pair stands at its slot's number.
+    ///
+    /// <details><summary>Contract</summary>
+    ///
+    /// In the words of the folder `specs/` of crate `ent_storage`:
+    ///
+    /// ```text
+    /// ensures kept { Keeps handle self.old.by_handle self.new.by_handle }
+    /// ensures room { self.new.room ≡ self.old.room }
+    /// ```
+    ///
+    /// </details>
     #[inline(always)]
-    pub fn forget(&mut self, handle: Handle)
-        // ensures kept { Keeps handle self.old.by_handle self.new.by_handle }
-        // ensures room { self.new.room ≡ self.old.room }
-    {
+    pub fn forget(&mut self, handle: Handle) {
         if let Some(position) = at_slot(&self.pairs, handle) {
             self.pairs[position] = (Key::of(handle), NOWHERE);
         }
     }
 
     /// For how many handles there is room in all.
+    ///
+    /// <details><summary>Contract</summary>
+    ///
+    /// In the words of the folder `specs/` of crate `ent_storage`:
+    ///
+    /// ```text
+    /// ensures { result ≡ self.now.room }
+    /// ```
+    ///
+    /// </details>
     #[inline]
-    pub fn room(&self) -> usize
-        // ensures { result ≡ self.now.room }
-    {
+    pub fn room(&self) -> usize {
         self.pairs.capacity().min(MOST_PLACES)
     }
 
     /// Makes room for `count` handles in all. After an `Err` nothing is changed.
+    ///
+    /// <details><summary>Contract</summary>
+    ///
+    /// In the words of the folder `specs/` of crate `ent_storage`:
+    ///
+    /// ```text
+    /// ensures by_handle { self.new.by_handle ≡ self.old.by_handle }
+    /// ensures ok { OnOk result (count ≤ self.new.room) }
+    /// ensures err { OnErr result (self.new.room ≡ self.old.room) }
+    /// ensures grows { self.old.room ≤ self.new.room }
+    /// ensures succeeds { count ≤ self.old.room → IsOk result }
+    /// ```
+    ///
+    /// </details>
     #[inline]
-    pub fn reserve(&mut self, count: usize) -> Result<(), AllocError>
-        // ensures by_handle { self.new.by_handle ≡ self.old.by_handle }
-        // ensures ok { OnOk result (count ≤ self.new.room) }
-        // ensures err { OnErr result (self.new.room ≡ self.old.room) }
-        // ensures grows { self.old.room ≤ self.new.room }
-        // ensures succeeds { count ≤ self.old.room → IsOk result }
-    {
+    pub fn reserve(&mut self, count: usize) -> Result<(), AllocError> {
         let additional = count.saturating_sub(self.pairs.len());
         if count > MOST_PLACES {
             return Err(AllocError);

@@ -30,5 +30,5 @@ mod storage;
 pub use bundle::Bundle;
 pub use fault::StorageFault;
 pub use items::Items;
-pub use pairs::search;
+pub(crate) use pairs::search;
 pub use storage::Storage;

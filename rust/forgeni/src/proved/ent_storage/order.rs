@@ -4,23 +4,30 @@ use crate::kit::vec::CollectIn;
 use crate::kit::vec::Vec;
 use super::living::Resident;
 use crate::proved::ent_handle::{Birth, Handle};
-use crate::kit::alloc::{AllocError, Global};
+use crate::kit::alloc::AllocError;
 
 /// The handles, by birth and then by handle. It takes no memory for nobody.
+///
+/// <details><summary>Contract</summary>
+///
+/// In the words of the folder `specs/` of crate `ent_storage`:
+///
+/// ```text
+/// ensures ok { IfOk result (λ handles. IsInOrder births.items handles.items) }
+/// ensures memory { OnErr result (0 < length births.items) }
+/// ```
+///
+/// </details>
 #[inline]
 pub fn handles_in_order(
-    alloc: Global,
     mut births: Vec<(Birth, Handle)>,
-) -> Result<Vec<Handle>, AllocError>
-    // ensures ok { IfOk result (λ handles. IsInOrder births.items handles.items) }
-    // ensures memory { OnErr result (0 < length births.items) }
-{
+) -> Result<Vec<Handle>, AllocError> {
     if births.is_empty() {
-        return Ok(Vec::new(alloc));
+        return Ok(Vec::new());
     }
     sort_births(&mut births);
     births.sort_unstable();
-    handles(alloc, &births)
+    handles(&births)
 }
 
 /// Sorts by birth alone. What is left for the sort that follows are entities of one birth, so it
@@ -42,18 +49,26 @@ fn packed(birth: Birth) -> u128 {
 }
 
 #[inline]
-fn handles(alloc: Global, births: &[(Birth, Handle)]) -> Result<Vec<Handle>, AllocError>
+fn handles(births: &[(Birth, Handle)]) -> Result<Vec<Handle>, AllocError>
     // ensures ok { IfOk result (λ handles. handles.items ≡ map (λ pair. pair.1) births.now) }
 {
-    births.iter().map(|pair| pair.1).collect_in(alloc)
+    births.iter().map(|pair| pair.1).collect_in()
 }
 
 /// The least handle of a resident with that birth, if there is one.
+///
+/// <details><summary>Contract</summary>
+///
+/// In the words of the folder `specs/` of crate `ent_storage`:
+///
+/// ```text
+/// ensures { IsLeastOf birth (map (λ resident. (resident.birth, resident.handle)) residents.now)
+///     result }
+/// ```
+///
+/// </details>
 #[inline]
-pub fn least_of_birth(residents: &[Resident], birth: Birth) -> Option<Handle>
-    // ensures { IsLeastOf birth (map (λ resident. (resident.birth, resident.handle)) residents.now)
-    //     result }
-{
+pub fn least_of_birth(residents: &[Resident], birth: Birth) -> Option<Handle> {
     let mut least = None;
     for resident in residents {
         if resident.birth == birth {

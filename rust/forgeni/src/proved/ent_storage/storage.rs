@@ -4,7 +4,6 @@ use super::fault::StorageFault;
 use super::index::Index;
 use super::living::Living;
 use crate::proved::ent_handle::{Birth, ComponentId, Handle, Memory};
-use crate::kit::alloc::Global;
 
 /// The living entities: a finite map from handles to births and components.
 ///
@@ -15,45 +14,67 @@ use crate::kit::alloc::Global;
 pub struct Storage {
     pub(super) living: Living,
     pub(super) index: Index,
-    pub(super) alloc: Global,
 }
 
 impl Storage {
     /// A storage without entities. It takes no memory.
+    ///
+    /// <details><summary>Contract</summary>
+    ///
+    /// In the words of the folder `specs/` of crate `ent_storage`:
+    ///
+    /// ```text
+    /// ensures entities { result.entities ≡ map.empty }
+    /// ensures spare { result.spare ≡ 0 }
+    /// ensures places { result.places ≡ [] }
+    /// ```
+    ///
+    /// </details>
     #[inline]
-    pub fn new(alloc: Global) -> Self
-        // ensures entities { result.entities ≡ map.empty }
-        // ensures spare { result.spare ≡ 0 }
-        // ensures places { result.places ≡ [] }
-    {
+    pub fn new() -> Self {
         Storage {
-            living: Living::new(alloc),
-            index: Index::new(alloc),
-            alloc,
+            living: Living::new(),
+            index: Index::new(),
         }
     }
 
     /// How many entities there are. That is also the place of the next one that is born.
+    ///
+    /// <details><summary>Contract</summary>
+    ///
+    /// In the words of the folder `specs/` of crate `ent_storage`:
+    ///
+    /// ```text
+    /// ensures value { result ≡ map.len self.now.entities }
+    /// ensures places { result ≡ length self.now.places }
+    /// ```
+    ///
+    /// </details>
     #[inline]
-    pub fn len(&self) -> usize
-        // ensures value { result ≡ map.len self.now.entities }
-        // ensures places { result ≡ length self.now.places }
-    {
+    pub fn len(&self) -> usize {
         self.living.len()
     }
 
     /// Whether there are no entities.
+    ///
+    /// <details><summary>Contract</summary>
+    ///
+    /// In the words of the folder `specs/` of crate `ent_storage`:
+    ///
+    /// ```text
+    /// ensures { IsTrue result ↔ (self.now.entities ≡ map.empty) }
+    /// ```
+    ///
+    /// </details>
     #[inline]
-    pub fn is_empty(&self) -> bool
-        // ensures { IsTrue result ↔ (self.now.entities ≡ map.empty) }
-    {
+    pub fn is_empty(&self) -> bool {
         self.living.is_empty()
     }
 
     /// Changes the birth of the entity at this place, which has to be that of the handle, and
     /// leaves the rest. It takes no memory and constant time.
     #[inline]
-    pub fn set_birth_at(&mut self, place: usize, handle: Handle, birth: Birth)
+    pub(crate) fn set_birth_at(&mut self, place: usize, handle: Handle, birth: Birth)
         // requires { slice_get self.old.places place ≡ Some handle }
         // ensures entities { self.new.entities ≡ with_birth self.old.entities handle birth }
         // ensures spare { self.new.spare ≡ self.old.spare }
@@ -66,10 +87,18 @@ impl Storage {
     ///
     /// `born` lowers it by 1, or makes more room if it is 0. `reserve` and `despawn` raise it.
     /// Nothing else changes it.
+    ///
+    /// <details><summary>Contract</summary>
+    ///
+    /// In the words of the folder `specs/` of crate `ent_storage`:
+    ///
+    /// ```text
+    /// ensures { result ≡ self.now.spare }
+    /// ```
+    ///
+    /// </details>
     #[inline]
-    pub fn spare(&self) -> usize
-        // ensures { result ≡ self.now.spare }
-    {
+    pub fn spare(&self) -> usize {
         let room = self.living.capacity().min(self.index.room());
         room - self.living.len()
     }
@@ -90,19 +119,27 @@ impl Storage {
     ///
     /// `Memory` if there is no memory for so many, or if they would be more than 4,294,967,296. The
     /// entities are as before, and `spare` is below `additional`. It may have grown.
+    ///
+    /// <details><summary>Contract</summary>
+    ///
+    /// In the words of the folder `specs/` of crate `ent_storage`:
+    ///
+    /// ```text
+    /// ensures entities { self.new.entities ≡ self.old.entities }
+    /// ensures ok { OnOk result (additional ≤ self.new.spare) }
+    /// ensures grows { self.old.spare ≤ self.new.spare }
+    /// ensures places { self.new.places ≡ self.old.places }
+    ///
+    /// // With room for that many, the call succeeds and changes nothing.
+    /// ensures succeeds { additional ≤ self.old.spare → IsOk result }
+    /// ensures in_place { additional ≤ self.old.spare → self.new ≡ self.old }
+    ///
+    /// ensures err { OnErr result (self.new.spare < additional) }
+    /// ```
+    ///
+    /// </details>
     #[inline]
-    pub fn reserve(&mut self, additional: usize) -> Result<(), Memory>
-        // ensures entities { self.new.entities ≡ self.old.entities }
-        // ensures ok { OnOk result (additional ≤ self.new.spare) }
-        // ensures grows { self.old.spare ≤ self.new.spare }
-        // ensures places { self.new.places ≡ self.old.places }
-
-        // With room for that many, the call succeeds and changes nothing.
-        // ensures succeeds { additional ≤ self.old.spare → IsOk result }
-        // ensures in_place { additional ≤ self.old.spare → self.new ≡ self.old }
-
-        // ensures err { OnErr result (self.new.spare < additional) }
-    {
+    pub fn reserve(&mut self, additional: usize) -> Result<(), Memory> {
         if additional <= self.spare() {
             return Ok(());
         }
@@ -131,19 +168,27 @@ impl Storage {
     /// - `Present`: the entity is there already. This is tested first.
     /// - `Memory`: `spare` is 0, and there is no memory for more, or there are 4,294,967,296
     ///   entities, which is the most.
+    ///
+    /// <details><summary>Contract</summary>
+    ///
+    /// In the words of the folder `specs/` of crate `ent_storage`:
+    ///
+    /// ```text
+    /// ensures ok { OnOk result
+    ///     (self.new.entities ≡ map.insert self.old.entities handle (newborn birth)) }
+    /// ensures spare { OnOk result (0 < self.old.spare → self.new.spare + 1 ≡ self.old.spare) }
+    /// ensures places { OnOk result (self.new.places ≡ self.old.places ++ handle ∷ []) }
+    ///
+    /// ensures present { IsErrOf result StorageFault.Present
+    ///     ↔ IsTrue (map.contains_key self.old.entities handle) }
+    /// ensures memory_without_room { IsErrOf result StorageFault.Memory → self.old.spare ≡ 0 }
+    /// ensures never_absent { ¬ (IsErrOf result StorageFault.Absent) }
+    /// ensures err { OnErr result (self.new ≡ self.old) }
+    /// ```
+    ///
+    /// </details>
     #[inline(always)]
-    pub fn born(&mut self, handle: Handle, birth: Birth) -> Result<(), StorageFault>
-        // ensures ok { OnOk result
-        //     (self.new.entities ≡ map.insert self.old.entities handle (newborn birth)) }
-        // ensures spare { OnOk result (0 < self.old.spare → self.new.spare + 1 ≡ self.old.spare) }
-        // ensures places { OnOk result (self.new.places ≡ self.old.places ++ handle ∷ []) }
-
-        // ensures present { IsErrOf result StorageFault.Present
-        //     ↔ IsTrue (map.contains_key self.old.entities handle) }
-        // ensures memory_without_room { IsErrOf result StorageFault.Memory → self.old.spare ≡ 0 }
-        // ensures never_absent { ¬ (IsErrOf result StorageFault.Absent) }
-        // ensures err { OnErr result (self.new ≡ self.old) }
-    {
+    pub fn born(&mut self, handle: Handle, birth: Birth) -> Result<(), StorageFault> {
         if !self.has_spare() {
             if self.contains(handle) {
                 return Err(StorageFault::Present);
@@ -160,7 +205,7 @@ impl Storage {
     ///
     /// `Present`: the entity is there already. Nothing is changed.
     #[inline(always)]
-    pub fn born_within(&mut self, handle: Handle, birth: Birth) -> Result<(), StorageFault>
+    pub(crate) fn born_within(&mut self, handle: Handle, birth: Birth) -> Result<(), StorageFault>
         // requires room { 0 < self.old.spare }
         // ensures ok { OnOk result
         //     (self.new.entities ≡ map.insert self.old.entities handle (newborn birth)) }
@@ -187,19 +232,27 @@ impl Storage {
     /// # Errors
     ///
     /// `Absent`: the entity is not there. Nothing is changed.
+    ///
+    /// <details><summary>Contract</summary>
+    ///
+    /// In the words of the folder `specs/` of crate `ent_storage`:
+    ///
+    /// ```text
+    /// ensures ok { OnOk result (self.new.entities ≡ map.remove self.old.entities handle) }
+    /// ensures spare { OnOk result (self.new.spare ≡ self.old.spare + 1) }
+    /// ensures places { OnOk result (SomeIndex self.old.places (λ place.
+    ///     (slice_get self.old.places place ≡ Some handle)
+    ///     × AreWithout place self.old.places self.new.places)) }
+    ///
+    /// ensures absent { IsErrOf result StorageFault.Absent
+    ///     ↔ (map.get self.old.entities handle ≡ None) }
+    /// ensures only_absent { IfErr result (λ fault. fault ≡ StorageFault.Absent) }
+    /// ensures err { OnErr result (self.new ≡ self.old) }
+    /// ```
+    ///
+    /// </details>
     #[inline(always)]
-    pub fn despawn(&mut self, handle: Handle) -> Result<(), StorageFault>
-        // ensures ok { OnOk result (self.new.entities ≡ map.remove self.old.entities handle) }
-        // ensures spare { OnOk result (self.new.spare ≡ self.old.spare + 1) }
-        // ensures places { OnOk result (SomeIndex self.old.places (λ place.
-        //     (slice_get self.old.places place ≡ Some handle)
-        //     × AreWithout place self.old.places self.new.places)) }
-
-        // ensures absent { IsErrOf result StorageFault.Absent
-        //     ↔ (map.get self.old.entities handle ≡ None) }
-        // ensures only_absent { IfErr result (λ fault. fault ≡ StorageFault.Absent) }
-        // ensures err { OnErr result (self.new ≡ self.old) }
-    {
+    pub fn despawn(&mut self, handle: Handle) -> Result<(), StorageFault> {
         let Some(place) = self.place(handle) else {
             return Err(StorageFault::Absent);
         };
@@ -225,7 +278,7 @@ impl Storage {
     /// The time is that of a look-up, for the entity that moves, and of a look at each component
     /// that any entity has ever had.
     #[inline(always)]
-    pub fn despawn_at(&mut self, place: usize, handle: Handle) -> Option<Handle>
+    pub(crate) fn despawn_at(&mut self, place: usize, handle: Handle) -> Option<Handle>
         // requires { slice_get self.old.places place ≡ Some handle }
         // ensures entities { self.new.entities ≡ map.remove self.old.entities handle }
         // ensures spare { self.new.spare ≡ self.old.spare + 1 }
@@ -253,25 +306,33 @@ impl Storage {
     ///
     /// - `Absent`: the entity is not there.
     /// - `Memory`: there is no memory for the components that the entity does not have yet.
+    ///
+    /// <details><summary>Contract</summary>
+    ///
+    /// In the words of the folder `specs/` of crate `ent_storage`:
+    ///
+    /// ```text
+    /// ensures ok { OnOk result (self.new.entities
+    ///     ≡ with_components self.old.entities handle (λ held. with_items held items.now)) }
+    /// ensures spare { self.new.spare ≡ self.old.spare }
+    /// ensures places { self.new.places ≡ self.old.places }
+    ///
+    /// ensures absent { IsErrOf result StorageFault.Absent
+    ///     ↔ (map.get self.old.entities handle ≡ None) }
+    /// ensures memory_to_grow { IsErrOf result StorageFault.Memory
+    ///     → IfSome (components_of self.old.entities handle)
+    ///     (λ held. 0 < missing held items.now) }
+    /// ensures never_present { ¬ (IsErrOf result StorageFault.Present) }
+    /// ensures err { OnErr result (self.new ≡ self.old) }
+    /// ```
+    ///
+    /// </details>
     #[inline(always)]
     pub fn insert(
         &mut self,
         handle: Handle,
         items: &[(ComponentId, i64)],
-    ) -> Result<(), StorageFault>
-        // ensures ok { OnOk result (self.new.entities
-        //     ≡ with_components self.old.entities handle (λ held. with_items held items.now)) }
-        // ensures spare { self.new.spare ≡ self.old.spare }
-        // ensures places { self.new.places ≡ self.old.places }
-
-        // ensures absent { IsErrOf result StorageFault.Absent
-        //     ↔ (map.get self.old.entities handle ≡ None) }
-        // ensures memory_to_grow { IsErrOf result StorageFault.Memory
-        //     → IfSome (components_of self.old.entities handle)
-        //     (λ held. 0 < missing held items.now) }
-        // ensures never_present { ¬ (IsErrOf result StorageFault.Present) }
-        // ensures err { OnErr result (self.new ≡ self.old) }
-    {
+    ) -> Result<(), StorageFault> {
         let Some(place) = self.place(handle) else {
             return Err(StorageFault::Absent);
         };
@@ -291,7 +352,7 @@ impl Storage {
     /// `Memory`: there is no memory for the components that the entity does not have yet. Nothing
     /// is changed.
     #[inline(always)]
-    pub fn insert_at(
+    pub(crate) fn insert_at(
         &mut self,
         place: usize,
         handle: Handle,
@@ -318,19 +379,27 @@ impl Storage {
     /// # Errors
     ///
     /// `Absent`: the entity is not there. Nothing is changed.
+    ///
+    /// <details><summary>Contract</summary>
+    ///
+    /// In the words of the folder `specs/` of crate `ent_storage`:
+    ///
+    /// ```text
+    /// ensures value { IfOk result (λ value. value ≡ value_of self.old.entities handle id) }
+    /// ensures ok { OnOk result (self.new.entities
+    ///     ≡ with_components self.old.entities handle (λ held. map.remove held id)) }
+    /// ensures spare { self.new.spare ≡ self.old.spare }
+    /// ensures places { self.new.places ≡ self.old.places }
+    ///
+    /// ensures absent { IsErrOf result StorageFault.Absent
+    ///     ↔ (map.get self.old.entities handle ≡ None) }
+    /// ensures only_absent { IfErr result (λ fault. fault ≡ StorageFault.Absent) }
+    /// ensures err { OnErr result (self.new ≡ self.old) }
+    /// ```
+    ///
+    /// </details>
     #[inline]
-    pub fn remove(&mut self, handle: Handle, id: ComponentId) -> Result<Option<i64>, StorageFault>
-        // ensures value { IfOk result (λ value. value ≡ value_of self.old.entities handle id) }
-        // ensures ok { OnOk result (self.new.entities
-        //     ≡ with_components self.old.entities handle (λ held. map.remove held id)) }
-        // ensures spare { self.new.spare ≡ self.old.spare }
-        // ensures places { self.new.places ≡ self.old.places }
-
-        // ensures absent { IsErrOf result StorageFault.Absent
-        //     ↔ (map.get self.old.entities handle ≡ None) }
-        // ensures only_absent { IfErr result (λ fault. fault ≡ StorageFault.Absent) }
-        // ensures err { OnErr result (self.new ≡ self.old) }
-    {
+    pub fn remove(&mut self, handle: Handle, id: ComponentId) -> Result<Option<i64>, StorageFault> {
         let Some(place) = self.place(handle) else {
             return Err(StorageFault::Absent);
         };
@@ -341,7 +410,7 @@ impl Storage {
     /// Returns the value that it had, or `None` if the entity does not have it. It takes no memory
     /// and constant time.
     #[inline(always)]
-    pub fn remove_at(&mut self, place: usize, handle: Handle, id: ComponentId) -> Option<i64>
+    pub(crate) fn remove_at(&mut self, place: usize, handle: Handle, id: ComponentId) -> Option<i64>
         // requires { slice_get self.old.places place ≡ Some handle }
         // ensures value { result ≡ value_of self.old.entities handle id }
         // ensures entities { self.new.entities

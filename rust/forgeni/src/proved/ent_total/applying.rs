@@ -44,21 +44,29 @@ impl NumberedWorld {
     /// It is the first of these that holds: [`Unapplied::OtherWorld`], [`Unapplied::TooMany`],
     /// [`Unapplied::Memory`], and then the queues come back, and nothing was done;
     /// [`Unapplied::Stopped`], from where it may go on.
+    ///
+    /// <details><summary>Contract</summary>
+    ///
+    /// In the words of the folder `specs/` of crate `ent_total`:
+    ///
+    /// ```text
+    /// ensures applied { IfOk result (λ report.
+    ///     IsSynced queues.queues self.old.world self.new.world report) }
+    /// ensures stopped { IfErr result (λ why. IfStopped why (λ stopped so_far.
+    ///     IsSyncedUntil stopped.stop queues.queues self.old.world self.new.world so_far)) }
+    /// ensures stays { IfErr result (λ why. queues_in why ≡ queues) }
+    /// ensures other_world { IsErrWith result IsOtherWorld ↔ (queues.world ≢ self.old.number) }
+    /// ensures too_many { IsErrWith result IsTooMany
+    ///     ↔ ((queues.world ≡ self.old.number) × (2 ^ 16 < length queues.queues)) }
+    /// ensures reserved { IsErrWith result IsMemory
+    ///     → 0 < length self.old.world.allocator.taken }
+    /// ensures nothing { IfErr result (λ why. IsUnbegun why → self.new ≡ self.old) }
+    /// ensures number { self.new.number ≡ self.old.number }
+    /// ```
+    ///
+    /// </details>
     #[inline]
-    pub fn apply(&mut self, queues: Queues) -> Result<SyncReport, Unapplied>
-        // ensures applied { IfOk result (λ report.
-        //     IsSynced queues.queues self.old.world self.new.world report) }
-        // ensures stopped { IfErr result (λ why. IfStopped why (λ stopped so_far.
-        //     IsSyncedUntil stopped.stop queues.queues self.old.world self.new.world so_far)) }
-        // ensures stays { IfErr result (λ why. queues_in why ≡ queues) }
-        // ensures other_world { IsErrWith result IsOtherWorld ↔ (queues.world ≢ self.old.number) }
-        // ensures too_many { IsErrWith result IsTooMany
-        //     ↔ ((queues.world ≡ self.old.number) × (2 ^ 16 < length queues.queues)) }
-        // ensures reserved { IsErrWith result IsMemory
-        //     → 0 < length self.old.world.allocator.taken }
-        // ensures nothing { IfErr result (λ why. IsUnbegun why → self.new ≡ self.old) }
-        // ensures number { self.new.number ≡ self.old.number }
-    {
+    pub fn apply(&mut self, queues: Queues) -> Result<SyncReport, Unapplied> {
         if queues.world() != self.number {
             return Err(Unapplied::OtherWorld(queues));
         }
@@ -112,22 +120,30 @@ impl Stopped {
     ///
     /// It is the first of these that holds: [`Ungone::OtherWorld`], [`Ungone::NeedsFlush`], and
     /// then nothing has changed; [`Ungone::Stopped`], from where it may go on.
+    ///
+    /// <details><summary>Contract</summary>
+    ///
+    /// In the words of the folder `specs/` of crate `ent_total`:
+    ///
+    /// ```text
+    /// ensures applied { IfOk result (λ report.
+    ///     IsFinished self.stop self.queues.queues world.old.world world.new.world report) }
+    /// ensures stopped { IfErr result (λ why. IfStoppedAgain why (λ later so_far.
+    ///     IsLeftUntil self.stop later.stop self.queues.queues world.old.world world.new.world
+    ///     so_far)) }
+    /// ensures stays { IfErr result (λ why. (stopped_in why).queues ≡ self.queues) }
+    /// ensures other_world { IsErrWith result IsOfOtherWorld
+    ///     ↔ (self.queues.world ≢ world.old.number) }
+    /// ensures needs_flush { IsErrWith result IsUnflushed
+    ///     ↔ ((self.queues.world ≡ world.old.number) × (0 < world.old.world.allocator.asked)) }
+    /// ensures nothing { IfErr result (λ why. IsUnmoved why
+    ///     → (stopped_in why ≡ self) × (world.new ≡ world.old)) }
+    /// ensures number { world.new.number ≡ world.old.number }
+    /// ```
+    ///
+    /// </details>
     #[inline]
-    pub fn go_on(self, world: &mut NumberedWorld) -> Result<SyncReport, Ungone>
-        // ensures applied { IfOk result (λ report.
-        //     IsFinished self.stop self.queues.queues world.old.world world.new.world report) }
-        // ensures stopped { IfErr result (λ why. IfStoppedAgain why (λ later so_far.
-        //     IsLeftUntil self.stop later.stop self.queues.queues world.old.world world.new.world
-        //     so_far)) }
-        // ensures stays { IfErr result (λ why. (stopped_in why).queues ≡ self.queues) }
-        // ensures other_world { IsErrWith result IsOfOtherWorld
-        //     ↔ (self.queues.world ≢ world.old.number) }
-        // ensures needs_flush { IsErrWith result IsUnflushed
-        //     ↔ ((self.queues.world ≡ world.old.number) × (0 < world.old.world.allocator.asked)) }
-        // ensures nothing { IfErr result (λ why. IsUnmoved why
-        //     → (stopped_in why ≡ self) × (world.new ≡ world.old)) }
-        // ensures number { world.new.number ≡ world.old.number }
-    {
+    pub fn go_on(self, world: &mut NumberedWorld) -> Result<SyncReport, Ungone> {
         if self.world() != world.number {
             return Err(Ungone::OtherWorld(self));
         }

@@ -6,7 +6,6 @@ use crate::proved::ent_total::sink::Sink;
 use crate::proved::ent_alloc::Reserved;
 use crate::proved::ent_handle::Handle;
 use crate::proved::ent_shared::{Refused, Reserver, Shared};
-use crate::kit::alloc::Global;
 use core::marker::PhantomData;
 use crate::kit::sync::Arc;
 
@@ -35,7 +34,7 @@ impl core::error::Error for OtherPhase {}
 /// One caller of a phase: its reserver, with the allocator that it reserves from. It may go to a
 /// thread of its own.
 pub struct Caller<J: Numbering> {
-    pub(super) shared: Arc<Shared, Global>,
+    pub(super) shared: Arc<Shared>,
     pub(super) reserver: Reserver,
     pub(super) number: u64,
     pub(super) of: PhantomData<J>,
@@ -43,21 +42,37 @@ pub struct Caller<J: Numbering> {
 
 impl<J: Numbering> Caller<J> {
     /// Whether the handle was alive when the phase was opened. It takes constant time.
+    ///
+    /// <details><summary>Contract</summary>
+    ///
+    /// In the words of the folder `specs/` of crate `ent_total`:
+    ///
+    /// ```text
+    /// ensures { result ≡ set.contains self.now.shared.start.live handle }
+    /// ```
+    ///
+    /// </details>
     #[inline]
-    pub fn is_alive(&self, handle: Handle) -> bool
-        // ensures { result ≡ set.contains self.now.shared.start.live handle }
-    {
+    pub fn is_alive(&self, handle: Handle) -> bool {
         self.shared.is_alive(handle)
     }
 
     /// The row that the program kept with the entity when the phase was opened. `None` if the
     /// handle was not alive then, or if no row was set since it came to life. It takes constant
     /// time.
+    ///
+    /// <details><summary>Contract</summary>
+    ///
+    /// In the words of the folder `specs/` of crate `ent_total`:
+    ///
+    /// ```text
+    /// ensures value { result ≡ map.get self.now.shared.rows handle }
+    /// ensures alive { OnSome result (set.contains self.now.shared.start.live handle ≡ true) }
+    /// ```
+    ///
+    /// </details>
     #[inline]
-    pub fn row(&self, handle: Handle) -> Option<u32>
-        // ensures value { result ≡ map.get self.now.shared.rows handle }
-        // ensures alive { OnSome result (set.contains self.now.shared.start.live handle ≡ true) }
-    {
+    pub fn row(&self, handle: Handle) -> Option<u32> {
         self.shared.row(handle)
     }
 
@@ -66,19 +81,27 @@ impl<J: Numbering> Caller<J> {
     /// # Errors
     ///
     /// As [`Shared::reserve`].
+    ///
+    /// <details><summary>Contract</summary>
+    ///
+    /// In the words of the folder `specs/` of crate `ent_total`:
+    ///
+    /// ```text
+    /// ensures quota { self.old.reserver.own.left ≡ 0
+    ///     → (result ≡ Err (Quota 0)) × (self.new ≡ self.old) }
+    /// ensures gains { 0 < self.old.reserver.own.left
+    ///     → MakesReservation self.old self.new 1 (listed_alone result) }
+    ///
+    /// // What was given is recorded.
+    /// ensures given { IfOk result (λ handle. handles_given self.new.reserver.own
+    ///     ≡ handles_given self.old.reserver.own ++ handle ∷ []) }
+    /// ensures refused { OnErr result
+    ///     (handles_given self.new.reserver.own ≡ handles_given self.old.reserver.own) }
+    /// ```
+    ///
+    /// </details>
     #[inline]
-    pub fn reserve(&mut self) -> Result<Handle, Refused>
-        // ensures quota { self.old.reserver.own.left ≡ 0
-        //     → (result ≡ Err (Quota 0)) × (self.new ≡ self.old) }
-        // ensures gains { 0 < self.old.reserver.own.left
-        //     → MakesReservation self.old self.new 1 (listed_alone result) }
-
-        // What was given is recorded.
-        // ensures given { IfOk result (λ handle. handles_given self.new.reserver.own
-        //     ≡ handles_given self.old.reserver.own ++ handle ∷ []) }
-        // ensures refused { OnErr result
-        //     (handles_given self.new.reserver.own ≡ handles_given self.old.reserver.own) }
-    {
+    pub fn reserve(&mut self) -> Result<Handle, Refused> {
         self.shared.reserve(&mut self.reserver)
     }
 
@@ -89,24 +112,32 @@ impl<J: Numbering> Caller<J> {
     /// # Errors
     ///
     /// As [`Shared::reserve_many`]. The sink is given nothing then.
+    ///
+    /// <details><summary>Contract</summary>
+    ///
+    /// In the words of the folder `specs/` of crate `ent_total`:
+    ///
+    /// ```text
+    /// ensures given { OnOk result
+    ///     (0 < n → GivesReply self.old self.new n (S.given sink.old) (S.given sink.new)) }
+    /// ensures nothing { n ≡ 0 → OnOk result
+    ///     ((self.new ≡ self.old) × (S.given sink.new ≡ S.given sink.old)) }
+    /// ensures served { n ≡ 0 → IsOk result }
+    /// ensures space { IfErr result (λ why. IfSpace why
+    ///     (MakesReservation self.old self.new n (Err why))) }
+    /// ensures quota { IsErrOf result (Quota self.old.reserver.own.left)
+    ///     ↔ (self.old.reserver.own.left < n) }
+    /// ensures quota_left { IfErr result (λ why. IfQuota why
+    ///     (λ said. said ≡ self.old.reserver.own.left)) }
+    /// ensures unchanged { IfErr result (λ why. IfQuota why (λ _. self.new ≡ self.old)) }
+    /// ensures unheard { OnErr result (S.given sink.new ≡ S.given sink.old) }
+    /// ensures unrecorded { OnErr result
+    ///     (handles_given self.new.reserver.own ≡ handles_given self.old.reserver.own) }
+    /// ```
+    ///
+    /// </details>
     #[inline]
-    pub fn reserve_many<S: Sink>(&mut self, sink: &mut S, n: u32) -> Result<(), Refused>
-        // ensures given { OnOk result
-        //     (0 < n → GivesReply self.old self.new n (S.given sink.old) (S.given sink.new)) }
-        // ensures nothing { n ≡ 0 → OnOk result
-        //     ((self.new ≡ self.old) × (S.given sink.new ≡ S.given sink.old)) }
-        // ensures served { n ≡ 0 → IsOk result }
-        // ensures space { IfErr result (λ why. IfSpace why
-        //     (MakesReservation self.old self.new n (Err why))) }
-        // ensures quota { IsErrOf result (Quota self.old.reserver.own.left)
-        //     ↔ (self.old.reserver.own.left < n) }
-        // ensures quota_left { IfErr result (λ why. IfQuota why
-        //     (λ said. said ≡ self.old.reserver.own.left)) }
-        // ensures unchanged { IfErr result (λ why. IfQuota why (λ _. self.new ≡ self.old)) }
-        // ensures unheard { OnErr result (S.given sink.new ≡ S.given sink.old) }
-        // ensures unrecorded { OnErr result
-        //     (handles_given self.new.reserver.own ≡ handles_given self.old.reserver.own) }
-    {
+    pub fn reserve_many<S: Sink>(&mut self, sink: &mut S, n: u32) -> Result<(), Refused> {
         let given = self.shared.reserve_many(&mut self.reserver, n)?;
         give_all(sink, given);
         Ok(())
@@ -118,23 +149,31 @@ impl<J: Numbering> Caller<J> {
     /// # Errors
     ///
     /// [`OtherPhase`] if they are of two phases. Nothing has changed then.
+    ///
+    /// <details><summary>Contract</summary>
+    ///
+    /// In the words of the folder `specs/` of crate `ent_total`:
+    ///
+    /// ```text
+    /// ensures same_phase { OnOk result (self.old.number ≡ other.old.number) }
+    /// ensures other_phase { OnErr result (self.old.number ≢ other.old.number) }
+    /// ensures meets { OnOk result (self.new ≡ record self.old {
+    ///   reserver = record self.old.reserver {
+    ///     own = after_meeting self.old.reserver.own other.old.reserver.own;
+    ///   };
+    /// }) }
+    /// ensures met { other.new ≡ other.old }
+    /// ensures unchanged { OnErr result (self.new ≡ self.old) }
+    ///
+    /// // Every reservation that the other one has made or learned of ends above where the next
+    /// // one of this one may begin.
+    /// ensures mark { OnOk result
+    ///     (IsBelow self.new.reserver.own.mark other.old.reserver.own.entries) }
+    /// ```
+    ///
+    /// </details>
     #[inline]
-    pub fn meet(&mut self, other: &mut Caller<J>) -> Result<(), OtherPhase>
-        // ensures same_phase { OnOk result (self.old.number ≡ other.old.number) }
-        // ensures other_phase { OnErr result (self.old.number ≢ other.old.number) }
-        // ensures meets { OnOk result (self.new ≡ record self.old {
-        //   reserver = record self.old.reserver {
-        //     own = after_meeting self.old.reserver.own other.old.reserver.own;
-        //   };
-        // }) }
-        // ensures met { other.new ≡ other.old }
-        // ensures unchanged { OnErr result (self.new ≡ self.old) }
-
-        // Every reservation that the other one has made or learned of ends above where the next
-        // one of this one may begin.
-        // ensures mark { OnOk result
-        //     (IsBelow self.new.reserver.own.mark other.old.reserver.own.entries) }
-    {
+    pub fn meet(&mut self, other: &mut Caller<J>) -> Result<(), OtherPhase> {
         if self.number != other.number {
             return Err(OtherPhase);
         }
@@ -143,36 +182,68 @@ impl<J: Numbering> Caller<J> {
     }
 
     /// Which of the callers of its phase it is, from 0.
+    ///
+    /// <details><summary>Contract</summary>
+    ///
+    /// In the words of the folder `specs/` of crate `ent_total`:
+    ///
+    /// ```text
+    /// ensures { result ≡ self.now.reserver.own.number }
+    /// ```
+    ///
+    /// </details>
     #[inline]
-    pub fn number(&self) -> usize
-        // ensures { result ≡ self.now.reserver.own.number }
-    {
+    pub fn number(&self) -> usize {
         self.reserver.number()
     }
 
     /// How many handles it may still request in this phase: 2^40 less what it has requested, served
     /// or not.
+    ///
+    /// <details><summary>Contract</summary>
+    ///
+    /// In the words of the folder `specs/` of crate `ent_total`:
+    ///
+    /// ```text
+    /// ensures { result ≡ self.now.reserver.own.left }
+    /// ```
+    ///
+    /// </details>
     #[inline]
-    pub fn left(&self) -> u64
-        // ensures { result ≡ self.now.reserver.own.left }
-    {
+    pub fn left(&self) -> u64 {
         self.reserver.left()
     }
 
     /// How many callers the phase has.
+    ///
+    /// <details><summary>Contract</summary>
+    ///
+    /// In the words of the folder `specs/` of crate `ent_total`:
+    ///
+    /// ```text
+    /// ensures { result ≡ self.now.shared.count }
+    /// ```
+    ///
+    /// </details>
     #[inline]
-    pub fn count(&self) -> usize
-        // ensures { result ≡ self.now.shared.count }
-    {
+    pub fn count(&self) -> usize {
         self.shared.count()
     }
 
     /// Whether it is of this phase.
+    ///
+    /// <details><summary>Contract</summary>
+    ///
+    /// In the words of the folder `specs/` of crate `ent_total`:
+    ///
+    /// ```text
+    /// ensures number { IsTrue result ↔ (self.now.number ≡ phase.now.number) }
+    /// ensures shared { IsTrue result → self.now.shared ≡ phase.now.shared }
+    /// ```
+    ///
+    /// </details>
     #[inline]
-    pub fn is_of(&self, phase: &Phase<J>) -> bool
-        // ensures number { IsTrue result ↔ (self.now.number ≡ phase.now.number) }
-        // ensures shared { IsTrue result → self.now.shared ≡ phase.now.shared }
-    {
+    pub fn is_of(&self, phase: &Phase<J>) -> bool {
         self.number == phase.number()
     }
 }

@@ -21,54 +21,62 @@ impl<J: Numbering> Phase<J> {
     /// [`Unclosed`] says why, and has the phase, which goes on. It is the first of these that
     /// holds: [`CloseFault::OtherPhase`], [`CloseFault::TooMany`], [`CloseFault::Missing`], and
     /// then all callers are handed back; [`CloseFault::InUse`], and then they are at home.
+    ///
+    /// <details><summary>Contract</summary>
+    ///
+    /// In the words of the folder `specs/` of crate `ent_total`:
+    ///
+    /// ```text
+    /// // All reservations stand in one history that is legal and respects every caller.
+    /// ensures legal { OnOk result (IsLegal self.shared.start
+    ///     (history_of (records_of (all_home self callers.items)))) }
+    /// ensures respects { OnOk result (let records = records_of (all_home self callers.items) in
+    ///     All (Respects (reservations_of records)) records) }
+    /// ensures after { IfOk result (λ entities. entities.allocator ≡ after_history
+    ///     self.shared.start (history_of (records_of (all_home self callers.items)))) }
+    /// ensures rows { IfOk result (λ entities. entities.rows ≡ self.shared.rows) }
+    /// ensures rows_of_living { IfOk result HasRowsOfLiving }
+    ///
+    /// // Each reservation stands once, where its step came: the cursor falls with each.
+    /// ensures falls { OnOk result (AllPairs (λ earlier later. later.high <ℤ earlier.high)
+    ///     (reservations_of (records_of (all_home self callers.items)))) }
+    ///
+    /// // Each caller has a number of its own.
+    /// ensures numbers { OnOk result (AllPairs (λ r s. r.number ≢ s.number)
+    ///     (records_of (all_home self callers.items))) }
+    ///
+    /// // No handle was given twice, and none was alive.
+    /// ensures distinct { OnOk result (AllPairs (λ g h. g ≢ h)
+    ///     (given_in (history_of (records_of (all_home self callers.items))))) }
+    /// ensures not_live { OnOk result (All (λ h. ¬ (IsLive self.shared.start h))
+    ///     (given_in (history_of (records_of (all_home self callers.items))))) }
+    ///
+    /// // A flush brings to life exactly what was given.
+    /// ensures brings_to_life { IfOk result (λ entities. (h : HandleValue) →
+    ///     IsLive (after_flush entities.allocator) h ↔ (IsLive self.shared.start h
+    ///     ⊎ Contains (given_in (history_of (records_of (all_home self callers.items)))) h)) }
+    ///
+    /// // When it is refused, and what stands then.
+    /// ensures other_phase { IsErrWith result (λ u. u.why ≡ OtherPhase)
+    ///     ↔ ¬ (AreOf self.number callers.items) }
+    /// ensures too_many { IsErrWith result (λ u. u.why ≡ TooMany)
+    ///     ↔ (AreOf self.number callers.items
+    ///     × (self.shared.count < length (all_home self callers.items))) }
+    /// ensures missing { IsErrWith result (λ u. IsMissing u.why)
+    ///     ↔ (AreOf self.number callers.items
+    ///     × (length (all_home self callers.items) < self.shared.count)) }
+    /// ensures how_many { IfErr result (λ u. IsMissing u.why
+    ///     → length (all_home self callers.items) + count_missing u.why ≡ self.shared.count) }
+    /// ensures handed_back { IfErr result (λ u. u.why ≢ InUse
+    ///     → (u.phase ≡ self) × (u.callers.items ≡ callers.items)) }
+    /// ensures at_home { IfErr result (λ u. u.why ≡ InUse
+    ///     → (u.phase ≡ record self { home = all_home self callers.items })
+    ///     × (u.callers.items ≡ [])) }
+    /// ```
+    ///
+    /// </details>
     #[inline]
-    pub fn close(mut self, callers: Vec<Caller<J>>) -> Result<Entities, Unclosed<J>>
-        // All reservations stand in one history that is legal and respects every caller.
-        // ensures legal { OnOk result (IsLegal self.shared.start
-        //     (history_of (records_of (all_home self callers.items)))) }
-        // ensures respects { OnOk result (let records = records_of (all_home self callers.items) in
-        //     All (Respects (reservations_of records)) records) }
-        // ensures after { IfOk result (λ entities. entities.allocator ≡ after_history
-        //     self.shared.start (history_of (records_of (all_home self callers.items)))) }
-        // ensures rows { IfOk result (λ entities. entities.rows ≡ self.shared.rows) }
-        // ensures rows_of_living { IfOk result HasRowsOfLiving }
-
-        // Each reservation stands once, where its step came: the cursor falls with each.
-        // ensures falls { OnOk result (AllPairs (λ earlier later. later.high <ℤ earlier.high)
-        //     (reservations_of (records_of (all_home self callers.items)))) }
-
-        // Each caller has a number of its own.
-        // ensures numbers { OnOk result (AllPairs (λ r s. r.number ≢ s.number)
-        //     (records_of (all_home self callers.items))) }
-
-        // No handle was given twice, and none was alive.
-        // ensures distinct { OnOk result (AllPairs (λ g h. g ≢ h)
-        //     (given_in (history_of (records_of (all_home self callers.items))))) }
-        // ensures not_live { OnOk result (All (λ h. ¬ (IsLive self.shared.start h))
-        //     (given_in (history_of (records_of (all_home self callers.items))))) }
-
-        // A flush brings to life exactly what was given.
-        // ensures brings_to_life { IfOk result (λ entities. (h : HandleValue) →
-        //     IsLive (after_flush entities.allocator) h ↔ (IsLive self.shared.start h
-        //     ⊎ Contains (given_in (history_of (records_of (all_home self callers.items)))) h)) }
-
-        // When it is refused, and what stands then.
-        // ensures other_phase { IsErrWith result (λ u. u.why ≡ OtherPhase)
-        //     ↔ ¬ (AreOf self.number callers.items) }
-        // ensures too_many { IsErrWith result (λ u. u.why ≡ TooMany)
-        //     ↔ (AreOf self.number callers.items
-        //     × (self.shared.count < length (all_home self callers.items))) }
-        // ensures missing { IsErrWith result (λ u. IsMissing u.why)
-        //     ↔ (AreOf self.number callers.items
-        //     × (length (all_home self callers.items) < self.shared.count)) }
-        // ensures how_many { IfErr result (λ u. IsMissing u.why
-        //     → length (all_home self callers.items) + count_missing u.why ≡ self.shared.count) }
-        // ensures handed_back { IfErr result (λ u. u.why ≢ InUse
-        //     → (u.phase ≡ self) × (u.callers.items ≡ callers.items)) }
-        // ensures at_home { IfErr result (λ u. u.why ≡ InUse
-        //     → (u.phase ≡ record self { home = all_home self callers.items })
-        //     × (u.callers.items ≡ [])) }
-    {
+    pub fn close(mut self, callers: Vec<Caller<J>>) -> Result<Entities, Unclosed<J>> {
         let missing = match self.missing(&callers) {
             Ok(missing) => missing,
             Err(why) => {
@@ -104,53 +112,61 @@ impl<J: Numbering> Phase<J> {
     /// [`Unclosed`] says why, and has the phase, which goes on. It is the first of these that
     /// holds: [`CloseFault::OtherPhase`], [`CloseFault::TooMany`], and then all callers are handed
     /// back; [`CloseFault::InUse`], and then they are at home.
+    ///
+    /// <details><summary>Contract</summary>
+    ///
+    /// In the words of the folder `specs/` of crate `ent_total`:
+    ///
+    /// ```text
+    /// ensures after { IfOk result (λ entities.
+    ///     entities.allocator ≡ after_loss self.shared.start entities.allocator.asked) }
+    /// ensures rows { IfOk result (λ entities. entities.rows ≡ self.shared.rows) }
+    /// ensures rows_of_living { IfOk result HasRowsOfLiving }
+    ///
+    /// // It counts what the callers that are here have requested, and of the others no more than
+    /// // their credit.
+    /// ensures least { IfOk result (λ entities.
+    ///     sum_by (λ r. requested_by r.own) (all_home self callers.items)
+    ///     ≤ entities.allocator.asked) }
+    /// ensures most { IfOk result (λ entities.
+    ///     sum_by (λ r. r.own.left) (all_home self callers.items) + entities.allocator.asked
+    ///     ≤ self.shared.count * credit) }
+    /// ensures reached { IfOk result (λ entities.
+    ///     All (λ r. cursor entities.allocator ≤ℤ r.own.mark) (all_home self callers.items)) }
+    ///
+    /// // If all are here, it counts what they have requested, and the cursor is where `close`
+    /// // leaves it.
+    /// ensures asked { IfOk result (λ entities.
+    ///     length (all_home self callers.items) ≡ self.shared.count
+    ///     → sum_by (λ r. requested_by r.own) (all_home self callers.items)
+    ///     ≡ entities.allocator.asked) }
+    /// ensures whole { IfOk result (λ entities.
+    ///     length (all_home self callers.items) ≡ self.shared.count
+    ///     → cursor entities.allocator ≡ cursor (after_history self.shared.start
+    ///     (history_of (records_of (all_home self callers.items))))) }
+    ///
+    /// // What the callers that are here were given is reserved.
+    /// ensures given { IfOk result (λ entities.
+    ///     All (λ r. All (Contains entities.allocator.taken) (handles_given r.own))
+    ///     (all_home self callers.items)) }
+    ///
+    /// // When it is refused, and what stands then.
+    /// ensures other_phase { IsErrWith result (λ u. u.why ≡ OtherPhase)
+    ///     ↔ ¬ (AreOf self.number callers.items) }
+    /// ensures too_many { IsErrWith result (λ u. u.why ≡ TooMany)
+    ///     ↔ (AreOf self.number callers.items
+    ///     × (self.shared.count < length (all_home self callers.items))) }
+    /// ensures no_missing { IfErr result (λ u. ¬ (IsMissing u.why)) }
+    /// ensures handed_back { IfErr result (λ u. u.why ≢ InUse
+    ///     → (u.phase ≡ self) × (u.callers.items ≡ callers.items)) }
+    /// ensures at_home { IfErr result (λ u. u.why ≡ InUse
+    ///     → (u.phase ≡ record self { home = all_home self callers.items })
+    ///     × (u.callers.items ≡ [])) }
+    /// ```
+    ///
+    /// </details>
     #[inline]
-    pub fn close_lost(mut self, callers: Vec<Caller<J>>) -> Result<Entities, Unclosed<J>>
-        // ensures after { IfOk result (λ entities.
-        //     entities.allocator ≡ after_loss self.shared.start entities.allocator.asked) }
-        // ensures rows { IfOk result (λ entities. entities.rows ≡ self.shared.rows) }
-        // ensures rows_of_living { IfOk result HasRowsOfLiving }
-
-        // It counts what the callers that are here have requested, and of the others no more than
-        // their credit.
-        // ensures least { IfOk result (λ entities.
-        //     sum_by (λ r. requested_by r.own) (all_home self callers.items)
-        //     ≤ entities.allocator.asked) }
-        // ensures most { IfOk result (λ entities.
-        //     sum_by (λ r. r.own.left) (all_home self callers.items) + entities.allocator.asked
-        //     ≤ self.shared.count * credit) }
-        // ensures reached { IfOk result (λ entities.
-        //     All (λ r. cursor entities.allocator ≤ℤ r.own.mark) (all_home self callers.items)) }
-
-        // If all are here, it counts what they have requested, and the cursor is where `close`
-        // leaves it.
-        // ensures asked { IfOk result (λ entities.
-        //     length (all_home self callers.items) ≡ self.shared.count
-        //     → sum_by (λ r. requested_by r.own) (all_home self callers.items)
-        //     ≡ entities.allocator.asked) }
-        // ensures whole { IfOk result (λ entities.
-        //     length (all_home self callers.items) ≡ self.shared.count
-        //     → cursor entities.allocator ≡ cursor (after_history self.shared.start
-        //     (history_of (records_of (all_home self callers.items))))) }
-
-        // What the callers that are here were given is reserved.
-        // ensures given { IfOk result (λ entities.
-        //     All (λ r. All (Contains entities.allocator.taken) (handles_given r.own))
-        //     (all_home self callers.items)) }
-
-        // When it is refused, and what stands then.
-        // ensures other_phase { IsErrWith result (λ u. u.why ≡ OtherPhase)
-        //     ↔ ¬ (AreOf self.number callers.items) }
-        // ensures too_many { IsErrWith result (λ u. u.why ≡ TooMany)
-        //     ↔ (AreOf self.number callers.items
-        //     × (self.shared.count < length (all_home self callers.items))) }
-        // ensures no_missing { IfErr result (λ u. ¬ (IsMissing u.why)) }
-        // ensures handed_back { IfErr result (λ u. u.why ≢ InUse
-        //     → (u.phase ≡ self) × (u.callers.items ≡ callers.items)) }
-        // ensures at_home { IfErr result (λ u. u.why ≡ InUse
-        //     → (u.phase ≡ record self { home = all_home self callers.items })
-        //     × (u.callers.items ≡ [])) }
-    {
+    pub fn close_lost(mut self, callers: Vec<Caller<J>>) -> Result<Entities, Unclosed<J>> {
         if let Err(why) = self.missing(&callers) {
             return Err(Unclosed {
                 phase: self,

@@ -24,32 +24,40 @@ impl<J: Numbering> WorldPhase<J> {
     /// holds: [`FinishFault::OtherPhase`], [`FinishFault::TooMany`], [`FinishFault::Missing`],
     /// [`FinishFault::Memory`], and then all queues are handed back; [`FinishFault::InUse`], and
     /// then they are at home.
+    ///
+    /// <details><summary>Contract</summary>
+    ///
+    /// In the words of the folder `specs/` of crate `ent_total`:
+    ///
+    /// ```text
+    /// ensures world { IfOk result (λ made.
+    ///     IsClosed self.world (reservers_home self queues.items) made.0.world) }
+    /// ensures number { IfOk result (λ made. made.0.number ≡ self.of_world) }
+    /// ensures queues { IfOk result (λ made.
+    ///     made.1 ≡ record { world = self.of_world; queues = queues_home self queues.items }) }
+    ///
+    /// // When it is refused, and what stands then.
+    /// ensures other_phase { IsErrWith result (λ u. u.why ≡ OtherPhase)
+    ///     ↔ ¬ (AreIssuersOf self.number queues.items) }
+    /// ensures too_many { IsErrWith result (λ u. u.why ≡ TooMany)
+    ///     ↔ (AreIssuersOf self.number queues.items
+    ///     × (self.world.shared.count < length (reservers_home self queues.items))) }
+    /// ensures missing { IsErrWith result (λ u. AreMissing u.why)
+    ///     ↔ (AreIssuersOf self.number queues.items
+    ///     × (length (reservers_home self queues.items) < self.world.shared.count)) }
+    /// ensures how_many { IfErr result (λ u. AreMissing u.why
+    ///     → length (reservers_home self queues.items) + queues_missing u.why
+    ///     ≡ self.world.shared.count) }
+    /// ensures memory { IfErr result (λ u. u.why ≡ Memory → 0 < length queues.items) }
+    /// ensures handed_back { IfErr result (λ u. u.why ≢ InUse
+    ///     → (u.phase ≡ self) × (u.queues.items ≡ queues.items)) }
+    /// ensures at_home { IfErr result (λ u. u.why ≡ InUse
+    ///     → (u.phase ≡ with_home self queues.items) × (u.queues.items ≡ [])) }
+    /// ```
+    ///
+    /// </details>
     #[inline]
-    pub fn close(mut self, queues: Vec<Issued<J>>) -> Result<(NumberedWorld, Queues), Unfinished<J>>
-        // ensures world { IfOk result (λ made.
-        //     IsClosed self.world (reservers_home self queues.items) made.0.world) }
-        // ensures number { IfOk result (λ made. made.0.number ≡ self.of_world) }
-        // ensures queues { IfOk result (λ made.
-        //     made.1 ≡ record { world = self.of_world; queues = queues_home self queues.items }) }
-
-        // When it is refused, and what stands then.
-        // ensures other_phase { IsErrWith result (λ u. u.why ≡ OtherPhase)
-        //     ↔ ¬ (AreIssuersOf self.number queues.items) }
-        // ensures too_many { IsErrWith result (λ u. u.why ≡ TooMany)
-        //     ↔ (AreIssuersOf self.number queues.items
-        //     × (self.world.shared.count < length (reservers_home self queues.items))) }
-        // ensures missing { IsErrWith result (λ u. AreMissing u.why)
-        //     ↔ (AreIssuersOf self.number queues.items
-        //     × (length (reservers_home self queues.items) < self.world.shared.count)) }
-        // ensures how_many { IfErr result (λ u. AreMissing u.why
-        //     → length (reservers_home self queues.items) + queues_missing u.why
-        //     ≡ self.world.shared.count) }
-        // ensures memory { IfErr result (λ u. u.why ≡ Memory → 0 < length queues.items) }
-        // ensures handed_back { IfErr result (λ u. u.why ≢ InUse
-        //     → (u.phase ≡ self) × (u.queues.items ≡ queues.items)) }
-        // ensures at_home { IfErr result (λ u. u.why ≡ InUse
-        //     → (u.phase ≡ with_home self queues.items) × (u.queues.items ≡ [])) }
-    {
+    pub fn close(mut self, queues: Vec<Issued<J>>) -> Result<(NumberedWorld, Queues), Unfinished<J>> {
         let missing = match self.missing(&queues) {
             Ok(missing) => missing,
             Err(why) => return Err(self.unfinished(queues, why)),
@@ -77,30 +85,38 @@ impl<J: Numbering> WorldPhase<J> {
     /// [`Unfinished`] says why, and has the phase, which goes on. It is the first of these that
     /// holds: [`FinishFault::OtherPhase`], [`FinishFault::TooMany`], [`FinishFault::Memory`], and
     /// then all queues are handed back; [`FinishFault::InUse`], and then they are at home.
+    ///
+    /// <details><summary>Contract</summary>
+    ///
+    /// In the words of the folder `specs/` of crate `ent_total`:
+    ///
+    /// ```text
+    /// ensures world { IfOk result (λ made.
+    ///     IsClosedLost self.world (reservers_home self queues.items) made.0.world) }
+    /// ensures number { IfOk result (λ made. made.0.number ≡ self.of_world) }
+    /// ensures queues { IfOk result (λ made.
+    ///     made.1 ≡ record { world = self.of_world; queues = queues_home self queues.items }) }
+    ///
+    /// // When it is refused, and what stands then.
+    /// ensures other_phase { IsErrWith result (λ u. u.why ≡ OtherPhase)
+    ///     ↔ ¬ (AreIssuersOf self.number queues.items) }
+    /// ensures too_many { IsErrWith result (λ u. u.why ≡ TooMany)
+    ///     ↔ (AreIssuersOf self.number queues.items
+    ///     × (self.world.shared.count < length (reservers_home self queues.items))) }
+    /// ensures no_missing { IfErr result (λ u. ¬ (AreMissing u.why)) }
+    /// ensures memory { IfErr result (λ u. u.why ≡ Memory → 0 < length queues.items) }
+    /// ensures handed_back { IfErr result (λ u. u.why ≢ InUse
+    ///     → (u.phase ≡ self) × (u.queues.items ≡ queues.items)) }
+    /// ensures at_home { IfErr result (λ u. u.why ≡ InUse
+    ///     → (u.phase ≡ with_home self queues.items) × (u.queues.items ≡ [])) }
+    /// ```
+    ///
+    /// </details>
     #[inline]
     pub fn close_lost(
         mut self,
         queues: Vec<Issued<J>>,
-    ) -> Result<(NumberedWorld, Queues), Unfinished<J>>
-        // ensures world { IfOk result (λ made.
-        //     IsClosedLost self.world (reservers_home self queues.items) made.0.world) }
-        // ensures number { IfOk result (λ made. made.0.number ≡ self.of_world) }
-        // ensures queues { IfOk result (λ made.
-        //     made.1 ≡ record { world = self.of_world; queues = queues_home self queues.items }) }
-
-        // When it is refused, and what stands then.
-        // ensures other_phase { IsErrWith result (λ u. u.why ≡ OtherPhase)
-        //     ↔ ¬ (AreIssuersOf self.number queues.items) }
-        // ensures too_many { IsErrWith result (λ u. u.why ≡ TooMany)
-        //     ↔ (AreIssuersOf self.number queues.items
-        //     × (self.world.shared.count < length (reservers_home self queues.items))) }
-        // ensures no_missing { IfErr result (λ u. ¬ (AreMissing u.why)) }
-        // ensures memory { IfErr result (λ u. u.why ≡ Memory → 0 < length queues.items) }
-        // ensures handed_back { IfErr result (λ u. u.why ≢ InUse
-        //     → (u.phase ≡ self) × (u.queues.items ≡ queues.items)) }
-        // ensures at_home { IfErr result (λ u. u.why ≡ InUse
-        //     → (u.phase ≡ with_home self queues.items) × (u.queues.items ≡ [])) }
-    {
+    ) -> Result<(NumberedWorld, Queues), Unfinished<J>> {
         if let Err(why) = self.missing(&queues) {
             return Err(self.unfinished(queues, why));
         }

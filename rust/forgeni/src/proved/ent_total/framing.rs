@@ -10,7 +10,6 @@ use crate::proved::ent_total::stopped::Stopped;
 use crate::proved::ent_queue::CommandQueue;
 use crate::proved::ent_runner::{FrameFault, FrameReport, Gate, System, run_frame};
 use crate::proved::ent_world::{SyncFault, SyncReport};
-use crate::kit::alloc::Global;
 use crate::kit::thread::Threads;
 
 /// How many workers a frame may have.
@@ -50,11 +49,53 @@ impl NumberedWorld {
     /// [`Unframed::Systems`], [`Unframed::Memory`], and then no system ran, and nothing has
     /// changed; [`Unframed::Lost`]; [`Unframed::Unapplied`] or [`Unframed::Stopped`], which have
     /// the queues.
+    ///
+    /// <details><summary>Contract</summary>
+    ///
+    /// In the words of the folder `specs/` of crate `ent_total`:
+    ///
+    /// ```text
+    /// ensures ok { IfOk result (λ report. Ends S.may_issue systems.now workers self.old.world
+    ///     report.queues.items self.new.world report.sync.born.items report.sync.faults.items) }
+    /// ensures alone { workers ≡ 1 → IfOk result (λ report. EndsInOrder self.old.world
+    ///     report.queues.items self.new.world report.sync.born.items report.sync.faults.items) }
+    /// ensures flushed { OnOk result (self.new.world.allocator.asked ≡ 0) }
+    /// ensures needs_flush { IsErrWith result IsUnflushed
+    ///     ↔ (0 < self.old.world.allocator.asked) }
+    /// ensures no_crew { IsErrWith result IsNoCrew
+    ///     ↔ ((self.old.world.allocator.asked ≡ 0) × ((workers ≡ 0) ⊎ (64 < workers))) }
+    /// ensures too_many { IsErrWith result IsTooManySystems
+    ///     ↔ ((self.old.world.allocator.asked ≡ 0) × (0 < workers) × (workers ≤ 64)
+    ///     × (2 ^ 16 < length systems.now)) }
+    /// ensures nothing { IfErr result (λ why. IsUnbegun why → self.new ≡ self.old) }
+    ///
+    /// // What stands of a frame that was broken off.
+    /// ensures lost { IsErrWith result IsLostFrame → (history : List Call)
+    ///     × IsBrokenOff S.may_issue S.may_leave systems.now workers self.old.world history
+    ///     × (self.new.world ≡ reserved_by history self.old.world) }
+    /// ensures still { IsErrWith result IsLostFrame → IsLost self.old.world self.new.world }
+    /// ensures lost_some { IsErrWith result IsLostFrame → 0 < length systems.now }
+    ///
+    /// // What stands if the sync point stopped, whose queues are of this world.
+    /// ensures stopped { IfErr result (λ why. IfHeld why (λ fault queues.
+    ///     StopsAt S.may_issue systems.now workers self.old.world queues.queues self.new.world
+    ///     fault)) }
+    /// ensures of_world { IfErr result (λ why. IfHeld why (λ _ queues.
+    ///     queues.world ≡ self.old.number)) }
+    /// ensures reserved { IfErr result (λ why. IfHeld why (λ fault _.
+    ///     fault ≡ FlushMemory → 0 < length self.new.world.allocator.taken)) }
+    /// ensures stopped_memory { IfErr result (λ why. IfStoppedAt why (λ stop queues.
+    ///     TakesMemoryAt self.new.world stop.system stop.command stop.done queues)) }
+    /// ensures stopped_flushed { IfErr result (λ why. IfStoppedAt why (λ _ _.
+    ///     self.new.world.allocator.asked ≡ 0)) }
+    /// ensures number { self.new.number ≡ self.old.number }
+    /// ```
+    ///
+    /// </details>
     #[inline]
     pub fn run_frame<R, S, G>(
         &mut self,
         rt: &R,
-        alloc: Global,
         systems: &[S],
         workers: usize,
         gate: &G,
@@ -63,40 +104,6 @@ impl NumberedWorld {
         R: Threads + Sync,
         S: System + Sync,
         G: Gate + Sync,
-        // ensures ok { IfOk result (λ report. Ends S.may_issue systems.now workers self.old.world
-        //     report.queues.items self.new.world report.sync.born.items report.sync.faults.items) }
-        // ensures alone { workers ≡ 1 → IfOk result (λ report. EndsInOrder self.old.world
-        //     report.queues.items self.new.world report.sync.born.items report.sync.faults.items) }
-        // ensures flushed { OnOk result (self.new.world.allocator.asked ≡ 0) }
-        // ensures needs_flush { IsErrWith result IsUnflushed
-        //     ↔ (0 < self.old.world.allocator.asked) }
-        // ensures no_crew { IsErrWith result IsNoCrew
-        //     ↔ ((self.old.world.allocator.asked ≡ 0) × ((workers ≡ 0) ⊎ (64 < workers))) }
-        // ensures too_many { IsErrWith result IsTooManySystems
-        //     ↔ ((self.old.world.allocator.asked ≡ 0) × (0 < workers) × (workers ≤ 64)
-        //     × (2 ^ 16 < length systems.now)) }
-        // ensures nothing { IfErr result (λ why. IsUnbegun why → self.new ≡ self.old) }
-
-        // What stands of a frame that was broken off.
-        // ensures lost { IsErrWith result IsLostFrame → (history : List Call)
-        //     × IsBrokenOff S.may_issue S.may_leave systems.now workers self.old.world history
-        //     × (self.new.world ≡ reserved_by history self.old.world) }
-        // ensures still { IsErrWith result IsLostFrame → IsLost self.old.world self.new.world }
-        // ensures lost_some { IsErrWith result IsLostFrame → 0 < length systems.now }
-
-        // What stands if the sync point stopped, whose queues are of this world.
-        // ensures stopped { IfErr result (λ why. IfHeld why (λ fault queues.
-        //     StopsAt S.may_issue systems.now workers self.old.world queues.queues self.new.world
-        //     fault)) }
-        // ensures of_world { IfErr result (λ why. IfHeld why (λ _ queues.
-        //     queues.world ≡ self.old.number)) }
-        // ensures reserved { IfErr result (λ why. IfHeld why (λ fault _.
-        //     fault ≡ FlushMemory → 0 < length self.new.world.allocator.taken)) }
-        // ensures stopped_memory { IfErr result (λ why. IfStoppedAt why (λ stop queues.
-        //     TakesMemoryAt self.new.world stop.system stop.command stop.done queues)) }
-        // ensures stopped_flushed { IfErr result (λ why. IfStoppedAt why (λ _ _.
-        //     self.new.world.allocator.asked ≡ 0)) }
-        // ensures number { self.new.number ≡ self.old.number }
     {
         if self.world.needs_flush() {
             return Err(Unframed::NeedsFlush);
@@ -107,7 +114,7 @@ impl NumberedWorld {
         if systems.len() > SYSTEMS {
             return Err(Unframed::Systems);
         }
-        match run_frame(rt, alloc, &mut self.world, systems, workers, gate) {
+        match run_frame(rt, &mut self.world, systems, workers, gate) {
             Ok(report) => Ok(report),
             Err(FrameFault::Memory) => Err(Unframed::Memory),
             Err(FrameFault::Lost) => Err(Unframed::Lost),

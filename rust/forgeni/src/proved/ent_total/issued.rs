@@ -18,19 +18,35 @@ impl<J: Numbering> Issued<J> {
     }
 
     /// Which of the systems of its phase it is, from 0.
+    ///
+    /// <details><summary>Contract</summary>
+    ///
+    /// In the words of the folder `specs/` of crate `ent_total`:
+    ///
+    /// ```text
+    /// ensures { result ≡ self.now.reserver.own.number }
+    /// ```
+    ///
+    /// </details>
     #[inline]
-    pub fn number(&self) -> usize
-        // ensures { result ≡ self.now.reserver.own.number }
-    {
+    pub fn number(&self) -> usize {
         self.issuer.number()
     }
 
     /// Whether it is of this phase.
+    ///
+    /// <details><summary>Contract</summary>
+    ///
+    /// In the words of the folder `specs/` of crate `ent_total`:
+    ///
+    /// ```text
+    /// ensures number { IsTrue result ↔ (self.now.number ≡ phase.now.number) }
+    /// ensures world { IsTrue result → self.now.world ≡ phase.now.world }
+    /// ```
+    ///
+    /// </details>
     #[inline]
-    pub fn is_of(&self, phase: &WorldPhase<J>) -> bool
-        // ensures number { IsTrue result ↔ (self.now.number ≡ phase.now.number) }
-        // ensures world { IsTrue result → self.now.world ≡ phase.now.world }
-    {
+    pub fn is_of(&self, phase: &WorldPhase<J>) -> bool {
         self.issuer.is_of(phase)
     }
 }

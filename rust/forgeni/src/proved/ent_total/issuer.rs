@@ -8,7 +8,6 @@ use crate::proved::ent_handle::{ComponentId, Handle, Memory};
 use crate::proved::ent_queue::{Bundle, CommandQueue, Commands, QueueFault};
 use crate::proved::ent_shared::Reserver;
 use crate::proved::ent_world::OpenWorld;
-use crate::kit::alloc::Global;
 use core::marker::PhantomData;
 use core::mem;
 use crate::kit::sync::Arc;
@@ -16,7 +15,7 @@ use crate::kit::sync::Arc;
 /// A system of a phase while it issues its commands: its reserver, its queue so far, and the world
 /// that it views. It may go to a thread of its own.
 pub struct Issuer<J: Numbering> {
-    pub(super) world: Arc<OpenWorld, Global>,
+    pub(super) world: Arc<OpenWorld>,
     pub(super) reserver: Reserver,
     pub(super) queue: CommandQueue,
     pub(super) number: u64,
@@ -29,29 +28,37 @@ impl<J: Numbering> Issuer<J> {
     /// # Errors
     ///
     /// As [`Commands::spawn`].
+    ///
+    /// <details><summary>Contract</summary>
+    ///
+    /// In the words of the folder `specs/` of crate `ent_total`:
+    ///
+    /// ```text
+    /// ensures extends { Extends self.old self.new }
+    /// ensures ok { IfOk result (λ handle.
+    ///     self.new.queue ≡ self.old.queue ++ Spawn handle bundle.now ∷ []) }
+    /// ensures refused { IfErr result (λ fault.
+    ///     self.new.queue ≡ self.old.queue ++ refused_by 1 fault) }
+    /// ensures memory { IsErrOf result QueueFault.Memory → self.new ≡ self.old }
+    /// ensures given { IfOk result (λ handle.
+    ///     IsReturned self.old.world.shared self.old.reserver self.new.reserver 1
+    ///     (Ok (handle ∷ []))) }
+    /// ensures refusal { IfErr result
+    ///     (IsRefused self.old.world.shared self.old.reserver self.new.reserver 1) }
+    ///
+    /// // What was given is recorded.
+    /// ensures recorded { IfOk result (λ handle. handles_given self.new.reserver.own
+    ///     ≡ handles_given self.old.reserver.own ++ handle ∷ []) }
+    /// ensures unrecorded { OnErr result
+    ///     (handles_given self.new.reserver.own ≡ handles_given self.old.reserver.own) }
+    /// ```
+    ///
+    /// </details>
     #[inline]
-    pub fn spawn(&mut self, alloc: Global, bundle: &Bundle) -> Result<Handle, QueueFault>
-        // ensures extends { Extends self.old self.new }
-        // ensures ok { IfOk result (λ handle.
-        //     self.new.queue ≡ self.old.queue ++ Spawn handle bundle.now ∷ []) }
-        // ensures refused { IfErr result (λ fault.
-        //     self.new.queue ≡ self.old.queue ++ refused_by 1 fault) }
-        // ensures memory { IsErrOf result QueueFault.Memory → self.new ≡ self.old }
-        // ensures given { IfOk result (λ handle.
-        //     IsReturned self.old.world.shared self.old.reserver self.new.reserver 1
-        //     (Ok (handle ∷ []))) }
-        // ensures refusal { IfErr result
-        //     (IsRefused self.old.world.shared self.old.reserver self.new.reserver 1) }
-
-        // What was given is recorded.
-        // ensures recorded { IfOk result (λ handle. handles_given self.new.reserver.own
-        //     ≡ handles_given self.old.reserver.own ++ handle ∷ []) }
-        // ensures unrecorded { OnErr result
-        //     (handles_given self.new.reserver.own ≡ handles_given self.old.reserver.own) }
-    {
-        let queue = self.take_queue(alloc);
+    pub fn spawn(&mut self, bundle: &Bundle) -> Result<Handle, QueueFault> {
+        let queue = self.take_queue();
         let shared = self.world.shared();
-        let mut commands = Commands::resume(alloc, shared, &mut self.reserver, queue);
+        let mut commands = Commands::resume(shared, &mut self.reserver, queue);
         let spawned = commands.spawn(bundle);
         self.queue = commands.finish();
         spawned
@@ -62,35 +69,42 @@ impl<J: Numbering> Issuer<J> {
     /// # Errors
     ///
     /// As [`Commands::spawn_many`].
+    ///
+    /// <details><summary>Contract</summary>
+    ///
+    /// In the words of the folder `specs/` of crate `ent_total`:
+    ///
+    /// ```text
+    /// ensures extends { Extends self.old self.new }
+    /// ensures ok { IfOk result (λ handles.
+    ///     self.new.queue ≡ self.old.queue ++ SpawnMany handles.items bundle.now ∷ []) }
+    /// ensures length { IfOk result (λ handles. length handles.items ≡ n) }
+    /// ensures refused { IfErr result (λ fault.
+    ///     self.new.queue ≡ self.old.queue ++ refused_by n fault) }
+    /// ensures memory { IsErrOf result QueueFault.Memory → self.new ≡ self.old }
+    /// ensures given { IfOk result (λ handles.
+    ///     IsReturned self.old.world.shared self.old.reserver self.new.reserver n
+    ///     (Ok handles.items)) }
+    /// ensures refusal { IfErr result
+    ///     (IsRefused self.old.world.shared self.old.reserver self.new.reserver n) }
+    ///
+    /// // What was given is recorded.
+    /// ensures recorded { IfOk result (λ handles. handles_given self.new.reserver.own
+    ///     ≡ handles_given self.old.reserver.own ++ handles.items) }
+    /// ensures unrecorded { OnErr result
+    ///     (handles_given self.new.reserver.own ≡ handles_given self.old.reserver.own) }
+    /// ```
+    ///
+    /// </details>
     #[inline]
     pub fn spawn_many(
         &mut self,
-        alloc: Global,
         n: u32,
         bundle: &Bundle,
-    ) -> Result<Vec<Handle>, QueueFault>
-        // ensures extends { Extends self.old self.new }
-        // ensures ok { IfOk result (λ handles.
-        //     self.new.queue ≡ self.old.queue ++ SpawnMany handles.items bundle.now ∷ []) }
-        // ensures length { IfOk result (λ handles. length handles.items ≡ n) }
-        // ensures refused { IfErr result (λ fault.
-        //     self.new.queue ≡ self.old.queue ++ refused_by n fault) }
-        // ensures memory { IsErrOf result QueueFault.Memory → self.new ≡ self.old }
-        // ensures given { IfOk result (λ handles.
-        //     IsReturned self.old.world.shared self.old.reserver self.new.reserver n
-        //     (Ok handles.items)) }
-        // ensures refusal { IfErr result
-        //     (IsRefused self.old.world.shared self.old.reserver self.new.reserver n) }
-
-        // What was given is recorded.
-        // ensures recorded { IfOk result (λ handles. handles_given self.new.reserver.own
-        //     ≡ handles_given self.old.reserver.own ++ handles.items) }
-        // ensures unrecorded { OnErr result
-        //     (handles_given self.new.reserver.own ≡ handles_given self.old.reserver.own) }
-    {
-        let queue = self.take_queue(alloc);
+    ) -> Result<Vec<Handle>, QueueFault> {
+        let queue = self.take_queue();
         let shared = self.world.shared();
-        let mut commands = Commands::resume(alloc, shared, &mut self.reserver, queue);
+        let mut commands = Commands::resume(shared, &mut self.reserver, queue);
         let spawned = commands.spawn_many(n, bundle);
         self.queue = commands.finish();
         spawned
@@ -101,16 +115,24 @@ impl<J: Numbering> Issuer<J> {
     /// # Errors
     ///
     /// `Memory`, and then nothing has changed.
+    ///
+    /// <details><summary>Contract</summary>
+    ///
+    /// In the words of the folder `specs/` of crate `ent_total`:
+    ///
+    /// ```text
+    /// ensures ok { OnOk result (self.new ≡ record self.old {
+    ///   queue = self.old.queue ++ Insert handle bundle.now ∷ [];
+    /// }) }
+    /// ensures memory { OnErr result (self.new ≡ self.old) }
+    /// ```
+    ///
+    /// </details>
     #[inline]
-    pub fn insert(&mut self, alloc: Global, handle: Handle, bundle: &Bundle) -> Result<(), Memory>
-        // ensures ok { OnOk result (self.new ≡ record self.old {
-        //   queue = self.old.queue ++ Insert handle bundle.now ∷ [];
-        // }) }
-        // ensures memory { OnErr result (self.new ≡ self.old) }
-    {
-        let queue = self.take_queue(alloc);
+    pub fn insert(&mut self, handle: Handle, bundle: &Bundle) -> Result<(), Memory> {
+        let queue = self.take_queue();
         let shared = self.world.shared();
-        let mut commands = Commands::resume(alloc, shared, &mut self.reserver, queue);
+        let mut commands = Commands::resume(shared, &mut self.reserver, queue);
         let issued = commands.insert(handle, bundle);
         self.queue = commands.finish();
         issued
@@ -121,16 +143,24 @@ impl<J: Numbering> Issuer<J> {
     /// # Errors
     ///
     /// `Memory`, and then nothing has changed.
+    ///
+    /// <details><summary>Contract</summary>
+    ///
+    /// In the words of the folder `specs/` of crate `ent_total`:
+    ///
+    /// ```text
+    /// ensures ok { OnOk result (self.new ≡ record self.old {
+    ///   queue = self.old.queue ++ Remove handle id ∷ [];
+    /// }) }
+    /// ensures memory { OnErr result (self.new ≡ self.old) }
+    /// ```
+    ///
+    /// </details>
     #[inline]
-    pub fn remove(&mut self, alloc: Global, handle: Handle, id: ComponentId) -> Result<(), Memory>
-        // ensures ok { OnOk result (self.new ≡ record self.old {
-        //   queue = self.old.queue ++ Remove handle id ∷ [];
-        // }) }
-        // ensures memory { OnErr result (self.new ≡ self.old) }
-    {
-        let queue = self.take_queue(alloc);
+    pub fn remove(&mut self, handle: Handle, id: ComponentId) -> Result<(), Memory> {
+        let queue = self.take_queue();
         let shared = self.world.shared();
-        let mut commands = Commands::resume(alloc, shared, &mut self.reserver, queue);
+        let mut commands = Commands::resume(shared, &mut self.reserver, queue);
         let issued = commands.remove(handle, id);
         self.queue = commands.finish();
         issued
@@ -141,16 +171,24 @@ impl<J: Numbering> Issuer<J> {
     /// # Errors
     ///
     /// `Memory`, and then nothing has changed.
+    ///
+    /// <details><summary>Contract</summary>
+    ///
+    /// In the words of the folder `specs/` of crate `ent_total`:
+    ///
+    /// ```text
+    /// ensures ok { OnOk result (self.new ≡ record self.old {
+    ///   queue = self.old.queue ++ Despawn handle ∷ [];
+    /// }) }
+    /// ensures memory { OnErr result (self.new ≡ self.old) }
+    /// ```
+    ///
+    /// </details>
     #[inline]
-    pub fn despawn(&mut self, alloc: Global, handle: Handle) -> Result<(), Memory>
-        // ensures ok { OnOk result (self.new ≡ record self.old {
-        //   queue = self.old.queue ++ Despawn handle ∷ [];
-        // }) }
-        // ensures memory { OnErr result (self.new ≡ self.old) }
-    {
-        let queue = self.take_queue(alloc);
+    pub fn despawn(&mut self, handle: Handle) -> Result<(), Memory> {
+        let queue = self.take_queue();
         let shared = self.world.shared();
-        let mut commands = Commands::resume(alloc, shared, &mut self.reserver, queue);
+        let mut commands = Commands::resume(shared, &mut self.reserver, queue);
         let issued = commands.despawn(handle);
         self.queue = commands.finish();
         issued
@@ -158,45 +196,77 @@ impl<J: Numbering> Issuer<J> {
 
     /// The queue, and leaves an empty one, which takes no memory.
     #[inline]
-    fn take_queue(&mut self, alloc: Global) -> CommandQueue
+    fn take_queue(&mut self) -> CommandQueue
         // ensures queue { result ≡ self.old.queue }
         // ensures rest { self.new ≡ record self.old { queue = [] } }
     {
         let shared = self.world.shared();
-        let empty = Commands::new(alloc, shared, &mut self.reserver).finish();
+        let empty = Commands::new(shared, &mut self.reserver).finish();
         mem::replace(&mut self.queue, empty)
     }
 
     /// Whether it is of this phase.
+    ///
+    /// <details><summary>Contract</summary>
+    ///
+    /// In the words of the folder `specs/` of crate `ent_total`:
+    ///
+    /// ```text
+    /// ensures number { IsTrue result ↔ (self.now.number ≡ phase.now.number) }
+    /// ensures world { IsTrue result → self.now.world ≡ phase.now.world }
+    /// ```
+    ///
+    /// </details>
     #[inline]
-    pub fn is_of(&self, phase: &WorldPhase<J>) -> bool
-        // ensures number { IsTrue result ↔ (self.now.number ≡ phase.now.number) }
-        // ensures world { IsTrue result → self.now.world ≡ phase.now.world }
-    {
+    pub fn is_of(&self, phase: &WorldPhase<J>) -> bool {
         self.number == phase.number()
     }
 
     /// Which of the systems of its phase it is, from 0.
+    ///
+    /// <details><summary>Contract</summary>
+    ///
+    /// In the words of the folder `specs/` of crate `ent_total`:
+    ///
+    /// ```text
+    /// ensures { result ≡ self.now.reserver.own.number }
+    /// ```
+    ///
+    /// </details>
     #[inline]
-    pub fn number(&self) -> usize
-        // ensures { result ≡ self.now.reserver.own.number }
-    {
+    pub fn number(&self) -> usize {
         self.reserver.number()
     }
 
     /// The world that is open. Its `view` shows it as it was opened.
+    ///
+    /// <details><summary>Contract</summary>
+    ///
+    /// In the words of the folder `specs/` of crate `ent_total`:
+    ///
+    /// ```text
+    /// ensures { result.now ≡ self.now.world }
+    /// ```
+    ///
+    /// </details>
     #[inline]
-    pub fn world(&self) -> &OpenWorld
-        // ensures { result.now ≡ self.now.world }
-    {
+    pub fn world(&self) -> &OpenWorld {
         &self.world
     }
 
     /// Ends the issuing.
+    ///
+    /// <details><summary>Contract</summary>
+    ///
+    /// In the words of the folder `specs/` of crate `ent_total`:
+    ///
+    /// ```text
+    /// ensures { result ≡ self }
+    /// ```
+    ///
+    /// </details>
     #[inline]
-    pub fn finish(self) -> Issued<J>
-        // ensures { result ≡ self }
-    {
+    pub fn finish(self) -> Issued<J> {
         Issued::new(self)
     }
 }

@@ -5,7 +5,6 @@ use crate::proved::ent_total::numbering::Numbering;
 use crate::proved::ent_total::phase::Phase;
 use crate::proved::ent_alloc::Entities;
 use crate::proved::ent_shared::{Reserver, Shared};
-use crate::kit::alloc::Global;
 use crate::kit::sync::Arc;
 
 /// How many callers a phase may have.
@@ -44,8 +43,7 @@ pub struct Unshared {
 
 /// A phase that has no number yet, with all its reservers.
 pub struct Opening {
-    alloc: Global,
-    shared: Arc<Shared, Global>,
+    shared: Arc<Shared>,
     home: Vec<Reserver>,
 }
 
@@ -55,18 +53,26 @@ pub struct Opening {
 ///
 /// [`Unshared`] says why, and has the allocator as it was. It is the first of these that holds:
 /// [`ShareFault::NeedsFlush`], [`ShareFault::Count`], [`ShareFault::Memory`].
+///
+/// <details><summary>Contract</summary>
+///
+/// In the words of the folder `specs/` of crate `ent_total`:
+///
+/// ```text
+/// ensures start { IfOk result (λ o. o.shared.start ≡ entities.allocator) }
+/// ensures rows { IfOk result (λ o. o.shared.rows ≡ entities.rows) }
+/// ensures count { IfOk result (λ o. o.shared.count ≡ count) }
+/// ensures home { IfOk result (λ o. records_of o.home ≡ opened_records entities.allocator 0 count) }
+/// ensures needs_flush { IsErrWith result (λ u. u.why ≡ NeedsFlush)
+///     ↔ (0 < entities.allocator.asked) }
+/// ensures no_count { IsErrWith result (λ u. u.why ≡ Count)
+///     ↔ ((entities.allocator.asked ≡ 0) × ((count ≡ 0) ⊎ (1024 < count))) }
+/// ensures handed_back { IfErr result (λ u. u.entities ≡ entities) }
+/// ```
+///
+/// </details>
 #[inline]
-pub fn share(alloc: Global, entities: Entities, count: usize) -> Result<Opening, Unshared>
-    // ensures start { IfOk result (λ o. o.shared.start ≡ entities.allocator) }
-    // ensures rows { IfOk result (λ o. o.shared.rows ≡ entities.rows) }
-    // ensures count { IfOk result (λ o. o.shared.count ≡ count) }
-    // ensures home { IfOk result (λ o. records_of o.home ≡ opened_records entities.allocator 0 count) }
-    // ensures needs_flush { IsErrWith result (λ u. u.why ≡ NeedsFlush)
-    //     ↔ (0 < entities.allocator.asked) }
-    // ensures no_count { IsErrWith result (λ u. u.why ≡ Count)
-    //     ↔ ((entities.allocator.asked ≡ 0) × ((count ≡ 0) ⊎ (1024 < count))) }
-    // ensures handed_back { IfErr result (λ u. u.entities ≡ entities) }
-{
+pub fn share(entities: Entities, count: usize) -> Result<Opening, Unshared> {
     if entities.needs_flush() {
         return Err(Unshared {
             entities,
@@ -79,7 +85,7 @@ pub fn share(alloc: Global, entities: Entities, count: usize) -> Result<Opening,
             why: ShareFault::Count,
         });
     }
-    match Opening::new(alloc, entities, count) {
+    match Opening::new(entities, count) {
         Ok(opening) => Ok(opening),
         Err(entities) => Err(Unshared {
             entities,
@@ -91,7 +97,7 @@ pub fn share(alloc: Global, entities: Entities, count: usize) -> Result<Opening,
 impl Opening {
     /// Shares a flushed allocator. If memory runs out, it comes back.
     #[inline]
-    fn new(alloc: Global, entities: Entities, count: usize) -> Result<Self, Entities>
+    fn new(entities: Entities, count: usize) -> Result<Self, Entities>
         // requires flushed { entities.allocator.asked ≡ 0 }
         // requires some { 0 < count }
         // requires few { count ≤ 1024 }
@@ -102,13 +108,12 @@ impl Opening {
         //     records_of o.home ≡ opened_records entities.allocator 0 count) }
         // ensures err { IfErr result (λ refused. refused ≡ entities) }
     {
-        let (shared, home) = match crate::proved::ent_shared::share(alloc, entities, count) {
+        let (shared, home) = match crate::proved::ent_shared::share(entities, count) {
             Ok(made) => made,
             Err((entities, _)) => return Err(entities),
         };
-        match Arc::new(alloc, shared) {
+        match Arc::new(shared) {
             Ok(shared) => Ok(Opening {
-                alloc,
                 shared,
                 home,
             }),
@@ -118,15 +123,14 @@ impl Opening {
 
     /// The phase, under a number by which it is told from all others. All its reservers are at home.
     #[inline]
-    pub fn numbered<J: Numbering>(self, number: u64) -> Phase<J>
+    pub(crate) fn numbered<J: Numbering>(self, number: u64) -> Phase<J>
         // requires stands_for { J.shared_of number ≡ self.shared }
         // ensures { result ≡ record { number = number; shared = self.shared; home = self.home } }
     {
         let Opening {
-            alloc,
             shared,
             home,
         } = self;
-        Phase::new(alloc, shared, home, number)
+        Phase::new(shared, home, number)
     }
 }

@@ -6,14 +6,12 @@ use crate::proved::ent_total::homecoming::bring_home;
 use crate::proved::ent_total::numbering::Numbering;
 use crate::proved::ent_handle::{Handle, Memory};
 use crate::proved::ent_shared::{Reserver, Shared};
-use crate::kit::alloc::Global;
 use core::marker::PhantomData;
 use crate::kit::sync::Arc;
 
 /// An allocator that is shared, with the reservers that no caller has.
 pub struct Phase<J: Numbering> {
-    alloc: Global,
-    shared: Arc<Shared, Global>,
+    shared: Arc<Shared>,
     home: Vec<Reserver>,
     number: u64,
     of: PhantomData<J>,
@@ -22,8 +20,7 @@ pub struct Phase<J: Numbering> {
 impl<J: Numbering> Phase<J> {
     #[inline]
     pub(super) fn new(
-        alloc: Global,
-        shared: Arc<Shared, Global>,
+        shared: Arc<Shared>,
         home: Vec<Reserver>,
         number: u64,
     ) -> Self
@@ -34,7 +31,6 @@ impl<J: Numbering> Phase<J> {
         //     ≡ record { number = number; shared = arc_value shared; home = home.items } }
     {
         Phase {
-            alloc,
             shared,
             home,
             number,
@@ -43,37 +39,69 @@ impl<J: Numbering> Phase<J> {
     }
 
     /// How many callers it has, whether they exist, are at home or were lost.
+    ///
+    /// <details><summary>Contract</summary>
+    ///
+    /// In the words of the folder `specs/` of crate `ent_total`:
+    ///
+    /// ```text
+    /// ensures { result ≡ self.now.shared.count }
+    /// ```
+    ///
+    /// </details>
     #[inline]
-    pub fn count(&self) -> usize
-        // ensures { result ≡ self.now.shared.count }
-    {
+    pub fn count(&self) -> usize {
         self.shared.count()
     }
 
     /// How many of them are at home.
+    ///
+    /// <details><summary>Contract</summary>
+    ///
+    /// In the words of the folder `specs/` of crate `ent_total`:
+    ///
+    /// ```text
+    /// ensures { result ≡ length self.now.home }
+    /// ```
+    ///
+    /// </details>
     #[inline]
-    pub fn at_home(&self) -> usize
-        // ensures { result ≡ length self.now.home }
-    {
+    pub fn at_home(&self) -> usize {
         self.home.len()
     }
 
     /// Whether the handle was alive when the phase was opened. It takes constant time.
+    ///
+    /// <details><summary>Contract</summary>
+    ///
+    /// In the words of the folder `specs/` of crate `ent_total`:
+    ///
+    /// ```text
+    /// ensures { result ≡ set.contains self.now.shared.start.live handle }
+    /// ```
+    ///
+    /// </details>
     #[inline]
-    pub fn is_alive(&self, handle: Handle) -> bool
-        // ensures { result ≡ set.contains self.now.shared.start.live handle }
-    {
+    pub fn is_alive(&self, handle: Handle) -> bool {
         self.shared.is_alive(handle)
     }
 
     /// The row that the program kept with the entity when the phase was opened. `None` if the
     /// handle was not alive then, or if no row was set since it came to life. It takes constant
     /// time.
+    ///
+    /// <details><summary>Contract</summary>
+    ///
+    /// In the words of the folder `specs/` of crate `ent_total`:
+    ///
+    /// ```text
+    /// ensures value { result ≡ map.get self.now.shared.rows handle }
+    /// ensures alive { OnSome result (set.contains self.now.shared.start.live handle ≡ true) }
+    /// ```
+    ///
+    /// </details>
     #[inline]
-    pub fn row(&self, handle: Handle) -> Option<u32>
-        // ensures value { result ≡ map.get self.now.shared.rows handle }
-        // ensures alive { OnSome result (set.contains self.now.shared.start.live handle ≡ true) }
-    {
+    pub fn row(&self, handle: Handle) -> Option<u32> {
         self.shared.row(handle)
     }
 
@@ -91,16 +119,24 @@ impl<J: Numbering> Phase<J> {
     ///
     /// `Memory` if a reserver is at home, but there is no room for another owner of the phase. Then
     /// nothing has changed.
+    ///
+    /// <details><summary>Contract</summary>
+    ///
+    /// In the words of the folder `specs/` of crate `ent_total`:
+    ///
+    /// ```text
+    /// ensures given { IfOk result (λ found. IfSome found (λ c.
+    ///     (c.number ≡ self.old.number) × (c.shared ≡ self.old.shared)
+    ///     × (self.old ≡ record self.new { home = self.new.home ++ c.reserver ∷ [] }))) }
+    /// ensures none { IfOk result (λ found. IfNone found
+    ///     ((self.old.home ≡ []) × (self.new ≡ self.old))) }
+    /// ensures none_home { (result ≡ Ok None) ↔ (self.old.home ≡ []) }
+    /// ensures err { OnErr result (self.new ≡ self.old) }
+    /// ```
+    ///
+    /// </details>
     #[inline]
-    pub fn caller(&mut self) -> Result<Option<Caller<J>>, Memory>
-        // ensures given { IfOk result (λ found. IfSome found (λ c.
-        //     (c.number ≡ self.old.number) × (c.shared ≡ self.old.shared)
-        //     × (self.old ≡ record self.new { home = self.new.home ++ c.reserver ∷ [] }))) }
-        // ensures none { IfOk result (λ found. IfNone found
-        //     ((self.old.home ≡ []) × (self.new ≡ self.old))) }
-        // ensures none_home { (result ≡ Ok None) ↔ (self.old.home ≡ []) }
-        // ensures err { OnErr result (self.new ≡ self.old) }
-    {
+    pub fn caller(&mut self) -> Result<Option<Caller<J>>, Memory> {
         if self.home.is_empty() {
             return Ok(None);
         }
@@ -136,7 +172,6 @@ impl<J: Numbering> Phase<J> {
         // ensures err { IfErr result (λ phase. phase ≡ self) }
     {
         let Phase {
-            alloc,
             shared,
             home,
             number,
@@ -144,7 +179,7 @@ impl<J: Numbering> Phase<J> {
         } = self;
         match Arc::try_unwrap(shared) {
             Ok(shared) => Ok((shared, home)),
-            Err(shared) => Err(Phase::new(alloc, shared, home, number)),
+            Err(shared) => Err(Phase::new(shared, home, number)),
         }
     }
 
@@ -153,6 +188,6 @@ impl<J: Numbering> Phase<J> {
     pub(super) fn no_callers(&self) -> Vec<Caller<J>>
         // ensures { result.items ≡ [] }
     {
-        Vec::new(self.alloc)
+        Vec::new()
     }
 }

@@ -18,18 +18,34 @@ impl Queues {
     }
 
     /// How many queues there are.
+    ///
+    /// <details><summary>Contract</summary>
+    ///
+    /// In the words of the folder `specs/` of crate `ent_total`:
+    ///
+    /// ```text
+    /// ensures { result ≡ length self.now.queues }
+    /// ```
+    ///
+    /// </details>
     #[inline]
-    pub fn len(&self) -> usize
-        // ensures { result ≡ length self.now.queues }
-    {
+    pub fn len(&self) -> usize {
         self.queues.len()
     }
 
     /// The number of their world.
+    ///
+    /// <details><summary>Contract</summary>
+    ///
+    /// In the words of the folder `specs/` of crate `ent_total`:
+    ///
+    /// ```text
+    /// ensures { result ≡ self.now.world }
+    /// ```
+    ///
+    /// </details>
     #[inline]
-    pub fn world(&self) -> u64
-        // ensures { result ≡ self.now.world }
-    {
+    pub fn world(&self) -> u64 {
         self.world
     }
 

@@ -33,19 +33,27 @@ const MOST: u64 = 1 << 50;
 /// [`RequestFault::Space`] if no handle is left: the request counts, and every later one is refused
 /// until the next flush. [`RequestFault::Credit`] if 2^50 handles were requested since the last
 /// flush: nothing has changed then.
+///
+/// <details><summary>Contract</summary>
+///
+/// In the words of the folder `specs/` of crate `ent_total`:
+///
+/// ```text
+/// ensures served { IfOk result (λ h. reply_to entities.old.allocator 1 ≡ Ok (h ∷ [])) }
+/// ensures space { IsErrOf result RequestFault.Space
+///     → IsErr (reply_to entities.old.allocator 1) }
+/// ensures counts { ¬ (IsErrOf result RequestFault.Credit)
+///     → entities.new.allocator ≡ after_take entities.old.allocator 1 }
+/// ensures credit { IsErrOf result RequestFault.Credit
+///     ↔ (2 ^ 50 ≤ entities.old.allocator.asked) }
+/// ensures unchanged { IsErrOf result RequestFault.Credit → entities.new ≡ entities.old }
+/// ensures rows { entities.new.rows ≡ entities.old.rows }
+/// ensures rows_of_living { HasRowsOfLiving entities.new }
+/// ```
+///
+/// </details>
 #[inline]
-pub fn request(entities: &mut Entities) -> Result<Handle, RequestFault>
-    // ensures served { IfOk result (λ h. reply_to entities.old.allocator 1 ≡ Ok (h ∷ [])) }
-    // ensures space { IsErrOf result RequestFault.Space
-    //     → IsErr (reply_to entities.old.allocator 1) }
-    // ensures counts { ¬ (IsErrOf result RequestFault.Credit)
-    //     → entities.new.allocator ≡ after_take entities.old.allocator 1 }
-    // ensures credit { IsErrOf result RequestFault.Credit
-    //     ↔ (2 ^ 50 ≤ entities.old.allocator.asked) }
-    // ensures unchanged { IsErrOf result RequestFault.Credit → entities.new ≡ entities.old }
-    // ensures rows { entities.new.rows ≡ entities.old.rows }
-    // ensures rows_of_living { HasRowsOfLiving entities.new }
-{
+pub fn request(entities: &mut Entities) -> Result<Handle, RequestFault> {
     let high = entities.cursor();
     if entities.asked() >= MOST {
         return Err(RequestFault::Credit);

@@ -19,18 +19,34 @@ impl Stopped {
     }
 
     /// Where it stopped.
+    ///
+    /// <details><summary>Contract</summary>
+    ///
+    /// In the words of the folder `specs/` of crate `ent_total`:
+    ///
+    /// ```text
+    /// ensures { result ≡ self.now.stop }
+    /// ```
+    ///
+    /// </details>
     #[inline]
-    pub fn stop(&self) -> Stop
-        // ensures { result ≡ self.now.stop }
-    {
+    pub fn stop(&self) -> Stop {
         self.stop
     }
 
     /// The number of the world of the queues.
+    ///
+    /// <details><summary>Contract</summary>
+    ///
+    /// In the words of the folder `specs/` of crate `ent_total`:
+    ///
+    /// ```text
+    /// ensures { result ≡ self.now.queues.world }
+    /// ```
+    ///
+    /// </details>
     #[inline]
-    pub fn world(&self) -> u64
-        // ensures { result ≡ self.now.queues.world }
-    {
+    pub fn world(&self) -> u64 {
         self.queues.world()
     }
 

@@ -8,7 +8,6 @@ use crate::proved::ent_total::world_phase::WorldPhase;
 use crate::proved::ent_queue::CommandQueue;
 use crate::proved::ent_shared::Reserver;
 use crate::proved::ent_world::{OpenWorld, World};
-use crate::kit::alloc::Global;
 use crate::kit::sync::Arc;
 
 /// A world that was not opened.
@@ -21,9 +20,8 @@ pub struct Unopened {
 
 /// A phase of a world that has no number yet, with all its reservers.
 pub struct WorldOpening {
-    alloc: Global,
     of_world: u64,
-    world: Arc<OpenWorld, Global>,
+    world: Arc<OpenWorld>,
     home: Vec<Reserver>,
 }
 
@@ -33,21 +31,29 @@ pub struct WorldOpening {
 ///
 /// [`Unopened`] says why, and has the world as it was. It is the first of these that holds:
 /// [`ShareFault::NeedsFlush`], [`ShareFault::Count`], [`ShareFault::Memory`].
+///
+/// <details><summary>Contract</summary>
+///
+/// In the words of the folder `specs/` of crate `ent_total`:
+///
+/// ```text
+/// ensures of_world { IfOk result (λ o. o.of_world ≡ world.number) }
+/// ensures shared { IfOk result (λ o. (o.world.shared.start ≡ world.world.allocator)
+///     × (o.world.shared.count ≡ count)) }
+/// ensures world { IfOk result (λ o. (o.world.phase ≡ world.world.phase)
+///     × (o.world.entities ≡ world.world.entities)) }
+/// ensures home { IfOk result (λ o.
+///     records_of o.home ≡ opened_records world.world.allocator 0 count) }
+/// ensures needs_flush { IsErrWith result (λ u. u.why ≡ NeedsFlush)
+///     ↔ (0 < world.world.allocator.asked) }
+/// ensures no_count { IsErrWith result (λ u. u.why ≡ Count)
+///     ↔ ((world.world.allocator.asked ≡ 0) × ((count ≡ 0) ⊎ (1024 < count))) }
+/// ensures handed_back { IfErr result (λ u. u.world ≡ world) }
+/// ```
+///
+/// </details>
 #[inline]
-pub fn open(alloc: Global, world: NumberedWorld, count: usize) -> Result<WorldOpening, Unopened>
-    // ensures of_world { IfOk result (λ o. o.of_world ≡ world.number) }
-    // ensures shared { IfOk result (λ o. (o.world.shared.start ≡ world.world.allocator)
-    //     × (o.world.shared.count ≡ count)) }
-    // ensures world { IfOk result (λ o. (o.world.phase ≡ world.world.phase)
-    //     × (o.world.entities ≡ world.world.entities)) }
-    // ensures home { IfOk result (λ o.
-    //     records_of o.home ≡ opened_records world.world.allocator 0 count) }
-    // ensures needs_flush { IsErrWith result (λ u. u.why ≡ NeedsFlush)
-    //     ↔ (0 < world.world.allocator.asked) }
-    // ensures no_count { IsErrWith result (λ u. u.why ≡ Count)
-    //     ↔ ((world.world.allocator.asked ≡ 0) × ((count ≡ 0) ⊎ (1024 < count))) }
-    // ensures handed_back { IfErr result (λ u. u.world ≡ world) }
-{
+pub fn open(world: NumberedWorld, count: usize) -> Result<WorldOpening, Unopened> {
     if world.world.needs_flush() {
         return Err(Unopened {
             world,
@@ -61,7 +67,7 @@ pub fn open(alloc: Global, world: NumberedWorld, count: usize) -> Result<WorldOp
         });
     }
     let NumberedWorld { world, number } = world;
-    match WorldOpening::new(alloc, world, count, number) {
+    match WorldOpening::new(world, count, number) {
         Ok(opening) => Ok(opening),
         Err(world) => Err(Unopened {
             world: NumberedWorld { world, number },
@@ -73,7 +79,7 @@ pub fn open(alloc: Global, world: NumberedWorld, count: usize) -> Result<WorldOp
 impl WorldOpening {
     /// Opens a flushed world. If memory runs out, it comes back.
     #[inline]
-    fn new(alloc: Global, world: World, count: usize, of_world: u64) -> Result<Self, World>
+    fn new(world: World, count: usize, of_world: u64) -> Result<Self, World>
         // requires flushed { world.allocator.asked ≡ 0 }
         // requires some { 0 < count }
         // requires few { count ≤ 1024 }
@@ -90,9 +96,8 @@ impl WorldOpening {
             Ok(made) => made,
             Err((world, _)) => return Err(world),
         };
-        match Arc::new(alloc, opened) {
+        match Arc::new(opened) {
             Ok(world) => Ok(WorldOpening {
-                alloc,
                 of_world,
                 world,
                 home,
@@ -104,7 +109,7 @@ impl WorldOpening {
     /// The phase, under a number by which it is told from all others. All its reservers are at home,
     /// and no queue is.
     #[inline]
-    pub fn numbered<J: Numbering>(self, number: u64) -> WorldPhase<J>
+    pub(crate) fn numbered<J: Numbering>(self, number: u64) -> WorldPhase<J>
         // requires stands_for { J.world_of number ≡ self.world }
         // ensures { result ≡ record {
         //   number = number;
@@ -115,12 +120,11 @@ impl WorldOpening {
         // } }
     {
         let WorldOpening {
-            alloc,
             of_world,
             world,
             home,
         } = self;
-        let none = Vec::new(alloc);
-        WorldPhase::new(alloc, of_world, world, home, none, number)
+        let none = Vec::new();
+        WorldPhase::new(of_world, world, home, none, number)
     }
 }

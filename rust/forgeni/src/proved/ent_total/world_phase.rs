@@ -9,15 +9,13 @@ use crate::proved::ent_handle::Memory;
 use crate::proved::ent_queue::{CommandQueue, Commands};
 use crate::proved::ent_shared::Reserver;
 use crate::proved::ent_world::OpenWorld;
-use crate::kit::alloc::Global;
 use core::marker::PhantomData;
 use crate::kit::sync::Arc;
 
 /// A world in a phase, with the reservers that no issuer has, and the queues that came home.
 pub struct WorldPhase<J: Numbering> {
-    alloc: Global,
     of_world: u64,
-    world: Arc<OpenWorld, Global>,
+    world: Arc<OpenWorld>,
     home: Vec<Reserver>,
     queues: Vec<CommandQueue>,
     number: u64,
@@ -35,9 +33,8 @@ pub(super) struct Parts {
 impl<J: Numbering> WorldPhase<J> {
     #[inline]
     pub(super) fn new(
-        alloc: Global,
         of_world: u64,
-        world: Arc<OpenWorld, Global>,
+        world: Arc<OpenWorld>,
         home: Vec<Reserver>,
         queues: Vec<CommandQueue>,
         number: u64,
@@ -53,7 +50,6 @@ impl<J: Numbering> WorldPhase<J> {
         // } }
     {
         WorldPhase {
-            alloc,
             of_world,
             world,
             home,
@@ -64,26 +60,50 @@ impl<J: Numbering> WorldPhase<J> {
     }
 
     /// How many systems it has, whether they issue, are at home or were lost.
+    ///
+    /// <details><summary>Contract</summary>
+    ///
+    /// In the words of the folder `specs/` of crate `ent_total`:
+    ///
+    /// ```text
+    /// ensures { result ≡ self.now.world.shared.count }
+    /// ```
+    ///
+    /// </details>
     #[inline]
-    pub fn count(&self) -> usize
-        // ensures { result ≡ self.now.world.shared.count }
-    {
+    pub fn count(&self) -> usize {
         self.world.shared().count()
     }
 
     /// How many of them are at home.
+    ///
+    /// <details><summary>Contract</summary>
+    ///
+    /// In the words of the folder `specs/` of crate `ent_total`:
+    ///
+    /// ```text
+    /// ensures { result ≡ length self.now.home }
+    /// ```
+    ///
+    /// </details>
     #[inline]
-    pub fn at_home(&self) -> usize
-        // ensures { result ≡ length self.now.home }
-    {
+    pub fn at_home(&self) -> usize {
         self.home.len()
     }
 
     /// The world that is open. Its `view` shows it as it was opened.
+    ///
+    /// <details><summary>Contract</summary>
+    ///
+    /// In the words of the folder `specs/` of crate `ent_total`:
+    ///
+    /// ```text
+    /// ensures { result.now ≡ self.now.world }
+    /// ```
+    ///
+    /// </details>
     #[inline]
-    pub fn world(&self) -> &OpenWorld
-        // ensures { result.now ≡ self.now.world }
-    {
+    pub fn world(&self) -> &OpenWorld {
         &self.world
     }
 
@@ -102,16 +122,24 @@ impl<J: Numbering> WorldPhase<J> {
     ///
     /// `Memory` if a reserver is at home, but there is no room for another owner of the phase. Then
     /// nothing has changed.
+    ///
+    /// <details><summary>Contract</summary>
+    ///
+    /// In the words of the folder `specs/` of crate `ent_total`:
+    ///
+    /// ```text
+    /// ensures given { IfOk result (λ found. IfSome found (λ i.
+    ///     (i.number ≡ self.old.number) × (i.world ≡ self.old.world) × (i.queue ≡ [])
+    ///     × (self.old ≡ record self.new { home = self.new.home ++ i.reserver ∷ [] }))) }
+    /// ensures none { IfOk result (λ found. IfNone found
+    ///     ((self.old.home ≡ []) × (self.new ≡ self.old))) }
+    /// ensures none_home { (result ≡ Ok None) ↔ (self.old.home ≡ []) }
+    /// ensures err { OnErr result (self.new ≡ self.old) }
+    /// ```
+    ///
+    /// </details>
     #[inline]
-    pub fn issuer(&mut self) -> Result<Option<Issuer<J>>, Memory>
-        // ensures given { IfOk result (λ found. IfSome found (λ i.
-        //     (i.number ≡ self.old.number) × (i.world ≡ self.old.world) × (i.queue ≡ [])
-        //     × (self.old ≡ record self.new { home = self.new.home ++ i.reserver ∷ [] }))) }
-        // ensures none { IfOk result (λ found. IfNone found
-        //     ((self.old.home ≡ []) × (self.new ≡ self.old))) }
-        // ensures none_home { (result ≡ Ok None) ↔ (self.old.home ≡ []) }
-        // ensures err { OnErr result (self.new ≡ self.old) }
-    {
+    pub fn issuer(&mut self) -> Result<Option<Issuer<J>>, Memory> {
         if self.home.is_empty() {
             return Ok(None);
         }
@@ -121,7 +149,7 @@ impl<J: Numbering> WorldPhase<J> {
         let Some(mut reserver) = self.home.pop() else {
             unreachable!()
         };
-        let queue = Commands::new(self.alloc, world.shared(), &mut reserver).finish();
+        let queue = Commands::new(world.shared(), &mut reserver).finish();
         Ok(Some(Issuer {
             world,
             reserver,
@@ -164,7 +192,6 @@ impl<J: Numbering> WorldPhase<J> {
         // ensures err { IfErr result (λ phase. phase ≡ self) }
     {
         let WorldPhase {
-            alloc,
             of_world,
             world,
             home,
@@ -179,7 +206,7 @@ impl<J: Numbering> WorldPhase<J> {
                 home,
                 queues,
             }),
-            Err(world) => Err(WorldPhase::new(alloc, of_world, world, home, queues, number)),
+            Err(world) => Err(WorldPhase::new(of_world, world, home, queues, number)),
         }
     }
 
@@ -188,6 +215,6 @@ impl<J: Numbering> WorldPhase<J> {
     pub(super) fn no_issued(&self) -> Vec<Issued<J>>
         // ensures { result.items ≡ [] }
     {
-        Vec::new(self.alloc)
+        Vec::new()
     }
 }

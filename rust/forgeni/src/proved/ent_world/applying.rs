@@ -11,7 +11,6 @@ use crate::proved::ent_world::world::World;
 use crate::proved::ent_handle::{ComponentId, Handle, Memory};
 use crate::proved::ent_queue::{BundleRef, CommandQueue, Entry, HandlesRef};
 use crate::proved::ent_shared::Refused;
-use crate::kit::alloc::Global;
 
 /// What commands are applied with, beside the world.
 pub(super) struct Applying {
@@ -23,12 +22,12 @@ pub(super) struct Applying {
 
 impl Applying {
     #[inline]
-    pub(super) fn new(alloc: Global) -> Self
+    pub(super) fn new() -> Self
         // ensures { result.faults.items ≡ [] }
     {
         Applying {
-            items: Vec::new(alloc),
-            faults: Vec::new(alloc),
+            items: Vec::new(),
+            faults: Vec::new(),
         }
     }
 
