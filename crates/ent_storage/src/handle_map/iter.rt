@@ -1,4 +1,4 @@
-ghost use Rattle.std.specs.Prelude.{◌≡◌, Some, length, IfSome};
+ghost use Rattle.std.specs.Prelude.{◌≡◌, ⊤, Some, length, IfSome};
 ghost use Rattle.std.specs.Iterator.{YieldsFirstBy, YieldsLastBy, UpTo, item_count};
 ghost use Rattle.std.specs.Iterator.SizeHint.{IsWithinCount};
 
@@ -45,6 +45,27 @@ impl<'a, T> Iter<'a, T> {
             index: 0,
             left,
         }
+    }
+
+    /// The same entries once more. It takes no memory.
+    pub(super) fn again(&self) -> Self
+        ensures { result ≡ self.now }
+    {
+        Iter {
+            slots: self.slots,
+            index: self.index,
+            left: self.left,
+        }
+    }
+}
+
+impl<'a, T> Clone for Iter<'a, T> {
+    ghost is_clone = { λ it copy. copy ≡ it };
+
+    ghost is_infallible = { λ _. ⊤ };
+
+    fn clone(&self) -> Result<Self, std::alloc::AllocError> {
+        Ok(self.again())
     }
 }
 

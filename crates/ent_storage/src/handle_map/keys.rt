@@ -1,4 +1,4 @@
-ghost use Rattle.std.specs.Prelude.{◌≡◌, Some, length, map, IfSome};
+ghost use Rattle.std.specs.Prelude.{◌≡◌, ⊤, Some, length, map, IfSome};
 ghost use Rattle.std.specs.Iterator.{YieldsFirst, YieldsLast, UpTo, item_count};
 ghost use Rattle.std.specs.Iterator.SizeHint.{IsWithinCount};
 
@@ -32,6 +32,25 @@ impl<'a, T> Keys<'a, T> {
         ensures { result ≡ map (λ entry. entry.0) entries.entry }
     {
         Keys { entries }
+    }
+
+    /// The same handles once more. It takes no memory.
+    fn again(&self) -> Self
+        ensures { result ≡ self.now }
+    {
+        Keys {
+            entries: self.entries.again(),
+        }
+    }
+}
+
+impl<'a, T> Clone for Keys<'a, T> {
+    ghost is_clone = { λ it copy. copy ≡ it };
+
+    ghost is_infallible = { λ _. ⊤ };
+
+    fn clone(&self) -> Result<Self, std::alloc::AllocError> {
+        Ok(self.again())
     }
 }
 

@@ -1,4 +1,4 @@
-ghost use Rattle.std.specs.Prelude.{◌≡◌, Some, length, map, IfSome};
+ghost use Rattle.std.specs.Prelude.{◌≡◌, ⊤, Some, length, map, IfSome};
 ghost use Rattle.std.specs.Iterator.{YieldsFirstRef, YieldsLastRef, UpTo, item_count};
 ghost use Rattle.std.specs.Iterator.SizeHint.{IsWithinCount};
 
@@ -30,6 +30,25 @@ impl<'a, T> Values<'a, T> {
         ensures { result ≡ map (λ entry. entry.1) entries.entry }
     {
         Values { entries }
+    }
+
+    /// The same values once more. It takes no memory.
+    fn again(&self) -> Self
+        ensures { result ≡ self.now }
+    {
+        Values {
+            entries: self.entries.again(),
+        }
+    }
+}
+
+impl<'a, T> Clone for Values<'a, T> {
+    ghost is_clone = { λ it copy. copy ≡ it };
+
+    ghost is_infallible = { λ _. ⊤ };
+
+    fn clone(&self) -> Result<Self, std::alloc::AllocError> {
+        Ok(self.again())
     }
 }
 
