@@ -47,6 +47,10 @@ const KIT_CLONE: &[&str] = &[
     "<",
     "Self",
     ",",
+    "std",
+    "::",
+    "alloc",
+    "::",
     "AllocError",
     ">",
     "{",
@@ -148,9 +152,9 @@ impl Walk<'_> {
             self.insert(visible, format!("#[inline]\n{indent}"));
         }
         self.take_out(at + 5, at + 7);
-        self.take_out(at + 8, at + 11);
-        self.take_out(at + 12, at + 14);
-        self.take_out(at + 19, at + 20);
+        self.take_out_after(at + 8, at + 15);
+        self.take_out(at + 16, at + 18);
+        self.take_out_after(at + 23, at + 24);
         Ok(at + KIT_CLONE.len())
     }
 
