@@ -33,6 +33,7 @@ TABLE = {
     "collect_in": (2, "Rust's `Iterator` has a `collect` without an allocator"),
     "formatter": (5, "the kit's `Formatter<W>` writes to a `W`, Rust's to a `dyn Write`; each use is `write_str` or `write!`"),
     "visibility": (217, "`pub(crate)` would open a module to the whole package; too narrow a word fails to compile"),
+    "condition": (69, "a function with a `requires` may be called by proved code alone, which the package's own is; so it isn't `pub`"),
     "inline": (601, "a hint to the compiler, on each function with a body and without a hint of its own"),
     "alignment": (1, "`Handle` is aligned as the word that the package turns it into; no source reads a layout"),
     "const": (6, "what makes an allocator without memory may be called in a constant: CONSTANT lists them"),
@@ -150,6 +151,7 @@ class Unit:
 
     def __init__(self, crates, packages):
         self.crates, self.packages, self.others, self.uses = crates, packages, set(), []
+        self.conditions = set()
         self.counts, self.functions = collections.Counter(), collections.defaultdict(set)
 
     def collect(self, notes):
@@ -182,7 +184,7 @@ class Reader:
     def __init__(self, text, result, unit, first=None):
         self.text, self.unit, self.result, self.crate = text, unit, result.removesuffix(".rs"), result.split("/")[0]
         self.at, self.far, self.out, self.log, self.imports_at, self.owner, self.no_struct = 0, 0, [], [], None, "", False
-        self.error, self.errs, self.fields, self.arms, self.declared, self.of = "", False, [], "", "", ""
+        self.error, self.errs, self.fields, self.arms, self.declared, self.of, self.requires = "", False, [], "", "", "", False
         self.names, self.imports = ([first.names[0]], first.imports) if first else ([set()], {})
 
     def file(self):
@@ -342,7 +344,7 @@ class Reader:
     def is_prefix(self):
         """What stands before the names that are imported."""
         words, after = self.words()
-        self.prefix, self.left = words if after == "::" else words[:-1], []
+        self.prefix, self.left, self.taken = words if after == "::" else words[:-1], [], []
         kit = next((it for it in PATHS if "::".join([*words, ""]).startswith(it + "::")), None)
         if kit == "::".join(words) and after != "::":
             self.set("at", self.look(2 * len(self.prefix) - 1).end)
@@ -358,6 +360,7 @@ class Reader:
         old, new = self.out[mark].text, self.out[-1].text
         whole = "::".join([*self.prefix, old])
         foreign = (self.prefix or [""])[0] in self.unit.packages - self.unit.crates
+        self.taken.append(old)
         if new in self.unit.packages | PRELUDE:
             self.use("refused", f"an import named `{new}`")
         self.imports[new] = whole if foreign else ""
@@ -371,6 +374,23 @@ class Reader:
         if not all(self.left):
             self.out += [it for it in self.cut(mark) if it.text not in ("{", ",", "}")]
         self.imports_at = mark if self.imports_at is None else self.imports_at
+        found = [self.has_condition(it) for it in self.taken]
+        if any(found) and self.out[mark].text == "pub":
+            self.narrow(mark) if all(found) else self.use("refused", "a `pub use` of which a part has a condition")
+
+    def has_condition(self, name):
+        """Whether an imported name is that of a function with a condition: in the file that the path leads to, or else in the crate."""
+        first, *rest = self.prefix or [""]
+        crate = self.crate if first == "crate" else first if first in self.unit.crates else None
+        path = "/".join([crate, *rest] if crate else [self.result.removesuffix("/mod"), *self.prefix])
+        return any(it == name and (file == path or file.startswith(path + "/")) for file, it in self.unit.conditions)
+
+    def narrow(self, mark):
+        """`pub` becomes `pub(crate)`, where nothing else says more."""
+        at = next(at for at in range(mark, len(self.out)) if self.out[at].text in ("pub", "fn"))
+        if self.out[at].text == "pub" and self.out[at + 1].text != "(":
+            rest = self.cut(at + 1)
+            self.out += rest if self.add("(crate)", "condition") else []
 
     def is_method(self):
         name = self.look().text
@@ -456,10 +476,15 @@ class Reader:
         at = max(at for at in range(notes) if self.log[at][0] == "function")
         self.log[at] = ("function", self.log[at][1], (self.owner, receiver))
 
-    def after_function(self, mark, _):
-        if self.out[-1].text == "}" and self.out[mark].text != "#":
-            body = self.cut(mark)
-            self.out += body if self.add("#[inline]", "inline") else []
+    def after_function(self, mark, notes):
+        if self.requires:
+            name = next(name for kind, name, _ in self.log[notes:] if kind == "function")
+            self.unit.conditions |= set() if self.owner else {(self.result, name)}
+            self.narrow(mark)
+        at = next(at for at in range(mark, len(self.out)) if self.out[at].text in ("pub", "const", "fn"))
+        if self.out[-1].text == "}" and not {"inline", "cold"} & {it.text for it in self.out[mark:at]}:
+            rest = self.cut(at)
+            self.out += rest if self.add("#[inline]", "inline") else []
 
 
 # The grammar: `-` reads and writes nothing, `&` and `!` look ahead, `%` is a list with commas, a word in capitals is one of WORDS or `is_..`.
@@ -474,8 +499,9 @@ use       = visible? 'use' PREFIX ('{' leaf% '}' | leaf) ';'
 leaf      = NAME ('as' NAME)?
 module    = visible? 'mod' DECLARED ';'
 constant  = visible? 'const' CONSTANT ':' type ('=' expression)? ';'
-attribute = -('#' '[' ('tactic' | 'cycle') group ']') | '#' '[' 'derive' DERIVES ']' | -('#' '[' 'error' '(' ERROR ')' ']') | hint
+attribute = -('#' '[' ('tactic' | 'cycle') group ']') | '#' '[' 'derive' DERIVES ']' | -('#' '[' 'error' '(' ERROR ')' ']') | hint | lint
 hint      = '#' '[' ('inline' ('(' ('always' | 'never') ')')? | 'cold') ']'
+lint      = '#' '[' ('must_use' | 'non_exhaustive') ']'
 visible   = 'pub' ('(' SCOPE ')')?
 struct    = attribute* ALIGNED visible? 'struct' DECLARED generics ('{' named '}' | ('(' unnamed% ')')? ';')
 enum      = attribute* visible? 'enum' DECLARED generics '{' variant% '}'
@@ -548,7 +574,7 @@ WORDS = {it.upper(): lambda r, it=it: r.look().kind == it and r.take() for it in
     "NAME": lambda r: r.look().kind == "id" and r.look().text not in KEYWORDS and r.take(),
     "UNTIL_SEMICOLON": lambda r: r.set("at", r.text.text.index(";", r.at)),
     "CLAUSE": lambda r: r.sees("{") and r.set("at", r.text.after_clause(r.look().start)),
-    "CLAUSE_WORD": lambda r: r.sees("requires", "ensures") and r.take(),
+    "CLAUSE_WORD": lambda r: r.sees("requires", "ensures") and r.set("requires", r.requires or r.sees("requires")) and r.take(),
     "SCOPE": lambda r: r.sees("crate", "super") and r.add("super", "visibility" if r.drop().text == "crate" else None),
     "FORMATTER": lambda r: r.imports.get("fmt") == "std::fmt" and r.add("'_"),
     "BIND": lambda r: r.word("NAME") and (r.names[-1].add(r.out[-1].text) or True),
@@ -569,6 +595,7 @@ WORDS = {it.upper(): lambda r, it=it: r.look().kind == it and r.take() for it in
 # The rules whose names are their own, those that are read in another state, and what is noted of a form.
 SCOPES = set("module struct enum impl trait function closure arm block".split())
 STATES = {"condition": {"no_struct": True}, "inner": {"no_struct": False}, "block": {"no_struct": False, "owner": ""}}
+STATES |= {it: {"requires": False} for it in ("function", "closure")}
 STATES |= {"impl": {"owner": "", "of": ""}, "trait": {"owner": ""}, "variant": {"error": "", "fields": []}}
 STATES |= {it: {"arms": "", "error": "", "errs": False} for it in ("struct", "enum")}
 NOTES = {"writer": ("count", "formatter"), "ghost": ("count", "(ghost members and imports)")}

@@ -35,7 +35,7 @@ impl Walk<'_> {
 
     /// One token of code, and what belongs to it.
     pub(crate) fn code_token(&mut self, at: usize) -> Next {
-        if let Some(end) = self.rights.end(at) {
+        if let Some(end) = self.gone_end(at) {
             self.take_out_part(at, end);
             return Ok(end);
         }
@@ -278,12 +278,18 @@ impl Walk<'_> {
         let name = self.source.at(at);
         if !["::", "."].contains(&self.source.before(at)) {
             self.check_right(at)?;
+            let is_ghost = self.names.ghost_traits.contains(name);
+            if is_ghost || self.types.is_ghost(self.source, at) {
+                let what = format!("an unknown form of a ghost type: `{name}`");
+                return Err(self.source.fault(at, what));
+            }
             self.need(at)?;
             let is_field = self.source.at(at + 1) == ":";
             if !is_field && !self.is_known(name) {
                 return Err(self.unknown_name(at));
             }
         }
+        self.rename_call(at);
         Ok(at + 1)
     }
 
@@ -402,7 +408,7 @@ impl Walk<'_> {
     fn renamed(&self, name: &str, at: usize) -> Option<&'static Renamed> {
         let fits = |argument: &&[&str]| match argument {
             ["\""] => self.source.at(at).starts_with('"'),
-            _ if *argument == forms::OF_RIGHT => self.rights.end(at).is_some(),
+            _ if *argument == forms::OF_RIGHT => self.rights.gone.contains_key(&at),
             _ => self.source.has(at, argument),
         };
         let mut all = self.names.forms.iter().flat_map(|forms| forms.renamed);

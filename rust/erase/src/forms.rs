@@ -55,6 +55,9 @@ pub const RIGHT_TYPES: &[&str] = &["Arc", "Table", "Vec"];
 /// In a list of how arguments may begin: the right to allocate, and no more.
 pub const OF_RIGHT: &[&str] = &["alloc"];
 
+/// The type by which a struct has a type parameter that none of its other fields has.
+pub const PHANTOM: &str = "PhantomData";
+
 /// Attributes that speak to the prover.
 pub const GHOST_ATTRIBUTES: &[&str] = &["tactic", "cycle"];
 
@@ -424,6 +427,27 @@ pub fn is_padded(krate: &str, path: &str) -> bool {
 
 /// The path of the macro that pads.
 pub const PADDING: &str = "crate::kit::padded";
+
+/// A function of a type that has another name in the package.
+pub struct RenamedFunction {
+    /// The crate that declares the type.
+    pub krate: &'static str,
+    /// The type. No other crate declares one of its name.
+    pub of: &'static str,
+    /// The function's name in the sources.
+    pub from: &'static str,
+    /// Its name in the result.
+    pub to: &'static str,
+}
+
+/// Those functions. The allocator's `new` has a parameter, the limits. In Rust `new()` has none, so the package adds
+/// it, and has the sources' own by the name that such a function usually has.
+pub const RENAMED_FUNCTIONS: &[RenamedFunction] = &[RenamedFunction {
+    krate: "ent_alloc",
+    of: "Entities",
+    from: "new",
+    to: "with_limits",
+}];
 
 /// Functions that are `const` in the package, so that a `const` or a `static` can have what they make: the crate,
 /// the file and the function. In the kit what they call isn't `const`.

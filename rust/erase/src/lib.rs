@@ -18,6 +18,7 @@ pub mod edit;
 mod erase;
 pub mod forms;
 mod functions;
+mod ghost_types;
 pub mod host;
 mod items;
 pub mod lex;

@@ -6,6 +6,7 @@
 
 use crate::conditions::has_condition;
 use crate::forms::{self, Forms};
+use crate::ghost_types;
 use crate::memory::Fields;
 use crate::source::{Fault, Source};
 use std::collections::{BTreeMap, BTreeSet};
@@ -25,6 +26,12 @@ pub struct Names {
     aliases: BTreeSet<String>,
     /// Their traits.
     pub traits: BTreeSet<String>,
+    /// Those of them that have ghost members only.
+    pub(crate) ghost_traits: BTreeSet<String>,
+    /// Their structs with a field that is a `PhantomData` of a ghost type, and the field.
+    pub(crate) phantoms: BTreeSet<(String, String)>,
+    /// The paths of those of them in which all is ghost.
+    pub(crate) ghost_files: BTreeSet<String>,
     /// Their functions that take a `self`. For each name, whether all functions of that name only look at it.
     pub methods: BTreeMap<String, bool>,
     /// The ghost members that their traits declare.
@@ -133,10 +140,23 @@ impl Names {
         }
         match kind {
             "struct" | "enum" => {
+                let renamed = forms::RENAMED_FUNCTIONS.iter().find(|it| it.of == name);
+                if renamed.is_some_and(|it| it.krate != krate(source)) {
+                    return Err(taken(source, at + 1));
+                }
                 let files = self.types.entry(name.to_owned()).or_default();
                 files.insert(source.path.to_owned());
             }
-            "trait" => drop(self.traits.insert(name.to_owned())),
+            "trait" => {
+                let is_ghost = ghost_types::is_ghost_trait(source, at);
+                let is_new = self.traits.insert(name.to_owned());
+                if !is_new && (is_ghost || self.ghost_traits.contains(name)) {
+                    return Err(taken(source, at + 1));
+                }
+                if is_ghost {
+                    self.ghost_traits.insert(name.to_owned());
+                }
+            }
             "type" if !is_member => drop(self.aliases.insert(name.to_owned())),
             "fn" => {
                 if !is_member {
@@ -204,6 +224,10 @@ impl Names {
     ///
     /// One is for a type that isn't the sources' own, or of a trait that isn't known.
     pub fn add_blocks(&mut self, source: &Source<'_>) -> Result<(), Fault> {
+        self.phantoms.extend(ghost_types::phantoms(source, self));
+        if ghost_types::is_ghost(source, self) {
+            self.ghost_files.insert(source.path.to_owned());
+        }
         for at in 0..source.len() {
             if source.at(at) != "impl" || !begins_item(source, at) {
                 continue;
@@ -211,7 +235,7 @@ impl Names {
             let header = header(source, at)?;
             if header
                 .implemented
-                .is_some_and(|name| forms::GHOST_TRAITS.contains(&name))
+                .is_some_and(|name| self.is_ghost_trait(name))
             {
                 continue;
             }
@@ -338,6 +362,11 @@ impl Names {
         let folder = format!("crates/{krate}/");
         let mut files = self.types.get(name).into_iter().flatten();
         files.any(|file| file.starts_with(&folder))
+    }
+
+    /// Whether each `impl` of the trait is ghost as a whole.
+    pub(crate) fn is_ghost_trait(&self, name: &str) -> bool {
+        forms::GHOST_TRAITS.contains(&name) || self.ghost_traits.contains(name)
     }
 
     /// Whether this is another name for a type, which may be a type of std.

@@ -116,7 +116,11 @@ fn erased(crates: &[Crate], target: &Target, names: &Names) -> Result<Files, Box
     let mut files = Files::new();
     let mut faults = Vec::new();
     for krate in crates {
-        for file in &krate.files {
+        for file in krate
+            .files
+            .iter()
+            .filter(|file| !names.ghost_files.contains(&file.path))
+        {
             let path = folder.join(&krate.name).join(&file.result);
             match audited(krate, file, &path, names) {
                 Ok(text) => drop(files.insert(path, text)),

@@ -13,7 +13,7 @@ use crate::c::D;
 use ent_other::E;
 use std::alloc::Global;
 use std::fmt;
-use std::marker::Model;
+use std::marker::{Model, PhantomData};
 use std::sync::Arc;
 use thiserror::Error;
 
@@ -86,6 +86,24 @@ impl Q {
         u(t, alloc, |_: Global, v: u8| w(v));
         let Self { r, alloc } = s(self.alloc, t);
         Q { alloc, r }
+    }
+}
+
+/// Of x.
+pub trait X {
+    ghost y: { A };
+}
+
+/// Of z.
+struct Z<J: X> {
+    of: PhantomData<J>,
+    r: u8,
+}
+
+impl<J: X> Z<J> {
+    fn of_z<K: X>(self, t: Z<K>, v: &Z<K>) -> Vec<Z<J>> {
+        let Z { of: _, r } = self;
+        d::<J>(Z { r, of: PhantomData })
     }
 }
 

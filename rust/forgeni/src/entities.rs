@@ -87,7 +87,7 @@ impl Entities {
     /// An allocator with no entities and these limits. It takes no memory.
     #[must_use]
     pub const fn with_limits(limits: Limits) -> Self {
-        Self::of(ent_alloc::Entities::new(limits.proved()))
+        Self::of(ent_alloc::Entities::with_limits(limits.proved()))
     }
 
     /// An allocator with no entities and these limits, as [`with_limits`](Self::with_limits) makes

@@ -5,7 +5,7 @@ use crate::component::{Birth, ComponentId};
 use crate::errors::OutOfMemory;
 use crate::handle::Handle;
 use crate::kit::vec::Vec as List;
-use crate::numbers::{next_number, Numbers};
+use crate::numbers::next_number;
 use crate::proved::ent_total::{self, FinishFault, NumberedWorld, ShareFault};
 use crate::sync::Queues;
 use crate::world::World;
@@ -16,9 +16,9 @@ use core::fmt;
 /// The greatest number of systems of a phase.
 const SYSTEMS: usize = 1024;
 
-type Phase = ent_total::WorldPhase<Numbers>;
-type Issued = ent_total::Issued<Numbers>;
-type Ended = Result<(NumberedWorld, ent_total::Queues), ent_total::Unfinished<Numbers>>;
+type Phase = ent_total::WorldPhase;
+type Issued = ent_total::Issued;
+type Ended = Result<(NumberedWorld, ent_total::Queues), ent_total::Unfinished>;
 
 /// A world in a phase. It can be read, as it was when it was opened.
 ///
@@ -299,7 +299,7 @@ pub struct Unfinished {
 
 impl Unfinished {
     /// The phase goes on. The queues are handed back in the memory of the list that had them.
-    fn of(refused: ent_total::Unfinished<Numbers>, next: Birth) -> Self {
+    fn of(refused: ent_total::Unfinished, next: Birth) -> Self {
         let queues: Vec<Issued> = refused.queues.into();
         Self {
             open: OpenWorld {

@@ -4,7 +4,7 @@ use crate::entities::Entities;
 use crate::errors::{CloseError, OtherPhase, OutOfMemory, Refused, ShareError, Unclosed, Unshared};
 use crate::handle::Handle;
 use crate::kit::vec::Vec as List;
-use crate::numbers::{next_number, Numbers};
+use crate::numbers::next_number;
 use crate::proved::{ent_alloc, ent_handle, ent_total};
 use alloc::vec::Vec;
 use core::fmt;
@@ -12,8 +12,8 @@ use core::fmt;
 /// How many callers an allocator may be shared among.
 const MOST_CALLERS: usize = 1024;
 
-type Phase = ent_total::Phase<Numbers>;
-type Caller = ent_total::Caller<Numbers>;
+type Phase = ent_total::Phase;
+type Caller = ent_total::Caller;
 
 /// An allocator while it is shared: [`Entities::share`] made it, with its reservers.
 ///
@@ -179,7 +179,7 @@ impl Shared {
     fn end(
         self,
         mut reservers: Vec<Reserver>,
-        close: fn(Phase, List<Caller>) -> Result<ent_alloc::Entities, ent_total::Unclosed<Numbers>>,
+        close: fn(Phase, List<Caller>) -> Result<ent_alloc::Entities, ent_total::Unclosed>,
     ) -> Result<Entities, Unclosed> {
         // There is room for those of this phase alone.
         if !reservers.iter().all(|one| one.is_of(&self)) {
@@ -198,11 +198,7 @@ impl Shared {
     }
 
     /// The phase goes on, and the reservers are handed back in the list in which they came.
-    fn unclosed(
-        refused: ent_total::Unclosed<Numbers>,
-        mut reservers: Vec<Reserver>,
-        pool: u64,
-    ) -> Unclosed {
+    fn unclosed(refused: ent_total::Unclosed, mut reservers: Vec<Reserver>, pool: u64) -> Unclosed {
         let mut room: Vec<Caller> = refused.callers.into();
         let handed_back = room.drain(..).map(|proved| Reserver::of(proved, pool));
         reservers.extend(handed_back);

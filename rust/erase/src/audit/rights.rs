@@ -39,9 +39,9 @@ impl Audit<'_> {
         let is_begin = ["(", ",", "{", "|"].contains(&source.before(at));
         let is_field = is_begin && is_in_braces || ["pub", ")"].contains(&source.before(at));
         let label = self.names.fields.has(source.at(at)) && source.at(at + 1) == ":";
-        let end = if source.has(at + 1, &[":", forms::RIGHT]) && (is_begin || is_field) {
-            at + 3
-        } else if label && is_in_braces && source.at(at + 2) == "_" {
+        let is_typed = source.has(at + 1, &[":", forms::RIGHT]) && (is_begin || is_field);
+        let is_passed = label && is_in_braces && source.at(at + 2) == "_";
+        let end = if is_typed || is_passed {
             at + 3
         } else if is_begin && label && is_in_braces {
             self.right_value(at + 2)?

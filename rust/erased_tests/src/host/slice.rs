@@ -3,7 +3,7 @@
 use crate::kit::alloc::AllocError;
 use crate::kit::vec::Vec;
 
-/// `to_vec` that is handed the right to allocate.
+/// The kit's `to_vec`.
 pub trait ToKitVec<T> {
     fn to_kit_vec(&self) -> Result<Vec<T>, AllocError>;
 }

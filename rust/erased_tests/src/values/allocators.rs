@@ -6,7 +6,7 @@ use crate::proved::ent_handle::Handle;
 
 #[test]
 fn the_greatest_limits() {
-    let mut entities = Entities::new(Limits::default_limits());
+    let mut entities = Entities::with_limits(Limits::default_limits());
     assert!(entities.room() == u32::MAX && entities.top() == 0);
     assert!(!entities.needs_flush() && entities.is_empty());
     let reserved = entities
@@ -28,7 +28,7 @@ fn a_flush_with_room_for_its_slots_is_not_refused() {
 }
 
 fn assert_flushes_one_by_one(room: usize) {
-    let mut entities = Entities::new(Limits::default_limits());
+    let mut entities = Entities::with_limits(Limits::default_limits());
     let mut out = Vec::with_capacity(room).expect("memory for a list");
     // Room is made for more than one slot at a time, so most of these flushes find some.
     for index in 0..20 {

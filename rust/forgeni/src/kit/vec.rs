@@ -280,7 +280,7 @@ impl<'a, T> IntoIterator for &'a mut Vec<T> {
     }
 }
 
-/// The kit's `collect`, which is handed the right to allocate.
+/// The kit's `collect`.
 pub trait CollectIn: Iterator + Sized {
     /// The contract: all that the iterator yields, in its order, and no memory if that is nothing. First it asks for
     /// as many places as the iterator says that there are items. If that fails, memory may still suffice for what

@@ -36,7 +36,7 @@ impl Entities {
     ///
     /// </details>
     #[inline]
-    pub const fn new(limits: Limits) -> Self {
+    pub const fn with_limits(limits: Limits) -> Self {
         Entities {
             slots: Slots::new(limits),
             requests: Requests::none(),

@@ -51,7 +51,7 @@ impl Machine {
     /// </details>
     #[inline]
     pub fn new(limits: Limits) -> Result<Self, Memory> {
-        let entities = Entities::new(limits);
+        let entities = Entities::with_limits(limits);
         prove_eq!(entities.cursor(), 0);
         Ok(Machine {
             entities,

@@ -2,27 +2,24 @@
 
 use crate::kit::vec::Vec;
 use crate::proved::ent_total::issued::Issued;
-use crate::proved::ent_total::numbering::Numbering;
 use crate::proved::ent_total::world_phase::WorldPhase;
 use crate::proved::ent_handle::{ComponentId, Handle, Memory};
 use crate::proved::ent_queue::{Bundle, CommandQueue, Commands, QueueFault};
 use crate::proved::ent_shared::Reserver;
 use crate::proved::ent_world::OpenWorld;
-use core::marker::PhantomData;
 use core::mem;
 use crate::kit::sync::Arc;
 
 /// A system of a phase while it issues its commands: its reserver, its queue so far, and the world
 /// that it views. It may go to a thread of its own.
-pub struct Issuer<J: Numbering> {
+pub struct Issuer {
     pub(super) world: Arc<OpenWorld>,
     pub(super) reserver: Reserver,
     pub(super) queue: CommandQueue,
     pub(super) number: u64,
-    pub(super) of: PhantomData<J>,
 }
 
-impl<J: Numbering> Issuer<J> {
+impl Issuer {
     /// Reserves a handle at once, by one atomic step. It is to have the components.
     ///
     /// # Errors
@@ -218,7 +215,7 @@ impl<J: Numbering> Issuer<J> {
     ///
     /// </details>
     #[inline]
-    pub fn is_of(&self, phase: &WorldPhase<J>) -> bool {
+    pub fn is_of(&self, phase: &WorldPhase) -> bool {
         self.number == phase.number()
     }
 
@@ -266,7 +263,7 @@ impl<J: Numbering> Issuer<J> {
     ///
     /// </details>
     #[inline]
-    pub fn finish(self) -> Issued<J> {
+    pub fn finish(self) -> Issued {
         Issued::new(self)
     }
 }

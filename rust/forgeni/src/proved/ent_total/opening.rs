@@ -1,7 +1,6 @@
 // Made of crates/ent_total/src/opening.rt by rust/erase. It isn't edited by hand.
 
 use crate::kit::vec::Vec;
-use crate::proved::ent_total::numbering::Numbering;
 use crate::proved::ent_total::phase::Phase;
 use crate::proved::ent_alloc::Entities;
 use crate::proved::ent_shared::{Reserver, Shared};
@@ -123,7 +122,7 @@ impl Opening {
 
     /// The phase, under a number by which it is told from all others. All its reservers are at home.
     #[inline]
-    pub(crate) fn numbered<J: Numbering>(self, number: u64) -> Phase<J>
+    pub(crate) fn numbered(self, number: u64) -> Phase
         // requires stands_for { J.shared_of number ≡ self.shared }
         // ensures { result ≡ record { number = number; shared = self.shared; home = self.home } }
     {

@@ -2,7 +2,6 @@
 
 use crate::kit::vec::Vec;
 use crate::proved::ent_total::issued::Issued;
-use crate::proved::ent_total::numbering::Numbering;
 use crate::proved::ent_total::world_phase::WorldPhase;
 
 /// Why a phase of a world was not closed.
@@ -39,11 +38,11 @@ impl core::fmt::Display for FinishFault {
 impl core::error::Error for FinishFault {}
 
 /// A phase of a world that was not closed, and goes on.
-pub struct Unfinished<J: Numbering> {
+pub struct Unfinished {
     /// The phase.
-    pub phase: WorldPhase<J>,
+    pub phase: WorldPhase,
     /// The queues that are handed back.
-    pub queues: Vec<Issued<J>>,
+    pub queues: Vec<Issued>,
     /// Why it was not closed.
     pub why: FinishFault,
 }

@@ -2,7 +2,6 @@
 
 use crate::kit::vec::Vec;
 use crate::proved::ent_total::numbered_world::NumberedWorld;
-use crate::proved::ent_total::numbering::Numbering;
 use crate::proved::ent_total::opening::{CALLERS, ShareFault};
 use crate::proved::ent_total::world_phase::WorldPhase;
 use crate::proved::ent_queue::CommandQueue;
@@ -109,7 +108,7 @@ impl WorldOpening {
     /// The phase, under a number by which it is told from all others. All its reservers are at home,
     /// and no queue is.
     #[inline]
-    pub(crate) fn numbered<J: Numbering>(self, number: u64) -> WorldPhase<J>
+    pub(crate) fn numbered(self, number: u64) -> WorldPhase
         // requires stands_for { J.world_of number ≡ self.world }
         // ensures { result ≡ record {
         //   number = number;

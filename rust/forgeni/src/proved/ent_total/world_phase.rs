@@ -3,23 +3,20 @@
 use crate::kit::vec::Vec;
 use crate::proved::ent_total::issued::Issued;
 use crate::proved::ent_total::issuer::Issuer;
-use crate::proved::ent_total::numbering::Numbering;
 use crate::proved::ent_total::world_homecoming::bring_home;
 use crate::proved::ent_handle::Memory;
 use crate::proved::ent_queue::{CommandQueue, Commands};
 use crate::proved::ent_shared::Reserver;
 use crate::proved::ent_world::OpenWorld;
-use core::marker::PhantomData;
 use crate::kit::sync::Arc;
 
 /// A world in a phase, with the reservers that no issuer has, and the queues that came home.
-pub struct WorldPhase<J: Numbering> {
+pub struct WorldPhase {
     of_world: u64,
     world: Arc<OpenWorld>,
     home: Vec<Reserver>,
     queues: Vec<CommandQueue>,
     number: u64,
-    of: PhantomData<J>,
 }
 
 /// What a phase of a world is made of, once nobody else has a part of it.
@@ -30,7 +27,7 @@ pub(super) struct Parts {
     pub(super) queues: Vec<CommandQueue>,
 }
 
-impl<J: Numbering> WorldPhase<J> {
+impl WorldPhase {
     #[inline]
     pub(super) fn new(
         of_world: u64,
@@ -55,7 +52,6 @@ impl<J: Numbering> WorldPhase<J> {
             home,
             queues,
             number,
-            of: PhantomData,
         }
     }
 
@@ -139,7 +135,7 @@ impl<J: Numbering> WorldPhase<J> {
     ///
     /// </details>
     #[inline]
-    pub fn issuer(&mut self) -> Result<Option<Issuer<J>>, Memory> {
+    pub fn issuer(&mut self) -> Result<Option<Issuer>, Memory> {
         if self.home.is_empty() {
             return Ok(None);
         }
@@ -155,13 +151,12 @@ impl<J: Numbering> WorldPhase<J> {
             reserver,
             queue,
             number: self.number,
-            of: PhantomData,
         }))
     }
 
     /// Takes systems home, in their order. If memory runs out, they are handed back.
     #[inline]
-    pub(super) fn take_home(&mut self, queues: Vec<Issued<J>>) -> Result<(), Vec<Issued<J>>>
+    pub(super) fn take_home(&mut self, queues: Vec<Issued>) -> Result<(), Vec<Issued>>
         // requires own { AreIssuersOf self.old.number queues.items }
         // ensures ok { OnOk result (self.new ≡ with_home self.old queues.items) }
         // ensures memory { OnErr result (0 < length queues.items) }
@@ -197,7 +192,6 @@ impl<J: Numbering> WorldPhase<J> {
             home,
             queues,
             number,
-            of: _,
         } = self;
         match Arc::try_unwrap(world) {
             Ok(world) => Ok(Parts {
@@ -212,7 +206,7 @@ impl<J: Numbering> WorldPhase<J> {
 
     /// A list without systems.
     #[inline]
-    pub(super) fn no_issued(&self) -> Vec<Issued<J>>
+    pub(super) fn no_issued(&self) -> Vec<Issued>
         // ensures { result.items ≡ [] }
     {
         Vec::new()

@@ -42,7 +42,7 @@ impl Checker {
     #[inline]
     pub fn new(limits: Limits) -> Self {
         Checker {
-            entities: Entities::new(limits),
+            entities: Entities::with_limits(limits),
             run: Vec::new(),
             latest: ByCaller::new(),
             wanted: 0,
