@@ -8,8 +8,9 @@ use std::marker::Model;
 
 /// The handles and values of a map, by rising slot.
 ///
-/// `HandleMap::iter` makes it. It borrows the map and copies nothing.
+/// [`HandleMap::iter`](super::HandleMap::iter) makes it. It borrows the map and copies nothing.
 #[derive(Drop)]
+#[must_use]
 pub struct Iter<'a, T> {
     slots: &'a [Slot<T>],
     index: usize,

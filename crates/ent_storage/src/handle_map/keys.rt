@@ -8,8 +8,9 @@ use std::marker::Model;
 
 /// The handles of a map that have a value, by rising slot.
 ///
-/// `HandleMap::keys` makes it. It borrows the map and copies nothing.
+/// [`HandleMap::keys`](super::HandleMap::keys) makes it. It borrows the map and copies nothing.
 #[derive(Drop)]
+#[must_use]
 pub struct Keys<'a, T> {
     entries: Iter<'a, T>,
 }

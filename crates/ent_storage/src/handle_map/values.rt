@@ -7,8 +7,9 @@ use std::marker::Model;
 
 /// The values of a map, by rising slot.
 ///
-/// `HandleMap::values` makes it. It borrows the map and copies nothing.
+/// [`HandleMap::values`](super::HandleMap::values) makes it. It borrows the map and copies nothing.
 #[derive(Drop)]
+#[must_use]
 pub struct Values<'a, T> {
     entries: Iter<'a, T>,
 }

@@ -5,7 +5,8 @@ use crate::proved::ent_handle::Handle;
 
 /// The handles and values of a map, by rising slot.
 ///
-/// `HandleMap::iter` makes it. It borrows the map and copies nothing.
+/// [`HandleMap::iter`](super::HandleMap::iter) makes it. It borrows the map and copies nothing.
+#[must_use]
 pub struct Iter<'a, T> {
     slots: &'a [Slot<T>],
     index: usize,

@@ -5,7 +5,8 @@ use crate::proved::ent_handle::Handle;
 
 /// The handles of a map that have a value, by rising slot.
 ///
-/// `HandleMap::keys` makes it. It borrows the map and copies nothing.
+/// [`HandleMap::keys`](super::HandleMap::keys) makes it. It borrows the map and copies nothing.
+#[must_use]
 pub struct Keys<'a, T> {
     entries: Iter<'a, T>,
 }

@@ -4,7 +4,8 @@ use crate::proved::ent_storage::handle_map::iter::Iter;
 
 /// The values of a map, by rising slot.
 ///
-/// `HandleMap::values` makes it. It borrows the map and copies nothing.
+/// [`HandleMap::values`](super::HandleMap::values) makes it. It borrows the map and copies nothing.
+#[must_use]
 pub struct Values<'a, T> {
     entries: Iter<'a, T>,
 }
