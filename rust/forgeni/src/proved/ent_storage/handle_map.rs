@@ -544,6 +544,28 @@ impl<T> HandleMap<T> {
     /// Calls `keep` on each value once, by rising slot, and drops the values of which it returns
     /// `false`. It may change those that stay. The room stays.
     ///
+    /// ```
+    /// use forgeni::{Entities, HandleMap};
+    ///
+    /// let mut entities = Entities::new();
+    /// let mut frames_left: HandleMap<u32> = HandleMap::new();
+    /// for (frames, one) in (1..).zip(entities.alloc_many(3)?) {
+    ///     frames_left.insert(one, frames)?;
+    /// }
+    /// frames_left.retain(|one, frames| {
+    ///     *frames -= 1;
+    ///     *frames > 0 || entities.free(one).is_err()
+    /// });
+    /// assert!(frames_left.keys().eq(&entities));
+    /// assert!(frames_left.values().eq(&[1, 2]));
+    /// # Ok::<(), Box<dyn std::error::Error + Send + Sync>>(())
+    /// ```
+    ///
+    /// # Panics
+    ///
+    /// A panic of `keep` is handed on. The map then has the values that were kept, those that `keep`
+    /// wasn't called on, and the one on which it panicked, as far as `keep` had changed it.
+    ///
     /// <details><summary>Contract</summary>
     ///
     /// In the words of the folder `specs/` of crate `ent_storage`:
