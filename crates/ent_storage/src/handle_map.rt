@@ -34,7 +34,7 @@ use std::mem;
 /// value.
 ///
 /// It is what this package recommends for components: one map for each type, beside an
-/// [`Entities`](crate::Entities) or in what a program calls its world. A look-up is one access to a
+/// [`Entities`](forgeni::Entities) or in what a program calls its world. A look-up is one access to a
 /// vector by the handle's index, and a comparison of the generation. So a map has room for as many
 /// slots as the greatest index of its handles tells, and nothing moves when a value goes.
 ///
@@ -132,7 +132,7 @@ impl<T> HandleMap<T> {
     /// A map without values, which refuses each handle whose slot is at or above this limit. It
     /// takes no memory.
     ///
-    /// [`Entities::total`](crate::Entities::total) is a limit that fits an allocator as long as it
+    /// [`Entities::total`](forgeni::Entities::total) is a limit that fits an allocator as long as it
     /// makes no new slots. [`set_limit`](Self::set_limit) changes the limit.
     #[must_use]
     pub fn with_limit(alloc: Global, limit: u32) -> Self

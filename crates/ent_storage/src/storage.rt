@@ -19,7 +19,7 @@ use std::marker::Model;
 /// the entity has.
 ///
 /// It does not know which handles an allocator has given: keep it beside an
-/// [`Entities`](crate::Entities). A [`World`](crate::World) has both.
+/// [`Entities`](forgeni::Entities). A [`World`](forgeni::World) has both.
 ///
 /// ```
 /// use forgeni::{Birth, ComponentId, Entities, Storage};

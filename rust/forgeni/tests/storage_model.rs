@@ -79,7 +79,11 @@ fn run(seed: u64) {
         let mut order: Vec<(Birth, Handle)> = model.iter().map(|(h, e)| (e.0, *h)).collect();
         order.sort_unstable();
         let handles: Vec<Handle> = order.into_iter().map(|pair| pair.1).collect();
-        assert_eq!(storage.by_birth().map(|it| it.to_vec()), Ok(handles), "{place}: by_birth");
+        assert_eq!(
+            storage.by_birth().map(|it| it.to_vec()),
+            Ok(handles),
+            "{place}: by_birth"
+        );
     }
 }
 

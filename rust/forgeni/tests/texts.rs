@@ -421,9 +421,6 @@ mod frames {
             error: OutOfMemory,
         };
         displays([(&unpooled as &dyn Display, MEMORY)]);
-        debugs([(
-            &unpooled as &dyn Debug,
-            "Unpooled { error: Memory, .. }",
-        )]);
+        debugs([(&unpooled as &dyn Debug, "Unpooled { error: Memory, .. }")]);
     }
 }

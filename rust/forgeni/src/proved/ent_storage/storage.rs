@@ -9,7 +9,7 @@ use crate::proved::ent_handle::{Birth, ComponentId, Handle, Memory};
 /// the entity has.
 ///
 /// It does not know which handles an allocator has given: keep it beside an
-/// [`Entities`](crate::proved::ent_storage::Entities). A [`World`](crate::proved::ent_storage::World) has both.
+/// [`Entities`](crate::Entities). A [`World`](crate::World) has both.
 ///
 /// ```
 /// use forgeni::{Birth, ComponentId, Entities, Storage};
