@@ -2,7 +2,8 @@
 
 //! Requests in one call each: it tests what the request needs, and lists what the request is given.
 
-use crate::kit::vec::Vec;
+use alloc::vec::Vec;
+use crate::kit::vec::FallibleVec;
 use crate::proved::ent_alloc::entities::Entities;
 use crate::proved::ent_alloc::refused::Refused;
 use crate::proved::ent_alloc::reserve_error::ReserveError;
@@ -118,7 +119,7 @@ impl Entities {
         if u64::from(n) > left {
             return Err(ReserveError::Quota { left });
         }
-        handles.reserve(n as usize)?;
+        handles.reserve_fallibly(n as usize)?;
         let span = self.lower(n);
         append(handles, self.reply(span)?);
         Ok(())

@@ -1,6 +1,6 @@
 // Made of crates/ent_alloc/src/entities.rt by rust/erase. It isn't edited by hand.
 
-use crate::kit::vec::Vec;
+use alloc::vec::Vec;
 use crate::proved::ent_alloc::absent::Absent;
 use crate::proved::ent_alloc::fault::{AllocFault, FreeFault, Freed};
 use crate::proved::ent_alloc::limits::Limits;
@@ -288,10 +288,10 @@ impl Entities {
     ///
     /// In each case nothing has changed.
     ///
-    /// - [`AllocFault::NeedsFlush`] if handles were requested since the last flush, even if the
+    /// - [`AllocError::NeedsFlush`](AllocFault::NeedsFlush) if handles were requested since the last flush, even if the
     ///   request was refused.
-    /// - [`AllocFault::Space`] if every slot has a living entity or is retired.
-    /// - [`AllocFault::Memory`] if there is no memory for a new slot. It never comes if an old slot
+    /// - [`AllocError::Space`](AllocFault::Space) if every slot has a living entity or is retired.
+    /// - [`AllocError::Memory`](AllocFault::Memory) if there is no memory for a new slot. It never comes if an old slot
     ///   waits.
     ///
     /// <details><summary>Contract</summary>
@@ -350,10 +350,10 @@ impl Entities {
     ///
     /// In each case nothing has changed.
     ///
-    /// - [`FreeFault::NeedsFlush`] if handles were requested since the last flush, even if the
+    /// - [`FreeError::NeedsFlush`](FreeFault::NeedsFlush) if handles were requested since the last flush, even if the
     ///   request was refused.
-    /// - [`FreeFault::NotAlive`] if the entity isn't alive.
-    /// - [`FreeFault::Memory`] if there is no memory for one more slot that waits. It never comes if
+    /// - [`FreeError::NotAlive`](FreeFault::NotAlive) if the entity isn't alive.
+    /// - [`FreeError::Memory`](FreeFault::Memory) if there is no memory for one more slot that waits. It never comes if
     ///   the slot is retired.
     // Not inlined, its result goes through memory.
     #[inline(always)]
@@ -415,7 +415,7 @@ impl Entities {
     ///
     /// # Errors
     ///
-    /// [`Memory`] if there is no memory for new slots or for the list. Nothing has changed then,
+    /// [`OutOfMemory`](Memory) if there is no memory for new slots or for the list. Nothing has changed then,
     /// neither here nor in `out`: all room is asked for before the first handle is listed.
     ///
     /// <details><summary>Contract</summary>

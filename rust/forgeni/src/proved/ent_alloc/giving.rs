@@ -2,7 +2,7 @@
 
 //! Many handles that are alive at once.
 
-use crate::kit::vec::Vec;
+use alloc::vec::Vec;
 use crate::proved::ent_alloc::entities::Entities;
 use crate::proved::ent_alloc::fault::AllocFault;
 use crate::proved::ent_alloc::requests::Requests;
@@ -25,10 +25,10 @@ impl Entities {
     ///
     /// In each case nothing has changed, and no handle was given.
     ///
-    /// - [`AllocFault::NeedsFlush`] if handles were requested since the last flush, even if the
+    /// - [`AllocError::NeedsFlush`](AllocFault::NeedsFlush) if handles were requested since the last flush, even if the
     ///   request was refused.
-    /// - [`AllocFault::Space`] if fewer than `n` handles can be given.
-    /// - [`AllocFault::Memory`] if there is no memory for the list or for new slots.
+    /// - [`AllocError::Space`](AllocFault::Space) if fewer than `n` handles can be given.
+    /// - [`AllocError::Memory`](AllocFault::Memory) if there is no memory for the list or for new slots.
     ///
     /// <details><summary>Contract</summary>
     ///
