@@ -266,6 +266,9 @@ impl Audit<'_> {
         let (source, at) = (self.source, self.at);
         let mut all = forms::RENAMED_FUNCTIONS.iter();
         let is_renamed = |it: &&forms::RenamedFunction| {
+            if ![source.at(at + 1), source.at(at + 2)].contains(&it.from) {
+                return false;
+            }
             let of = (0..at).rev().find(|at| source.at(*at) == "impl");
             let is_own = it.krate == self.krate && of.is_some_and(|of| source.at(of + 1) == it.of);
             let owner = source.at(at);
