@@ -1,6 +1,6 @@
 //! A reserver that is lent.
 
-use crate::errors::{OtherPhase, Refused};
+use crate::errors::{OtherPhase, Refused, ReserveError};
 use crate::handle::Handle;
 use crate::sharing::Reserver;
 use alloc::vec::Vec;
@@ -43,7 +43,7 @@ impl<'a> Lent<'a> {
     ///
     /// As there.
     #[inline]
-    pub fn reserve_many(&mut self, n: u32) -> Result<Vec<Handle>, Refused> {
+    pub fn reserve_many(&mut self, n: u32) -> Result<Vec<Handle>, ReserveError> {
         self.reserver.reserve_many(n)
     }
 
@@ -53,7 +53,7 @@ impl<'a> Lent<'a> {
     ///
     /// As there.
     #[inline]
-    pub fn reserve_into(&mut self, handles: &mut Vec<Handle>, n: u32) -> Result<(), Refused> {
+    pub fn reserve_into(&mut self, handles: &mut Vec<Handle>, n: u32) -> Result<(), ReserveError> {
         self.reserver.reserve_into(handles, n)
     }
 

@@ -1,7 +1,8 @@
 //! An allocator that many threads reserve from at once.
 
 use crate::entities::Entities;
-use crate::errors::{CloseError, OtherPhase, OutOfMemory, Refused, ShareError, Unclosed, Unshared};
+use crate::errors::{CloseError, OtherPhase, OutOfMemory, Refused, ReserveError, ShareError};
+use crate::errors::{Unclosed, Unshared};
 use crate::handle::Handle;
 use crate::numbers::next_number;
 use crate::proved::{ent_alloc, ent_handle, ent_total};
@@ -36,7 +37,7 @@ impl Shared {
     ) -> Result<(Self, Vec<Reserver>), Unshared> {
         let Ok((reservers, room)) = Self::rooms(callers.min(MOST_CALLERS)) else {
             return Err(Unshared {
-                entities: Entities::of(entities),
+                entities,
                 error: ShareError::Memory,
             });
         };
@@ -79,7 +80,7 @@ impl Shared {
     fn undo(phase: Phase) -> Unshared {
         match phase.close_lost(Vec::new()) {
             Ok(entities) => Unshared {
-                entities: Entities::of(entities),
+                entities,
                 error: ShareError::Memory,
             },
             Err(_) => unreachable!("nobody else has a part of the phase"),
@@ -191,7 +192,7 @@ impl Shared {
         let (mut callers, pool) = (self.room, self.pool);
         callers.extend(reservers.drain(..).map(|one| one.proved));
         match close(self.proved, callers) {
-            Ok(entities) => Ok(Entities::of(entities)),
+            Ok(entities) => Ok(entities),
             Err(refused) => Err(Self::unclosed(refused, reservers, pool)),
         }
     }
@@ -272,7 +273,7 @@ impl Reserver {
     /// of it, and then nothing has changed.
     #[inline]
     pub fn reserve(&mut self) -> Result<Handle, Refused> {
-        Ok(self.proved.reserve()?)
+        self.proved.reserve()
     }
 
     /// Reserves `n` handles at once, by one atomic step: all of them or none. They stand in the
@@ -290,7 +291,7 @@ impl Reserver {
     /// others have left too few handles, the error may be `Memory`. A request for more than the pool had
     /// when the phase was opened takes no memory, and returns `Space`.
     #[inline]
-    pub fn reserve_many(&mut self, n: u32) -> Result<Vec<Handle>, Refused> {
+    pub fn reserve_many(&mut self, n: u32) -> Result<Vec<Handle>, ReserveError> {
         let mut handles = Vec::new();
         self.reserve_into(&mut handles, n)?;
         Ok(handles)
@@ -303,9 +304,9 @@ impl Reserver {
     ///
     /// As of [`reserve_many`](Self::reserve_many), and then the list is as it was.
     #[inline]
-    pub fn reserve_into(&mut self, handles: &mut Vec<Handle>, n: u32) -> Result<(), Refused> {
+    pub fn reserve_into(&mut self, handles: &mut Vec<Handle>, n: u32) -> Result<(), ReserveError> {
         if self.may_give(n) && handles.try_reserve(n as usize).is_err() {
-            return Err(Refused::Memory);
+            return Err(ReserveError::Memory);
         }
         Ok(self.proved.reserve_many(&mut Listing(handles), n)?)
     }
