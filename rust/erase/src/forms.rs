@@ -43,6 +43,18 @@ pub const GHOST_TRAITS: &[&str] = &["Model"];
 /// derives and from bounds.
 pub const DROP: &str = "Drop";
 
+/// The type of the right to allocate, which the kit's `std::alloc` has. A value of it goes, wherever it is handed on.
+pub const RIGHT: &str = "Global";
+
+/// Types of the kit whose last argument may be that type.
+pub const RIGHT_TYPES: &[&str] = &["Arc", "Table", "Vec"];
+
+/// In a list of how arguments may begin: the right to allocate, and no more.
+pub const OF_RIGHT: &[&str] = &["alloc"];
+
+/// The type by which a struct has a type parameter that none of its other fields has.
+pub const PHANTOM: &str = "PhantomData";
+
 /// Attributes that speak to the prover.
 pub const GHOST_ATTRIBUTES: &[&str] = &["tactic", "cycle"];
 
@@ -182,8 +194,55 @@ pub const OWN_CALLS: &[(&str, &[&str])] = &[
     ("write", &["self"]),
 ];
 
-/// Methods of the kit's list that a slice of Rust has too. Those of the kit return a `Result`.
-pub const SORTING: &[&str] = &["sort", "sort_by_cached_key", "sort_by_key"];
+/// The kit's list, which is Rust's own in the package.
+pub const LIST: &str = "Vec";
+
+/// A call of the kit's list that Rust's own has otherwise, or not at all.
+pub struct ListCall {
+    /// Its name in the sources.
+    pub from: &'static str,
+    /// How many arguments it has.
+    pub arguments: usize,
+    /// Its name in the results. The trait that has it has no name that a list of Rust has.
+    pub to: &'static str,
+}
+
+const fn list_call(from: &'static str, arguments: usize, to: &'static str) -> ListCall {
+    ListCall {
+        from,
+        arguments,
+        to,
+    }
+}
+
+/// Those calls.
+pub const LIST_CALLS: &[ListCall] = &[
+    list_call("capacity", 0, "sized_capacity"),
+    list_call("extend_from_slice", 1, "extend_from_slice_fallibly"),
+    list_call("insert", 2, "insert_fallibly"),
+    list_call("push", 1, "push_fallibly"),
+    list_call("push_reserved", 1, "push_reserved"),
+    list_call("reserve", 1, "reserve_fallibly"),
+    list_call("resize", 2, "resize_fallibly"),
+    list_call("sort", 0, "sort_fallibly"),
+    list_call("sort_by_cached_key", 1, "sort_by_cached_key_fallibly"),
+    list_call("sort_by_key", 1, "sort_by_key_fallibly"),
+];
+
+/// The same of what is called by a path.
+pub const LIST_PATHS: &[(&str, &str)] = &[
+    ("from_slice", "from_slice_fallibly"),
+    ("with_capacity", "with_capacity_fallibly"),
+];
+
+/// The path of that trait.
+pub const LIST_TRAIT: &str = "crate::kit::vec::FallibleVec";
+
+/// Names of values of which no declaration tells whether they are lists, and whether they are.
+pub const RECEIVERS: &[(&str, bool)] = &[
+    // A queue of commands, or what lends one.
+    ("queue", false),
+];
 
 /// Methods that only look at a value, so that nothing changes if they aren't called.
 pub const LOOKING: &[&str] = &["cursor"];
@@ -325,7 +384,8 @@ pub struct Import {
 pub struct Renamed {
     /// Its name in the sources.
     pub from: &'static str,
-    /// How its arguments may begin, each as tokens. A quote stands for any text.
+    /// How its arguments may begin, each as tokens. A quote stands for any text, and `OF_RIGHT` for the right to
+    /// allocate.
     pub arguments: &'static [&'static [&'static str]],
     /// Its name in the result.
     pub to: &'static str,
@@ -409,6 +469,27 @@ pub fn is_padded(krate: &str, path: &str) -> bool {
 /// The path of the macro that pads.
 pub const PADDING: &str = "crate::kit::padded";
 
+/// A function of a type that has another name in the package.
+pub struct RenamedFunction {
+    /// The crate that declares the type.
+    pub krate: &'static str,
+    /// The type. No other crate declares one of its name.
+    pub of: &'static str,
+    /// The function's name in the sources.
+    pub from: &'static str,
+    /// Its name in the result.
+    pub to: &'static str,
+}
+
+/// Those functions. The allocator's `new` has a parameter, the limits. In Rust `new()` has none, so the package adds
+/// it, and has the sources' own by the name that such a function usually has.
+pub const RENAMED_FUNCTIONS: &[RenamedFunction] = &[RenamedFunction {
+    krate: "ent_alloc",
+    of: "Entities",
+    from: "new",
+    to: "with_limits",
+}];
+
 /// Functions that are `const` in the package, so that a `const` or a `static` can have what they make: the crate,
 /// the file and the function. In the kit what they call isn't `const`.
 pub const CONSTANTS: &[(&str, &str, &str)] = &[
@@ -456,6 +537,8 @@ pub struct Forms {
     pub associated: &'static [Associated],
     /// The type that a test is handed as `rt`. Rust hands a test nothing, so it makes one.
     pub runtime: Option<&'static str>,
+    /// The types and traits of an `rt` that hands out the right to allocate.
+    pub hands_out_right: &'static [&'static str],
 }
 
 /// A module that leads to this path, without ghost names.
@@ -477,7 +560,7 @@ pub static PACKAGE: Forms = Forms {
     modules: MODULES,
     prelude: &[Import {
         name: "Vec",
-        path: "crate::kit::vec::Vec",
+        path: "alloc::vec::Vec",
     }],
     macros: &[Import {
         name: "prove_eq",
@@ -486,13 +569,14 @@ pub static PACKAGE: Forms = Forms {
     kept_macros: &["matches", "unreachable", "write"],
     renamed: &[Renamed {
         from: "collect",
-        arguments: &[&["alloc"]],
+        arguments: &[OF_RIGHT],
         to: "collect_in",
         import: "crate::kit::vec::CollectIn",
     }],
     methods: METHODS,
     associated: ASSOCIATED,
     runtime: None,
+    hands_out_right: &[],
 };
 
 const MODULES: &[Module] = &[
@@ -500,11 +584,12 @@ const MODULES: &[Module] = &[
     module("either", "crate::kit::either", &["Either", "Left", "Right"]),
     module("itoa", "crate::kit::itoa", &["Buffer", "Integer"]),
     module("smallvec", "crate::kit::smallvec", &["SmallVec"]),
-    module(
-        "std::alloc",
-        "crate::kit::alloc",
-        &["AllocError", "AllocFailed", "Global"],
-    ),
+    Module {
+        path: "std::alloc",
+        to: "crate::kit::alloc",
+        names: &["AllocError", "AllocFailed"],
+        ghost: &[RIGHT],
+    },
     module("std::cmp", "core::cmp", &["Ordering", "Reverse"]),
     module(
         "std::collections",

@@ -1,8 +1,9 @@
 //! Functions: their signatures, their contracts and their bodies.
 
 use crate::edit::{Change, Edit};
-use crate::forms;
+use crate::forms::{self, RenamedFunction};
 use crate::items::Scope;
+use crate::memory::owners;
 use crate::source::Fault;
 use crate::walk::{Next, Walk};
 
@@ -69,10 +70,44 @@ impl Walk<'_> {
         if self.source.before(at) != "const" && self.is_constant(at) {
             self.insert(at, "const ".to_owned());
         }
+        self.rename_function(at, scope);
         if self.is_program(at, scope) {
             self.insert(at, "pub ".to_owned());
         }
         Ok(end)
+    }
+
+    /// Puts the package's name of the function in the place of its name, if they differ.
+    fn rename_function(&mut self, at: usize, scope: Scope) {
+        let mut all = forms::RENAMED_FUNCTIONS.iter();
+        let renamed = all.find(|it| it.krate == self.krate && it.from == self.source.at(at + 1));
+        let Some(renamed) = renamed.filter(|it| scope == Scope::Impl && self.own_type(at) == it.of)
+        else {
+            return;
+        };
+        self.replace(at + 1, at + 2, renamed.to);
+    }
+
+    /// Puts the package's name in the place of the name here, if it is the last one of the path of such a function.
+    pub(crate) fn rename_call(&mut self, at: usize) {
+        let mut all = forms::RENAMED_FUNCTIONS.iter();
+        let is_of = |it: &&RenamedFunction| match self.source.before(at - 1) {
+            "Self" => self.own_type(at) == it.of,
+            name => name == it.of,
+        };
+        let name = self.source.at(at);
+        let is_last = at > 1 && self.source.before(at) == "::";
+        if let Some(renamed) = all.find(|it| is_last && it.from == name && is_of(it)) {
+            self.replace(at, at + 1, renamed.to);
+        }
+    }
+
+    /// The type of the `impl` around this place.
+    fn own_type(&self, at: usize) -> &str {
+        let owner = owners(self.source)
+            .into_iter()
+            .find(|it| it.0.contains(&at));
+        owner.map_or("", |it| it.1)
     }
 
     /// Whether the function is `const` in the package.

@@ -6,7 +6,10 @@
 
 use crate::conditions::has_condition;
 use crate::forms::{self, Forms};
+use crate::ghost_types;
+use crate::memory::Fields;
 use crate::source::{Fault, Source};
+use crate::types::Types;
 use std::collections::{BTreeMap, BTreeSet};
 
 /// What all sources together declare, and where the result has it.
@@ -24,12 +27,22 @@ pub struct Names {
     aliases: BTreeSet<String>,
     /// Their traits.
     pub traits: BTreeSet<String>,
+    /// Those of them that have ghost members only.
+    pub(crate) ghost_traits: BTreeSet<String>,
+    /// Their structs with a field that is a `PhantomData` of a ghost type, and the field.
+    pub(crate) phantoms: BTreeSet<(String, String)>,
+    /// The paths of those of them in which all is ghost.
+    pub(crate) ghost_files: BTreeSet<String>,
     /// Their functions that take a `self`. For each name, whether all functions of that name only look at it.
     pub methods: BTreeMap<String, bool>,
     /// The ghost members that their traits declare.
     pub members: BTreeSet<String>,
     /// Their free functions, by file and name: whether those of that name have a condition.
     conditions: BTreeMap<(String, String), BTreeSet<bool>>,
+    /// Their fields.
+    pub(crate) fields: Fields,
+    /// The types that they declare.
+    pub(crate) values: Types,
     /// The names of std and of the kit that they may use.
     pub forms: Vec<&'static Forms>,
     /// For each trait, by its name and its crate, what it has.
@@ -66,6 +79,8 @@ impl Names {
     /// A name has another meaning for the eraser, or an `impl` is for a type that isn't the sources' own.
     pub fn add(&mut self, source: &Source<'_>) -> Result<(), Fault> {
         let mut members = BTreeSet::new();
+        self.fields.add(source);
+        self.values.add(source);
         for at in 0..source.len() {
             match source.at(at) {
                 "trait" | "impl" if begins_item(source, at) => {
@@ -129,10 +144,23 @@ impl Names {
         }
         match kind {
             "struct" | "enum" => {
+                let renamed = forms::RENAMED_FUNCTIONS.iter().find(|it| it.of == name);
+                if renamed.is_some_and(|it| it.krate != krate(source)) {
+                    return Err(taken(source, at + 1));
+                }
                 let files = self.types.entry(name.to_owned()).or_default();
                 files.insert(source.path.to_owned());
             }
-            "trait" => drop(self.traits.insert(name.to_owned())),
+            "trait" => {
+                let is_ghost = ghost_types::is_ghost_trait(source, at);
+                let is_new = self.traits.insert(name.to_owned());
+                if !is_new && (is_ghost || self.ghost_traits.contains(name)) {
+                    return Err(taken(source, at + 1));
+                }
+                if is_ghost {
+                    self.ghost_traits.insert(name.to_owned());
+                }
+            }
             "type" if !is_member => drop(self.aliases.insert(name.to_owned())),
             "fn" => {
                 if !is_member {
@@ -200,6 +228,10 @@ impl Names {
     ///
     /// One is for a type that isn't the sources' own, or of a trait that isn't known.
     pub fn add_blocks(&mut self, source: &Source<'_>) -> Result<(), Fault> {
+        self.phantoms.extend(ghost_types::phantoms(source, self));
+        if ghost_types::is_ghost(source, self) {
+            self.ghost_files.insert(source.path.to_owned());
+        }
         for at in 0..source.len() {
             if source.at(at) != "impl" || !begins_item(source, at) {
                 continue;
@@ -207,7 +239,7 @@ impl Names {
             let header = header(source, at)?;
             if header
                 .implemented
-                .is_some_and(|name| forms::GHOST_TRAITS.contains(&name))
+                .is_some_and(|name| self.is_ghost_trait(name))
             {
                 continue;
             }
@@ -297,6 +329,7 @@ impl Names {
     ///
     /// The first method that isn't: it is in two blocks, or a trait of std gives it to the type too.
     pub fn check(&self) -> Result<(), Fault> {
+        self.fields.check()?;
         let mut found = BTreeMap::new();
         let iterators: BTreeSet<_> = self
             .blocks
@@ -335,6 +368,11 @@ impl Names {
         files.any(|file| file.starts_with(&folder))
     }
 
+    /// Whether each `impl` of the trait is ghost as a whole.
+    pub(crate) fn is_ghost_trait(&self, name: &str) -> bool {
+        forms::GHOST_TRAITS.contains(&name) || self.ghost_traits.contains(name)
+    }
+
     /// Whether this is another name for a type, which may be a type of std.
     pub fn is_alias(&self, name: &str) -> bool {
         self.aliases.contains(name) && !self.types.contains_key(name)
@@ -354,6 +392,11 @@ impl Names {
     pub(crate) fn has_function(&self, path: &str, name: &str) -> bool {
         let key = (path.to_owned(), name.to_owned());
         self.conditions.contains_key(&key)
+    }
+
+    /// Whether the sources declare a type of this name.
+    pub fn is_type(&self, name: &str) -> bool {
+        self.types.contains_key(name)
     }
 
     /// Whether a path may lead to the name.
@@ -376,6 +419,7 @@ impl Names {
             || forms::PRIMITIVES.contains(&name)
             || forms::CRATES.contains(&name)
             || forms::GHOST_TRAITS.contains(&name)
+            || name == forms::RIGHT
             || forms::kept_trait(name).is_some()
             || self.crates.contains_key(name)
             || self.forms.iter().any(is_of)
@@ -410,7 +454,7 @@ pub(crate) struct Header<'a> {
     /// The last name of the trait that it implements, if it implements one.
     pub(crate) implemented: Option<&'a str>,
     /// The last name of its type, without `&`.
-    of: &'a str,
+    pub(crate) of: &'a str,
     /// Whether the type has no parameters.
     is_plain: bool,
     /// Whether it is for a reference to the type.

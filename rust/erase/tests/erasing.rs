@@ -254,7 +254,7 @@ fn paths() {
          use std::cmp::Ordering;\nuse std::fmt;\nuse thiserror::Error;\npub use either::{Either, Left};\n\n\
          type F = Result<ent_other::E, std::cmp::Ordering>;\ntype G = crate::a::H<fmt::Result>;\n",
         "use crate::proved::ent_here::a::B;\nuse crate::proved::ent_here::{C, d};\n\
-         use crate::proved::ent_other::E;\nuse crate::kit::alloc::{AllocError, Global};\n\
+         use crate::proved::ent_other::E;\nuse crate::kit::alloc::AllocError;\n\
          use core::cmp::Ordering;\nuse core::fmt;\npub use crate::kit::either::{Either, Left};\n\n\
          type F = Result<crate::proved::ent_other::E, core::cmp::Ordering>;\n\
          type G = crate::proved::ent_here::a::H<fmt::Result>;\n",
@@ -280,15 +280,15 @@ fn what_the_crate_alone_sees() {
 #[test]
 fn names_of_the_kit_are_imported() {
     gives(
-        "//! A.\n\nuse super::b;\n\nfn c<F>(alloc: F, d: Vec<u8>) -> Vec<u8> {\n    prove_eq!(1, 1);\n    \
+        "//! A.\n\nuse super::b;\nuse std::alloc::Global;\n\nfn c(alloc: Global, d: Vec<u8>) -> Vec<u8> {\n    prove_eq!(1, 1);\n    \
          d.iter().collect(alloc)\n}\n",
-        "//! A.\n\nuse crate::kit::prove_eq;\nuse crate::kit::vec::CollectIn;\nuse crate::kit::vec::Vec;\n\
-         use super::b;\n\n#[inline]\nfn c<F>(alloc: F, d: Vec<u8>) -> Vec<u8> {\n    prove_eq!(1, 1);\n    \
-         d.iter().collect_in(alloc)\n}\n",
+        "//! A.\n\nuse alloc::vec::Vec;\nuse crate::kit::prove_eq;\nuse crate::kit::vec::CollectIn;\n\
+         use super::b;\n\n#[inline]\nfn c(d: Vec<u8>) -> Vec<u8> {\n    prove_eq!(1, 1);\n    \
+         d.iter().collect_in()\n}\n",
     );
     gives(
         "ghost use A.{b};\n\n/// C.\n#[derive(Drop)]\nstruct C(Vec<u8>);\n",
-        "use crate::kit::vec::Vec;\n\n/// C.\nstruct C(Vec<u8>);\n",
+        "use alloc::vec::Vec;\n\n/// C.\nstruct C(Vec<u8>);\n",
     );
 }
 
@@ -393,11 +393,12 @@ fn padded_texts() {
     let wanted =
         "use crate::kit::padded;\n\n#[inline]\nfn a(f: A) -> A {\n    padded!(f, \"{b}\")\n}\n";
     let path = "crates/ent_handle/src/text.rt";
-    let plain = wanted.replace("padded!", "write!");
+    let plain = format!("// Made.\n\n{}", wanted.replace("padded!", "write!"));
     let (result, audited) = erased_of("ent_handle", path, source, &plain).expect("known forms");
     assert_eq!(body(&result), Some(wanted));
     assert!(audited.is_ok(), "it is as the source says");
-    let (result, audited) = erased_of("ent_handle", PATH, source, wanted).expect("known forms");
+    let padded = format!("// Made.\n\n{wanted}");
+    let (result, audited) = erased_of("ent_handle", PATH, source, &padded).expect("known forms");
     assert_eq!(body(&result), Some(&*format!("#[inline]\n{source}")));
     assert!(audited.is_err());
 }
@@ -415,6 +416,25 @@ fn constants() {
     assert!(audited.is_err());
     let (result, _) = erased_of("ent_alloc", PATH, source, "").expect("known forms");
     assert!(!result.contains("const"));
+}
+
+/// The allocator's `new` has another name. Another type's hasn't.
+#[test]
+fn functions_by_another_name() {
+    let source = "impl Entities {\n    pub fn new() -> Self {\n        A::new();\n        Self::new();\n        \
+                  Entities::new()\n    }\n}\n\nimpl A {\n    fn new() -> Self {\n        Self::new();\n        \
+                  Entities::new()\n    }\n}\n\nstruct Entities;\n\nstruct A;\n";
+    let new = source.replace("Entities::new", "Entities::with_limits");
+    let new = new.replacen("pub fn new", "#[inline]\n    pub fn with_limits", 1);
+    let new = new.replacen("Self::new", "Self::with_limits", 1);
+    let wanted = new.replace("    fn new", "    #[inline]\n    fn new");
+    let misplaced = wanted.replace("fn new", "fn with_limits");
+    let path = "crates/ent_alloc/src/here.rt";
+    let (result, audited) = erased_of("ent_alloc", path, source, &misplaced).expect("known forms");
+    assert_eq!(body(&result), Some(&*wanted));
+    assert!(audited.is_err());
+    // Another crate has no type of the name.
+    assert!(erased_of("ent_here", PATH, source, "").is_err());
 }
 
 #[test]
@@ -436,7 +456,7 @@ fn messages_of_an_enum() {
          #[error(\"no b\")]\n    B,\n    #[error(\"{c} of {d:?}\")]\n    C { c: u8, d: E },\n    \
          #[error(\"{c}\")]\n    F {\n        /// C.\n        c: u8,\n        d: Vec<u8>,\n    },\n    \
          #[error(\"{{g}}\")]\n    G(u8),\n}\n\nstruct H;\n",
-        "use crate::kit::vec::Vec;\n\n/// A.\n#[derive(Debug)]\npub enum A {\n    /// B.\n    B,\n    \
+        "use alloc::vec::Vec;\n\n/// A.\n#[derive(Debug)]\npub enum A {\n    /// B.\n    B,\n    \
          C { c: u8, d: E },\n    F {\n        /// C.\n        c: u8,\n        d: Vec<u8>,\n    },\n    G(u8),\n}\n\n\
          impl core::fmt::Display for A {\n    \
          fn fmt(&self, f: &mut core::fmt::Formatter<'_>) -> core::fmt::Result {\n        match self {\n            \

@@ -3,8 +3,6 @@
 use crate::component::{Birth, ComponentId};
 use crate::errors::OutOfMemory;
 use crate::handle::Handle;
-use crate::kit::alloc::Global;
-use crate::numbers::Numbers;
 use crate::proved::ent_handle::Memory;
 use crate::proved::ent_queue::{self, Bundle};
 use crate::proved::ent_total;
@@ -20,11 +18,11 @@ use core::fmt;
 // A call writes the queue, so two of them in a list share no line of a processor's cache.
 #[repr(align(128))]
 pub struct Commands {
-    proved: ent_total::Issuer<Numbers>,
+    proved: ent_total::Issuer,
 }
 
 impl Commands {
-    pub(crate) fn of(proved: ent_total::Issuer<Numbers>) -> Self {
+    pub(crate) fn of(proved: ent_total::Issuer) -> Self {
         Self { proved }
     }
 
@@ -37,8 +35,8 @@ impl Commands {
     /// refusal, which is a fault of the sync point's report.
     #[inline]
     pub fn spawn(&mut self, components: &[(ComponentId, i64)]) -> Result<Handle, SpawnError> {
-        let bundle = Bundle::of(Global, components)?;
-        Ok(self.proved.spawn(Global, &bundle)?)
+        let bundle = Bundle::of(components)?;
+        Ok(self.proved.spawn(&bundle)?)
     }
 
     /// Reserves `count` handles at once, each of which is to have the components. It takes time for each
@@ -53,8 +51,8 @@ impl Commands {
         count: u32,
         components: &[(ComponentId, i64)],
     ) -> Result<Vec<Handle>, SpawnError> {
-        let bundle = Bundle::of(Global, components)?;
-        Ok(self.proved.spawn_many(Global, count, &bundle)?.into())
+        let bundle = Bundle::of(components)?;
+        Ok(self.proved.spawn_many(count, &bundle)?)
     }
 
     /// Gives the entity the components, instead of those that it has under the same numbers.
@@ -68,8 +66,8 @@ impl Commands {
         handle: Handle,
         components: &[(ComponentId, i64)],
     ) -> Result<(), OutOfMemory> {
-        let bundle = Bundle::of(Global, components)?;
-        Ok(self.proved.insert(Global, handle, &bundle)?)
+        let bundle = Bundle::of(components)?;
+        Ok(self.proved.insert(handle, &bundle)?)
     }
 
     /// Takes the component out of the entity, if it has it.
@@ -79,7 +77,7 @@ impl Commands {
     /// `OutOfMemory`, and then nothing has changed.
     #[inline]
     pub fn remove(&mut self, handle: Handle, id: ComponentId) -> Result<(), OutOfMemory> {
-        Ok(self.proved.remove(Global, handle, id)?)
+        Ok(self.proved.remove(handle, id)?)
     }
 
     /// Takes the entity out of the world.
@@ -89,7 +87,7 @@ impl Commands {
     /// `OutOfMemory`, and then nothing has changed.
     #[inline]
     pub fn despawn(&mut self, handle: Handle) -> Result<(), OutOfMemory> {
-        Ok(self.proved.despawn(Global, handle)?)
+        Ok(self.proved.despawn(handle)?)
     }
 
     /// The value of the entity's component, if the entity is alive and has it.
@@ -119,7 +117,7 @@ impl Commands {
     ///
     /// `OutOfMemory`: there is no memory for the list.
     pub fn by_birth(&self) -> Result<Vec<Handle>, OutOfMemory> {
-        Ok(self.proved.world().view().by_birth()?.into())
+        Ok(self.proved.world().view().by_birth()?)
     }
 
     /// Which of the systems it is: its position in the list that
@@ -161,15 +159,15 @@ impl fmt::Debug for Commands {
 /// [`OpenWorld::close`](crate::OpenWorld::close) and
 /// [`OpenWorld::close_lost`](crate::OpenWorld::close_lost) take it.
 pub struct CommandQueue {
-    proved: ent_total::Issued<Numbers>,
+    proved: ent_total::Issued,
 }
 
 impl CommandQueue {
-    pub(crate) fn of(proved: ent_total::Issued<Numbers>) -> Self {
+    pub(crate) fn of(proved: ent_total::Issued) -> Self {
         Self { proved }
     }
 
-    pub(crate) fn proved(self) -> ent_total::Issued<Numbers> {
+    pub(crate) fn proved(self) -> ent_total::Issued {
         self.proved
     }
 

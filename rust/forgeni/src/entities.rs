@@ -5,15 +5,12 @@ use crate::errors::{
     Unshared,
 };
 use crate::handle::Handle;
-use crate::kit::alloc::Global;
-use crate::kit::vec::Vec as List;
 use crate::limits::Limits;
 use crate::proved::{ent_alloc, ent_total};
 use crate::sharing::{Reserver, Shared};
 use alloc::vec::Vec;
 use core::fmt;
 use core::iter::FusedIterator;
-use core::mem;
 
 /// What became of a handle.
 #[derive(Clone, Copy, Debug, PartialEq, Eq, Hash)]
@@ -88,7 +85,7 @@ impl Entities {
     /// An allocator with no entities and these limits. It takes no memory.
     #[must_use]
     pub const fn with_limits(limits: Limits) -> Self {
-        Self::of(ent_alloc::Entities::new(Global, limits.proved()))
+        Self::of(ent_alloc::Entities::with_limits(limits.proved()))
     }
 
     /// An allocator with no entities and these limits, as [`with_limits`](Self::with_limits) makes
@@ -237,9 +234,9 @@ impl Entities {
     ///
     /// `OutOfMemory`, and then nothing has changed.
     pub fn flush(&mut self) -> Result<Vec<Handle>, OutOfMemory> {
-        let mut born = List::new(Global);
+        let mut born = Vec::new();
         self.proved.flush(&mut born)?;
-        Ok(born.into())
+        Ok(born)
     }
 
     /// [`flush`](Self::flush), which appends the handles to this list. It takes time for each handle
@@ -269,10 +266,7 @@ impl Entities {
     ///
     /// `OutOfMemory`, and then nothing has changed, and the list has the same handles.
     pub fn flush_into(&mut self, born: &mut Vec<Handle>) -> Result<(), OutOfMemory> {
-        let mut list = List::from(mem::take(born));
-        let flushed = self.proved.flush(&mut list);
-        *born = list.into();
-        Ok(flushed?)
+        Ok(self.proved.flush(born)?)
     }
 
     /// [`flush`](Self::flush), which hands each handle to `each` instead, in the same order. All of
@@ -293,7 +287,7 @@ impl Entities {
     ///
     /// `OutOfMemory`, as of `flush`, and then nothing has changed and nothing is handed on.
     pub fn flush_with(&mut self, each: impl FnMut(Handle)) -> Result<(), OutOfMemory> {
-        let mut born = List::new(Global);
+        let mut born = Vec::new();
         self.proved.flush(&mut born)?;
         born.into_iter().for_each(each);
         Ok(())

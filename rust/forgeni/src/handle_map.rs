@@ -2,7 +2,6 @@
 
 use crate::errors::OutOfMemory;
 use crate::handle::Handle;
-use crate::kit::alloc::Global;
 use crate::proved::ent_storage::handle_map::{self, InsertFault};
 use alloc::alloc::handle_alloc_error;
 use alloc::vec::{self, Vec};
@@ -88,7 +87,7 @@ impl<T> HandleMap<T> {
     #[must_use]
     pub const fn with_limit(slots: u32) -> Self {
         Self {
-            proved: handle_map::HandleMap::new(Global),
+            proved: handle_map::HandleMap::new(),
             end: end_of(slots),
         }
     }
@@ -117,7 +116,7 @@ impl<T> HandleMap<T> {
     /// `OutOfMemory` if there is not that much.
     pub fn with_capacity(slots: usize) -> Result<Self, OutOfMemory> {
         Ok(Self {
-            proved: handle_map::HandleMap::with_capacity(Global, slots)?,
+            proved: handle_map::HandleMap::with_capacity(slots)?,
             ..Self::new()
         })
     }

@@ -174,7 +174,6 @@ mod numbers;
 mod open_world;
 mod phase;
 #[rustfmt::skip]
-#[allow(missing_docs)]
 mod proved;
 mod report;
 #[cfg(feature = "std")]

@@ -3,9 +3,7 @@
 use crate::entities::Entities;
 use crate::errors::{CloseError, OtherPhase, OutOfMemory, Refused, ShareError, Unclosed, Unshared};
 use crate::handle::Handle;
-use crate::kit::alloc::Global;
-use crate::kit::vec::Vec as List;
-use crate::numbers::{next_number, Numbers};
+use crate::numbers::next_number;
 use crate::proved::{ent_alloc, ent_handle, ent_total};
 use alloc::vec::Vec;
 use core::fmt;
@@ -13,8 +11,8 @@ use core::fmt;
 /// How many callers an allocator may be shared among.
 const MOST_CALLERS: usize = 1024;
 
-type Phase = ent_total::Phase<Numbers>;
-type Caller = ent_total::Caller<Numbers>;
+type Phase = ent_total::Phase;
+type Caller = ent_total::Caller;
 
 /// An allocator while it is shared: [`Entities::share`] made it, with its reservers.
 ///
@@ -43,7 +41,7 @@ impl Shared {
             });
         };
         let pool = u64::from(entities.top()) + u64::from(entities.room());
-        let opening = ent_total::share(Global, entities, callers)?;
+        let opening = ent_total::share(entities, callers)?;
         let shared = Self {
             proved: opening.numbered(next_number()),
             room,
@@ -79,7 +77,7 @@ impl Shared {
 
     /// Memory ran out on the way, and nobody has reserved: the allocator is as it was.
     fn undo(phase: Phase) -> Unshared {
-        match phase.close_lost(List::new(Global)) {
+        match phase.close_lost(Vec::new()) {
             Ok(entities) => Unshared {
                 entities: Entities::of(entities),
                 error: ShareError::Memory,
@@ -180,7 +178,7 @@ impl Shared {
     fn end(
         self,
         mut reservers: Vec<Reserver>,
-        close: fn(Phase, List<Caller>) -> Result<ent_alloc::Entities, ent_total::Unclosed<Numbers>>,
+        close: fn(Phase, Vec<Caller>) -> Result<ent_alloc::Entities, ent_total::Unclosed>,
     ) -> Result<Entities, Unclosed> {
         // There is room for those of this phase alone.
         if !reservers.iter().all(|one| one.is_of(&self)) {
@@ -192,19 +190,15 @@ impl Shared {
         }
         let (mut callers, pool) = (self.room, self.pool);
         callers.extend(reservers.drain(..).map(|one| one.proved));
-        match close(self.proved, callers.into()) {
+        match close(self.proved, callers) {
             Ok(entities) => Ok(Entities::of(entities)),
             Err(refused) => Err(Self::unclosed(refused, reservers, pool)),
         }
     }
 
     /// The phase goes on, and the reservers are handed back in the list in which they came.
-    fn unclosed(
-        refused: ent_total::Unclosed<Numbers>,
-        mut reservers: Vec<Reserver>,
-        pool: u64,
-    ) -> Unclosed {
-        let mut room: Vec<Caller> = refused.callers.into();
+    fn unclosed(refused: ent_total::Unclosed, mut reservers: Vec<Reserver>, pool: u64) -> Unclosed {
+        let mut room = refused.callers;
         let handed_back = room.drain(..).map(|proved| Reserver::of(proved, pool));
         reservers.extend(handed_back);
         // The room is gone with those that are at home now. Where there is none, the next close asks

@@ -3,7 +3,6 @@
 use crate::component::{Birth, ComponentId};
 use crate::errors::{Absent, BornError, InsertError, OutOfMemory};
 use crate::handle::Handle;
-use crate::kit::alloc::Global;
 use crate::proved::ent_storage;
 use alloc::vec::Vec;
 use core::fmt;
@@ -38,7 +37,7 @@ impl Storage {
     #[must_use]
     pub fn new() -> Self {
         Self {
-            proved: ent_storage::Storage::new(Global),
+            proved: ent_storage::Storage::new(),
         }
     }
 
@@ -132,7 +131,7 @@ impl Storage {
     ///
     /// `OutOfMemory`: there is no memory for the list.
     pub fn by_birth(&self) -> Result<Vec<Handle>, OutOfMemory> {
-        Ok(self.proved.by_birth()?.into())
+        Ok(self.proved.by_birth()?)
     }
 
     /// How many entities there are.

@@ -4,7 +4,6 @@ use crate::commands::SpawnError;
 use crate::component::ComponentId;
 use crate::errors::OutOfMemory;
 use crate::handle::Handle;
-use crate::kit::alloc::Global;
 use crate::proved::ent_queue::{self, Bundle};
 use alloc::vec::Vec;
 use core::fmt;
@@ -31,7 +30,7 @@ impl<'a, 'w> SystemCommands<'a, 'w> {
     /// refusal, which is a fault of the frame's report, and the system may go on.
     #[inline]
     pub fn spawn(&mut self, components: &[(ComponentId, i64)]) -> Result<Handle, SpawnError> {
-        let bundle = Bundle::of(Global, components)?;
+        let bundle = Bundle::of(components)?;
         Ok(self.proved.spawn(&bundle)?)
     }
 
@@ -47,8 +46,8 @@ impl<'a, 'w> SystemCommands<'a, 'w> {
         count: u32,
         components: &[(ComponentId, i64)],
     ) -> Result<Vec<Handle>, SpawnError> {
-        let bundle = Bundle::of(Global, components)?;
-        Ok(self.proved.spawn_many(count, &bundle)?.into())
+        let bundle = Bundle::of(components)?;
+        Ok(self.proved.spawn_many(count, &bundle)?)
     }
 
     /// Gives the entity the components, instead of those that it has under the same numbers.
@@ -62,7 +61,7 @@ impl<'a, 'w> SystemCommands<'a, 'w> {
         handle: Handle,
         components: &[(ComponentId, i64)],
     ) -> Result<(), OutOfMemory> {
-        let bundle = Bundle::of(Global, components)?;
+        let bundle = Bundle::of(components)?;
         Ok(self.proved.insert(handle, &bundle)?)
     }
 

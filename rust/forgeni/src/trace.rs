@@ -52,7 +52,6 @@ pub use reply::{AllocReply, FlushReply, FreeReply, ReserveReply};
 use crate::entities::State;
 use crate::errors::OutOfMemory;
 use crate::handle::Handle;
-use crate::kit::alloc::Global;
 use crate::limits::Limits;
 use crate::proved::ent_replay::trace::{self, Line};
 use core::fmt;
@@ -78,7 +77,7 @@ impl Checker {
     #[must_use]
     pub fn new(limits: Limits) -> Self {
         Self {
-            proved: Ok(trace::Checker::new(Global, line::limits(limits))),
+            proved: Ok(trace::Checker::new(line::limits(limits))),
             calls: 0,
         }
     }

@@ -5,7 +5,6 @@ use crate::component::{Birth, ComponentId};
 use crate::entities::Freed;
 use crate::errors::{AllocError, FreeError, OutOfMemory};
 use crate::handle::Handle;
-use crate::kit::alloc::Global;
 use crate::limits::Limits;
 use crate::numbers::next_number;
 use crate::open_world::{OpenWorld, Unopened};
@@ -74,7 +73,7 @@ impl World {
     #[must_use]
     pub fn with_limits(limits: Limits) -> Self {
         let proved = NumberedWorld {
-            world: ent_world::World::new(Global, limits.proved()),
+            world: ent_world::World::new(limits.proved()),
             number: next_number(),
         };
         Self::of(proved, first_birth(0))
@@ -138,7 +137,7 @@ impl World {
         birth: Birth,
         components: &[(ComponentId, i64)],
     ) -> Result<Handle, AllocError> {
-        let bundle = Bundle::of(Global, components)?;
+        let bundle = Bundle::of(components)?;
         Ok(self.proved.world.spawn(birth, &bundle)?)
     }
 
@@ -188,7 +187,7 @@ impl World {
     ///
     /// `OutOfMemory`: there is no memory for the list.
     pub fn by_birth(&self) -> Result<Vec<Handle>, OutOfMemory> {
-        Ok(self.proved.world.by_birth()?.into())
+        Ok(self.proved.world.by_birth()?)
     }
 
     /// How many entities are alive.

@@ -11,7 +11,9 @@ impl Audit<'_> {
         let wanted = comments(self.source);
         let mut clauses = String::new();
         let mut next = 0;
-        for line in self.lines(&comments(self.result)[1..])? {
+        // The first one says of which source the result is made.
+        let written = comments(self.result);
+        for line in self.lines(written.get(1..).unwrap_or_default())? {
             let text = match line {
                 Line::Comment(text) => text,
                 Line::Clause(text) => {

@@ -1,6 +1,6 @@
 // Made of crates/ent_alloc/src/entities.rt by rust/erase. It isn't edited by hand.
 
-use crate::kit::vec::Vec;
+use alloc::vec::Vec;
 use crate::proved::ent_alloc::fault::{AllocFault, FreeFault, Freed};
 use crate::proved::ent_alloc::limits::Limits;
 use crate::proved::ent_alloc::living_handles::LivingHandles;
@@ -9,7 +9,6 @@ use crate::proved::ent_alloc::slot_record::Occupancy;
 use crate::proved::ent_alloc::slots::Slots;
 use crate::proved::ent_alloc::state::State;
 use crate::proved::ent_handle::{Handle, Memory};
-use crate::kit::alloc::Global;
 
 /// Gives out the handles of entities and knows which are alive, as Bevy's `Entities` does.
 ///
@@ -37,9 +36,9 @@ impl Entities {
     ///
     /// </details>
     #[inline]
-    pub const fn new(alloc: Global, limits: Limits) -> Self {
+    pub const fn with_limits(limits: Limits) -> Self {
         Entities {
-            slots: Slots::new(alloc, limits),
+            slots: Slots::new(limits),
             requests: Requests::none(),
         }
     }

@@ -1,12 +1,11 @@
 // Made of crates/ent_queue/src/commands.rt by rust/erase. It isn't edited by hand.
 
-use crate::kit::vec::Vec;
+use alloc::vec::Vec;
 use crate::proved::ent_queue::queue::CommandQueue;
 use crate::proved::ent_alloc::ReserveError as QueueFault;
 use crate::proved::ent_handle::{ComponentId, Handle, Memory};
 use crate::proved::ent_shared::{Reserver, Shared};
 use crate::proved::ent_storage::Bundle;
-use crate::kit::alloc::Global;
 
 /// Issues the commands of one system. They take effect when the queue is applied.
 ///
@@ -16,27 +15,25 @@ pub struct Commands<'a, Q = CommandQueue> {
     reserver: &'a mut Reserver,
     shared: &'a Shared,
     queue: Q,
-    alloc: Global,
 }
 
 impl<'a> Commands<'a> {
     /// Begins with an empty queue. The reserver is one of those that came with the allocator.
     #[inline]
-    pub(crate) fn new(alloc: Global, shared: &'a Shared, reserver: &'a mut Reserver) -> Self
+    pub(crate) fn new(shared: &'a Shared, reserver: &'a mut Reserver) -> Self
         // requires { IsOf shared.now reserver.old }
         // ensures same { result.reserver.ghost_name ≡ reserver.entry.ghost_name }
         // ensures reserver { reserver_of result ≡ reserver.old }
         // ensures shared { shared_of result ≡ shared.now }
         // ensures queue { queue_of result ≡ [] }
     {
-        Commands::resume(alloc, shared, reserver, CommandQueue::new(alloc))
+        Commands::resume(shared, reserver, CommandQueue::new())
     }
 
     /// Goes on with a queue that was begun before: what it has stays in front. The reserver may be
     /// another one than before, of those that came with the allocator.
     #[inline]
     pub(crate) fn resume(
-        alloc: Global,
         shared: &'a Shared,
         reserver: &'a mut Reserver,
         queue: CommandQueue,
@@ -51,7 +48,6 @@ impl<'a> Commands<'a> {
             reserver,
             shared,
             queue,
-            alloc,
         }
     }
 
@@ -112,7 +108,7 @@ impl<'a> Commands<'a> {
         //     reply }
     {
         self.queue
-            .spawn_many(self.alloc, self.shared, self.reserver, n, bundle.items())
+            .spawn_many(self.shared, self.reserver, n, bundle.items())
     }
 
     /// Gives the entity the components, instead of those that it has under the same numbers.
@@ -188,7 +184,6 @@ impl<Q> Commands<'_, Q> {
             reserver: _,
             shared: _,
             queue,
-            alloc: _,
         } = self;
         queue
     }

@@ -1,6 +1,7 @@
 // Made of crates/ent_queue/src/queue.rt by rust/erase. It isn't edited by hand.
 
-use crate::kit::vec::Vec;
+use alloc::vec::Vec;
+use crate::kit::vec::FallibleVec;
 use crate::proved::ent_queue::entries::Entries;
 use crate::proved::ent_queue::kind::{INSERT, SPAWN};
 use crate::proved::ent_queue::writing::{
@@ -9,7 +10,6 @@ use crate::proved::ent_queue::writing::{
 use crate::proved::ent_alloc::ReserveError as QueueFault;
 use crate::proved::ent_handle::{ComponentId, Handle, Memory};
 use crate::proved::ent_shared::{Reserver, Shared};
-use crate::kit::alloc::Global;
 
 /// How many bytes a refusal has.
 const REFUSAL: usize = 14;
@@ -25,11 +25,11 @@ pub struct CommandQueue {
 
 impl CommandQueue {
     #[inline]
-    pub(super) fn new(alloc: Global) -> Self
+    pub(super) fn new() -> Self
         // ensures { result ≡ [] }
     {
         CommandQueue {
-            bytes: Vec::new(alloc),
+            bytes: Vec::new(),
             count: 0,
         }
     }
@@ -133,7 +133,7 @@ impl CommandQueue {
         //     → IsReturned shared.now reserver.old reserver.new 1 (listed_alone reply) }
     {
         let own = 11 + 9 * items.len();
-        self.bytes.reserve(own.max(REFUSAL))?;
+        self.bytes.reserve_fallibly(own.max(REFUSAL))?;
         match shared.reserve(reserver) {
             Ok(handle) => {
                 write_with_bundle(&mut self.bytes, SPAWN, handle, items);
@@ -152,7 +152,6 @@ impl CommandQueue {
     #[inline]
     pub(super) fn spawn_many(
         &mut self,
-        alloc: Global,
         shared: &Shared,
         reserver: &mut Reserver,
         n: u32,
@@ -170,9 +169,9 @@ impl CommandQueue {
         //     → as_list result ≡ queued reply
         //     → IsReturned shared.now reserver.old reserver.new n reply }
     {
-        let mut handles = Vec::with_capacity(alloc, n as usize)?;
+        let mut handles = Vec::with_capacity_fallibly(n as usize)?;
         let own = 7 + 8 * n as usize + 9 * items.len();
-        self.bytes.reserve(own.max(REFUSAL))?;
+        self.bytes.reserve_fallibly(own.max(REFUSAL))?;
         match shared.reserve_many(reserver, n) {
             Ok(given) => {
                 write_many(&mut self.bytes, &mut handles, n, given);
@@ -198,7 +197,7 @@ impl CommandQueue {
         // ensures ok { OnOk result (self.new ≡ self.old ++ Insert handle items.now ∷ []) }
         // ensures err { OnErr result (self.new ≡ self.old) }
     {
-        self.bytes.reserve(11 + 9 * items.len())?;
+        self.bytes.reserve_fallibly(11 + 9 * items.len())?;
         write_with_bundle(&mut self.bytes, INSERT, handle, items);
         self.count += 1;
         Ok(())
@@ -209,7 +208,7 @@ impl CommandQueue {
         // ensures ok { OnOk result (self.new ≡ self.old ++ Remove handle id ∷ []) }
         // ensures err { OnErr result (self.new ≡ self.old) }
     {
-        self.bytes.reserve(10)?;
+        self.bytes.reserve_fallibly(10)?;
         write_remove(&mut self.bytes, handle, id);
         self.count += 1;
         Ok(())
@@ -220,7 +219,7 @@ impl CommandQueue {
         // ensures ok { OnOk result (self.new ≡ self.old ++ Despawn handle ∷ []) }
         // ensures err { OnErr result (self.new ≡ self.old) }
     {
-        self.bytes.reserve(9)?;
+        self.bytes.reserve_fallibly(9)?;
         write_despawn(&mut self.bytes, handle);
         self.count += 1;
         Ok(())

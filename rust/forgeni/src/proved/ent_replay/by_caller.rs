@@ -1,7 +1,6 @@
 // Made of crates/ent_replay/src/by_caller.rt by rust/erase. It isn't edited by hand.
 
 use crate::proved::ent_handle::Memory;
-use crate::kit::alloc::Global;
 use crate::kit::collections::BTreeMap;
 
 /// A value for each of some callers.
@@ -22,9 +21,9 @@ impl<V: Copy> ByCaller<V> {
     ///
     /// </details>
     #[inline]
-    pub fn new(alloc: Global) -> Self {
+    pub fn new() -> Self {
         ByCaller {
-            values: BTreeMap::new(alloc),
+            values: BTreeMap::new(),
         }
     }
 

@@ -1,7 +1,8 @@
 // Made of crates/ent_replay/src/machine.rt by rust/erase. It isn't edited by hand.
 
+use alloc::vec::Vec;
 use crate::kit::prove_eq;
-use crate::kit::vec::Vec;
+use crate::kit::vec::FallibleVec;
 use crate::proved::ent_replay::by_caller::ByCaller;
 use crate::proved::ent_replay::event::Event;
 use crate::proved::ent_replay::fault::ReplayFault;
@@ -10,7 +11,6 @@ use crate::proved::ent_replay::outcome::Outcome;
 use crate::proved::ent_replay::stored_call::StoredCall;
 use crate::proved::ent_alloc::{AllocFault, CREDIT, Entities, FreeFault, Limits, Reserved};
 use crate::proved::ent_handle::{Handle, Memory};
-use crate::kit::alloc::Global;
 
 /// How many callers there are. They are numbered from 0.
 const CALLERS: u32 = 1024;
@@ -21,7 +21,6 @@ const CALLERS: u32 = 1024;
 /// allocator, how many handles each caller has requested since the last flush, and the open calls
 /// with the replies that their steps fixed. This project's own: Bevy has no such machine.
 pub struct Machine {
-    alloc: Global,
     entities: Entities,
     spent: ByCaller<u64>,
     calls: ByCaller<StoredCall>,
@@ -52,14 +51,13 @@ impl Machine {
     ///
     /// </details>
     #[inline]
-    pub fn new(alloc: Global, limits: Limits) -> Result<Self, Memory> {
-        let entities = Entities::new(alloc, limits);
+    pub fn new(limits: Limits) -> Result<Self, Memory> {
+        let entities = Entities::with_limits(limits);
         prove_eq!(entities.cursor(), 0);
         Ok(Machine {
-            alloc,
             entities,
-            spent: ByCaller::new(alloc),
-            calls: ByCaller::new(alloc),
+            spent: ByCaller::new(),
+            calls: ByCaller::new(),
         })
     }
 
@@ -139,7 +137,7 @@ impl Machine {
     /// </details>
     #[inline]
     pub fn run(&mut self, events: &[Event]) -> Result<Vec<Result<Outcome, ReplayFault>>, RunMemory> {
-        let Ok(mut outcomes) = Vec::with_capacity(self.alloc, events.len()) else {
+        let Ok(mut outcomes) = Vec::with_capacity_fallibly(events.len()) else {
             return Err(RunMemory { done: 0 });
         };
         for (done, event) in events.iter().enumerate() {
@@ -192,7 +190,7 @@ impl Machine {
         if !self.calls.is_empty() {
             return Err(ReplayFault::Busy);
         }
-        let mut born = Vec::new(self.alloc);
+        let mut born = Vec::new();
         if self.entities.flush(&mut born).is_err() {
             return Err(ReplayFault::Memory);
         }
@@ -265,7 +263,7 @@ impl Machine {
             return Err(ReplayFault::NotStepped);
         };
         let outcome = match self.entities.reply(span) {
-            Ok(reserved) => match listed(self.alloc, reserved) {
+            Ok(reserved) => match listed(reserved) {
                 Ok(handles) => Outcome::Handles(handles),
                 Err(_) => return Err(ReplayFault::Memory),
             },
@@ -292,11 +290,11 @@ fn is_out_of_memory(outcome: &Result<Outcome, ReplayFault>) -> bool
 
 /// Lists the handles of a reply. A list that doesn't fit is refused before a handle is listed.
 #[inline]
-fn listed(alloc: Global, reserved: Reserved<'_>) -> Result<HandleList, Memory>
+fn listed(reserved: Reserved<'_>) -> Result<HandleList, Memory>
     // ensures ok { IfOk result (λ handles. handles ≡ reserved.entry) }
     // ensures memory { OnErr result (0 < length reserved.entry) }
 {
-    let mut handles = Vec::with_capacity(alloc, reserved.len())?;
+    let mut handles = Vec::with_capacity_fallibly(reserved.len())?;
     for handle in reserved {
         handles.push_reserved(handle);
     }

@@ -1,10 +1,10 @@
 // Made of crates/ent_replay/src/reading.rt by rust/erase. It isn't edited by hand.
 
-use crate::kit::vec::Vec;
+use alloc::vec::Vec;
+use crate::kit::vec::FallibleVec;
 use crate::proved::ent_replay::event::Event;
 use crate::proved::ent_replay::read_fault::{Cause, ReadFault};
 use crate::proved::ent_handle::{Handle, read_decimal, split_once};
-use crate::kit::alloc::Global;
 
 /// The first line of a text, and the text after its line feed.
 #[inline]
@@ -135,13 +135,13 @@ fn read_event(line: &[u8]) -> Result<Event, Cause>
 ///
 /// </details>
 #[inline]
-pub fn read_schedule(alloc: Global, text: &[u8]) -> Result<Vec<Event>, ReadFault> {
-    let mut events = Vec::new(alloc);
+pub fn read_schedule(text: &[u8]) -> Result<Vec<Event>, ReadFault> {
+    let mut events = Vec::new();
     let mut rest = text;
     while !rest.is_empty() {
         let (line, following) = first_line(rest);
         match read_event(line) {
-            Ok(event) => events.push(event)?,
+            Ok(event) => events.push_fallibly(event)?,
             Err(cause) => {
                 return Err(ReadFault::Line {
                     line: events.len() + 1,

@@ -3,7 +3,6 @@
 use crate::proved::ent_handle::Memory;
 use crate::proved::ent_queue::Commands;
 use crate::proved::ent_world::View;
-use crate::kit::alloc::Global;
 
 /// A system: it reads the world as the frame began, and issues commands that take effect at the
 /// frame's sync point.
@@ -31,5 +30,5 @@ pub trait System {
     /// ```
     ///
     /// </details>
-    fn run(&self, alloc: Global, view: &View<'_>, commands: &mut Commands<'_>) -> Result<(), Memory>;
+    fn run(&self, view: &View<'_>, commands: &mut Commands<'_>) -> Result<(), Memory>;
 }

@@ -5,10 +5,9 @@
 pub use crate::proved::ent_shared::plays::SeatRecords;
 use crate::proved::ent_shared::plays::{Merge, NewSeat, SplitFirst};
 use crate::kit::atomic_table::{Badge, Seat, Table, TableRule};
-use crate::kit::alloc::Global;
 
 /// One atomic word under the rule `P`, opened with a `K`, whose seats know records of type `R`.
-pub type RecordsWord<R, K, P> = Table<(), SeatRecords<R>, K, P, Global>;
+pub type RecordsWord<R, K, P> = Table<(), SeatRecords<R>, K, P>;
 
 /// A seat of such a word, which can make steps.
 pub type RecordsSeat<R> = Seat<(), SeatRecords<R>>;

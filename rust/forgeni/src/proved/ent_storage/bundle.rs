@@ -3,7 +3,6 @@
 use crate::proved::ent_storage::pairs::search;
 use crate::proved::ent_handle::{ComponentId, Memory};
 use crate::kit::smallvec::SmallVec;
-use crate::kit::alloc::Global;
 
 /// Components and their values, by strictly rising number. Contracts see the list of them.
 ///
@@ -25,9 +24,9 @@ impl<const INLINE: usize> Bundle<INLINE> {
     ///
     /// </details>
     #[inline]
-    pub fn new(alloc: Global) -> Self {
+    pub fn new() -> Self {
         Bundle {
-            items: SmallVec::new(alloc),
+            items: SmallVec::new(),
         }
     }
 
@@ -48,9 +47,9 @@ impl<const INLINE: usize> Bundle<INLINE> {
     ///
     /// </details>
     #[inline]
-    pub fn with_capacity(alloc: Global, count: usize) -> Result<Self, Memory> {
+    pub fn with_capacity(count: usize) -> Result<Self, Memory> {
         Ok(Bundle {
-            items: SmallVec::with_capacity(alloc, count)?,
+            items: SmallVec::with_capacity(count)?,
         })
     }
 
@@ -74,8 +73,8 @@ impl<const INLINE: usize> Bundle<INLINE> {
     ///
     /// </details>
     #[inline]
-    pub fn of(alloc: Global, items: &[(ComponentId, i64)]) -> Result<Self, Memory> {
-        let mut bundle = Bundle::new(alloc);
+    pub fn of(items: &[(ComponentId, i64)]) -> Result<Self, Memory> {
+        let mut bundle = Bundle::new();
         for (id, value) in items {
             bundle.put(*id, *value)?;
         }

@@ -1,9 +1,10 @@
 // Made of crates/ent_storage/src/columns.rt by rust/erase. It isn't edited by hand.
 
-use crate::kit::vec::Vec;
+use alloc::vec::Vec;
+use crate::kit::vec::FallibleVec;
 use super::sparse_set::SparseSet;
 use crate::proved::ent_handle::ComponentId;
-use crate::kit::alloc::{AllocError, Global};
+use crate::kit::alloc::AllocError;
 
 /// The value of the component at the place, if the entity there has it.
 ///
@@ -26,7 +27,6 @@ pub fn value(columns: &[SparseSet], place: usize, id: ComponentId) -> Option<i64
 pub(crate) fn reserve_all(
     columns: &mut Vec<SparseSet>,
     used: &mut Vec<u8>,
-    alloc: Global,
     place: usize,
     items: &[(ComponentId, i64)],
 ) -> Result<(), AllocError>
@@ -41,7 +41,7 @@ pub(crate) fn reserve_all(
     // ensures numbered { length columns.new.items ≤ 256 }
 {
     for item in items {
-        reserve(columns, used, alloc, place, item.0)?;
+        reserve(columns, used, place, item.0)?;
     }
     Ok(())
 }
@@ -51,7 +51,6 @@ pub(crate) fn reserve_all(
 fn reserve(
     columns: &mut Vec<SparseSet>,
     used: &mut Vec<u8>,
-    alloc: Global,
     place: usize,
     id: ComponentId,
 ) -> Result<(), AllocError>
@@ -69,7 +68,7 @@ fn reserve(
     if has_room(columns, place, id) || value(columns, place, id).is_some() {
         return Ok(());
     }
-    put_in_use(columns, used, alloc, id)?;
+    put_in_use(columns, used, id)?;
     columns[id.0 as usize].reserve(place)
 }
 
@@ -90,7 +89,6 @@ fn has_room(columns: &[SparseSet], place: usize, id: ComponentId) -> bool
 fn put_in_use(
     columns: &mut Vec<SparseSet>,
     used: &mut Vec<u8>,
-    alloc: Global,
     id: ComponentId,
 ) -> Result<(), AllocError>
     // requires numbered { length columns.old.items ≤ 256 }
@@ -105,7 +103,7 @@ fn put_in_use(
     if is_in_use(columns, id) {
         return Ok(());
     }
-    grow(columns, alloc, id.0 as usize + 1)?;
+    grow(columns, id.0 as usize + 1)?;
     mark(used, id.0)
 }
 
@@ -129,14 +127,14 @@ fn mark(used: &mut Vec<u8>, number: u8) -> Result<(), AllocError>
     // ensures ok { OnOk result (Contains used.new.items number) }
 {
     if let Err(gap) = used.binary_search(&number) {
-        used.insert(gap, number)?;
+        used.insert_fallibly(gap, number)?;
     }
     Ok(())
 }
 
 /// Adds columns without values until there are that many.
 #[inline(never)]
-fn grow(columns: &mut Vec<SparseSet>, alloc: Global, count: usize) -> Result<(), AllocError>
+fn grow(columns: &mut Vec<SparseSet>, count: usize) -> Result<(), AllocError>
     // requires numbered { length columns.old.items ≤ 256 }
     // requires count { count ≤ 256 }
     // ensures same { (number : ℕ) → column_at columns.new.items number
@@ -146,7 +144,7 @@ fn grow(columns: &mut Vec<SparseSet>, alloc: Global, count: usize) -> Result<(),
     // ensures numbered { length columns.new.items ≤ 256 }
 {
     for _ in columns.len()..count {
-        columns.push(SparseSet::new(alloc))?;
+        columns.push_fallibly(SparseSet::new())?;
     }
     Ok(())
 }

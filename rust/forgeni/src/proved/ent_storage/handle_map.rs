@@ -8,13 +8,13 @@ mod iter;
 mod retaining;
 mod slot;
 
-use crate::kit::vec::Vec;
+use alloc::vec::Vec;
+use crate::kit::vec::FallibleVec;
 pub use crate::proved::ent_storage::handle_map::fault::{InsertFault, Uninserted};
 pub use crate::proved::ent_storage::handle_map::iter::Iter;
 use crate::proved::ent_storage::handle_map::retaining::retain_slots;
 use crate::proved::ent_storage::handle_map::slot::{Slot, make_slot};
 use crate::proved::ent_handle::{Handle, Memory};
-use crate::kit::alloc::Global;
 use core::mem;
 
 /// A value for each of some handles, at most one for each slot.
@@ -39,9 +39,9 @@ impl<T> HandleMap<T> {
     ///
     /// </details>
     #[inline]
-    pub const fn new(alloc: Global) -> Self {
+    pub const fn new() -> Self {
         HandleMap {
-            slots: Vec::new(alloc),
+            slots: Vec::new(),
             len: 0,
         }
     }
@@ -64,9 +64,9 @@ impl<T> HandleMap<T> {
     ///
     /// </details>
     #[inline]
-    pub fn with_capacity(alloc: Global, slots: usize) -> Result<Self, Memory> {
+    pub fn with_capacity(slots: usize) -> Result<Self, Memory> {
         Ok(HandleMap {
-            slots: Vec::with_capacity(alloc, slots)?,
+            slots: Vec::with_capacity_fallibly(slots)?,
             len: 0,
         })
     }
@@ -117,7 +117,7 @@ impl<T> HandleMap<T> {
     /// </details>
     #[inline]
     pub fn capacity(&self) -> usize {
-        self.slots.capacity()
+        self.slots.sized_capacity()
     }
 
     /// Whether the handle has a value.
@@ -206,7 +206,7 @@ impl<T> HandleMap<T> {
     pub fn reserve(&mut self, slots: usize) -> Result<(), Memory> {
         let made = self.slots.len();
         if made < slots {
-            self.slots.reserve(slots - made)?;
+            self.slots.reserve_fallibly(slots - made)?;
         }
         Ok(())
     }

@@ -1,13 +1,14 @@
 // Made of crates/ent_storage/src/living.rt by rust/erase. It isn't edited by hand.
 
+use alloc::vec::Vec;
 use crate::kit::vec::CollectIn;
-use crate::kit::vec::Vec;
+use crate::kit::vec::FallibleVec;
 use super::columns;
 use super::items::Items;
 use super::order::least_of_birth;
 use super::sparse_set::SparseSet;
 use crate::proved::ent_handle::{Birth, ComponentId, Handle};
-use crate::kit::alloc::{AllocError, Global};
+use crate::kit::alloc::AllocError;
 
 /// What an entity has besides its components.
 #[derive(Clone, Copy)]
@@ -26,7 +27,6 @@ pub struct Living {
     residents: Vec<Resident>,
     columns: Vec<SparseSet>,
     used: Vec<u8>,
-    alloc: Global,
 }
 
 impl Living {
@@ -42,12 +42,11 @@ impl Living {
     ///
     /// </details>
     #[inline]
-    pub fn new(alloc: Global) -> Self {
+    pub fn new() -> Self {
         Living {
-            residents: Vec::new(alloc),
-            columns: Vec::new(alloc),
-            used: Vec::new(alloc),
-            alloc,
+            residents: Vec::new(),
+            columns: Vec::new(),
+            used: Vec::new(),
         }
     }
 
@@ -96,7 +95,7 @@ impl Living {
     /// </details>
     #[inline]
     pub fn capacity(&self) -> usize {
-        self.residents.capacity()
+        self.residents.sized_capacity()
     }
 
     /// Makes room for `additional` more entities. After an `Err` nothing is changed.
@@ -117,7 +116,7 @@ impl Living {
     /// </details>
     #[inline]
     pub fn reserve(&mut self, additional: usize) -> Result<(), AllocError> {
-        self.residents.reserve(additional)
+        self.residents.reserve_fallibly(additional)
     }
 
     /// The handle of the entity at the place.
@@ -203,7 +202,7 @@ impl Living {
         // ensures growing { OnErr result
         //     (HoldsAt (λ entity. 0 < missing entity.components items.now) self.old.entities place) }
     {
-        columns::reserve_all(&mut self.columns, &mut self.used, self.alloc, place, items)?;
+        columns::reserve_all(&mut self.columns, &mut self.used, place, items)?;
         columns::set_all(&mut self.columns, place, items);
         Ok(())
     }
@@ -235,8 +234,8 @@ impl Living {
     ///
     /// </details>
     #[inline]
-    pub fn births(&self, alloc: Global) -> Result<Vec<(Birth, Handle)>, AllocError> {
-        births(alloc, &self.residents)
+    pub fn births(&self) -> Result<Vec<(Birth, Handle)>, AllocError> {
+        births(&self.residents)
     }
 
     /// The least handle of an entity with that birth, if there is one. It takes no memory.
@@ -261,7 +260,6 @@ impl Living {
     #[inline]
     pub(crate) fn births_at(
         &self,
-        alloc: Global,
         pairs: &[(usize, i64)],
     ) -> Result<Vec<(Birth, Handle)>, AllocError>
         // requires { All (λ pair. pair.0 < length self.now.entities) pairs.now }
@@ -269,10 +267,10 @@ impl Living {
         //     ≡ map (λ pair. born_at self.now.entities pair.0) pairs.now) }
         // ensures memory { OnErr result (0 < length pairs.now) }
     {
-        let mut births = Vec::with_capacity(alloc, pairs.len())?;
+        let mut births = Vec::with_capacity_fallibly(pairs.len())?;
         for pair in pairs {
             let resident = self.residents[pair.0];
-            births.push((resident.birth, resident.handle))?;
+            births.push_fallibly((resident.birth, resident.handle))?;
         }
         Ok(births)
     }
@@ -303,18 +301,18 @@ impl Living {
 
 /// The birth and the handle of each resident.
 #[inline]
-fn births(alloc: Global, residents: &[Resident]) -> Result<Vec<(Birth, Handle)>, AllocError>
+fn births(residents: &[Resident]) -> Result<Vec<(Birth, Handle)>, AllocError>
     // ensures ok { IfOk result (λ births.
     //     births.items ≡ map (λ resident. (resident.birth, resident.handle)) residents.now) }
     // ensures memory { OnErr result (0 < length residents.now) }
 {
     if residents.is_empty() {
-        return Ok(Vec::new(alloc));
+        return Ok(Vec::new());
     }
     residents
         .iter()
         .map(|resident| (resident.birth, resident.handle))
-        .collect_in(alloc)
+        .collect_in()
 }
 
 /// Whether the entity at the place has that handle.

@@ -2,7 +2,7 @@
 
 //! What a storage has: the look-ups, which change nothing.
 
-use crate::kit::vec::Vec;
+use alloc::vec::Vec;
 use crate::proved::ent_storage::items::Items;
 use crate::proved::ent_storage::order::handles_in_order;
 use crate::proved::ent_storage::storage::Storage;
@@ -141,8 +141,8 @@ impl Storage {
     /// </details>
     #[inline]
     pub fn by_birth(&self) -> Result<Vec<Handle>, Memory> {
-        let births = self.living.births(self.alloc)?;
-        Ok(handles_in_order(self.alloc, births)?)
+        let births = self.living.births()?;
+        Ok(handles_in_order(births)?)
     }
 
     /// The handle of the entity that was brought to life there and then, if there is one. If
@@ -209,7 +209,7 @@ impl Storage {
     /// </details>
     #[inline]
     pub fn with(&self, id: ComponentId) -> Result<Vec<Handle>, Memory> {
-        let births = self.living.births_at(self.alloc, self.living.pairs(id))?;
-        Ok(handles_in_order(self.alloc, births)?)
+        let births = self.living.births_at(self.living.pairs(id))?;
+        Ok(handles_in_order(births)?)
     }
 }

@@ -4,7 +4,6 @@ use super::fault::StorageFault;
 use super::index::Index;
 use super::living::Living;
 use crate::proved::ent_handle::{Birth, ComponentId, Handle, Memory};
-use crate::kit::alloc::Global;
 
 /// The living entities: a finite map from handles to births and components.
 ///
@@ -15,7 +14,6 @@ use crate::kit::alloc::Global;
 pub struct Storage {
     pub(super) living: Living,
     pub(super) index: Index,
-    pub(super) alloc: Global,
 }
 
 impl Storage {
@@ -33,11 +31,10 @@ impl Storage {
     ///
     /// </details>
     #[inline]
-    pub fn new(alloc: Global) -> Self {
+    pub fn new() -> Self {
         Storage {
-            living: Living::new(alloc),
-            index: Index::new(alloc),
-            alloc,
+            living: Living::new(),
+            index: Index::new(),
         }
     }
 

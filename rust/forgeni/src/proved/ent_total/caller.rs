@@ -1,13 +1,10 @@
 // Made of crates/ent_total/src/caller.rt by rust/erase. It isn't edited by hand.
 
-use crate::proved::ent_total::numbering::Numbering;
 use crate::proved::ent_total::phase::Phase;
 use crate::proved::ent_total::sink::Sink;
 use crate::proved::ent_alloc::Reserved;
 use crate::proved::ent_handle::Handle;
 use crate::proved::ent_shared::{Refused, Reserver, Shared};
-use crate::kit::alloc::Global;
-use core::marker::PhantomData;
 use crate::kit::sync::Arc;
 
 /// Gives the handles to a sink.
@@ -34,14 +31,13 @@ impl core::error::Error for OtherPhase {}
 
 /// One caller of a phase: its reserver, with the allocator that it reserves from. It may go to a
 /// thread of its own.
-pub struct Caller<J: Numbering> {
-    pub(super) shared: Arc<Shared, Global>,
+pub struct Caller {
+    pub(super) shared: Arc<Shared>,
     pub(super) reserver: Reserver,
     pub(super) number: u64,
-    pub(super) of: PhantomData<J>,
 }
 
-impl<J: Numbering> Caller<J> {
+impl Caller {
     /// Whether the handle was alive when the phase was opened. It takes constant time.
     ///
     /// <details><summary>Contract</summary>
@@ -174,7 +170,7 @@ impl<J: Numbering> Caller<J> {
     ///
     /// </details>
     #[inline]
-    pub fn meet(&mut self, other: &mut Caller<J>) -> Result<(), OtherPhase> {
+    pub fn meet(&mut self, other: &mut Caller) -> Result<(), OtherPhase> {
         if self.number != other.number {
             return Err(OtherPhase);
         }
@@ -244,7 +240,7 @@ impl<J: Numbering> Caller<J> {
     ///
     /// </details>
     #[inline]
-    pub fn is_of(&self, phase: &Phase<J>) -> bool {
+    pub fn is_of(&self, phase: &Phase) -> bool {
         self.number == phase.number()
     }
 }

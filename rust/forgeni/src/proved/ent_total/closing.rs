@@ -2,16 +2,15 @@
 
 //! A phase ends, and gives the allocator back.
 
-use crate::kit::vec::Vec;
+use alloc::vec::Vec;
 use crate::proved::ent_total::caller::Caller;
 use crate::proved::ent_total::homecoming::are_of;
-use crate::proved::ent_total::numbering::Numbering;
 use crate::proved::ent_total::phase::Phase;
 use crate::proved::ent_total::unclosed::{CloseFault, Unclosed};
 use crate::proved::ent_alloc::Entities;
 use crate::proved::ent_shared::{Reserver, Shared};
 
-impl<J: Numbering> Phase<J> {
+impl Phase {
     /// Ends the phase with all its callers: those that are at home, and these. The allocator is as
     /// if their reservations had been made one by one, in the order of their atomic steps, and a
     /// flush brings to life what they were given. It takes no memory.
@@ -76,7 +75,7 @@ impl<J: Numbering> Phase<J> {
     ///
     /// </details>
     #[inline]
-    pub fn close(mut self, callers: Vec<Caller<J>>) -> Result<Entities, Unclosed<J>> {
+    pub fn close(mut self, callers: Vec<Caller>) -> Result<Entities, Unclosed> {
         let missing = match self.missing(&callers) {
             Ok(missing) => missing,
             Err(why) => {
@@ -166,7 +165,7 @@ impl<J: Numbering> Phase<J> {
     ///
     /// </details>
     #[inline]
-    pub fn close_lost(mut self, callers: Vec<Caller<J>>) -> Result<Entities, Unclosed<J>> {
+    pub fn close_lost(mut self, callers: Vec<Caller>) -> Result<Entities, Unclosed> {
         if let Err(why) = self.missing(&callers) {
             return Err(Unclosed {
                 phase: self,
@@ -183,7 +182,7 @@ impl<J: Numbering> Phase<J> {
 
     /// How many callers are missing beside those at home and these, if these may come home.
     #[inline]
-    fn missing(&self, callers: &[Caller<J>]) -> Result<usize, CloseFault>
+    fn missing(&self, callers: &[Caller]) -> Result<usize, CloseFault>
         // ensures own { OnOk result (AreOf self.now.number callers.now) }
         // ensures count { IfOk result (λ missing.
         //     length (all_home self.now callers.now) + missing ≡ self.now.shared.count) }
@@ -205,7 +204,7 @@ impl<J: Numbering> Phase<J> {
 
     /// That somebody else has a part of the phase.
     #[inline]
-    fn in_use(self) -> Unclosed<J>
+    fn in_use(self) -> Unclosed
         // ensures phase { result.phase ≡ self }
         // ensures callers { result.callers.items ≡ [] }
         // ensures why { result.why ≡ InUse }

@@ -2,10 +2,9 @@
 
 //! A phase of a world ends, and gives the world back, with the queues of its systems.
 
-use crate::kit::vec::Vec;
+use alloc::vec::Vec;
 use crate::proved::ent_total::issued::Issued;
 use crate::proved::ent_total::numbered_world::NumberedWorld;
-use crate::proved::ent_total::numbering::Numbering;
 use crate::proved::ent_total::queues::Queues;
 use crate::proved::ent_total::unfinished::{FinishFault, Unfinished};
 use crate::proved::ent_total::world_homecoming::are_of;
@@ -13,7 +12,7 @@ use crate::proved::ent_total::world_phase::{Parts, WorldPhase};
 use crate::proved::ent_shared::Reserver;
 use crate::proved::ent_world::{OpenWorld, World};
 
-impl<J: Numbering> WorldPhase<J> {
+impl WorldPhase {
     /// Ends the phase with all its systems: those that are at home, and these. The queues stand in
     /// this order, which is that of their effect. Nothing of the world has changed but that handles
     /// are reserved.
@@ -57,7 +56,7 @@ impl<J: Numbering> WorldPhase<J> {
     ///
     /// </details>
     #[inline]
-    pub fn close(mut self, queues: Vec<Issued<J>>) -> Result<(NumberedWorld, Queues), Unfinished<J>> {
+    pub fn close(mut self, queues: Vec<Issued>) -> Result<(NumberedWorld, Queues), Unfinished> {
         let missing = match self.missing(&queues) {
             Ok(missing) => missing,
             Err(why) => return Err(self.unfinished(queues, why)),
@@ -115,8 +114,8 @@ impl<J: Numbering> WorldPhase<J> {
     #[inline]
     pub fn close_lost(
         mut self,
-        queues: Vec<Issued<J>>,
-    ) -> Result<(NumberedWorld, Queues), Unfinished<J>> {
+        queues: Vec<Issued>,
+    ) -> Result<(NumberedWorld, Queues), Unfinished> {
         if let Err(why) = self.missing(&queues) {
             return Err(self.unfinished(queues, why));
         }
@@ -131,7 +130,7 @@ impl<J: Numbering> WorldPhase<J> {
 
     /// How many systems are missing beside those at home and these, if these may come home.
     #[inline]
-    fn missing(&self, queues: &[Issued<J>]) -> Result<usize, FinishFault>
+    fn missing(&self, queues: &[Issued]) -> Result<usize, FinishFault>
         // ensures own { OnOk result (AreIssuersOf self.now.number queues.now) }
         // ensures count { IfOk result (λ missing. length (reservers_home self.now queues.now) + missing
         //     ≡ self.now.world.shared.count) }
@@ -153,7 +152,7 @@ impl<J: Numbering> WorldPhase<J> {
 
     /// That it was not closed, and these queues are handed back.
     #[inline]
-    fn unfinished(self, queues: Vec<Issued<J>>, why: FinishFault) -> Unfinished<J>
+    fn unfinished(self, queues: Vec<Issued>, why: FinishFault) -> Unfinished
         // ensures { result ≡ record { phase = self; queues = queues; why = why } }
     {
         Unfinished {
@@ -165,7 +164,7 @@ impl<J: Numbering> WorldPhase<J> {
 
     /// That somebody else has a part of the phase.
     #[inline]
-    fn in_use(self) -> Unfinished<J>
+    fn in_use(self) -> Unfinished
         // ensures phase { result.phase ≡ self }
         // ensures queues { result.queues.items ≡ [] }
         // ensures why { result.why ≡ InUse }

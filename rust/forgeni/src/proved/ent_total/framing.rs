@@ -2,7 +2,7 @@
 
 //! Frames: systems run on workers over a world, and the sync point lets their queues take effect.
 
-use crate::kit::vec::Vec;
+use alloc::vec::Vec;
 use crate::proved::ent_total::numbered_world::NumberedWorld;
 use crate::proved::ent_total::queues::Queues;
 use crate::proved::ent_total::stop::Stop;
@@ -10,7 +10,6 @@ use crate::proved::ent_total::stopped::Stopped;
 use crate::proved::ent_queue::CommandQueue;
 use crate::proved::ent_runner::{FrameFault, FrameReport, Gate, System, run_frame};
 use crate::proved::ent_world::{SyncFault, SyncReport};
-use crate::kit::alloc::Global;
 use crate::kit::thread::Threads;
 
 /// How many workers a frame may have.
@@ -97,7 +96,6 @@ impl NumberedWorld {
     pub fn run_frame<R, S, G>(
         &mut self,
         rt: &R,
-        alloc: Global,
         systems: &[S],
         workers: usize,
         gate: &G,
@@ -116,7 +114,7 @@ impl NumberedWorld {
         if systems.len() > SYSTEMS {
             return Err(Unframed::Systems);
         }
-        match run_frame(rt, alloc, &mut self.world, systems, workers, gate) {
+        match run_frame(rt, &mut self.world, systems, workers, gate) {
             Ok(report) => Ok(report),
             Err(FrameFault::Memory) => Err(Unframed::Memory),
             Err(FrameFault::Lost) => Err(Unframed::Lost),

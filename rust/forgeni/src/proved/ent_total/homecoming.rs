@@ -2,14 +2,14 @@
 
 //! Callers come home: their reservers go back to the phase.
 
-use crate::kit::vec::Vec;
+use alloc::vec::Vec;
+use crate::kit::vec::FallibleVec;
 use crate::proved::ent_total::caller::Caller;
-use crate::proved::ent_total::numbering::Numbering;
 use crate::proved::ent_shared::{Reserver, Shared};
 
 /// Whether all callers are of the phase of this number.
 #[inline]
-pub(super) fn are_of<J: Numbering>(number: u64, callers: &[Caller<J>]) -> bool
+pub(super) fn are_of(number: u64, callers: &[Caller]) -> bool
     // ensures { IsTrue result ↔ AreOf number callers.now }
 {
     for caller in callers {
@@ -22,11 +22,11 @@ pub(super) fn are_of<J: Numbering>(number: u64, callers: &[Caller<J>]) -> bool
 
 /// Adds the reservers of the callers to those at home, behind them. There is room for them.
 #[inline]
-pub(super) fn bring_home<J: Numbering>(
+pub(super) fn bring_home(
     home: &mut Vec<Reserver>,
     shared: &Shared,
     number: u64,
-    callers: Vec<Caller<J>>,
+    callers: Vec<Caller>,
 )
     // requires stands_for { J.shared_of number ≡ shared.now }
     // requires of { AreOf number callers.items }

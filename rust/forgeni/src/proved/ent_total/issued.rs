@@ -1,17 +1,16 @@
 // Made of crates/ent_total/src/issued.rt by rust/erase. It isn't edited by hand.
 
 use crate::proved::ent_total::issuer::Issuer;
-use crate::proved::ent_total::numbering::Numbering;
 use crate::proved::ent_total::world_phase::WorldPhase;
 
 /// A system that issues no more: its queue, and its reserver.
-pub struct Issued<J: Numbering> {
-    pub(super) issuer: Issuer<J>,
+pub struct Issued {
+    pub(super) issuer: Issuer,
 }
 
-impl<J: Numbering> Issued<J> {
+impl Issued {
     #[inline]
-    pub(super) fn new(issuer: Issuer<J>) -> Self
+    pub(super) fn new(issuer: Issuer) -> Self
         // ensures { result ≡ issuer }
     {
         Issued { issuer }
@@ -46,7 +45,7 @@ impl<J: Numbering> Issued<J> {
     ///
     /// </details>
     #[inline]
-    pub fn is_of(&self, phase: &WorldPhase<J>) -> bool {
+    pub fn is_of(&self, phase: &WorldPhase) -> bool {
         self.issuer.is_of(phase)
     }
 }

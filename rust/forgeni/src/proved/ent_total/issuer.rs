@@ -1,29 +1,25 @@
 // Made of crates/ent_total/src/issuer.rt by rust/erase. It isn't edited by hand.
 
-use crate::kit::vec::Vec;
+use alloc::vec::Vec;
 use crate::proved::ent_total::issued::Issued;
-use crate::proved::ent_total::numbering::Numbering;
 use crate::proved::ent_total::world_phase::WorldPhase;
 use crate::proved::ent_handle::{ComponentId, Handle, Memory};
 use crate::proved::ent_queue::{Bundle, CommandQueue, Commands, QueueFault};
 use crate::proved::ent_shared::Reserver;
 use crate::proved::ent_world::OpenWorld;
-use crate::kit::alloc::Global;
-use core::marker::PhantomData;
 use core::mem;
 use crate::kit::sync::Arc;
 
 /// A system of a phase while it issues its commands: its reserver, its queue so far, and the world
 /// that it views. It may go to a thread of its own.
-pub struct Issuer<J: Numbering> {
-    pub(super) world: Arc<OpenWorld, Global>,
+pub struct Issuer {
+    pub(super) world: Arc<OpenWorld>,
     pub(super) reserver: Reserver,
     pub(super) queue: CommandQueue,
     pub(super) number: u64,
-    pub(super) of: PhantomData<J>,
 }
 
-impl<J: Numbering> Issuer<J> {
+impl Issuer {
     /// Reserves a handle at once, by one atomic step. It is to have the components.
     ///
     /// # Errors
@@ -56,10 +52,10 @@ impl<J: Numbering> Issuer<J> {
     ///
     /// </details>
     #[inline]
-    pub fn spawn(&mut self, alloc: Global, bundle: &Bundle) -> Result<Handle, QueueFault> {
-        let queue = self.take_queue(alloc);
+    pub fn spawn(&mut self, bundle: &Bundle) -> Result<Handle, QueueFault> {
+        let queue = self.take_queue();
         let shared = self.world.shared();
-        let mut commands = Commands::resume(alloc, shared, &mut self.reserver, queue);
+        let mut commands = Commands::resume(shared, &mut self.reserver, queue);
         let spawned = commands.spawn(bundle);
         self.queue = commands.finish();
         spawned
@@ -100,13 +96,12 @@ impl<J: Numbering> Issuer<J> {
     #[inline]
     pub fn spawn_many(
         &mut self,
-        alloc: Global,
         n: u32,
         bundle: &Bundle,
     ) -> Result<Vec<Handle>, QueueFault> {
-        let queue = self.take_queue(alloc);
+        let queue = self.take_queue();
         let shared = self.world.shared();
-        let mut commands = Commands::resume(alloc, shared, &mut self.reserver, queue);
+        let mut commands = Commands::resume(shared, &mut self.reserver, queue);
         let spawned = commands.spawn_many(n, bundle);
         self.queue = commands.finish();
         spawned
@@ -131,10 +126,10 @@ impl<J: Numbering> Issuer<J> {
     ///
     /// </details>
     #[inline]
-    pub fn insert(&mut self, alloc: Global, handle: Handle, bundle: &Bundle) -> Result<(), Memory> {
-        let queue = self.take_queue(alloc);
+    pub fn insert(&mut self, handle: Handle, bundle: &Bundle) -> Result<(), Memory> {
+        let queue = self.take_queue();
         let shared = self.world.shared();
-        let mut commands = Commands::resume(alloc, shared, &mut self.reserver, queue);
+        let mut commands = Commands::resume(shared, &mut self.reserver, queue);
         let issued = commands.insert(handle, bundle);
         self.queue = commands.finish();
         issued
@@ -159,10 +154,10 @@ impl<J: Numbering> Issuer<J> {
     ///
     /// </details>
     #[inline]
-    pub fn remove(&mut self, alloc: Global, handle: Handle, id: ComponentId) -> Result<(), Memory> {
-        let queue = self.take_queue(alloc);
+    pub fn remove(&mut self, handle: Handle, id: ComponentId) -> Result<(), Memory> {
+        let queue = self.take_queue();
         let shared = self.world.shared();
-        let mut commands = Commands::resume(alloc, shared, &mut self.reserver, queue);
+        let mut commands = Commands::resume(shared, &mut self.reserver, queue);
         let issued = commands.remove(handle, id);
         self.queue = commands.finish();
         issued
@@ -187,10 +182,10 @@ impl<J: Numbering> Issuer<J> {
     ///
     /// </details>
     #[inline]
-    pub fn despawn(&mut self, alloc: Global, handle: Handle) -> Result<(), Memory> {
-        let queue = self.take_queue(alloc);
+    pub fn despawn(&mut self, handle: Handle) -> Result<(), Memory> {
+        let queue = self.take_queue();
         let shared = self.world.shared();
-        let mut commands = Commands::resume(alloc, shared, &mut self.reserver, queue);
+        let mut commands = Commands::resume(shared, &mut self.reserver, queue);
         let issued = commands.despawn(handle);
         self.queue = commands.finish();
         issued
@@ -198,12 +193,12 @@ impl<J: Numbering> Issuer<J> {
 
     /// The queue, and leaves an empty one, which takes no memory.
     #[inline]
-    fn take_queue(&mut self, alloc: Global) -> CommandQueue
+    fn take_queue(&mut self) -> CommandQueue
         // ensures queue { result ≡ self.old.queue }
         // ensures rest { self.new ≡ record self.old { queue = [] } }
     {
         let shared = self.world.shared();
-        let empty = Commands::new(alloc, shared, &mut self.reserver).finish();
+        let empty = Commands::new(shared, &mut self.reserver).finish();
         mem::replace(&mut self.queue, empty)
     }
 
@@ -220,7 +215,7 @@ impl<J: Numbering> Issuer<J> {
     ///
     /// </details>
     #[inline]
-    pub fn is_of(&self, phase: &WorldPhase<J>) -> bool {
+    pub fn is_of(&self, phase: &WorldPhase) -> bool {
         self.number == phase.number()
     }
 
@@ -268,7 +263,7 @@ impl<J: Numbering> Issuer<J> {
     ///
     /// </details>
     #[inline]
-    pub fn finish(self) -> Issued<J> {
+    pub fn finish(self) -> Issued {
         Issued::new(self)
     }
 }

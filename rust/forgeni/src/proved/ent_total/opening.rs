@@ -1,11 +1,9 @@
 // Made of crates/ent_total/src/opening.rt by rust/erase. It isn't edited by hand.
 
-use crate::kit::vec::Vec;
-use crate::proved::ent_total::numbering::Numbering;
+use alloc::vec::Vec;
 use crate::proved::ent_total::phase::Phase;
 use crate::proved::ent_alloc::Entities;
 use crate::proved::ent_shared::{Reserver, Shared};
-use crate::kit::alloc::Global;
 use crate::kit::sync::Arc;
 
 /// How many callers a phase may have.
@@ -44,8 +42,7 @@ pub struct Unshared {
 
 /// A phase that has no number yet, with all its reservers.
 pub struct Opening {
-    alloc: Global,
-    shared: Arc<Shared, Global>,
+    shared: Arc<Shared>,
     home: Vec<Reserver>,
 }
 
@@ -74,7 +71,7 @@ pub struct Opening {
 ///
 /// </details>
 #[inline]
-pub fn share(alloc: Global, entities: Entities, count: usize) -> Result<Opening, Unshared> {
+pub fn share(entities: Entities, count: usize) -> Result<Opening, Unshared> {
     if entities.needs_flush() {
         return Err(Unshared {
             entities,
@@ -87,7 +84,7 @@ pub fn share(alloc: Global, entities: Entities, count: usize) -> Result<Opening,
             why: ShareFault::Count,
         });
     }
-    match Opening::new(alloc, entities, count) {
+    match Opening::new(entities, count) {
         Ok(opening) => Ok(opening),
         Err(entities) => Err(Unshared {
             entities,
@@ -99,7 +96,7 @@ pub fn share(alloc: Global, entities: Entities, count: usize) -> Result<Opening,
 impl Opening {
     /// Shares a flushed allocator. If memory runs out, it comes back.
     #[inline]
-    fn new(alloc: Global, entities: Entities, count: usize) -> Result<Self, Entities>
+    fn new(entities: Entities, count: usize) -> Result<Self, Entities>
         // requires flushed { entities.allocator.asked ≡ 0 }
         // requires some { 0 < count }
         // requires few { count ≤ 1024 }
@@ -110,13 +107,12 @@ impl Opening {
         //     records_of o.home ≡ opened_records entities.allocator 0 count) }
         // ensures err { IfErr result (λ refused. refused ≡ entities) }
     {
-        let (shared, home) = match crate::proved::ent_shared::share(alloc, entities, count) {
+        let (shared, home) = match crate::proved::ent_shared::share(entities, count) {
             Ok(made) => made,
             Err((entities, _)) => return Err(entities),
         };
-        match Arc::new(alloc, shared) {
+        match Arc::new(shared) {
             Ok(shared) => Ok(Opening {
-                alloc,
                 shared,
                 home,
             }),
@@ -126,15 +122,14 @@ impl Opening {
 
     /// The phase, under a number by which it is told from all others. All its reservers are at home.
     #[inline]
-    pub(crate) fn numbered<J: Numbering>(self, number: u64) -> Phase<J>
+    pub(crate) fn numbered(self, number: u64) -> Phase
         // requires stands_for { J.shared_of number ≡ self.shared }
         // ensures { result ≡ record { number = number; shared = self.shared; home = self.home } }
     {
         let Opening {
-            alloc,
             shared,
             home,
         } = self;
-        Phase::new(alloc, shared, home, number)
+        Phase::new(shared, home, number)
     }
 }

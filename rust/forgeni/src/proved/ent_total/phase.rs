@@ -1,29 +1,23 @@
 // Made of crates/ent_total/src/phase.rt by rust/erase. It isn't edited by hand.
 
-use crate::kit::vec::Vec;
+use alloc::vec::Vec;
 use crate::proved::ent_total::caller::Caller;
 use crate::proved::ent_total::homecoming::bring_home;
-use crate::proved::ent_total::numbering::Numbering;
 use crate::proved::ent_handle::{Handle, Memory};
 use crate::proved::ent_shared::{Reserver, Shared};
-use crate::kit::alloc::Global;
-use core::marker::PhantomData;
 use crate::kit::sync::Arc;
 
 /// An allocator that is shared, with the reservers that no caller has.
-pub struct Phase<J: Numbering> {
-    alloc: Global,
-    shared: Arc<Shared, Global>,
+pub struct Phase {
+    shared: Arc<Shared>,
     home: Vec<Reserver>,
     number: u64,
-    of: PhantomData<J>,
 }
 
-impl<J: Numbering> Phase<J> {
+impl Phase {
     #[inline]
     pub(super) fn new(
-        alloc: Global,
-        shared: Arc<Shared, Global>,
+        shared: Arc<Shared>,
         home: Vec<Reserver>,
         number: u64,
     ) -> Self
@@ -34,11 +28,9 @@ impl<J: Numbering> Phase<J> {
         //     ≡ record { number = number; shared = arc_value shared; home = home.items } }
     {
         Phase {
-            alloc,
             shared,
             home,
             number,
-            of: PhantomData,
         }
     }
 
@@ -140,7 +132,7 @@ impl<J: Numbering> Phase<J> {
     ///
     /// </details>
     #[inline]
-    pub fn caller(&mut self) -> Result<Option<Caller<J>>, Memory> {
+    pub fn caller(&mut self) -> Result<Option<Caller>, Memory> {
         if self.home.is_empty() {
             return Ok(None);
         }
@@ -154,13 +146,12 @@ impl<J: Numbering> Phase<J> {
             shared,
             reserver,
             number: self.number,
-            of: PhantomData,
         }))
     }
 
     /// Takes callers home, which needs no memory.
     #[inline]
-    pub(super) fn take_home(&mut self, callers: Vec<Caller<J>>)
+    pub(super) fn take_home(&mut self, callers: Vec<Caller>)
         // requires own { AreOf self.old.number callers.items }
         // requires few { length (all_home self.old callers.items) ≤ self.old.shared.count }
         // ensures { self.new ≡ record self.old { home = all_home self.old callers.items } }
@@ -176,23 +167,21 @@ impl<J: Numbering> Phase<J> {
         // ensures err { IfErr result (λ phase. phase ≡ self) }
     {
         let Phase {
-            alloc,
             shared,
             home,
             number,
-            of: _,
         } = self;
         match Arc::try_unwrap(shared) {
             Ok(shared) => Ok((shared, home)),
-            Err(shared) => Err(Phase::new(alloc, shared, home, number)),
+            Err(shared) => Err(Phase::new(shared, home, number)),
         }
     }
 
     /// A list without callers.
     #[inline]
-    pub(super) fn no_callers(&self) -> Vec<Caller<J>>
+    pub(super) fn no_callers(&self) -> Vec<Caller>
         // ensures { result.items ≡ [] }
     {
-        Vec::new(self.alloc)
+        Vec::new()
     }
 }

@@ -1,8 +1,7 @@
 // Made of crates/ent_total/src/unclosed.rt by rust/erase. It isn't edited by hand.
 
-use crate::kit::vec::Vec;
+use alloc::vec::Vec;
 use crate::proved::ent_total::caller::Caller;
-use crate::proved::ent_total::numbering::Numbering;
 use crate::proved::ent_total::phase::Phase;
 
 /// Why a phase was not closed.
@@ -36,11 +35,11 @@ impl core::fmt::Display for CloseFault {
 impl core::error::Error for CloseFault {}
 
 /// A phase that was not closed, and goes on.
-pub struct Unclosed<J: Numbering> {
+pub struct Unclosed {
     /// The phase.
-    pub phase: Phase<J>,
+    pub phase: Phase,
     /// The callers that are handed back.
-    pub callers: Vec<Caller<J>>,
+    pub callers: Vec<Caller>,
     /// Why it was not closed.
     pub why: CloseFault,
 }

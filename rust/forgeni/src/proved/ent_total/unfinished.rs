@@ -1,8 +1,7 @@
 // Made of crates/ent_total/src/unfinished.rt by rust/erase. It isn't edited by hand.
 
-use crate::kit::vec::Vec;
+use alloc::vec::Vec;
 use crate::proved::ent_total::issued::Issued;
-use crate::proved::ent_total::numbering::Numbering;
 use crate::proved::ent_total::world_phase::WorldPhase;
 
 /// Why a phase of a world was not closed.
@@ -39,11 +38,11 @@ impl core::fmt::Display for FinishFault {
 impl core::error::Error for FinishFault {}
 
 /// A phase of a world that was not closed, and goes on.
-pub struct Unfinished<J: Numbering> {
+pub struct Unfinished {
     /// The phase.
-    pub phase: WorldPhase<J>,
+    pub phase: WorldPhase,
     /// The queues that are handed back.
-    pub queues: Vec<Issued<J>>,
+    pub queues: Vec<Issued>,
     /// Why it was not closed.
     pub why: FinishFault,
 }

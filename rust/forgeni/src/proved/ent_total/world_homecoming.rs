@@ -2,17 +2,17 @@
 
 //! Systems come home: their reservers and their queues go back to the phase.
 
-use crate::kit::vec::Vec;
+use alloc::vec::Vec;
+use crate::kit::vec::FallibleVec;
 use crate::proved::ent_total::issued::Issued;
 use crate::proved::ent_total::issuer::Issuer;
-use crate::proved::ent_total::numbering::Numbering;
 use crate::proved::ent_queue::CommandQueue;
 use crate::proved::ent_shared::Reserver;
 use crate::proved::ent_world::OpenWorld;
 
 /// Whether all of them are of the phase of this number.
 #[inline]
-pub(super) fn are_of<J: Numbering>(number: u64, queues: &[Issued<J>]) -> bool
+pub(super) fn are_of(number: u64, queues: &[Issued]) -> bool
     // ensures { IsTrue result ↔ AreIssuersOf number queues.now }
 {
     for one in queues {
@@ -25,12 +25,12 @@ pub(super) fn are_of<J: Numbering>(number: u64, queues: &[Issued<J>]) -> bool
 
 /// Adds the reservers and the queues to those at home, behind them. There is room for them.
 #[inline]
-pub(super) fn bring_home<J: Numbering>(
+pub(super) fn bring_home(
     home: &mut Vec<Reserver>,
     queues_home: &mut Vec<CommandQueue>,
     world: &OpenWorld,
     number: u64,
-    queues: Vec<Issued<J>>,
+    queues: Vec<Issued>,
 )
     // requires stands_for { J.world_of number ≡ world.now }
     // requires of { AreIssuersOf number queues.items }

@@ -1,14 +1,12 @@
 // Made of crates/ent_total/src/world_opening.rt by rust/erase. It isn't edited by hand.
 
-use crate::kit::vec::Vec;
+use alloc::vec::Vec;
 use crate::proved::ent_total::numbered_world::NumberedWorld;
-use crate::proved::ent_total::numbering::Numbering;
 use crate::proved::ent_total::opening::{CALLERS, ShareFault};
 use crate::proved::ent_total::world_phase::WorldPhase;
 use crate::proved::ent_queue::CommandQueue;
 use crate::proved::ent_shared::Reserver;
 use crate::proved::ent_world::{OpenWorld, World};
-use crate::kit::alloc::Global;
 use crate::kit::sync::Arc;
 
 /// A world that was not opened.
@@ -21,9 +19,8 @@ pub struct Unopened {
 
 /// A phase of a world that has no number yet, with all its reservers.
 pub struct WorldOpening {
-    alloc: Global,
     of_world: u64,
-    world: Arc<OpenWorld, Global>,
+    world: Arc<OpenWorld>,
     home: Vec<Reserver>,
 }
 
@@ -55,7 +52,7 @@ pub struct WorldOpening {
 ///
 /// </details>
 #[inline]
-pub fn open(alloc: Global, world: NumberedWorld, count: usize) -> Result<WorldOpening, Unopened> {
+pub fn open(world: NumberedWorld, count: usize) -> Result<WorldOpening, Unopened> {
     if world.world.needs_flush() {
         return Err(Unopened {
             world,
@@ -69,7 +66,7 @@ pub fn open(alloc: Global, world: NumberedWorld, count: usize) -> Result<WorldOp
         });
     }
     let NumberedWorld { world, number } = world;
-    match WorldOpening::new(alloc, world, count, number) {
+    match WorldOpening::new(world, count, number) {
         Ok(opening) => Ok(opening),
         Err(world) => Err(Unopened {
             world: NumberedWorld { world, number },
@@ -81,7 +78,7 @@ pub fn open(alloc: Global, world: NumberedWorld, count: usize) -> Result<WorldOp
 impl WorldOpening {
     /// Opens a flushed world. If memory runs out, it comes back.
     #[inline]
-    fn new(alloc: Global, world: World, count: usize, of_world: u64) -> Result<Self, World>
+    fn new(world: World, count: usize, of_world: u64) -> Result<Self, World>
         // requires flushed { world.allocator.asked ≡ 0 }
         // requires some { 0 < count }
         // requires few { count ≤ 1024 }
@@ -98,9 +95,8 @@ impl WorldOpening {
             Ok(made) => made,
             Err((world, _)) => return Err(world),
         };
-        match Arc::new(alloc, opened) {
+        match Arc::new(opened) {
             Ok(world) => Ok(WorldOpening {
-                alloc,
                 of_world,
                 world,
                 home,
@@ -112,7 +108,7 @@ impl WorldOpening {
     /// The phase, under a number by which it is told from all others. All its reservers are at home,
     /// and no queue is.
     #[inline]
-    pub(crate) fn numbered<J: Numbering>(self, number: u64) -> WorldPhase<J>
+    pub(crate) fn numbered(self, number: u64) -> WorldPhase
         // requires stands_for { J.world_of number ≡ self.world }
         // ensures { result ≡ record {
         //   number = number;
@@ -123,12 +119,11 @@ impl WorldOpening {
         // } }
     {
         let WorldOpening {
-            alloc,
             of_world,
             world,
             home,
         } = self;
-        let none = Vec::new(alloc);
-        WorldPhase::new(alloc, of_world, world, home, none, number)
+        let none = Vec::new();
+        WorldPhase::new(of_world, world, home, none, number)
     }
 }

@@ -1,27 +1,23 @@
 // Made of crates/ent_total/src/world_phase.rt by rust/erase. It isn't edited by hand.
 
-use crate::kit::vec::Vec;
+use alloc::vec::Vec;
+use crate::kit::vec::FallibleVec;
 use crate::proved::ent_total::issued::Issued;
 use crate::proved::ent_total::issuer::Issuer;
-use crate::proved::ent_total::numbering::Numbering;
 use crate::proved::ent_total::world_homecoming::bring_home;
 use crate::proved::ent_handle::Memory;
 use crate::proved::ent_queue::{CommandQueue, Commands};
 use crate::proved::ent_shared::Reserver;
 use crate::proved::ent_world::OpenWorld;
-use crate::kit::alloc::Global;
-use core::marker::PhantomData;
 use crate::kit::sync::Arc;
 
 /// A world in a phase, with the reservers that no issuer has, and the queues that came home.
-pub struct WorldPhase<J: Numbering> {
-    alloc: Global,
+pub struct WorldPhase {
     of_world: u64,
-    world: Arc<OpenWorld, Global>,
+    world: Arc<OpenWorld>,
     home: Vec<Reserver>,
     queues: Vec<CommandQueue>,
     number: u64,
-    of: PhantomData<J>,
 }
 
 /// What a phase of a world is made of, once nobody else has a part of it.
@@ -32,12 +28,11 @@ pub(super) struct Parts {
     pub(super) queues: Vec<CommandQueue>,
 }
 
-impl<J: Numbering> WorldPhase<J> {
+impl WorldPhase {
     #[inline]
     pub(super) fn new(
-        alloc: Global,
         of_world: u64,
-        world: Arc<OpenWorld, Global>,
+        world: Arc<OpenWorld>,
         home: Vec<Reserver>,
         queues: Vec<CommandQueue>,
         number: u64,
@@ -53,13 +48,11 @@ impl<J: Numbering> WorldPhase<J> {
         // } }
     {
         WorldPhase {
-            alloc,
             of_world,
             world,
             home,
             queues,
             number,
-            of: PhantomData,
         }
     }
 
@@ -143,7 +136,7 @@ impl<J: Numbering> WorldPhase<J> {
     ///
     /// </details>
     #[inline]
-    pub fn issuer(&mut self) -> Result<Option<Issuer<J>>, Memory> {
+    pub fn issuer(&mut self) -> Result<Option<Issuer>, Memory> {
         if self.home.is_empty() {
             return Ok(None);
         }
@@ -153,26 +146,25 @@ impl<J: Numbering> WorldPhase<J> {
         let Some(mut reserver) = self.home.pop() else {
             unreachable!()
         };
-        let queue = Commands::new(self.alloc, world.shared(), &mut reserver).finish();
+        let queue = Commands::new(world.shared(), &mut reserver).finish();
         Ok(Some(Issuer {
             world,
             reserver,
             queue,
             number: self.number,
-            of: PhantomData,
         }))
     }
 
     /// Takes systems home, in their order. If memory runs out, they are handed back.
     #[inline]
-    pub(super) fn take_home(&mut self, queues: Vec<Issued<J>>) -> Result<(), Vec<Issued<J>>>
+    pub(super) fn take_home(&mut self, queues: Vec<Issued>) -> Result<(), Vec<Issued>>
         // requires own { AreIssuersOf self.old.number queues.items }
         // ensures ok { OnOk result (self.new ≡ with_home self.old queues.items) }
         // ensures memory { OnErr result (0 < length queues.items) }
         // ensures err { IfErr result (λ back.
         //     (back.items ≡ queues.items) × (self.new ≡ self.old)) }
     {
-        if self.home.reserve(queues.len()).is_err() || self.queues.reserve(queues.len()).is_err() {
+        if self.home.reserve_fallibly(queues.len()).is_err() || self.queues.reserve_fallibly(queues.len()).is_err() {
             return Err(queues);
         }
         bring_home(
@@ -196,13 +188,11 @@ impl<J: Numbering> WorldPhase<J> {
         // ensures err { IfErr result (λ phase. phase ≡ self) }
     {
         let WorldPhase {
-            alloc,
             of_world,
             world,
             home,
             queues,
             number,
-            of: _,
         } = self;
         match Arc::try_unwrap(world) {
             Ok(world) => Ok(Parts {
@@ -211,15 +201,15 @@ impl<J: Numbering> WorldPhase<J> {
                 home,
                 queues,
             }),
-            Err(world) => Err(WorldPhase::new(alloc, of_world, world, home, queues, number)),
+            Err(world) => Err(WorldPhase::new(of_world, world, home, queues, number)),
         }
     }
 
     /// A list without systems.
     #[inline]
-    pub(super) fn no_issued(&self) -> Vec<Issued<J>>
+    pub(super) fn no_issued(&self) -> Vec<Issued>
         // ensures { result.items ≡ [] }
     {
-        Vec::new(self.alloc)
+        Vec::new()
     }
 }

@@ -1,23 +1,21 @@
 // Made of crates/ent_world/src/open_world.rt by rust/erase. It isn't edited by hand.
 
-use crate::kit::vec::Vec;
+use alloc::vec::Vec;
 use crate::proved::ent_world::view::View;
 use crate::proved::ent_world::world::World;
 use crate::proved::ent_shared::{Reserver, Shared};
 use crate::proved::ent_storage::Storage;
-use crate::kit::alloc::Global;
 
 /// A world in a phase: many callers reserve from its allocator at once, and read the rest of it.
 pub struct OpenWorld {
     shared: Shared,
     storage: Storage,
     phase: u64,
-    alloc: Global,
 }
 
 impl OpenWorld {
     #[inline]
-    pub(super) fn new(alloc: Global, shared: Shared, storage: Storage, phase: u64) -> Self
+    pub(super) fn new(shared: Shared, storage: Storage, phase: u64) -> Self
         // requires world { IsOpenWorld
         //     (record { shared = shared; phase = phase; entities = storage.entities }) }
         // requires rows { AreRows shared.rows storage.places storage.entities }
@@ -29,7 +27,6 @@ impl OpenWorld {
             shared,
             storage,
             phase,
-            alloc,
         }
     }
 
@@ -103,13 +100,11 @@ impl OpenWorld {
             shared,
             storage,
             phase,
-            alloc,
         } = self;
         World {
             entities: shared.close(reservers),
             storage,
             phase,
-            alloc,
         }
     }
 
@@ -145,13 +140,11 @@ impl OpenWorld {
             shared,
             storage,
             phase,
-            alloc,
         } = self;
         World {
             entities: shared.close_lost(reservers),
             storage,
             phase,
-            alloc,
         }
     }
 }

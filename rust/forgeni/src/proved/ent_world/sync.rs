@@ -2,7 +2,7 @@
 
 //! The sync point of a world: what was reserved comes to life, and then the queues take effect.
 
-use crate::kit::vec::Vec;
+use alloc::vec::Vec;
 use crate::proved::ent_world::applying::Applying;
 use crate::proved::ent_world::births::{enter_all, name_listed, number_others};
 use crate::proved::ent_world::fault::{SyncFault, SyncReport};
@@ -57,7 +57,7 @@ impl World {
         let Ok(born) = self.bring_to_life(queues) else {
             return Err(SyncFault::FlushMemory);
         };
-        let mut applying = Applying::new(self.alloc);
+        let mut applying = Applying::new();
         let applied = self.apply_all(queues, &mut applying);
         let Applying { items: _, faults } = applying;
         match applied {
@@ -130,10 +130,10 @@ impl World {
             at: At { system, command },
             done,
         };
-        let mut applying = Applying::new(self.alloc);
+        let mut applying = Applying::new();
         let applied = self.apply_queues(from, queues, &mut applying);
         let Applying { items: _, faults } = applying;
-        let nobody = Vec::new(self.alloc);
+        let nobody = Vec::new();
         let report = SyncReport {
             born: nobody,
             faults,
@@ -155,7 +155,7 @@ impl World {
         // ensures memory { OnErr result (0 < length self.old.allocator.taken) }
         // ensures world { IsWorld self.new }
     {
-        let mut handles = Vec::new(self.alloc);
+        let mut handles = Vec::new();
         self.storage.reserve(self.entities.reserved() as usize)?;
         let first = self.entities.len();
         self.entities.flush(&mut handles)?;

@@ -1,7 +1,7 @@
 // Made of crates/ent_world/src/world.rt by rust/erase. It isn't edited by hand.
 
+use alloc::vec::Vec;
 use crate::kit::prove_eq;
-use crate::kit::vec::Vec;
 use crate::proved::ent_world::open_world::OpenWorld;
 use crate::proved::ent_world::rows::place_of;
 use crate::proved::ent_world::spawning::{make, next_handle};
@@ -10,7 +10,6 @@ use crate::proved::ent_handle::{Birth, ComponentId, Handle, Memory};
 use crate::proved::ent_queue::Bundle;
 use crate::proved::ent_shared::{Reserver, share};
 use crate::proved::ent_storage::{Items, Storage};
-use crate::kit::alloc::Global;
 
 /// Who is alive, and what each entity is made of.
 ///
@@ -20,7 +19,6 @@ pub struct World {
     pub(super) entities: Entities,
     pub(super) storage: Storage,
     pub(super) phase: u64,
-    pub(super) alloc: Global,
 }
 
 impl World {
@@ -37,15 +35,14 @@ impl World {
     ///
     /// </details>
     #[inline]
-    pub fn new(alloc: Global, limits: Limits) -> Self {
-        let entities = Entities::new(alloc, limits);
+    pub fn new(limits: Limits) -> Self {
+        let entities = Entities::with_limits(limits);
         // Whatever the limits are, it begins in a sound state, as `cursor` promises.
         prove_eq!(entities.cursor(), 0);
         World {
             entities,
-            storage: Storage::new(alloc),
+            storage: Storage::new(),
             phase: 0,
-            alloc,
         }
     }
 
@@ -367,18 +364,16 @@ impl World {
             entities,
             storage,
             phase,
-            alloc,
         } = self;
-        match share(alloc, entities, n) {
+        match share(entities, n) {
             Ok((shared, reservers)) => {
-                Ok((OpenWorld::new(alloc, shared, storage, phase), reservers))
+                Ok((OpenWorld::new(shared, storage, phase), reservers))
             }
             Err((entities, memory)) => Err((
                 World {
                     entities,
                     storage,
                     phase,
-                    alloc,
                 },
                 memory,
             )),

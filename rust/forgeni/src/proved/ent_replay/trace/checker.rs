@@ -2,7 +2,8 @@
 
 //! The checker: one line of a trace after the other.
 
-use crate::kit::vec::Vec;
+use alloc::vec::Vec;
+use crate::kit::vec::FallibleVec;
 use crate::proved::ent_replay::by_caller::ByCaller;
 use crate::proved::ent_replay::trace::calls::answered;
 use crate::proved::ent_replay::trace::difference::{Difference, Stop};
@@ -12,7 +13,6 @@ use crate::proved::ent_replay::trace::line::{Line, Reservation};
 use crate::proved::ent_replay::trace::lineup::{Lineup, make_all};
 use crate::proved::ent_replay::trace::placed::Placed;
 use crate::proved::ent_alloc::{Entities, Limits};
-use crate::kit::alloc::Global;
 
 /// How many handles may be requested between two flushes.
 const MOST: u64 = 1 << 50;
@@ -22,7 +22,6 @@ const MOST: u64 = 1 << 50;
 /// It holds the allocator and the reservations since the last other line, which are compared
 /// together. Contracts see just these two.
 pub struct Checker {
-    alloc: Global,
     entities: Entities,
     run: Vec<Placed>,
     latest: ByCaller<u64>,
@@ -42,12 +41,11 @@ impl Checker {
     ///
     /// </details>
     #[inline]
-    pub fn new(alloc: Global, limits: Limits) -> Self {
+    pub fn new(limits: Limits) -> Self {
         Checker {
-            alloc,
-            entities: Entities::new(alloc, limits),
-            run: Vec::new(alloc),
-            latest: ByCaller::new(alloc),
+            entities: Entities::with_limits(limits),
+            run: Vec::new(),
+            latest: ByCaller::new(),
             wanted: 0,
         }
     }
@@ -135,16 +133,15 @@ impl Checker {
         // ensures counted { IfErr result (λ stop. OnTooMany stop ⊥) }
     {
         let Checker {
-            alloc,
             mut entities,
             mut run,
             mut latest,
             wanted,
         } = self;
-        run.sort_by_cached_key(|placed| placed.key)?;
-        let lineup = Lineup::new(alloc, run, &entities).settle(alloc, &entities)?;
+        run.sort_by_cached_key_fallibly(|placed| placed.key)?;
+        let lineup = Lineup::new(run, &entities).settle(&entities)?;
         if !lineup.rest.is_empty() {
-            return Err(Stop::Differs(lineup.difference(alloc, &entities)?));
+            return Err(Stop::Differs(lineup.difference(&entities)?));
         }
         let Lineup {
             placed: mut run,
@@ -155,7 +152,6 @@ impl Checker {
         run.clear();
         latest.clear();
         Ok(Checker {
-            alloc,
             entities,
             run,
             latest,
@@ -176,7 +172,6 @@ impl Checker {
         // ensures counted { IfErr result (λ stop. OnTooMany stop ⊥) }
     {
         let Checker {
-            alloc,
             mut entities,
             run,
             latest,
@@ -184,8 +179,8 @@ impl Checker {
         } = self;
         // No call can be undone, so what a difference shows is looked up before it.
         let cursor = entities.cursor();
-        let front = front_at(alloc, &entities, cursor)?;
-        let expected = answered(alloc, &mut entities, &line)?;
+        let front = front_at(&entities, cursor)?;
+        let expected = answered(&mut entities, &line)?;
         if let Some(expected) = expected {
             return Err(Stop::Differs(Difference {
                 number,
@@ -197,7 +192,6 @@ impl Checker {
         }
         let wanted = entities.asked();
         Ok(Checker {
-            alloc,
             entities,
             run,
             latest,
@@ -215,7 +209,6 @@ impl Checker {
         // ensures few { OnOk result (¬ (IsTooManyIn self reservation)) }
     {
         let Checker {
-            alloc,
             entities,
             mut run,
             mut latest,
@@ -228,10 +221,9 @@ impl Checker {
         let caller = reservation.caller;
         let before = latest.get(caller).unwrap_or(0);
         let key = own_key(&entities, reservation.requested, &reservation.reply).max(before);
-        run.push(Placed { reservation, key })?;
+        run.push_fallibly(Placed { reservation, key })?;
         latest.insert(caller, key)?;
         Ok(Checker {
-            alloc,
             entities,
             run,
             latest,
