@@ -8,7 +8,7 @@ ghost use Rattle.ent_shared.specs.Phase.{IsBelow};
 use crate::numbering::Numbering;
 use crate::other_phase::OtherPhase;
 use crate::shared::Shared;
-use ent_alloc::LivingHandles;
+use ent_alloc::Living;
 use ent_handle::Handle;
 use std::alloc::Global;
 use std::marker::{Model, PhantomData};
@@ -137,7 +137,7 @@ impl<J: Numbering> Reserver<J> {
     }
 
     /// The entities that were alive when the phase was opened, as [`Shared::iter`] has them.
-    pub fn iter(&self) -> LivingHandles<'_>
+    pub fn iter(&self) -> Living<'_>
         ensures living { set.from_list result ≡ self.now.shared.start.live }
         ensures rising { AllPairs (λ g h. g.index < h.index) result }
         ensures count { length result ≡ set.len self.now.shared.start.live }

@@ -11,7 +11,7 @@ ghost use Rattle.ent_total.specs.Sharing.{AreOf, MayComeHome, all_home, reserver
 use crate::homecoming::bring_home;
 use crate::numbering::Numbering;
 use crate::reserver::Reserver;
-use ent_alloc::LivingHandles;
+use ent_alloc::Living;
 use ent_handle::{Handle, Memory};
 use std::alloc::Global;
 use std::marker::{Model, PhantomData};
@@ -152,7 +152,7 @@ impl<J: Numbering> Shared<J> {
     /// assert_eq!(shared.iter().collect::<Vec<_>>(), [old]);
     /// # Ok::<(), Box<dyn std::error::Error + Send + Sync>>(())
     /// ```
-    pub fn iter(&self) -> LivingHandles<'_>
+    pub fn iter(&self) -> Living<'_>
         ensures living { set.from_list result ≡ self.now.shared.start.live }
         ensures rising { AllPairs (λ g h. g.index < h.index) result }
         ensures count { length result ≡ set.len self.now.shared.start.live }
