@@ -188,7 +188,7 @@ pub fn is_of_std(name: &str) -> bool {
 pub const OWN_CALLS: &[(&str, &[&str])] = &[
     ("and", &["requests"]),
     ("end", &["self"]),
-    ("flush", &["allocator", "entities", "self"]),
+    ("flush", &["allocator", "entities", "self", "world"]),
     ("read", &["applying"]),
     ("replace", &["calls"]),
     ("write", &["self"]),
@@ -702,6 +702,7 @@ const METHODS: &[&str] = &[
     "resize",
     "retain",
     "rev",
+    "reverse",
     "saturating_add",
     "saturating_mul",
     "saturating_sub",

@@ -1,6 +1,6 @@
 use Rattle.std.proofs.Common.{rules}
 use Rattle.ent_total.proofs.Recorded.{recorded_many, unrecorded_many}
-use Rattle.ent_total.proofs.issuer.Issuer.spawn_many.Goals as goal
+use Rattle.ent_total.proofs.commands.Commands.spawn_many.Goals as goal
 
 pub returns-clause-recorded : goal.returns-clause-recorded
 returns-clause-recorded g c =

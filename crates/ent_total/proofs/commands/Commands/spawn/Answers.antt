@@ -1,7 +1,7 @@
 use Rattle.std.proofs.Common.{rules}
 use Rattle.ent_total.proofs.Recorded.{recorded_one, unrecorded_one}
 use Rattle.ent_total.proofs.Replied.{given_one, refused_one}
-use Rattle.ent_total.proofs.issuer.Issuer.spawn.Goals as goal
+use Rattle.ent_total.proofs.commands.Commands.spawn.Goals as goal
 
 pub returns-clause-given : goal.returns-clause-given
 returns-clause-given g c =
