@@ -28,7 +28,7 @@ impl Entities {
     ///     })
     /// })?;
     /// assert!(told.iter().all(Result::is_ok));
-    /// entities.flush()?;
+    /// entities.flush(&mut Vec::new())?;
     /// assert_eq!(entities.len(), 41);
     /// assert!(entities.is_alive(first));
     /// # Ok::<(), Box<dyn std::error::Error + Send + Sync>>(())
@@ -37,14 +37,14 @@ impl Entities {
     /// What `run` returns is handed on, so it may end early by `?`:
     ///
     /// ```
-    /// use forgeni::{Entities, Refused};
+    /// use forgeni::{Entities, ReserveError};
     ///
     /// let mut entities = Entities::new();
-    /// let ended: Result<(), Refused> = entities.phase(1, |_, reservers| {
+    /// let ended: Result<(), ReserveError> = entities.phase(1, |_, reservers| {
     ///     reservers[0].reserve()?;
-    ///     Err(Refused::Memory)
+    ///     Err(ReserveError::Memory)
     /// })?;
-    /// assert_eq!(ended, Err(Refused::Memory));
+    /// assert_eq!(ended, Err(ReserveError::Memory));
     /// assert_eq!(entities.reserved(), 1);
     /// # Ok::<(), forgeni::ShareError>(())
     /// ```

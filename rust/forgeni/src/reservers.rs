@@ -29,7 +29,7 @@ use std::thread_local;
 ///     }
 /// });
 /// let mut entities = shared.close(pool.into_inner())?;
-/// entities.flush()?;
+/// entities.flush(&mut Vec::new())?;
 /// assert_eq!(entities.len(), 100);
 /// # Ok::<(), Box<dyn std::error::Error + Send + Sync>>(())
 /// ```

@@ -110,7 +110,7 @@ impl Shared {
     ///
     /// let mut entities = Entities::new();
     /// let old = entities.alloc()?;
-    /// entities.set_row(old, 3)?;
+    /// entities.try_set_row(old, 3)?;
     /// entities.phase(1, |shared, reservers| {
     ///     let new = reservers[0].reserve().expect("a handle");
     ///     assert!(shared.is_alive(old) && !shared.is_alive(new));
