@@ -66,8 +66,8 @@ PRELUDE = set(
 )
 ASSOCIATED = set(
     "Arc::new Arc::try_clone Arc::try_unwrap BTreeMap::new Badge::blank Buffer::new NonZeroU32::new NonZeroU64::MIN NonZeroU64::new "
-    "SmallVec::new SmallVec::with_capacity Table::of_words Vec::new Vec::with_capacity fmt::Debug fmt::Display fmt::Formatter fmt::Result i64::from mem::replace str::from_utf8 "
-    "u16::from_le_bytes u32::MAX u32::from_le_bytes u64::from u64::from_le_bytes usize::from".split()
+    "SmallVec::new SmallVec::with_capacity Table::of_words Vec::new Vec::with_capacity fmt::Debug fmt::Display fmt::Formatter "
+    "fmt::Result i64::from mem::replace str::from_utf8 u16::from_le_bytes u32::MAX u32::from_le_bytes u64::from u64::from_le_bytes usize::from".split()
 )
 METHODS = set(
     "all as_bytes as_chunks as_slice binary_search binary_search_by_key capacity cast_signed cast_unsigned checked_add checked_sub clear "
@@ -536,6 +536,9 @@ class Reader:
         found = self.sees(*BINARY) and self.take()
         return found and (found.text != ">" or not self.sees(">", ">=") or self.take())
 
+    def add_padded(self):
+        return self.note("add", "padded") and self.add("padded", "padded")
+
     def is_aligned(self):
         if (self.result, self.look(1).text, self.look(2).text) == (WORD_TYPE[0], "struct", WORD_TYPE[1]):
             self.insert(len(self.out) - 2, ", PartialEq, Eq")
@@ -723,7 +726,7 @@ WORDS = {it.upper(): lambda r, it=it: r.look().kind == it and r.take() for it in
     "TRAIT": lambda r: r.set("trait", "::".join(r.imports.get(it) or it for it in r.words()[0])),
     "OF": lambda r: r.set("of", r.trait),
     "CONST": lambda r: r.sees("const") and r.take() or (r.result, r.look(1).text) in CONSTANT and r.add("const", "const"),
-    "WRITE": lambda r: r.sees("write") and (r.take() if r.result != PADDED else r.drop() and r.note("add", "padded") and r.add("padded", "padded")),
+    "WRITE": lambda r: r.sees("write") and (r.take() if r.result != PADDED else r.drop() and r.add_padded()),
     "TARGET": lambda r: r.set("target", r.look().text),
     "OF_TYPE": lambda r: r.set("tag", r.target if r.out[-1].text == "Self" else r.out[-1].text),
     "OWNER": lambda r: r.set("owner", f"impl trait {r.of.split('::')[-1]}" if r.of else "impl"),
