@@ -22,6 +22,7 @@ mod ghost_types;
 pub mod host;
 mod items;
 pub mod lex;
+mod lists;
 mod memory;
 mod messages;
 mod names;

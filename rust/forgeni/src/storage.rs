@@ -131,7 +131,7 @@ impl Storage {
     ///
     /// `OutOfMemory`: there is no memory for the list.
     pub fn by_birth(&self) -> Result<Vec<Handle>, OutOfMemory> {
-        Ok(self.proved.by_birth()?.into())
+        Ok(self.proved.by_birth()?)
     }
 
     /// How many entities there are.

@@ -8,7 +8,8 @@ mod iter;
 mod retaining;
 mod slot;
 
-use crate::kit::vec::Vec;
+use alloc::vec::Vec;
+use crate::kit::vec::FallibleVec;
 pub use crate::proved::ent_storage::handle_map::fault::{InsertFault, Uninserted};
 pub use crate::proved::ent_storage::handle_map::iter::Iter;
 use crate::proved::ent_storage::handle_map::retaining::retain_slots;
@@ -65,7 +66,7 @@ impl<T> HandleMap<T> {
     #[inline]
     pub fn with_capacity(slots: usize) -> Result<Self, Memory> {
         Ok(HandleMap {
-            slots: Vec::with_capacity(slots)?,
+            slots: Vec::with_capacity_fallibly(slots)?,
             len: 0,
         })
     }
@@ -116,7 +117,7 @@ impl<T> HandleMap<T> {
     /// </details>
     #[inline]
     pub fn capacity(&self) -> usize {
-        self.slots.capacity()
+        self.slots.sized_capacity()
     }
 
     /// Whether the handle has a value.
@@ -205,7 +206,7 @@ impl<T> HandleMap<T> {
     pub fn reserve(&mut self, slots: usize) -> Result<(), Memory> {
         let made = self.slots.len();
         if made < slots {
-            self.slots.reserve(slots - made)?;
+            self.slots.reserve_fallibly(slots - made)?;
         }
         Ok(())
     }
