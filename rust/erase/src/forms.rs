@@ -193,7 +193,7 @@ pub fn is_of_std(name: &str) -> bool {
 pub const OWN_CALLS: &[(&str, &[&str])] = &[
     ("and", &["requests"]),
     ("end", &["self"]),
-    ("flush", &["allocator", "entities", "self"]),
+    ("flush", &["allocator", "entities", "self", "world"]),
     ("read", &["applying"]),
     ("replace", &["calls"]),
     ("write", &["self"]),
