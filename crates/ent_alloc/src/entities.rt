@@ -1,4 +1,4 @@
-ghost use Rattle.std.specs.Prelude.{◌≡◌, ◌≢◌, ◌+◌, ◌-◌, ◌^◌, ◌<◌, ◌≤◌, ◌↔◌, ◌⊎◌};
+ghost use Rattle.std.specs.Prelude.{◌≡◌, ◌≢◌, ◌+◌, ◌-◌, ◌^◌, ◌<◌, ◌≤◌, ◌↔◌, ◌⊎◌, ◌||◌};
 ghost use Rattle.std.specs.Prelude.{IsTrue, IfOk, OnOk, OnSome, OnErr, IsErrOf, IfSome, IfNone, Some, None};
 ghost use Rattle.std.specs.Prelude.{true, false};
 ghost use Rattle.std.specs.Prelude.{[], ◌++◌, All, AllPairs, length, slice_get, vec_len, vec_capacity};
@@ -8,12 +8,14 @@ ghost use Rattle.ent_alloc.specs.Sequential.{opening, top, cursor, available, st
 ghost use Rattle.ent_alloc.specs.Sequential.{born, made_at_flush, next};
 ghost use Rattle.ent_alloc.specs.Sequential.{state_of, retired, after_flush};
 ghost use Rattle.ent_alloc.specs.Sequential.{after_alloc, after_free};
-ghost use Rattle.ent_alloc.specs.Sound.{IsSound};
+ghost use Rattle.ent_alloc.specs.Limits.{without_placeholder};
+ghost use Rattle.ent_alloc.specs.Sound.{IsSound, IsWithin};
 ghost use Rattle.ent_alloc.specs.Entities.{HasRowsOfLiving};
 
+use crate::absent::Absent;
 use crate::fault::{AllocFault, FreeFault, Freed};
 use crate::limits::Limits;
-use crate::living_handles::LivingHandles;
+use crate::living::Living;
 use crate::requests::Requests;
 use crate::slot_record::Occupancy;
 use crate::slots::Slots;
@@ -59,6 +61,17 @@ impl Entities {
             slots: Slots::new(alloc, limits),
             requests: Requests::none(),
         }
+    }
+
+    /// An allocator with no entities and these limits, of which the greatest handle is kept back:
+    /// where both limits are the greatest, a slot has one generation less. It takes no memory,
+    /// whatever the limits are.
+    pub fn with_limits(alloc: Global, limits: Limits) -> Self
+        ensures allocator { result.allocator ≡ opening (without_placeholder limits) }
+        ensures rows { result.rows ≡ map.empty }
+        ensures rows_of_living { HasRowsOfLiving result }
+    {
+        Entities::new(alloc, limits.keeping_placeholder())
     }
 
     /// How many entities are alive.
@@ -154,6 +167,7 @@ impl Entities {
     /// only if no old slot waits.
     pub fn alloc(&mut self) -> Result<Handle, AllocFault>
         ensures front { IfOk result (λ h. slice_get self.old.allocator.pool 0 ≡ Some h) }
+        ensures within { IfOk result (IsWithin self.old.allocator.limits) }
         ensures ok { IfOk result (λ h. self.new.allocator ≡ after_alloc self.old.allocator h) }
         ensures rows { self.new.rows ≡ self.old.rows }
         ensures no_row { IfOk result (λ h. map.get self.new.rows h ≡ None) }
@@ -187,6 +201,8 @@ impl Entities {
     /// Nothing changes. `NeedsFlush` if handles were requested since the last flush, even if the
     /// request was refused; then `NotAlive`; then `Memory`, which never comes if the slot is
     /// retired.
+    // Not inlined, its result goes through memory.
+    #[inline(always)]
     pub fn free(&mut self, handle: Handle) -> Result<Freed, FreeFault>
         ensures ok { OnOk result (self.new.allocator ≡ after_free self.old.allocator handle) }
         ensures row { OnOk result (self.new.rows ≡ map.remove self.old.rows handle) }
@@ -278,8 +294,19 @@ impl Entities {
         self.slots.is_alive(handle)
     }
 
+    /// Whether the entity is alive or reserved. It takes constant time.
+    pub fn contains(&self, handle: Handle) -> bool
+        ensures { result ≡ (set.contains self.now.allocator.live handle
+            || stands_in self.now.allocator.taken handle) }
+    {
+        match self.state(handle) {
+            State::Alive | State::Reserved => true,
+            State::Gone => false,
+        }
+    }
+
     /// The living handles, by rising slot. It takes no memory.
-    pub fn iter(&self) -> LivingHandles<'_>
+    pub fn iter(&self) -> Living<'_>
         ensures living { set.from_list result ≡ self.now.allocator.live }
         ensures rising { AllPairs (λ g h. g.index < h.index) result }
         ensures count { length result ≡ set.len self.now.allocator.live }
@@ -327,5 +354,27 @@ impl Entities {
         ensures allocator { self.new.allocator ≡ self.old.allocator }
     {
         self.slots.set_row(handle, row);
+    }
+
+    /// Keeps a row with a living entity until the entity is freed, in place of the row that was set
+    /// before. It takes constant time, and no memory.
+    ///
+    /// # Errors
+    ///
+    /// [`Absent`] if the handle isn't alive. Nothing has changed then.
+    pub fn try_set_row(&mut self, handle: Handle, row: u32) -> Result<(), Absent>
+        ensures row { OnOk result (self.new.rows ≡ map.insert self.old.rows handle row) }
+        ensures lives { OnOk result (set.contains self.old.allocator.live handle ≡ true) }
+        ensures absent { OnErr result (set.contains self.old.allocator.live handle ≡ false) }
+        ensures unchanged { OnErr result (self.new ≡ self.old) }
+        ensures allocator { self.new.allocator ≡ self.old.allocator }
+        ensures rows_of_living { HasRowsOfLiving self.new }
+    {
+        if self.slots.is_alive(handle) {
+            self.set_row(handle, row);
+            Ok(())
+        } else {
+            Err(Absent)
+        }
     }
 }

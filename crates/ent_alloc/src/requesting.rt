@@ -139,6 +139,13 @@ impl Entities {
         }
     }
 
+    /// How many handles a request finds: the most that it can be given.
+    pub fn left(&self) -> u32
+        ensures { result ≡ length self.now.allocator.pool }
+    {
+        self.available().saturating_sub(self.requests.asked) as u32
+    }
+
     /// How many handles a request finds that finds the cursor at `high`.
     fn left_below(&self, high: i64) -> u32
         requires least { neg_ℤ (pos (2 ^ 61)) ≤ℤ high }

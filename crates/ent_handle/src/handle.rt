@@ -3,7 +3,7 @@ ghost use Rattle.std.specs.Prelude.{IfNone};
 ghost use Rattle.std.proofs.Common.{rules};
 ghost use Rattle.std.specs.Cmp.{partial_order_from_own_ties};
 ghost use Rattle.std.specs.Cmp.Rules.{comparing};
-ghost use Rattle.std.specs.Ordering.{as_partial_cmp};
+ghost use Rattle.std.specs.Ordering.{as_partial_cmp, nat_cmp, ordering_then};
 ghost use Rattle.ent_handle.specs.Handle.{Handle, IsHandle, bits, handle_cmp, handle_cmp_total};
 ghost use Rattle.ent_handle.specs.Handle.{handle_eq};
 ghost use Rattle.std.specs.Hash as fed;
@@ -28,33 +28,29 @@ pub struct Handle {
 }
 
 impl Model for Handle {
-    ghost use Rattle.ent_handle.specs.Handle.{Handle, IsHandle, bits as bits_of, handle_of_bits};
-    ghost use Rattle.std.proofs.Common.{arith};
-    ghost use Rattle.ent_handle.specs.Handle.{bits-handle_of_bits};
+    ghost use Rattle.std.specs.Int.NonZero.{non_zero_u64_get};
+    ghost use Rattle.ent_handle.specs.Handle.{Handle, IsHandle, handle_of_bits};
+    ghost use Rattle.ent_handle.specs.NonZero.{word_of, word_of-positive};
+    ghost use Rattle.ent_handle.specs.NonZero.{word_of-handle_of_bits, same_proof};
 
     ghost Value = { Handle };
-
-    ghost use Rattle.std.specs.Prelude.{◌+◌, ◌-◌, ◌≡◌};
-    ghost use Rattle.std.specs.Int.NonZero.{non_zero_u64_get};
-    ghost use Rattle.ent_handle.specs.NonZero.{positive, same_number, same_proof};
 
     ghost view = { λ h. handle_of_bits (non_zero_u64_get h.bits) };
 
     ghost invariant = { λ h. IsHandle (handle_of_bits (non_zero_u64_get h.bits)) };
 
     ghost inverse = { λ h. record {
-      bits = record {
-        value = bits_of h + (1 - bits_of h);
-        ok = positive (bits_of h);
-      };
+      bits = record { value = word_of h; ok = word_of-positive h };
     } };
 
-    ghost inverse_ok = { λ h is i. record {
-      bits = record {
-        value = same_number h.bits.value h.bits.ok i;
-        ok = same_proof (same_number h.bits.value h.bits.ok) (positive (bits_of (handle_of_bits h.bits.value))) h.bits.ok i;
-      };
-    } };
+    ghost inverse_ok = { λ h is i.
+        let same = word_of-handle_of_bits h.bits.value h.bits.ok in
+        record {
+          bits = record {
+            value = same i;
+            ok = same_proof same (word_of-positive (handle_of_bits h.bits.value)) h.bits.ok i;
+          };
+        } };
 }
 
 impl Handle {
@@ -107,6 +103,23 @@ impl Handle {
         ensures in_range { IsHandle self }
     {
         self.bits.get()
+    }
+
+    /// The order by bits, which is that of Bevy and hecs: by generation, then by index.
+    ///
+    /// ```
+    /// use forgeni::Handle;
+    /// let [new, old] = [Handle::new(9, 1).unwrap(), Handle::new(0, 2).unwrap()];
+    /// assert!(new.by_bits(&old).is_lt() && new > old);
+    /// ```
+    #[must_use]
+    pub fn by_bits(&self, other: &Self) -> Ordering
+        ensures bits { result ≡ nat_cmp (bits self.now) (bits other.now) }
+        ensures parts { result ≡ ordering_then
+            (nat_cmp self.now.generation other.now.generation)
+            (nat_cmp self.now.index other.now.index) }
+    {
+        self.to_bits().cmp(&other.to_bits())
     }
 
     /// The handle that has these bits, or `None` if no handle has them.

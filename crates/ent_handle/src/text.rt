@@ -15,10 +15,10 @@ use thiserror::Error;
 #[derive(Clone, Copy, Debug, PartialEq, Eq, Hash, Error)]
 pub enum TextFault {
     /// The text does not have the form.
-    #[error("not of the form")]
+    #[error("not of the form of a handle, as 0v1")]
     Shape,
     /// The text has the form, but a number in it is out of range.
-    #[error("a number out of range")]
+    #[error("no handle has these numbers")]
     Range,
 }
 
@@ -115,8 +115,8 @@ impl fmt::Display for Handle {
 /// As `Display` writes it.
 impl fmt::Debug for Handle {
     fn fmt<W: fmt::Write>(&self, f: &mut fmt::Formatter<W>) -> fmt::Result {
-        let index = self.index();
-        let generation = self.generation();
-        write!(f, "{index}v{generation}")
+        let slot = self.index();
+        let occupant = self.generation();
+        write!(f, "{slot}v{occupant}")
     }
 }

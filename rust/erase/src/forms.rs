@@ -199,8 +199,55 @@ pub const OWN_CALLS: &[(&str, &[&str])] = &[
     ("write", &["self"]),
 ];
 
-/// Methods of the kit's list that a slice of Rust has too. Those of the kit return a `Result`.
-pub const SORTING: &[&str] = &["sort", "sort_by_cached_key", "sort_by_key"];
+/// The kit's list, which is Rust's own in the package.
+pub const LIST: &str = "Vec";
+
+/// A call of the kit's list that Rust's own has otherwise, or not at all.
+pub struct ListCall {
+    /// Its name in the sources.
+    pub from: &'static str,
+    /// How many arguments it has.
+    pub arguments: usize,
+    /// Its name in the results. The trait that has it has no name that a list of Rust has.
+    pub to: &'static str,
+}
+
+const fn list_call(from: &'static str, arguments: usize, to: &'static str) -> ListCall {
+    ListCall {
+        from,
+        arguments,
+        to,
+    }
+}
+
+/// Those calls.
+pub const LIST_CALLS: &[ListCall] = &[
+    list_call("capacity", 0, "sized_capacity"),
+    list_call("extend_from_slice", 1, "extend_from_slice_fallibly"),
+    list_call("insert", 2, "insert_fallibly"),
+    list_call("push", 1, "push_fallibly"),
+    list_call("push_reserved", 1, "push_reserved"),
+    list_call("reserve", 1, "reserve_fallibly"),
+    list_call("resize", 2, "resize_fallibly"),
+    list_call("sort", 0, "sort_fallibly"),
+    list_call("sort_by_cached_key", 1, "sort_by_cached_key_fallibly"),
+    list_call("sort_by_key", 1, "sort_by_key_fallibly"),
+];
+
+/// The same of what is called by a path.
+pub const LIST_PATHS: &[(&str, &str)] = &[
+    ("from_slice", "from_slice_fallibly"),
+    ("with_capacity", "with_capacity_fallibly"),
+];
+
+/// The path of that trait.
+pub const LIST_TRAIT: &str = "crate::kit::vec::FallibleVec";
+
+/// Names of values of which no declaration tells whether they are lists, and whether they are.
+pub const RECEIVERS: &[(&str, bool)] = &[
+    // A queue of commands, or what lends one.
+    ("queue", false),
+];
 
 /// Methods that only look at a value, so that nothing changes if they aren't called.
 pub const LOOKING: &[&str] = &["cursor"];
@@ -523,7 +570,7 @@ pub static PACKAGE: Forms = Forms {
     modules: MODULES,
     prelude: &[Import {
         name: "Vec",
-        path: "crate::kit::vec::Vec",
+        path: "alloc::vec::Vec",
     }],
     macros: &[Import {
         name: "prove_eq",

@@ -1,7 +1,7 @@
 //! Functions: their signatures, their contracts and their bodies.
 
 use crate::edit::{Change, Edit};
-use crate::forms;
+use crate::forms::{self, RenamedFunction};
 use crate::items::Scope;
 use crate::memory::owners;
 use crate::source::Fault;
@@ -123,14 +123,14 @@ impl Walk<'_> {
 
     /// Puts the package's name in the place of the name here, if it is the last one of the path of such a function.
     pub(crate) fn rename_call(&mut self, at: usize) {
-        let of = match at.checked_sub(2).map(|of| self.source.at(of)) {
-            Some("Self") => self.own_type(at),
-            Some(name) if self.source.before(at) == "::" => name,
-            _ => return,
-        };
         let mut all = forms::RENAMED_FUNCTIONS.iter();
+        let is_of = |it: &&RenamedFunction| match self.source.before(at - 1) {
+            "Self" => self.own_type(at) == it.of,
+            name => name == it.of,
+        };
         let name = self.source.at(at);
-        if let Some(renamed) = all.find(|it| it.of == of && it.from == name) {
+        let is_last = at > 1 && self.source.before(at) == "::";
+        if let Some(renamed) = all.find(|it| is_last && it.from == name && is_of(it)) {
             self.replace(at, at + 1, renamed.to);
         }
     }

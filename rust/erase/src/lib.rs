@@ -22,6 +22,7 @@ mod ghost_types;
 pub mod host;
 mod items;
 pub mod lex;
+mod lists;
 mod memory;
 mod messages;
 mod names;
@@ -29,6 +30,7 @@ mod paths;
 pub mod plan;
 mod scope;
 pub mod source;
+mod types;
 mod walk;
 
 pub use erase::{erase, header};

@@ -1,6 +1,6 @@
 // Made of crates/ent_alloc/src/entities.rt by rust/erase. It isn't edited by hand.
 
-use crate::kit::vec::Vec;
+use alloc::vec::Vec;
 use crate::proved::ent_alloc::fault::{AllocFault, FreeFault, Freed};
 use crate::proved::ent_alloc::limits::Limits;
 use crate::proved::ent_alloc::living_handles::LivingHandles;

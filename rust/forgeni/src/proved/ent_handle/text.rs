@@ -1,7 +1,8 @@
 // Made of crates/ent_handle/src/text.rt by rust/erase. It isn't edited by hand.
 
+use alloc::vec::Vec;
 use crate::kit::padded;
-use crate::kit::vec::Vec;
+use crate::kit::vec::FallibleVec;
 use crate::proved::ent_handle::decimal::{decimal_value, is_decimal};
 use crate::proved::ent_handle::handle::Handle;
 use crate::proved::ent_handle::memory::Memory;
@@ -124,10 +125,10 @@ impl Handle {
         let mut generation = Buffer::new();
         let generation = generation.format(self.generation()).as_bytes();
 
-        out.reserve(index.len() + 1 + generation.len())?;
-        out.extend_from_slice(index).unwrap();
+        out.reserve_fallibly(index.len() + 1 + generation.len())?;
+        out.extend_from_slice_fallibly(index).unwrap();
         out.push_reserved(b'v');
-        out.extend_from_slice(generation).unwrap();
+        out.extend_from_slice_fallibly(generation).unwrap();
         Ok(())
     }
 }

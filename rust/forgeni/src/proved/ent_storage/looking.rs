@@ -2,7 +2,7 @@
 
 //! What a storage has: the look-ups, which change nothing.
 
-use crate::kit::vec::Vec;
+use alloc::vec::Vec;
 use crate::proved::ent_storage::items::Items;
 use crate::proved::ent_storage::order::handles_in_order;
 use crate::proved::ent_storage::storage::Storage;

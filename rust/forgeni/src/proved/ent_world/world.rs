@@ -1,7 +1,7 @@
 // Made of crates/ent_world/src/world.rt by rust/erase. It isn't edited by hand.
 
+use alloc::vec::Vec;
 use crate::kit::prove_eq;
-use crate::kit::vec::Vec;
 use crate::proved::ent_world::open_world::OpenWorld;
 use crate::proved::ent_world::rows::place_of;
 use crate::proved::ent_world::spawning::{make, next_handle};

@@ -1,6 +1,6 @@
 // Made of crates/ent_storage/src/handle_map/retaining.rt by rust/erase. It isn't edited by hand.
 
-use crate::kit::vec::Vec;
+use alloc::vec::Vec;
 use crate::proved::ent_storage::handle_map::slot::Slot;
 use crate::proved::ent_handle::Handle;
 
