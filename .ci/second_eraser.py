@@ -42,8 +42,8 @@ TABLE = {
     "ghost trait": (16, "a trait with ghost members alone, its imports and impls, and a module of nothing else"),
     "ghost type": (79, "a type parameter that such a trait bounds, as an argument, and in a `PhantomData`"),
     "clone": (4, "the kit's `clone` may be refused memory; that of an iterator asks for none, and calls its `again`"),
-    "with_limits": (4, "the allocator's `new(limits)`: in Rust `new()` has no parameter"),
-    "const": (16, "what makes an allocator without memory may be called in a constant: CONSTANT lists them"),
+    "with_exact_limits": (5, "the allocator's `new(limits)`: in Rust `new()` has no parameter"),
+    "const": (12, "what makes an allocator without memory may be called in a constant: CONSTANT lists them"),
 }
 
 # The paths of the kit, and what stands for them.
@@ -74,7 +74,7 @@ METHODS = set(
     "all as_bytes as_chunks as_slice binary_search binary_search_by_key capacity cast_signed cast_unsigned checked_add checked_sub clear "
     "close_with cmp collect contains copied count enumerate extend_from_slice fetch_add fetch_sub filter format free get get_mut insert into "
     "into_badge into_seat is_ascii_digit is_empty is_err is_none is_none_or is_some iter join_seat len load_new_seat map map_err max min next next_back ok "
-    "ok_or parse pop position push push_reserved remove reserve resize retain saturating_add saturating_mul saturating_sub size_hint "
+    "ok_or parse pop position push push_reserved remove reserve resize retain reverse saturating_add saturating_mul saturating_sub size_hint "
     "sort_by_cached_key sort_by_key sort_unstable split_at split_at_mut split_first split_first_chunk split_last split_seat swap_remove take then "
     "to_le_bytes truncate unwrap unwrap_or word write_str write_u64".split()
 )
@@ -85,12 +85,13 @@ SHARED_NAMES = {
 }
 CONSTANT = {(f"ent_alloc/{it}", "new") for it in ("entities", "limits", "slots")}
 CONSTANT |= {("ent_storage/handle_map", it) for it in ("limit", "new", "with_limit")} | {("ent_storage/handle_map/limit", it) for it in ("of", "slots")}
-CONSTANT |= {("ent_alloc/limits", "default_limits"), ("ent_alloc/requests", "none")}
+CONSTANT |= {("ent_alloc/limits", "default_limits"), ("ent_alloc/requests", "none"), ("ent_alloc/entities", "with_limits")}
+CONSTANT |= {("ent_alloc/limits", it) for it in ("generations", "keeping_placeholder", "slots")}
 CONSTANT |= {("ent_handle/handle", it) for it in "from_bits from_parts generation index new to_bits".split()}
 # What `prove_eq!` may call, and whose stand-in is an enum alone (the empty path: what is imported from these crates).
 READS, WITHOUT_METHODS = {"cursor"}, {"", "either::Either"}
 # A file with a type of one word and its field, a file whose texts keep a width, and a function with another name.
-WORD_TYPE, PADDED, RENAMED = ("ent_handle/handle", "Handle", "bits"), "ent_handle/text", ("Entities", "new", "with_limits")
+WORD_TYPE, PADDED, RENAMED = ("ent_handle/handle", "Handle", "bits"), "ent_handle/text", ("Entities", "new", "with_exact_limits")
 DERIVES = set("Clone Copy Debug Default PartialEq Eq Hash".split())
 KEYWORDS = set(
     "as async await break const continue crate dyn else enum extern false fn for if impl in let loop match mod move mut pub ref return "

@@ -514,7 +514,7 @@ impl fmt::Debug for Entities {
 
 /// The handles of the living entities, by rising slot: [`Entities::iter`] makes it.
 pub struct Living<'a> {
-    proved: ent_alloc::LivingHandles<'a>,
+    proved: ent_alloc::Living<'a>,
 }
 
 impl Iterator for Living<'_> {
