@@ -657,7 +657,7 @@ module    = visible? 'mod' DECLARED ';'
 constant  = visible? 'const' CONSTANT ':' type ('=' expression)? ';'
 attribute = -('#' '[' ('tactic' | 'cycle') group ']') | '#' '[' 'derive' DERIVES ']' | -('#' '[' 'error' '(' ERROR ')' ']') | hint | lint
 hint      = '#' '[' ('inline' ('(' ('always' | 'never') ')')? | 'cold') ']'
-lint      = '#' '[' ('must_use' | 'non_exhaustive') ']'
+lint      = '#' '[' ('must_use' ('=' STR)? | 'non_exhaustive') ']'
 visible   = 'pub' ('(' SCOPE ')')?
 struct    = attribute* ALIGNED visible? 'struct' DECLARED generics ('{' named '}' | ('(' unnamed% ')')? ';')
 enum      = attribute* visible? 'enum' DECLARED generics '{' variant% '}'
