@@ -16,11 +16,14 @@ pub const GHOST_MEMBERS: &[&str] = &[
     "invariant",
     "inverse",
     "inverse_ok",
+    "is_clone",
     "is_default",
+    "is_infallible",
     "laws",
     "left",
     "matches_eq",
     "matches_partial_cmp",
+    "next_back_gives",
     "next_gives",
     "output",
     "partial_cmp",
@@ -101,8 +104,10 @@ const fn kept(name: &'static str, members: &'static [&'static str]) -> KeptTrait
 /// Those traits. The traits of the sources are known too.
 const KEPT_TRAITS: &[KeptTrait] = &[
     kept("Debug", &["fmt"]),
+    kept("Clone", &["clone"]),
     kept("Default", &["default"]),
     kept("Display", &["fmt"]),
+    kept("DoubleEndedIterator", &["next_back"]),
     kept("Eq", &[]),
     kept("Error", &[]),
     kept("ExactSizeIterator", &["len"]),
@@ -315,6 +320,7 @@ pub const BARE: &[&str] = &[
     "Clone",
     "Copy",
     "Default",
+    "DoubleEndedIterator",
     "Eq",
     "Err",
     "ExactSizeIterator",
@@ -504,7 +510,11 @@ pub const CONSTANTS: &[(&str, &str, &str)] = &[
     ("ent_handle", "handle.rt", "index"),
     ("ent_handle", "handle.rt", "new"),
     ("ent_handle", "handle.rt", "to_bits"),
+    ("ent_storage", "handle_map.rt", "limit"),
     ("ent_storage", "handle_map.rt", "new"),
+    ("ent_storage", "handle_map.rt", "with_limit"),
+    ("ent_storage", "limit.rt", "of"),
+    ("ent_storage", "limit.rt", "slots"),
 ];
 
 /// Whether this function of a file of this crate is one of them.
@@ -690,6 +700,7 @@ const METHODS: &[&str] = &[
     "max",
     "min",
     "next",
+    "next_back",
     "ok",
     "ok_or",
     "parse",

@@ -39,6 +39,10 @@ pub(super) fn changes(krate: &str, path: &str, names: &Names) -> Vec<Change> {
         Change::new("pub(crate)", OWN_ONLY),
         Change::new("fmt<W: fmt::Write>(", "fmt("),
         Change::new("fmt::Formatter<W>", "fmt::Formatter<'_>"),
+        Change::new(
+            "-> Result<Self, std::alloc::AllocError> { Ok(self.again()) }",
+            "-> Self { self.again() }",
+        ),
         Change::of_path("crate::", &format!("{}::", names.crates[krate])),
     ];
     for call in forms::LIST_CALLS.iter().filter(|it| it.from != it.to) {
