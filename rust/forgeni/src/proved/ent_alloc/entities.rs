@@ -1,9 +1,10 @@
 // Made of crates/ent_alloc/src/entities.rt by rust/erase. It isn't edited by hand.
 
 use alloc::vec::Vec;
+use crate::proved::ent_alloc::absent::Absent;
 use crate::proved::ent_alloc::fault::{AllocFault, FreeFault, Freed};
 use crate::proved::ent_alloc::limits::Limits;
-use crate::proved::ent_alloc::living_handles::LivingHandles;
+use crate::proved::ent_alloc::living::Living;
 use crate::proved::ent_alloc::requests::Requests;
 use crate::proved::ent_alloc::slot_record::Occupancy;
 use crate::proved::ent_alloc::slots::Slots;
@@ -41,6 +42,26 @@ impl Entities {
             slots: Slots::new(limits),
             requests: Requests::none(),
         }
+    }
+
+    /// An allocator with no entities and these limits, of which the greatest handle is kept back:
+    /// where both limits are the greatest, a slot has one generation less. It takes no memory,
+    /// whatever the limits are.
+    ///
+    /// <details><summary>Contract</summary>
+    ///
+    /// In the words of the folder `specs/` of crate `ent_alloc`:
+    ///
+    /// ```text
+    /// ensures allocator { result.allocator ≡ opening (without_placeholder limits) }
+    /// ensures rows { result.rows ≡ map.empty }
+    /// ensures rows_of_living { HasRowsOfLiving result }
+    /// ```
+    ///
+    /// </details>
+    #[inline]
+    pub fn with_limits(limits: Limits) -> Self {
+        Entities::with_limits(limits.keeping_placeholder())
     }
 
     /// How many entities are alive.
@@ -231,6 +252,7 @@ impl Entities {
     ///
     /// ```text
     /// ensures front { IfOk result (λ h. slice_get self.old.allocator.pool 0 ≡ Some h) }
+    /// ensures within { IfOk result (IsWithin self.old.allocator.limits) }
     /// ensures ok { IfOk result (λ h. self.new.allocator ≡ after_alloc self.old.allocator h) }
     /// ensures rows { self.new.rows ≡ self.old.rows }
     /// ensures no_row { IfOk result (λ h. map.get self.new.rows h ≡ None) }
@@ -268,32 +290,25 @@ impl Entities {
     /// Nothing changes. `NeedsFlush` if handles were requested since the last flush, even if the
     /// request was refused; then `NotAlive`; then `Memory`, which never comes if the slot is
     /// retired.
-    ///
-    /// <details><summary>Contract</summary>
-    ///
-    /// In the words of the folder `specs/` of crate `ent_alloc`:
-    ///
-    /// ```text
-    /// ensures ok { OnOk result (self.new.allocator ≡ after_free self.old.allocator handle) }
-    /// ensures row { OnOk result (self.new.rows ≡ map.remove self.old.rows handle) }
-    /// ensures rows_of_living { HasRowsOfLiving self.new }
-    /// ensures next { IfOk result (λ freed. freed.next ≡ next self.old.allocator.limits handle) }
-    /// ensures lived { OnOk result (set.contains self.old.allocator.live handle ≡ true) }
-    /// ensures needs_flush { IsErrOf result FreeFault.NeedsFlush
-    ///     ↔ (0 < self.old.allocator.asked) }
-    /// ensures not_alive { IsErrOf result FreeFault.NotAlive
-    ///     ↔ ((self.old.allocator.asked ≡ 0)
-    ///     × (set.contains self.old.allocator.live handle ≡ false)) }
-    ///
-    /// // The slot of a handle of the last generation is retired, which takes no memory.
-    /// ensures memory { IsErrOf result FreeFault.Memory
-    ///     → handle.generation ≢ self.old.allocator.limits.generations }
-    /// ensures err { OnErr result (self.new ≡ self.old) }
-    /// ```
-    ///
-    /// </details>
-    #[inline]
-    pub fn free(&mut self, handle: Handle) -> Result<Freed, FreeFault> {
+    // Not inlined, its result goes through memory.
+    #[inline(always)]
+    pub fn free(&mut self, handle: Handle) -> Result<Freed, FreeFault>
+        // ensures ok { OnOk result (self.new.allocator ≡ after_free self.old.allocator handle) }
+        // ensures row { OnOk result (self.new.rows ≡ map.remove self.old.rows handle) }
+        // ensures rows_of_living { HasRowsOfLiving self.new }
+        // ensures next { IfOk result (λ freed. freed.next ≡ next self.old.allocator.limits handle) }
+        // ensures lived { OnOk result (set.contains self.old.allocator.live handle ≡ true) }
+        // ensures needs_flush { IsErrOf result FreeFault.NeedsFlush
+        //     ↔ (0 < self.old.allocator.asked) }
+        // ensures not_alive { IsErrOf result FreeFault.NotAlive
+        //     ↔ ((self.old.allocator.asked ≡ 0)
+        //     × (set.contains self.old.allocator.live handle ≡ false)) }
+
+        // The slot of a handle of the last generation is retired, which takes no memory.
+        // ensures memory { IsErrOf result FreeFault.Memory
+        //     → handle.generation ≢ self.old.allocator.limits.generations }
+        // ensures err { OnErr result (self.new ≡ self.old) }
+    {
         if self.needs_flush() {
             return Err(FreeFault::NeedsFlush);
         }
@@ -395,6 +410,26 @@ impl Entities {
         self.slots.is_alive(handle)
     }
 
+    /// Whether the entity is alive or reserved. It takes constant time.
+    ///
+    /// <details><summary>Contract</summary>
+    ///
+    /// In the words of the folder `specs/` of crate `ent_alloc`:
+    ///
+    /// ```text
+    /// ensures { result ≡ (set.contains self.now.allocator.live handle
+    ///     || stands_in self.now.allocator.taken handle) }
+    /// ```
+    ///
+    /// </details>
+    #[inline]
+    pub fn contains(&self, handle: Handle) -> bool {
+        match self.state(handle) {
+            State::Alive | State::Reserved => true,
+            State::Gone => false,
+        }
+    }
+
     /// The living handles, by rising slot. It takes no memory.
     ///
     /// <details><summary>Contract</summary>
@@ -409,7 +444,7 @@ impl Entities {
     ///
     /// </details>
     #[inline]
-    pub fn iter(&self) -> LivingHandles<'_> {
+    pub fn iter(&self) -> Living<'_> {
         self.slots.occupants()
     }
 
@@ -472,5 +507,36 @@ impl Entities {
         // ensures allocator { self.new.allocator ≡ self.old.allocator }
     {
         self.slots.set_row(handle, row);
+    }
+
+    /// Keeps a row with a living entity until the entity is freed, in place of the row that was set
+    /// before. It takes constant time, and no memory.
+    ///
+    /// # Errors
+    ///
+    /// [`Absent`] if the handle isn't alive. Nothing has changed then.
+    ///
+    /// <details><summary>Contract</summary>
+    ///
+    /// In the words of the folder `specs/` of crate `ent_alloc`:
+    ///
+    /// ```text
+    /// ensures row { OnOk result (self.new.rows ≡ map.insert self.old.rows handle row) }
+    /// ensures lives { OnOk result (set.contains self.old.allocator.live handle ≡ true) }
+    /// ensures absent { OnErr result (set.contains self.old.allocator.live handle ≡ false) }
+    /// ensures unchanged { OnErr result (self.new ≡ self.old) }
+    /// ensures allocator { self.new.allocator ≡ self.old.allocator }
+    /// ensures rows_of_living { HasRowsOfLiving self.new }
+    /// ```
+    ///
+    /// </details>
+    #[inline]
+    pub fn try_set_row(&mut self, handle: Handle, row: u32) -> Result<(), Absent> {
+        if self.slots.is_alive(handle) {
+            self.set_row(handle, row);
+            Ok(())
+        } else {
+            Err(Absent)
+        }
     }
 }

@@ -5,7 +5,7 @@ use core::error::Error;
 use core::fmt;
 
 /// Why `Entities::alloc` gave no handle. Nothing has changed.
-#[derive(Clone, Copy, Debug, PartialEq, Eq)]
+#[derive(Clone, Copy, Debug, PartialEq, Eq, Hash)]
 pub enum AllocFault {
     /// Handles were requested since the last flush, even if the request was refused.
     NeedsFlush,
@@ -36,7 +36,7 @@ impl From<Memory> for AllocFault {
 }
 
 /// Why `Entities::free` freed nothing. Nothing has changed.
-#[derive(Clone, Copy, Debug, PartialEq, Eq)]
+#[derive(Clone, Copy, Debug, PartialEq, Eq, Hash)]
 pub enum FreeFault {
     /// Handles were requested since the last flush, even if the request was refused.
     NeedsFlush,
@@ -67,7 +67,7 @@ impl From<Memory> for FreeFault {
 }
 
 /// What `Entities::free` returns.
-#[derive(Clone, Copy, Debug, PartialEq, Eq)]
+#[derive(Clone, Copy, Debug, PartialEq, Eq, Hash)]
 pub struct Freed {
     /// The handle that the slot gives next. `None` if the freed one was of the last generation: the
     /// slot is retired then, and gives no handle any more.

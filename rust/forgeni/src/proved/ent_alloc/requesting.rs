@@ -139,6 +139,22 @@ impl Entities {
         }
     }
 
+    /// How many handles a request finds: the most that it can be given.
+    ///
+    /// <details><summary>Contract</summary>
+    ///
+    /// In the words of the folder `specs/` of crate `ent_alloc`:
+    ///
+    /// ```text
+    /// ensures { result ≡ length self.now.allocator.pool }
+    /// ```
+    ///
+    /// </details>
+    #[inline]
+    pub fn left(&self) -> u32 {
+        self.available().saturating_sub(self.requests.asked) as u32
+    }
+
     /// How many handles a request finds that finds the cursor at `high`.
     #[inline]
     fn left_below(&self, high: i64) -> u32

@@ -3,7 +3,7 @@
 use alloc::vec::Vec;
 use crate::kit::vec::FallibleVec;
 use crate::proved::ent_alloc::limits::Limits;
-use crate::proved::ent_alloc::living_handles::LivingHandles;
+use crate::proved::ent_alloc::living::Living;
 use crate::proved::ent_alloc::slot_record;
 use crate::proved::ent_alloc::slot_record::{Occupancy, SlotRecord, first_occupant, make_all, reuse_all};
 use crate::proved::ent_handle::{Handle, Memory};
@@ -85,12 +85,12 @@ impl Slots {
 
     /// The living occupants, by rising slot.
     #[inline]
-    pub(super) fn occupants(&self) -> LivingHandles<'_>
+    pub(super) fn occupants(&self) -> Living<'_>
         // ensures living { set.from_list result ≡ self.now.live }
         // ensures rising { AllPairs (λ g h. g.index < h.index) result }
         // ensures count { length result ≡ set.len self.now.live }
     {
-        LivingHandles::new(&self.records, self.live)
+        Living::new(&self.records, self.live)
     }
 
     /// Who has the handle's slot; `None` if the slot wasn't made or is at another generation.

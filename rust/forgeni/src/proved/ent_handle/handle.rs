@@ -107,6 +107,32 @@ impl Handle {
         self.bits.get()
     }
 
+    /// The order by bits, which is that of Bevy and hecs: by generation, then by index.
+    ///
+    /// ```
+    /// use forgeni::Handle;
+    /// let [new, old] = [Handle::new(9, 1).unwrap(), Handle::new(0, 2).unwrap()];
+    /// assert!(new.by_bits(&old).is_lt() && new > old);
+    /// ```
+    ///
+    /// <details><summary>Contract</summary>
+    ///
+    /// In the words of the folder `specs/` of crate `ent_handle`:
+    ///
+    /// ```text
+    /// ensures bits { result ≡ nat_cmp (bits self.now) (bits other.now) }
+    /// ensures parts { result ≡ ordering_then
+    ///     (nat_cmp self.now.generation other.now.generation)
+    ///     (nat_cmp self.now.index other.now.index) }
+    /// ```
+    ///
+    /// </details>
+    #[must_use]
+    #[inline]
+    pub fn by_bits(&self, other: &Self) -> Ordering {
+        self.to_bits().cmp(&other.to_bits())
+    }
+
     /// The handle that has these bits, or `None` if no handle has them.
     ///
     /// <details><summary>Contract</summary>

@@ -21,8 +21,8 @@ pub enum TextFault {
 impl core::fmt::Display for TextFault {
     fn fmt(&self, f: &mut core::fmt::Formatter<'_>) -> core::fmt::Result {
         match self {
-            TextFault::Shape => write!(f, "not of the form"),
-            TextFault::Range => write!(f, "a number out of range"),
+            TextFault::Shape => write!(f, "not of the form of a handle, as 0v1"),
+            TextFault::Range => write!(f, "no handle has these numbers"),
         }
     }
 }
@@ -147,8 +147,8 @@ impl fmt::Display for Handle {
 impl fmt::Debug for Handle {
     #[inline]
     fn fmt(&self, f: &mut fmt::Formatter<'_>) -> fmt::Result {
-        let index = self.index();
-        let generation = self.generation();
-        padded!(f, "{index}v{generation}")
+        let slot = self.index();
+        let occupant = self.generation();
+        padded!(f, "{slot}v{occupant}")
     }
 }
