@@ -41,7 +41,7 @@ TABLE = {
     "allocator": (280, "the right to allocate, `Global`, is handed to nobody in Rust: parameters, arguments, fields, what is bound"),
     "ghost trait": (16, "a trait with ghost members alone, its imports and impls, and a module of nothing else"),
     "ghost type": (79, "a type parameter that such a trait bounds, as an argument, and in a `PhantomData`"),
-    "with_limits": (4, "the allocator's `new(limits)`: in Rust `new()` has no parameter"),
+    "with_exact_limits": (5, "the allocator's `new(limits)`: in Rust `new()` has no parameter"),
     "const": (12, "what makes an allocator without memory may be called in a constant: CONSTANT lists them"),
 }
 
@@ -73,7 +73,7 @@ METHODS = set(
     "all as_bytes as_chunks as_slice binary_search binary_search_by_key capacity cast_signed cast_unsigned checked_add checked_sub clear "
     "close_with cmp collect contains copied count enumerate extend_from_slice fetch_add fetch_sub filter format free get get_mut insert into "
     "into_badge into_seat is_ascii_digit is_empty is_err is_none is_none_or is_some iter join_seat len load_new_seat map map_err max min next ok "
-    "ok_or parse pop position push push_reserved remove reserve resize retain saturating_add saturating_mul saturating_sub size_hint "
+    "ok_or parse pop position push push_reserved remove reserve resize retain reverse saturating_add saturating_mul saturating_sub size_hint "
     "sort_by_cached_key sort_by_key sort_unstable split_at split_at_mut split_first split_first_chunk split_seat swap_remove take then "
     "to_le_bytes truncate unwrap unwrap_or word write_str write_u64".split()
 )
@@ -83,14 +83,15 @@ SHARED_NAMES = {
     "take": "`Sink` has it, called on a parameter `S: Sink`; `Machine` and `Checker` are no `Sink`, and iterators are none",
 }
 CONSTANT = {(f"ent_alloc/{it}", "new") for it in ("entities", "limits", "slots")} | {("ent_storage/handle_map", "new")}
-CONSTANT |= {("ent_alloc/limits", "default_limits"), ("ent_alloc/requests", "none")}
+CONSTANT |= {("ent_alloc/limits", "default_limits"), ("ent_alloc/requests", "none"), ("ent_alloc/entities", "with_limits")}
+CONSTANT |= {("ent_alloc/limits", it) for it in ("generations", "keeping_placeholder", "slots")}
 CONSTANT |= {("ent_handle/handle", it) for it in "from_bits from_parts generation index new to_bits".split()}
 # What `prove_eq!` may call, and whose stand-in is an enum alone (the empty path: what is imported from these crates).
 READS, WITHOUT_METHODS = {"cursor"}, {"", "either::Either"}
 # A file with a type of one word and its field, one with a type that shares no line of a cache, a file whose texts keep a width, and a
 # function with another name.
 APART_TYPE = "ent_total/reserver", "Reserver"
-WORD_TYPE, PADDED, RENAMED = ("ent_handle/handle", "Handle", "bits"), "ent_handle/text", ("Entities", "new", "with_limits")
+WORD_TYPE, PADDED, RENAMED = ("ent_handle/handle", "Handle", "bits"), "ent_handle/text", ("Entities", "new", "with_exact_limits")
 DERIVES = set("Clone Copy Debug Default PartialEq Eq Hash".split())
 KEYWORDS = set(
     "as async await break const continue crate dyn else enum extern false fn for if impl in let loop match mod move mut pub ref return "

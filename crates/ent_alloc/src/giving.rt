@@ -16,10 +16,23 @@ impl Entities {
     /// Gives `n` handles that are alive at once, all of them or none: those of `n` calls of
     /// [`alloc`](Self::alloc), in their order. It is faster than these calls.
     ///
+    /// ```
+    /// use forgeni::Entities;
+    ///
+    /// let mut entities = Entities::new();
+    /// let wave = entities.alloc_many(1000)?;
+    /// assert_eq!((wave.len(), entities.len()), (1000, 1000));
+    /// # Ok::<(), forgeni::AllocError>(())
+    /// ```
+    ///
     /// # Errors
     ///
-    /// Nothing changes. `NeedsFlush` if handles were requested since the last flush, even if the
-    /// request was refused; then `Space` if fewer than `n` can be given; then `Memory`.
+    /// In each case nothing has changed, and no handle was given.
+    ///
+    /// - [`AllocError::NeedsFlush`](AllocFault::NeedsFlush) if handles were requested since the last flush, even if the
+    ///   request was refused.
+    /// - [`AllocError::Space`](AllocFault::Space) if fewer than `n` handles can be given.
+    /// - [`AllocError::Memory`](AllocFault::Memory) if there is no memory for the list or for new slots.
     pub fn alloc_many(&mut self, alloc: Global, n: u32) -> Result<Vec<Handle>, AllocFault>
         ensures handles { IfOk result (λ handles. handles.items ≡ take n self.old.allocator.pool) }
         ensures within { IfOk result (λ handles.

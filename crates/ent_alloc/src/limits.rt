@@ -12,6 +12,15 @@ pub const CREDIT: u64 = 1 << 40;
 /// How many slots an allocator may make, and the last generation of a slot.
 ///
 /// Limits are this project's own: Bevy always has the greatest ones, which are the default.
+///
+/// ```
+/// use forgeni::Limits;
+///
+/// let limits = Limits::new(1000, 4).unwrap();
+/// assert_eq!((limits.slots(), limits.generations()), (1000, 4));
+/// assert_eq!(Limits::new(0, 1), None);
+/// assert_eq!(Limits::default(), Limits::GREATEST);
+/// ```
 #[derive(Clone, Copy, Debug, PartialEq, Eq, Hash)]
 pub struct Limits {
     slots: u32,
@@ -39,6 +48,7 @@ impl Limits {
 
     /// The limits of these numbers: slots from 1 to 4,294,967,295, generations from 1 to
     /// 2,147,483,647. `None` if one of them is out of its range.
+    #[must_use]
     pub fn new(slots: u32, generations: u32) -> Option<Self>
         ensures in_range { IsSome result
             ↔ AreLimits (record { slots = slots; generations = generations }) }
@@ -53,6 +63,7 @@ impl Limits {
     }
 
     /// The greatest limits, which are Bevy's.
+    #[must_use]
     pub fn default_limits() -> Self
         ensures { result ≡ record { slots = 2 ^ 32 - 1; generations = 2 ^ 31 - 1 } }
     {
@@ -85,6 +96,7 @@ impl Limits {
     }
 
     /// How many slots may be made. Every index is below it.
+    #[must_use]
     pub fn slots(self) -> u32
         ensures { result ≡ self.slots }
     {
@@ -92,6 +104,7 @@ impl Limits {
     }
 
     /// The last generation of a slot.
+    #[must_use]
     pub fn generations(self) -> u32
         ensures { result ≡ self.generations }
     {

@@ -9,9 +9,9 @@ use crate::slot_record::SlotRecord;
 use ent_handle::Handle;
 use std::marker::Model;
 
-/// The living handles, by rising slot.
+/// The handles of the living entities, by rising slot.
 ///
-/// `Entities::iter` makes it. It borrows the allocator and copies nothing. Between two handles it
+/// [`Entities::iter`](crate::Entities::iter) makes it. It borrows the allocator and copies nothing. Between two handles it
 /// looks at each slot once. After the last handle it looks at none.
 #[derive(Clone, Drop)]
 pub struct Living<'a> {

@@ -14,10 +14,10 @@ use thiserror::Error;
 /// Why a text is not a number, or not a handle.
 #[derive(Clone, Copy, Debug, PartialEq, Eq, Hash, Error)]
 pub enum TextFault {
-    /// The text does not have the form.
+    /// It doesn't have the form, which is that of `0v1` for a handle.
     #[error("not of the form of a handle, as 0v1")]
     Shape,
-    /// The text has the form, but a number in it is out of range.
+    /// It has the form, and a number in it is out of range.
     #[error("no handle has these numbers")]
     Range,
 }

@@ -497,20 +497,28 @@ pub struct RenamedFunction {
 }
 
 /// Those functions. The allocator's `new` has a parameter, the limits. In Rust `new()` has none, so the package adds
-/// it, and has the sources' own by the name that such a function usually has.
+/// it, and has the sources' own by another name. It isn't `with_limits`, which keeps a handle back.
 pub const RENAMED_FUNCTIONS: &[RenamedFunction] = &[RenamedFunction {
     krate: "ent_alloc",
     of: "Entities",
     from: "new",
-    to: "with_limits",
+    to: "with_exact_limits",
 }];
+
+/// Types that derive `Clone` and aren't `Copy`, though each of their fields is: the crate and the type. So `clone` can't
+/// fail in the kit either. They are iterators.
+pub const OF_COPIES: &[(&str, &str)] = &[("ent_alloc", "Living")];
 
 /// Functions that are `const` in the package, so that a `const` or a `static` can have what they make: the crate,
 /// the file and the function. In the kit what they call isn't `const`.
 pub const CONSTANTS: &[(&str, &str, &str)] = &[
     ("ent_alloc", "entities.rt", "new"),
+    ("ent_alloc", "entities.rt", "with_limits"),
     ("ent_alloc", "limits.rt", "default_limits"),
+    ("ent_alloc", "limits.rt", "generations"),
+    ("ent_alloc", "limits.rt", "keeping_placeholder"),
     ("ent_alloc", "limits.rt", "new"),
+    ("ent_alloc", "limits.rt", "slots"),
     ("ent_alloc", "requests.rt", "none"),
     ("ent_alloc", "slots.rt", "new"),
     ("ent_handle", "handle.rt", "from_bits"),

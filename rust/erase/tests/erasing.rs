@@ -424,11 +424,11 @@ fn functions_by_another_name() {
     let source = "impl Entities {\n    pub fn new() -> Self {\n        A::new();\n        Self::new();\n        \
                   Entities::new()\n    }\n}\n\nimpl A {\n    fn new() -> Self {\n        Self::new();\n        \
                   Entities::new()\n    }\n}\n\nstruct Entities;\n\nstruct A;\n";
-    let new = source.replace("Entities::new", "Entities::with_limits");
-    let new = new.replacen("pub fn new", "#[inline]\n    pub fn with_limits", 1);
-    let new = new.replacen("Self::new", "Self::with_limits", 1);
+    let new = source.replace("Entities::new", "Entities::with_exact_limits");
+    let new = new.replacen("pub fn new", "#[inline]\n    pub fn with_exact_limits", 1);
+    let new = new.replacen("Self::new", "Self::with_exact_limits", 1);
     let wanted = new.replace("    fn new", "    #[inline]\n    fn new");
-    let misplaced = wanted.replace("fn new", "fn with_limits");
+    let misplaced = wanted.replace("fn new", "fn with_exact_limits");
     let path = "crates/ent_alloc/src/here.rt";
     let (result, audited) = erased_of("ent_alloc", path, source, &misplaced).expect("known forms");
     assert_eq!(body(&result), Some(&*wanted));

@@ -14,8 +14,20 @@ use crate::proved::ent_handle::Handle;
 const MOST: u64 = 1 << 50;
 
 impl Entities {
-    /// Requests a handle, which the next flush brings to life. Until then `alloc` and `free` return
-    /// `NeedsFlush`. It takes constant time, and no memory.
+    /// Requests a handle, which the next [`flush`](Self::flush) brings to life. Until then `alloc`
+    /// and `free` return `NeedsFlush`. It takes constant time, and no memory.
+    ///
+    /// ```
+    /// use forgeni::{Entities, State};
+    ///
+    /// let mut entities = Entities::new();
+    /// let soon = entities.request()?;
+    /// assert_eq!(entities.state(soon), State::Reserved);
+    /// let mut born = Vec::new();
+    /// entities.flush(&mut born)?;
+    /// assert_eq!(born, [soon]);
+    /// # Ok::<(), Box<dyn std::error::Error>>(())
+    /// ```
     ///
     /// # Errors
     ///
@@ -58,7 +70,7 @@ impl Entities {
 
     /// Requests `n` handles at once, all of them or none, and appends them to a list: those of old
     /// slots first, the one that waits longest before the others, then those of new slots. The next
-    /// flush brings them to life.
+    /// [`flush`](Self::flush) brings them to life.
     ///
     /// # Errors
     ///
@@ -114,8 +126,22 @@ impl Entities {
     }
 
     /// Requests `n` handles at once, all of them or none, and lists them: those of old slots first,
-    /// the one that waits longest before the others, then those of new slots. The next flush brings
-    /// them to life.
+    /// the one that waits longest before the others, then those of new slots. The next
+    /// [`flush`](Self::flush) brings them to life.
+    ///
+    /// ```
+    /// use forgeni::{Entities, Limits, ReserveError};
+    ///
+    /// let mut entities = Entities::with_limits(Limits::new(3, 1).unwrap());
+    /// assert_eq!(entities.request_many(2)?.len(), 2);
+    /// let refused = ReserveError::Space { wanted: 2, left: 1 };
+    /// assert_eq!(entities.request_many(2), Err(refused));
+    ///
+    /// // What is left can be given again after a flush.
+    /// entities.flush(&mut Vec::new())?;
+    /// assert_eq!((entities.len(), entities.left()), (2, 1));
+    /// # Ok::<(), Box<dyn std::error::Error>>(())
+    /// ```
     ///
     /// # Errors
     ///

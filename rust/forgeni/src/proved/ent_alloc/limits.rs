@@ -7,6 +7,15 @@ pub const CREDIT: u64 = 1 << 40;
 /// How many slots an allocator may make, and the last generation of a slot.
 ///
 /// Limits are this project's own: Bevy always has the greatest ones, which are the default.
+///
+/// ```
+/// use forgeni::Limits;
+///
+/// let limits = Limits::new(1000, 4).unwrap();
+/// assert_eq!((limits.slots(), limits.generations()), (1000, 4));
+/// assert_eq!(Limits::new(0, 1), None);
+/// assert_eq!(Limits::default(), Limits::GREATEST);
+/// ```
 #[derive(Clone, Copy, Debug, PartialEq, Eq, Hash)]
 pub struct Limits {
     slots: u32,
@@ -35,6 +44,7 @@ impl Limits {
     /// ```
     ///
     /// </details>
+    #[must_use]
     #[inline]
     pub const fn new(slots: u32, generations: u32) -> Option<Self> {
         if 1 <= slots && 1 <= generations && generations < 1 << 31 {
@@ -55,6 +65,7 @@ impl Limits {
     /// ```
     ///
     /// </details>
+    #[must_use]
     #[inline]
     pub const fn default_limits() -> Self {
         Limits::GREATEST
@@ -83,7 +94,7 @@ impl Limits {
     /// </details>
     #[must_use]
     #[inline]
-    pub fn keeping_placeholder(self) -> Self {
+    pub const fn keeping_placeholder(self) -> Self {
         if self.slots == u32::MAX && self.generations == (1 << 31) - 1 {
             Limits {
                 slots: self.slots,
@@ -105,8 +116,9 @@ impl Limits {
     /// ```
     ///
     /// </details>
+    #[must_use]
     #[inline]
-    pub fn slots(self) -> u32 {
+    pub const fn slots(self) -> u32 {
         self.slots
     }
 
@@ -121,8 +133,9 @@ impl Limits {
     /// ```
     ///
     /// </details>
+    #[must_use]
     #[inline]
-    pub fn generations(self) -> u32 {
+    pub const fn generations(self) -> u32 {
         self.generations
     }
 }

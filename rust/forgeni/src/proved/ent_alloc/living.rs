@@ -3,10 +3,11 @@
 use crate::proved::ent_alloc::slot_record::SlotRecord;
 use crate::proved::ent_handle::Handle;
 
-/// The living handles, by rising slot.
+/// The handles of the living entities, by rising slot.
 ///
-/// `Entities::iter` makes it. It borrows the allocator and copies nothing. Between two handles it
+/// [`Entities::iter`](crate::proved::ent_alloc::Entities::iter) makes it. It borrows the allocator and copies nothing. Between two handles it
 /// looks at each slot once. After the last handle it looks at none.
+#[derive(Clone)]
 pub struct Living<'a> {
     records: &'a [SlotRecord],
     index: u32,

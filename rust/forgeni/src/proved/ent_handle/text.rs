@@ -12,9 +12,9 @@ use core::fmt;
 /// Why a text is not a number, or not a handle.
 #[derive(Clone, Copy, Debug, PartialEq, Eq, Hash)]
 pub enum TextFault {
-    /// The text does not have the form.
+    /// It doesn't have the form, which is that of `0v1` for a handle.
     Shape,
-    /// The text has the form, but a number in it is out of range.
+    /// It has the form, and a number in it is out of range.
     Range,
 }
 

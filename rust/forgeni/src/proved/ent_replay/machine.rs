@@ -52,7 +52,7 @@ impl Machine {
     /// </details>
     #[inline]
     pub fn new(limits: Limits) -> Result<Self, Memory> {
-        let entities = Entities::with_limits(limits);
+        let entities = Entities::with_exact_limits(limits);
         prove_eq!(entities.cursor(), 0);
         Ok(Machine {
             entities,

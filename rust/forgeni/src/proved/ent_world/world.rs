@@ -36,7 +36,7 @@ impl World {
     /// </details>
     #[inline]
     pub fn new(limits: Limits) -> Self {
-        let entities = Entities::with_limits(limits);
+        let entities = Entities::with_exact_limits(limits);
         // Whatever the limits are, it begins in a sound state, as `cursor` promises.
         prove_eq!(entities.cursor(), 0);
         World {

@@ -43,7 +43,7 @@ impl Checker {
     #[inline]
     pub fn new(limits: Limits) -> Self {
         Checker {
-            entities: Entities::with_limits(limits),
+            entities: Entities::with_exact_limits(limits),
             run: Vec::new(),
             latest: ByCaller::new(),
             wanted: 0,
