@@ -27,9 +27,9 @@ TABLE = {
     "bound Drop": (8, "as derive(Drop), for a type parameter"),
     "crate path": (212, "a crate is a module of the package: `crate::x` is `crate::proved::NAME::x`"),
     "sister path": (172, "as crate path, for the crates that a crate uses"),
-    "stand-in path": (39, "the kit's own `Vec`, words, maps and threads are the package's `kit`, by PATHS"),
+    "stand-in path": (39, "the kit's own words, maps and threads are the package's `kit`, by PATHS"),
     "core path": (18, "the kit's std and Rust's have the same there, by PATHS"),
-    "import": (59, "`Vec`, `prove_eq!` and the trait of `collect_in` need no import in the kit"),
+    "import": (89, "`Vec`, `prove_eq!` and the traits of `collect_in` and of lists need no import in the kit"),
     "collect_in": (2, "Rust's `Iterator` has a `collect` without an allocator"),
     "formatter": (6, "the kit's `Formatter<W>` writes to a `W`, Rust's to a `dyn Write`; each use is `write_str` or `write!`"),
     "visibility": (217, "`pub(crate)` would open a module to the whole package; too narrow a word fails to compile"),
@@ -41,6 +41,7 @@ TABLE = {
     "allocator": (280, "the right to allocate, `Global`, is handed to nobody in Rust: parameters, arguments, fields, what is bound"),
     "ghost trait": (16, "a trait with ghost members alone, its imports and impls, and a module of nothing else"),
     "ghost type": (79, "a type parameter that such a trait bounds, as an argument, and in a `PhantomData`"),
+    "list call": (94, "a list is Rust's own; what the kit's has otherwise is a call of `FallibleVec`, whose names no list of Rust has"),
     "with_exact_limits": (5, "the allocator's `new(limits)`: in Rust `new()` has no parameter"),
     "const": (12, "what makes an allocator without memory may be called in a constant: CONSTANT lists them"),
 }
@@ -66,8 +67,8 @@ PRELUDE = set(
 )
 ASSOCIATED = set(
     "Arc::new Arc::try_clone Arc::try_unwrap BTreeMap::new Badge::blank Buffer::new NonZeroU32::new NonZeroU64::MIN NonZeroU64::new "
-    "SmallVec::new SmallVec::with_capacity Table::of_words Vec::new Vec::with_capacity fmt::Debug fmt::Display fmt::Formatter fmt::Result i64::from mem::replace str::from_utf8 "
-    "u16::from_le_bytes u32::MAX u32::from_le_bytes u64::from u64::from_le_bytes usize::from".split()
+    "SmallVec::new SmallVec::with_capacity Table::of_words Vec::new Vec::with_capacity fmt::Debug fmt::Display fmt::Formatter "
+    "fmt::Result i64::from mem::replace str::from_utf8 u16::from_le_bytes u32::MAX u32::from_le_bytes u64::from u64::from_le_bytes usize::from".split()
 )
 METHODS = set(
     "all as_bytes as_chunks as_slice binary_search binary_search_by_key capacity cast_signed cast_unsigned checked_add checked_sub clear "
@@ -88,10 +89,15 @@ CONSTANT |= {("ent_alloc/limits", it) for it in ("generations", "keeping_placeho
 CONSTANT |= {("ent_handle/handle", it) for it in "from_bits from_parts generation index new to_bits".split()}
 # What `prove_eq!` may call, and whose stand-in is an enum alone (the empty path: what is imported from these crates).
 READS, WITHOUT_METHODS = {"cursor"}, {"", "either::Either"}
-# A file with a type of one word and its field, one with a type that shares no line of a cache, a file whose texts keep a width, and a
-# function with another name.
+# A file with a type that shares no line of a cache, one with a type of one word and its field, a file whose texts keep a width, and
+# functions with another name.
 APART_TYPE = "ent_total/reserver", "Reserver"
-WORD_TYPE, PADDED, RENAMED = ("ent_handle/handle", "Handle", "bits"), "ent_handle/text", ("Entities", "new", "with_exact_limits")
+WORD_TYPE, PADDED, RENAMED = ("ent_handle/handle", "Handle", "bits"), "ent_handle/text", {("Entities", "new"): "with_exact_limits"}
+RENAMED |= {("Vec", it): it + "_fallibly" for it in ("from_slice", "with_capacity")}
+# Calls of the kit's list that Rust's has otherwise, with the receivers that are no lists. A wrong one doesn't compile.
+LISTS = {"capacity": "living", "extend_from_slice": "", "push": "living", "push_reserved": "", "resize": "", "sort_by_cached_key": ""}
+LISTS |= {"sort_by_key": "", "reserve": "] index living self shared storage"}
+LISTS |= {"insert": "blocked calls commands items last latest living queue seen spent values"}
 DERIVES = set("Clone Copy Debug Default PartialEq Eq Hash".split())
 KEYWORDS = set(
     "as async await break const continue crate dyn else enum extern false fn for if impl in let loop match mod move mut pub ref return "
@@ -213,7 +219,7 @@ class Reader:
             self.text.fail(f"{self.text.token(self.far).text!r} in a form that is in no rule", self.text.token(self.far).start)
         head = len(self.out)
         for name in sorted({name for kind, name, _ in self.log if kind == "add"}):
-            self.add(f"use crate::kit::{name};", "import")
+            self.add(f"use {name};", "import")
         self.out[self.imports_at or 0 : 0] = self.cut(head)
         if self.texts(0).count("PhantomData") == 1 and ("count", "ghost type", None) in self.log:
             at = self.texts(0).index("PhantomData")
@@ -420,9 +426,11 @@ class Reader:
     def is_step(self):
         """A name after a `::`, or of a member. One function has another name."""
         before = self.out[-1 - (self.out[-1].text == "::")].text
-        if (self.target if before in ("Self", "fn") else before, self.look().text) != RENAMED[:2]:
+        to = RENAMED.get((self.target if before in ("Self", "fn") else before, self.look().text))
+        if to is None:
             return self.word("NAME")
-        return self.drop() and self.add(*RENAMED[2:] * 2)
+        self.note("add", "crate::kit::vec::FallibleVec") if before == "Vec" else None
+        return self.drop() and self.add(to, "list call" if before == "Vec" else to)
 
     # Names.
 
@@ -454,7 +462,7 @@ class Reader:
         first, whole = words[0], "::".join(words)
         kit = next((it for it in PATHS if whole.startswith(it + "::")), None)
         known = first in PRELUDE | {"crate", "super"} | self.imports.keys() or any(first in it for it in self.names)
-        self.note("add", "vec::Vec") if first == "Vec" else None
+        self.note("add", "alloc::vec::Vec") if first == "Vec" else None
         if not known and kit is None and not (first in self.unit.crates and len(words) > 1):
             self.use("name", first)
         elif len(words) > 1:
@@ -530,14 +538,21 @@ class Reader:
         if self.look(1).text not in ("(", "::") or self.look().kind != "id":
             return False
         self.use("method", name)
+        if name in LISTS and self.out[-2].text not in LISTS[name].split():
+            self.note("add", "crate::kit::vec::FallibleVec")
+            to = {"capacity": "sized_capacity", "push_reserved": name}.get(name, name + "_fallibly")
+            return self.drop() and self.add(to, "list call")
         if name != "collect":
             return self.word("NAME")
         self.drop()
-        return self.note("add", "vec::CollectIn") and self.add("collect_in", "collect_in")
+        return self.note("add", "crate::kit::vec::CollectIn") and self.add("collect_in", "collect_in")
 
     def is_binary(self):
         found = self.sees(*BINARY) and self.take()
         return found and (found.text != ">" or not self.sees(">", ">=") or self.take())
+
+    def add_padded(self):
+        return self.note("add", "crate::kit::padded") and self.add("padded", "padded")
 
     def is_aligned(self):
         if (self.result, self.look(1).text, self.look(2).text) == (WORD_TYPE[0], "struct", WORD_TYPE[1]):
@@ -728,7 +743,7 @@ WORDS = {it.upper(): lambda r, it=it: r.look().kind == it and r.take() for it in
     "TRAIT": lambda r: r.set("trait", "::".join(r.imports.get(it) or it for it in r.words()[0])),
     "OF": lambda r: r.set("of", r.trait),
     "CONST": lambda r: r.sees("const") and r.take() or (r.result, r.look(1).text) in CONSTANT and r.add("const", "const"),
-    "WRITE": lambda r: r.sees("write") and (r.take() if r.result != PADDED else r.drop() and r.note("add", "padded") and r.add("padded", "padded")),
+    "WRITE": lambda r: r.sees("write") and (r.take() if r.result != PADDED else r.drop() and r.add_padded()),
     "TARGET": lambda r: r.set("target", r.look().text),
     "OF_TYPE": lambda r: r.set("tag", r.target if r.out[-1].text == "Self" else r.out[-1].text),
     "OWNER": lambda r: r.set("owner", f"impl trait {r.of.split('::')[-1]}" if r.of else "impl"),
@@ -744,7 +759,7 @@ STATES |= {it: {"requires": False} for it in ("function", "closure")} | {it: {"t
 STATES |= {"impl": {"owner": "", "of": "", "target": ""}, "trait": {"owner": ""}, "variant": {"error": "", "fields": []}}
 STATES |= {it: {"arms": "", "error": "", "errs": False} for it in ("struct", "enum")}
 NOTES = {"writer": ("count", "formatter"), "ghost": ("count", "(ghost members and imports)")}
-NOTES |= {"clause": ("count", "(clauses)"), "proves": ("add", "prove_eq")}
+NOTES |= {"clause": ("count", "(clauses)"), "proves": ("add", "crate::kit::prove_eq")}
 
 
 def parsed(words):

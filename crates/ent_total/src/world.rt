@@ -266,9 +266,10 @@ impl World {
         self.world.is_empty()
     }
 
-    /// How often the world was flushed. It stays at 2^64 - 1.
+    /// How often the world was flushed, which is the `frame` in the births of what comes to life
+    /// next. It stays at 2^64 - 1.
     #[must_use]
-    pub fn phase(&self) -> u64
+    pub fn frame(&self) -> u64
         ensures { result ≡ self.now.world.phase }
     {
         self.world.phase()

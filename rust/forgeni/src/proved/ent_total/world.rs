@@ -350,7 +350,8 @@ impl World {
         self.world.is_empty()
     }
 
-    /// How often the world was flushed. It stays at 2^64 - 1.
+    /// How often the world was flushed, which is the `frame` in the births of what comes to life
+    /// next. It stays at 2^64 - 1.
     ///
     /// <details><summary>Contract</summary>
     ///
@@ -363,7 +364,7 @@ impl World {
     /// </details>
     #[must_use]
     #[inline]
-    pub fn phase(&self) -> u64 {
+    pub fn frame(&self) -> u64 {
         self.world.phase()
     }
 
