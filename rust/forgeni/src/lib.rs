@@ -125,7 +125,6 @@
 //!   before, as for an `Arc`.
 //! - A [`HandleMap`] is cloned, extended, collected, or used up by an iterator. `Reservers::into_inner`
 //!   makes a list.
-//! - A close after one that was refused with [`CloseError::InUse`] may make a list.
 //! - `run_frame` with more than one worker starts threads.
 //!
 //! # Proved, trusted, tested
