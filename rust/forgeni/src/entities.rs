@@ -1,9 +1,8 @@
 //! What the proved allocator can't have in its source: impls of Rust's traits, closures, and `new` without parameters.
 
-use crate::errors::{OutOfMemory, Unshared};
+use crate::errors::OutOfMemory;
 use crate::handle::Handle;
 use crate::proved::ent_alloc::Limits;
-use crate::sharing::{Reserver, Shared};
 use alloc::vec::Vec;
 use core::fmt;
 use core::iter::FusedIterator;
@@ -46,44 +45,6 @@ impl Entities {
         self.flush(&mut born)?;
         born.into_iter().for_each(each);
         Ok(())
-    }
-
-    /// Shares the allocator among `callers` reservers, 1 to 1,024, each of which may go to a thread
-    /// of its own. [`Shared::close`] gives the allocator back, with all that they reserved.
-    ///
-    /// While it is shared nobody else can use it: it is inside the [`Shared`].
-    ///
-    /// ```
-    /// use forgeni::Entities;
-    ///
-    /// let (shared, mut reservers) = Entities::new().share(2)?;
-    /// std::thread::scope(|scope| {
-    ///     for reserver in &mut reservers {
-    ///         scope.spawn(|| reserver.reserve_many(10).expect("ten handles"));
-    ///     }
-    /// });
-    /// let mut entities = shared.close(reservers)?;
-    /// entities.flush(&mut Vec::new())?;
-    /// assert_eq!(entities.len(), 20);
-    /// # Ok::<(), Box<dyn std::error::Error>>(())
-    /// ```
-    ///
-    /// ```compile_fail
-    /// let mut entities = forgeni::Entities::new();
-    /// let (shared, reservers) = entities.share(2).unwrap();
-    /// entities.alloc(); // it was moved
-    /// ```
-    ///
-    /// # Errors
-    ///
-    /// [`Unshared`] says why, and has the allocator as it was.
-    ///
-    /// # Aborts
-    ///
-    /// Rust's `Arc` ends the process if memory runs out. So as much memory is asked for before, and the
-    /// process ends only if another thread takes it in between.
-    pub fn share(self, callers: usize) -> Result<(Shared, Vec<Reserver>), Unshared> {
-        Shared::open(self, callers)
     }
 }
 

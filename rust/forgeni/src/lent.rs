@@ -1,8 +1,7 @@
 //! A reserver that is lent.
 
-use crate::errors::{OtherPhase, Refused, ReserveError};
-use crate::handle::Handle;
-use crate::sharing::Reserver;
+use crate::sharing::{OtherPhase, Reserver};
+use crate::{Handle, Refused, ReserveError};
 use alloc::vec::Vec;
 use core::fmt;
 use core::ops::Deref;
@@ -68,7 +67,7 @@ impl<'a> Lent<'a> {
     }
 }
 
-/// What can be told of the reserver.
+/// What can be read of the reserver.
 impl Deref for Lent<'_> {
     type Target = Reserver;
 

@@ -125,7 +125,6 @@
 //!   before, as for an `Arc`.
 //! - A [`HandleMap`] is cloned, extended, collected, or used up by an iterator. `Reservers::into_inner`
 //!   makes a list.
-//! - A close after one that was refused with [`CloseError::InUse`] may make a list.
 //! - `run_frame` with more than one worker starts threads.
 //!
 //! # Proved, trusted, tested
@@ -168,6 +167,7 @@ mod handle;
 pub mod handle_map;
 #[allow(dead_code, missing_docs, unreachable_pub)]
 mod kit;
+mod lending;
 mod lent;
 mod numbers;
 mod open_world;
@@ -196,8 +196,7 @@ mod world;
 pub use commands::{CommandQueue, Commands, SpawnError};
 pub use component::{Birth, ComponentId};
 pub use entities::{Entities, Freed, Living, State};
-pub use errors::{Absent, AllocError, CloseError, FreeError, OtherPhase};
-pub use errors::{OutOfMemory, Refused, ReserveError, ShareError, Unclosed, Unshared};
+pub use errors::{Absent, AllocError, FreeError, OutOfMemory, Refused, ReserveError};
 #[cfg(feature = "std")]
 pub use frames::{run_frame, FrameError};
 pub use handle::{Handle, ParseHandleError};
@@ -208,7 +207,7 @@ pub use proved::ent_alloc::Limits;
 pub use report::{Fault, FaultKind, Report};
 #[cfg(feature = "std")]
 pub use reservers::{Lends, Reservers, Unpooled};
-pub use sharing::{Reserver, Shared};
+pub use sharing::{CloseError, OtherPhase, Reserver, ShareError, Shared, Unclosed, Unshared};
 pub use storage::{Bundle, Items, Storage, StorageError};
 pub use sync::{GoOnError, Queues, Stopped, SyncError, SyncErrorKind};
 #[cfg(feature = "std")]

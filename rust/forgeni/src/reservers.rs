@@ -1,6 +1,6 @@
 //! A pool of reservers, for threads that come and go.
 
-use crate::errors::OutOfMemory;
+use crate::OutOfMemory;
 use crate::lent::Lent;
 use crate::sharing::Reserver;
 use crate::waiting::Waiting;
