@@ -1,10 +1,11 @@
-ghost use Rattle.std.specs.Prelude.{◌≡◌, ◌↔◌, [], length, nat_eq, IsTrue, List};
+ghost use Rattle.std.specs.Prelude.{◌≡◌, ◌↔◌, [], length, nat_eq, IfOk, IsTrue, List};
 ghost use Rattle.std.proofs.Common.{rules};
 ghost use Rattle.std.specs.Cmp.Lexicographic.{pointwise};
 ghost use Rattle.std.specs.Cmp.Rules.{comparing};
 ghost use Rattle.std.specs.Ordering.{eq_of_both, on};
 
-use ent_handle::Handle;
+use ent_handle::{Handle, Memory};
+use std::alloc::Global;
 use std::marker::Model;
 
 /// Handles in order.
@@ -49,6 +50,15 @@ impl HandleList {
         ensures { IsTrue result ↔ (self.now ≡ []) }
     {
         self.handles.is_empty()
+    }
+
+    /// A copy.
+    pub(crate) fn try_copy(&self, alloc: Global) -> Result<HandleList, Memory>
+        ensures { IfOk result (λ copy. copy ≡ self.now) }
+    {
+        let mut handles = Vec::new(alloc);
+        handles.extend_from_slice(&self.handles)?;
+        Ok(HandleList { handles })
     }
 
     /// Gives the handles back, with their memory.

@@ -15,8 +15,8 @@ use Rattle.tracecheck.specs.Verdict.{IsVerdict, StandsAt, agrees, asks_too_many,
 use Rattle.tracecheck.specs.Verdict.{differs_in_all, is_none}
 use Rattle.ent_replay.specs.Text.{line_of, words_of}
 use Rattle.ent_replay.specs.declared.trace.difference.Difference.{Difference}
-use Rattle.ent_replay.specs.declared.trace.line.Line.{Line}
-use Rattle.ent_replay.specs.declared.trace.line.Line.TheVariants as line
+use Rattle.ent_replay.specs.declared.trace.call.Call.{Call}
+use Rattle.ent_replay.specs.declared.trace.call.Call.TheVariants as line
 use Rattle.ent_replay.specs.declared.trace.read_fault.Cause.{Cause}
 use Rattle.tracecheck.specs.Calls.{Refused, calls_from, goes_on, given_in, requested_after}
 use Rattle.tracecheck.specs.Calls.{requested_from}
@@ -26,9 +26,9 @@ use Rattle.tracecheck.specs.declared.verdict.Verdict.TheVariants as verdict
 use Rattle.tracecheck.specs.declared.verdict.Refusal.TheVariants as refusal
 use Rattle.tracecheck.proofs.Joined.{AllFollow-call, calls_from-append, with_front}
 
-next_call : (texts : List (List ℕ)) (text : List ℕ) (calls : List Line)
-    (r : Result (Option Line) Cause)
-    (more : Result (List Line) Refused)
+next_call : (texts : List (List ℕ)) (text : List ℕ) (calls : List Call)
+    (r : Result (Option Call) Cause)
+    (more : Result (List Call) Refused)
     → calls_from 1 texts ≡ Ok calls → line_of (1 + length texts) (words_of text) ≡ r
     → goes_on (1 + length texts) r (Ok []) ≡ more
     → calls_from 1 (texts ++ text ∷ []) ≡ with_front calls more
@@ -46,7 +46,7 @@ HasTaken-none limits texts text old new number next lines given same named h =
       calls = h.calls;
       read = next_call texts text h.calls (Ok None) (Ok []) h.read
           (ap (λ n. line_of n (words_of text)) (sym here) ∙ named) refl
-          ∙ ap (λ (ls : List Line). Ok ls) (append-nil h.calls);
+          ∙ ap (λ (ls : List Call). Ok ls) (append-nil h.calls);
       follow = subst (AllFollow (opened limits) h.calls) (sym same) h.follow;
       reached = subst (ReachesAll (opened limits) h.calls) (sym same) h.reached;
       requested = ap requested_by same ∙ h.requested;
@@ -56,12 +56,12 @@ HasTaken-none limits texts text old new number next lines given same named h =
     }
 
 -- what is requested with one more call
-requested_from-append : (n : ℕ) (calls : List Line) (l : Line) → requested_from n (calls ++ l ∷ [])
+requested_from-append : (n : ℕ) (calls : List Call) (l : Call) → requested_from n (calls ++ l ∷ [])
     ≡ requested_after (requested_from n calls) l
 requested_from-append n [] l = refl
 requested_from-append n (x ∷ calls) l = requested_from-append (requested_after n x) calls l
 
-requested_next : (old new : Checked) (l : Line) → Reaches old l new → requested_by new
+requested_next : (old new : Checked) (l : Call) → Reaches old l new → requested_by new
     ≡ requested_after (requested_by old) l
 requested_next old new (line.Reserve r) reaches = requested-reserve old new r reaches
 requested_next old new (line.Flush told) reaches = requested-flush old new told reaches
@@ -70,7 +70,7 @@ requested_next old new (line.Free h told) reaches = requested-free old new h tol
 requested_next old new (line.State h told) reaches = requested-state old new h told reaches
 requested_next old new (line.Len told) reaches = requested-len old new told reaches
 
-few_next : (old : Checked) (l : Line) → requested_by old ≤ 2 ^ 50 → (IsTooMany old l → ⊥)
+few_next : (old : Checked) (l : Call) → requested_by old ≤ 2 ^ 50 → (IsTooMany old l → ⊥)
     → requested_after (requested_by old) l ≤ 2 ^ 50
 few_next old (line.Reserve r) few more = elim
     (cases_lt (2 ^ 50) (old.allocator.asked + requested_in old.run + r.requested)) [
@@ -83,7 +83,7 @@ few_next old (line.Free h told) few more = few
 few_next old (line.State h told) few more = few
 few_next old (line.Len told) few more = few
 
-many_next : (old : Checked) (l : Line) → IsTooMany old l → 2 ^ 50
+many_next : (old : Checked) (l : Call) → IsTooMany old l → 2 ^ 50
     < requested_after (requested_by old) l
 many_next old (line.Reserve r) many = many
 many_next old (line.Flush told) many = absurd many
@@ -93,7 +93,7 @@ many_next old (line.State h told) many = absurd many
 many_next old (line.Len told) many = absurd many
 
 -- a call
-pub HasTaken-call : (limits : Limits) (texts : List (List ℕ)) (text : List ℕ) (l : Line)
+pub HasTaken-call : (limits : Limits) (texts : List (List ℕ)) (text : List ℕ) (l : Call)
     (old new : Checking) (number : ℕ) → number ≡ old.lines + 1 → new.lines ≡ number
     → new.given ≡ old.given + given_in l → Follows old.checker l new.checker
     → Reaches old.checker l new.checker → (IsTooMany old.checker l → ⊥)
@@ -116,12 +116,12 @@ HasTaken-call limits texts text l old new number next lines given follows reache
       given = omega (arith, h.given, given, sum_by_push given_in h.calls l);
     }
 
-stands : (limits : Limits) (texts after : List (List ℕ)) (text : List ℕ) (l : Line) (old : Checking)
+stands : (limits : Limits) (texts after : List (List ℕ)) (text : List ℕ) (l : Call) (old : Checking)
     (number : ℕ) → number ≡ old.lines + 1 → line_of number (words_of text) ≡ Ok (Some l)
     → (h : HasTaken limits texts old) → StandsAt (texts ++ text ∷ after) number h.calls l
 stands limits texts after text l old number next named h = search (rules)
 
-pub differs_here : (limits : Limits) (texts after : List (List ℕ)) (text : List ℕ) (l : Line)
+pub differs_here : (limits : Limits) (texts after : List (List ℕ)) (text : List ℕ) (l : Call)
     (old : Checking) (number : ℕ) (d : Difference) → number ≡ old.lines + 1
     → line_of number (words_of text) ≡ Ok (Some l) → Shows old.checker number (l ∷ []) d
     → NoneFollows old.checker l → HasTaken limits texts old
@@ -137,7 +137,7 @@ differs_here limits texts after text l old number d next named shows none h = di
   none = λ rest a. none rest (h.follow.complete (l ∷ rest) a);
 })
 
-pub asks_here : (limits : Limits) (texts after : List (List ℕ)) (text : List ℕ) (l : Line)
+pub asks_here : (limits : Limits) (texts after : List (List ℕ)) (text : List ℕ) (l : Call)
     (old : Checking) (number : ℕ) → number ≡ old.lines + 1
     → line_of number (words_of text) ≡ Ok (Some l) → IsTooMany old.checker l
     → HasTaken limits texts old

@@ -12,9 +12,9 @@ use Rattle.ent_replay.specs.Trace.{Agrees}
 use Rattle.ent_replay.specs.Text.{Word, answer_words, cause_text, line_of, line_text, spaced}
 use Rattle.ent_replay.specs.Text.{words_of}
 use Rattle.ent_replay.specs.declared.trace.difference.Difference.{Difference}
-use Rattle.ent_replay.specs.declared.trace.difference.Stop.{Stop}
-use Rattle.ent_replay.specs.declared.trace.difference.Stop.TheVariants as stop
-use Rattle.ent_replay.specs.declared.trace.line.Line.{Line}
+use Rattle.ent_replay.specs.declared.trace.check_error.CheckError.{CheckError}
+use Rattle.ent_replay.specs.declared.trace.check_error.CheckError.TheVariants as stop
+use Rattle.ent_replay.specs.declared.trace.call.Call.{Call}
 use Rattle.ent_replay.specs.declared.trace.read_fault.Cause.{Cause}
 use Rattle.tracecheck.specs.Calls.{calls_from, given_in, requested_from}
 use Rattle.tracecheck.specs.Checking.{opened}
@@ -26,7 +26,7 @@ use Rattle.tracecheck.specs.declared.verdict.Verdict.{Verdict}
 use Rattle.tracecheck.specs.declared.verdict.Verdict.TheVariants as verdict
 
 -- The lines before this one have these calls, and this one has a call too.
-pub record StandsAt (lines : List (List ℕ)) (number : ℕ) (calls : List Line) (next : Line)
+pub record StandsAt (lines : List (List ℕ)) (number : ℕ) (calls : List Call) (next : Call)
     : Type 0 where
   pub before : List (List ℕ)
   pub text : List ℕ
@@ -42,7 +42,7 @@ pub record AreTaken (limits : Limits) (lines : List (List ℕ)) (number : ℕ) :
   pub after : List (List ℕ)
   pub is : lines ≡ before ++ after
   pub number_is : number ≡ length before + 1
-  pub calls : List Line
+  pub calls : List Call
   pub read : calls_from 1 before ≡ Ok calls
   pub checked : Checked
   pub reached : ReachesAll (opened limits) calls checked
@@ -51,17 +51,17 @@ pub record AreTaken (limits : Limits) (lines : List (List ℕ)) (number : ℕ) :
 -- after it agrees.
 pub record DiffersAt (limits : Limits) (lines : List (List ℕ)) (d : Difference) : Type 0 where
   pub number : ℕ
-  pub calls : List Line
-  pub next : Line
+  pub calls : List Call
+  pub next : Call
   pub stands : StandsAt lines number calls next
   pub checked : Checked
   pub reached : ReachesAll (opened limits) calls checked
   pub shows : Shows checked number (next ∷ []) d
-  pub none : (rest : List Line) → Agrees (opening limits) (calls ++ next ∷ rest) → ⊥
+  pub none : (rest : List Call) → Agrees (opening limits) (calls ++ next ∷ rest) → ⊥
 
 -- All calls were taken. At the end of the trace the difference shows.
 pub record DiffersInAll (limits : Limits) (lines : List (List ℕ)) (d : Difference) : Type 0 where
-  pub calls : List Line
+  pub calls : List Call
   pub read : calls_from 1 lines ≡ Ok calls
   pub checked : Checked
   pub reached : ReachesAll (opened limits) calls checked
@@ -71,8 +71,8 @@ pub record DiffersInAll (limits : Limits) (lines : List (List ℕ)) (d : Differe
 -- The calls before this line were taken. Only with its call more was requested since the last flush than
 -- an allocator counts.
 pub record AsksAt (limits : Limits) (lines : List (List ℕ)) (number : ℕ) : Type 0 where
-  pub calls : List Line
-  pub next : Line
+  pub calls : List Call
+  pub next : Call
   pub stands : StandsAt lines number calls next
   pub checked : Checked
   pub reached : ReachesAll (opened limits) calls checked
@@ -82,7 +82,7 @@ pub record AsksAt (limits : Limits) (lines : List (List ℕ)) (number : ℕ) : T
 -- what may be said of the trace of these lines
 pub data IsVerdict (limits : Limits) (lines : List (List ℕ)) : Verdict → Type 0 where
   -- they are a trace, and it agrees
-  agrees : (calls : List Line) → calls_from 1 lines ≡ Ok calls → Agrees (opening limits) calls
+  agrees : (calls : List Call) → calls_from 1 lines ≡ Ok calls → Agrees (opening limits) calls
       → IsVerdict limits lines (verdict.Agrees (length lines) (sum_by given_in calls))
   differs : (d : Difference) → DiffersAt limits lines d → IsVerdict limits lines (verdict.Differs d)
   differs_in_all : (d : Difference) → DiffersInAll limits lines d
@@ -100,7 +100,7 @@ MayEnd limits lines (end.Verdict v) = IsVerdict limits lines v
 MayEnd limits lines end.Memory = ⊤
 
 -- what a stop at the line of this number says
-abbrev pub end_of : ℕ → Stop → End
+abbrev pub end_of : ℕ → CheckError → End
 end_of number (stop.Differs d) = end.Verdict (verdict.Differs d)
 end_of number stop.TooMany = end.Verdict (verdict.Refused number refusal.Requests)
 end_of number stop.Memory = end.Memory
