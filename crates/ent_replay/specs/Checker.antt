@@ -8,7 +8,8 @@ use Rattle.std.specs.Ordering.{nat_cmp}
 use Rattle.std.specs.FinMap as finite
 use Rattle.std.specs.Coded.{Coded, code_by, coded×, coded_list}
 use Rattle.ent_handle.specs.Handle.{Handle}
-use Rattle.ent_alloc.specs.Sequential.{Allocator, allocator_code, available, cursor, stands_in}
+use Rattle.ent_alloc.specs.Limits.{Limits}
+use Rattle.ent_alloc.specs.Sequential.{Allocator, allocator_code, available, cursor, opening, stands_in}
 use Rattle.ent_replay.specs.contracts.trace.reservation.Reservation as reservation
 use Rattle.ent_replay.specs.declared.trace.reservation.Reservation.{Reservation}
 use Rattle.ent_replay.specs.declared.trace.call.Call.{Call}
@@ -33,6 +34,10 @@ checked_code =
     (coded× allocator_code (coded_list reservation.the_row.coded)) (λ c. (c.allocator, c.run))
     (λ p. record { allocator = p.0; run = p.1 }) (λ _. refl)
 
+-- no line is checked yet
+abbrev pub opened : Limits → Checked
+opened limits = record { allocator = opening limits; run = [] }
+
 -- reservations as lines
 abbrev pub reserve_lines : List Reservation → List Call
 reserve_lines run = map line.Reserve run
@@ -45,6 +50,11 @@ AgreesWith c rest = Agrees c.allocator (reserve_lines c.run ++ rest)
 pub record Follows (old : Checked) (l : Call) (new : Checked) : Type 0 where
   pub sound : (rest : List Call) → AgreesWith new rest → AgreesWith old (l ∷ rest)
   pub complete : (rest : List Call) → AgreesWith old (l ∷ rest) → AgreesWith new rest
+
+-- before and after these lines: the same lines may follow
+pub record AllFollow (old : Checked) (lines : List Call) (new : Checked) : Type 0 where
+  pub sound : (rest : List Call) → AgreesWith new rest → AgreesWith old (lines ++ rest)
+  pub complete : (rest : List Call) → AgreesWith old (lines ++ rest) → AgreesWith new rest
 
 -- In some order all reservations of the run were answered so, and this is the state after them, as
 -- after any such order.

@@ -47,6 +47,11 @@ abbrev pub TakesAll : Checker → List Call → Checker → Type 0
 TakesAll old [] new = new ≡ old
 TakesAll old (l ∷ lines) new = (next : Checker) × Takes old l next × TakesAll next lines new
 
+-- the calls with their numbers, which come after this one
+abbrev pub numbered_after : ℕ → List Call → List Call
+numbered_after n [] = []
+numbered_after n (l ∷ lines) = numbered (one_more n) l ∷ numbered_after (one_more n) lines
+
 -- ---- the end of a run
 
 -- The reservations of the run agree, or why not.

@@ -165,7 +165,7 @@ refuses_too_many limits texts after text r old h named many = asks_too_many (len
     read = h.read;
     named = named;
   };
-  checked = old.checker;
+  checked = old.comparer;
   reached = h.reached;
   few = h.few;
   many = many;

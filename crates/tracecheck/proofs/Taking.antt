@@ -7,7 +7,7 @@ use Rattle.std.proofs.lemmas.List.{append-nil}
 use Rattle.std.proofs.lemmas.List.Sums.{sum_by_push}
 use Rattle.ent_alloc.specs.Limits.{Limits}
 use Rattle.ent_replay.specs.Checker.{AgreesWith, Checked, Follows, IsTooMany, NoneFollows, Reaches}
-use Rattle.ent_replay.specs.Checker.{ReachesAll, Shows, requested_in}
+use Rattle.ent_replay.specs.Checker.{AllFollow, ReachesAll, Shows, opened, requested_in}
 use Rattle.ent_replay.proofs.Requested.{ReachesAll-next, requested_by, requested-reserve}
 use Rattle.ent_replay.proofs.Requested.{requested-flush, requested-alloc, requested-free}
 use Rattle.ent_replay.proofs.Requested.{requested-state, requested-len}
@@ -20,7 +20,7 @@ use Rattle.ent_replay.specs.declared.trace.call.Call.TheVariants as line
 use Rattle.ent_replay.specs.declared.trace.read_fault.Cause.{Cause}
 use Rattle.tracecheck.specs.Calls.{Refused, calls_from, goes_on, given_in, requested_after}
 use Rattle.tracecheck.specs.Calls.{requested_from}
-use Rattle.tracecheck.specs.Checking.{AllFollow, HasTaken, opened}
+use Rattle.tracecheck.specs.Checking.{HasTaken}
 use Rattle.tracecheck.specs.declared.checking.Checking.{Checking}
 use Rattle.tracecheck.specs.declared.verdict.Verdict.TheVariants as verdict
 use Rattle.tracecheck.specs.declared.verdict.Refusal.TheVariants as refusal
@@ -38,7 +38,7 @@ next_call texts text calls r more read named gives =
 -- a line without words
 pub HasTaken-none : (limits : Limits) (texts : List (List ℕ)) (text : List ℕ) (old new : Checking)
     (number : ℕ) → number ≡ old.lines + 1 → new.lines ≡ number → new.given ≡ old.given
-    → new.checker ≡ old.checker → line_of number (words_of text) ≡ Ok None
+    → new.comparer ≡ old.comparer → line_of number (words_of text) ≡ Ok None
     → HasTaken limits texts old → HasTaken limits (texts ++ text ∷ []) new
 HasTaken-none limits texts text old new number next lines given same named h =
     let here : number ≡ 1 + length texts = omega (arith, h.lines) in
@@ -95,8 +95,8 @@ many_next old (line.Len told) many = absurd many
 -- a call
 pub HasTaken-call : (limits : Limits) (texts : List (List ℕ)) (text : List ℕ) (l : Call)
     (old new : Checking) (number : ℕ) → number ≡ old.lines + 1 → new.lines ≡ number
-    → new.given ≡ old.given + given_in l → Follows old.checker l new.checker
-    → Reaches old.checker l new.checker → (IsTooMany old.checker l → ⊥)
+    → new.given ≡ old.given + given_in l → Follows old.comparer l new.comparer
+    → Reaches old.comparer l new.comparer → (IsTooMany old.comparer l → ⊥)
     → line_of number (words_of text) ≡ Ok (Some l)
     → HasTaken limits texts old → HasTaken limits (texts ++ text ∷ []) new
 HasTaken-call limits texts text l old new number next lines given follows reaches more named h =
@@ -105,13 +105,13 @@ HasTaken-call limits texts text l old new number next lines given follows reache
       calls = h.calls ++ l ∷ [];
       read = next_call texts text h.calls (Ok (Some l)) (Ok (l ∷ [])) h.read
           (ap (λ n. line_of n (words_of text)) (sym here) ∙ named) refl;
-      follow = AllFollow-call (opened limits) old.checker new.checker h.calls l h.follow follows;
-      reached = ReachesAll-next (opened limits) old.checker new.checker h.calls l h.reached reaches;
-      requested = requested_next old.checker new.checker l reaches
+      follow = AllFollow-call (opened limits) old.comparer new.comparer h.calls l h.follow follows;
+      reached = ReachesAll-next (opened limits) old.comparer new.comparer h.calls l h.reached reaches;
+      requested = requested_next old.comparer new.comparer l reaches
           ∙ ap (λ n. requested_after n l) h.requested ∙ sym (requested_from-append 0 h.calls l);
       few = subst (λ n. n ≤ 2 ^ 50)
           (ap (λ n. requested_after n l) h.requested ∙ sym (requested_from-append 0 h.calls l))
-          (few_next old.checker l (subst (λ n. n ≤ 2 ^ 50) (sym h.requested) h.few) more);
+          (few_next old.comparer l (subst (λ n. n ≤ 2 ^ 50) (sym h.requested) h.few) more);
       lines = omega (arith, h.lines, length-append texts (text ∷ []));
       given = omega (arith, h.given, given, sum_by_push given_in h.calls l);
     }
@@ -123,15 +123,15 @@ stands limits texts after text l old number next named h = search (rules)
 
 pub differs_here : (limits : Limits) (texts after : List (List ℕ)) (text : List ℕ) (l : Call)
     (old : Checking) (number : ℕ) (d : Difference) → number ≡ old.lines + 1
-    → line_of number (words_of text) ≡ Ok (Some l) → Shows old.checker number (l ∷ []) d
-    → NoneFollows old.checker l → HasTaken limits texts old
+    → line_of number (words_of text) ≡ Ok (Some l) → Shows old.comparer number (l ∷ []) d
+    → NoneFollows old.comparer l → HasTaken limits texts old
     → IsVerdict limits (texts ++ text ∷ after) (verdict.Differs d)
 differs_here limits texts after text l old number d next named shows none h = differs d (record {
   number = number;
   calls = h.calls;
   next = l;
   stands = stands limits texts after text l old number next named h;
-  checked = old.checker;
+  checked = old.comparer;
   reached = h.reached;
   shows = shows;
   none = λ rest a. none rest (h.follow.complete (l ∷ rest) a);
@@ -139,19 +139,19 @@ differs_here limits texts after text l old number d next named shows none h = di
 
 pub asks_here : (limits : Limits) (texts after : List (List ℕ)) (text : List ℕ) (l : Call)
     (old : Checking) (number : ℕ) → number ≡ old.lines + 1
-    → line_of number (words_of text) ≡ Ok (Some l) → IsTooMany old.checker l
+    → line_of number (words_of text) ≡ Ok (Some l) → IsTooMany old.comparer l
     → HasTaken limits texts old
     → IsVerdict limits (texts ++ text ∷ after) (verdict.Refused number refusal.Requests)
 asks_here limits texts after text l old number next named many h = asks_too_many number (record {
   calls = h.calls;
   next = l;
   stands = stands limits texts after text l old number next named h;
-  checked = old.checker;
+  checked = old.comparer;
   reached = h.reached;
   few = h.few;
   many = subst (λ n. 2 ^ 50 < n)
       (ap (λ n. requested_after n l) h.requested ∙ sym (requested_from-append 0 h.calls l))
-      (many_next old.checker l many);
+      (many_next old.comparer l many);
 })
 
 pub none_here : (limits : Limits) (texts after : List (List ℕ)) (text : List ℕ) (c : Cause)
@@ -168,14 +168,14 @@ none_here limits texts after text c old number next named h =
       number_is = omega (arith, h.lines);
       calls = h.calls;
       read = h.read;
-      checked = old.checker;
+      checked = old.comparer;
       reached = h.reached;
     })
 
 -- ---- the end
 
 pub agrees_in_all : (limits : Limits) (texts : List (List ℕ)) (old : Checking)
-    → AgreesWith old.checker [] → HasTaken limits texts old
+    → AgreesWith old.comparer [] → HasTaken limits texts old
     → IsVerdict limits texts (verdict.Agrees old.lines old.given)
 agrees_in_all limits texts old a h =
     subst (λ n. IsVerdict limits texts (verdict.Agrees n old.given)) (sym h.lines)
@@ -183,12 +183,12 @@ agrees_in_all limits texts old a h =
     (agrees h.calls h.read (search (rules, append-nil))))
 
 pub differs_at_end : (limits : Limits) (texts : List (List ℕ)) (old : Checking) (d : Difference)
-    → Shows old.checker 0 [] d → (AgreesWith old.checker [] → ⊥) → HasTaken limits texts old
+    → Shows old.comparer 0 [] d → (AgreesWith old.comparer [] → ⊥) → HasTaken limits texts old
     → IsVerdict limits texts (verdict.Differs d)
 differs_at_end limits texts old d shows none h = differs_in_all d (record {
   calls = h.calls;
   read = h.read;
-  checked = old.checker;
+  checked = old.comparer;
   reached = h.reached;
   shows = shows;
   none = search (rules, append-nil);

@@ -7,9 +7,9 @@ use Rattle.ent_handle.specs.Handle.{Handle}
 use Rattle.ent_handle.specs.Text.{handle_text}
 use Rattle.ent_alloc.specs.Limits.{Limits}
 use Rattle.ent_alloc.specs.Sequential.{opening}
-use Rattle.ent_replay.specs.Checker.{Checked, ReachesAll, Shows}
+use Rattle.ent_replay.specs.Checker.{Checked, ReachesAll, Shows, opened}
 use Rattle.ent_replay.specs.Trace.{Agrees}
-use Rattle.ent_replay.specs.Text.{Word, answer_words, cause_text, line_of, line_text, spaced}
+use Rattle.ent_replay.specs.Text.{Word, cause_text, difference_text, line_of, spaced}
 use Rattle.ent_replay.specs.Text.{words_of}
 use Rattle.ent_replay.specs.declared.trace.difference.Difference.{Difference}
 use Rattle.ent_replay.specs.declared.trace.check_error.CheckError.{CheckError}
@@ -17,7 +17,6 @@ use Rattle.ent_replay.specs.declared.trace.check_error.CheckError.TheVariants as
 use Rattle.ent_replay.specs.declared.trace.call.Call.{Call}
 use Rattle.ent_replay.specs.declared.trace.read_fault.Cause.{Cause}
 use Rattle.tracecheck.specs.Calls.{calls_from, given_in, requested_from}
-use Rattle.tracecheck.specs.Checking.{opened}
 use Rattle.tracecheck.specs.declared.checking.End.{End}
 use Rattle.tracecheck.specs.declared.checking.End.TheVariants as end
 use Rattle.tracecheck.specs.declared.verdict.Refusal.{Refusal}
@@ -122,16 +121,13 @@ abbrev pub state_text : List Handle → ℤ → List ℕ
 state_text front at =
     codes "pool" ++ spaced (pool_words front) ++ codes ", cursor " ++ signed_decimal at ++ codes "\n"
 
-abbrev pub difference_text : Difference → List ℕ
-difference_text d =
-    codes "differs line " ++ decimal d.number ++ codes ": " ++ line_text d.told
-    ++ codes ", expected" ++ spaced (answer_words d.expected) ++ codes "\n"
-    ++ state_text d.front d.cursor
+abbrev pub difference_lines : Difference → List ℕ
+difference_lines d = difference_text d ++ codes "\n" ++ state_text d.front d.cursor
 
 abbrev pub verdict_text : Verdict → List ℕ
 verdict_text (verdict.Agrees lines given) =
     codes "agrees: " ++ decimal lines ++ codes " lines, " ++ decimal given
     ++ codes " handles given\n"
-verdict_text (verdict.Differs d) = difference_text d
+verdict_text (verdict.Differs d) = difference_lines d
 verdict_text (verdict.Refused line r) =
     codes "refused line " ++ decimal line ++ codes " " ++ refusal_text r ++ codes "\n"

@@ -11,7 +11,9 @@ ghost use Rattle.tracecheck.specs.declared.checking.End.TheVariants.{Memory as E
 
 use crate::verdict::{Refusal, Verdict};
 use ent_alloc::Limits;
-use ent_replay::trace::{AllocReply, Checker, Call, ReadFault, ReserveReply, CheckError, read_line};
+use ent_replay::trace::{
+    AllocReply, Call, CheckError, Comparer, ReadFault, ReserveReply, read_line,
+};
 use std::alloc::{AllocError, Global};
 
 /// Why the lines of a trace are not taken any further.
@@ -31,12 +33,12 @@ impl From<AllocError> for End {
     }
 }
 
-/// Takes the lines of a trace as texts, one after the other. It holds the checker, and nothing of
-/// the lines.
+/// Takes the lines of a trace as texts, one after the other. It holds what compares them, and nothing
+/// of the lines.
 #[derive(Drop)]
 pub struct Checking {
     alloc: Global,
-    checker: Checker,
+    comparer: Comparer,
     lines: u64,
     given: u64,
 }
@@ -48,7 +50,7 @@ impl Checking {
     {
         Checking {
             alloc,
-            checker: Checker::new(alloc, limits),
+            comparer: Comparer::new(alloc, limits),
             lines: 0,
             given: 0,
         }
@@ -94,13 +96,13 @@ impl Checking {
     {
         let Checking {
             alloc,
-            checker,
+            comparer,
             lines: _,
             given,
         } = self;
         Checking {
             alloc,
-            checker,
+            comparer,
             lines: number,
             given,
         }
@@ -119,21 +121,21 @@ impl Checking {
     {
         let Checking {
             alloc,
-            checker,
+            comparer,
             lines: _,
             given,
         } = self;
         let Some(given) = given.checked_add(given_in(&line)) else {
             return Err(End::Memory);
         };
-        match checker.take(number, line) {
-            Ok(checker) => Ok(Checking {
+        match comparer.take(number, line) {
+            Ok(comparer) => Ok(Checking {
                 alloc,
-                checker,
+                comparer,
                 lines: number,
                 given,
             }),
-            Err(stop) => Err(end_of(number, stop)),
+            Err(error) => Err(end_of(number, error)),
         }
     }
 
@@ -144,11 +146,11 @@ impl Checking {
     {
         let Checking {
             alloc: _,
-            checker,
+            comparer,
             lines,
             given,
         } = self;
-        match checker.finish() {
+        match comparer.finish() {
             Ok(_) => End::Verdict(Verdict::Agrees { lines, given }),
             Err(CheckError::Differs(difference)) => End::Verdict(Verdict::Differs(difference)),
             Err(_) => End::Memory,
@@ -156,17 +158,17 @@ impl Checking {
     }
 }
 
-// What a stop at the line of this number says of the trace.
-fn end_of(number: u64, stop: CheckError) -> End
-    ensures { result ≡ end_of number stop }
+// What an error at the line of this number says of the trace.
+fn end_of(number: u64, error: CheckError) -> End
+    ensures { result ≡ end_of number error }
 {
-    match stop {
+    match error {
         CheckError::Differs(difference) => End::Verdict(Verdict::Differs(difference)),
         CheckError::TooMany => End::Verdict(Verdict::Refused {
             line: number,
             refusal: Refusal::Requests,
         }),
-        CheckError::Memory => End::Memory,
+        _ => End::Memory,
     }
 }
 

@@ -278,7 +278,7 @@ impl Checker {
     {
         match mem::replace(&mut self.comparer, Err(CheckError::Memory)) {
             Ok(comparer) => self.comparer = comparer.finish(),
-            Err(error) => self.comparer = Err(error),
+            Err(stopped) => self.comparer = Err(stopped),
         }
     }
 
