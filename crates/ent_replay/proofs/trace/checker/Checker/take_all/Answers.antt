@@ -1,4 +1,4 @@
-use Rattle.std.proofs.Common.{rules, ◌≡◌, [], arith, length, sym, subst, ◌∙◌}
+use Rattle.std.proofs.Common.{rules}
 use Rattle.ent_replay.specs.Checker.{reserve_lines}
 use Rattle.ent_replay.proofs.Lineups.{no_items}
 use Rattle.ent_replay.proofs.Taken.{Leads-all, Leads-popped, Leads-reversed}
