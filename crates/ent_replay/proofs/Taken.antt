@@ -66,7 +66,7 @@ Leads-joined old now next all logs i log changed within here leads takes final m
     let later : drop (i + 1) (set logs i changed) ≡ drop (suc i) logs =
     drop-set-lt (i + 1) logs i changed (omega arith) ∙ ap (λ n. drop n logs) (add-one i) in
     let front : drop i logs ≡ log ∷ drop (suc i) logs = drop-cons logs i log within
-        ∙ ap (λ (x : Log). x ∷ drop (suc i) logs) (sym here) in
+    ∙ ap (λ (x : Log). x ∷ drop (suc i) logs) (sym here) in
     leads final (subst (λ (x : List Log). TakesAll now (lines_in_all x) final) (sym front)
     (TakesAll-append (lines_in log) (lines_in_all (drop (suc i) logs)) now next final takes
     (subst (λ (x : List Log). TakesAll next (lines_in_all x) final) later more)))

@@ -5,6 +5,7 @@ use Rattle.std.specs.List.{flat_map}
 use Rattle.ent_replay.specs.declared.trace.call.Call.{Call}
 use Rattle.ent_replay.specs.declared.trace.call.Call.TheVariants as line
 use Rattle.ent_replay.specs.declared.trace.reservation.Reservation.{Reservation}
+use Rattle.ent_replay.specs.declared.trace.reply.ReserveReply.{ReserveReply}
 use Rattle.ent_replay.specs.declared.trace.difference.Difference.{Difference}
 use Rattle.ent_replay.specs.declared.trace.check_error.CheckError.{CheckError}
 use Rattle.ent_replay.specs.declared.trace.check_error.CheckError.TheVariants as error
@@ -15,6 +16,11 @@ use Rattle.ent_replay.specs.Checker.{reserve_lines}
 use Rattle.ent_replay.specs.Logs.{Log}
 
 -- ---- one call
+
+-- a reservation that has no number yet
+abbrev pub reservation_of : ℕ → ℕ → ReserveReply → Reservation
+reservation_of caller requested reply =
+    record { number = 0; caller = caller; requested = requested; reply = reply }
 
 -- the call, and if it is a reservation, with this number
 abbrev pub numbered : ℕ → Call → Call

@@ -84,3 +84,11 @@ impl PartialEq for HandleList {
 impl Eq for HandleList {
     ghost laws = { Prim.search (comparing, rules) };
 }
+
+impl From<Vec<Handle>> for HandleList {
+    ghost from_gives = { λ handles list. list ≡ handles.items };
+
+    fn from(handles: Vec<Handle>) -> Self {
+        HandleList::new(handles)
+    }
+}

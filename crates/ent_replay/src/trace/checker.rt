@@ -4,7 +4,10 @@ ghost use Rattle.ent_alloc.specs.Sequential.{opening};
 ghost use Rattle.ent_replay.specs.Checker.{reserve_lines};
 ghost use Rattle.ent_replay.specs.Logs.{emptied};
 ghost use Rattle.ent_replay.specs.Recording.{Takes, TakesAll, TakesRun, EndsRun, Closes};
-ghost use Rattle.ent_replay.specs.Recording.{Answers, error_in};
+ghost use Rattle.ent_replay.specs.Recording.{Answers, error_in, reservation_of};
+ghost use Rattle.ent_replay.specs.declared.trace.reply.AllocReply.{AllocReply};
+ghost use Rattle.ent_replay.specs.declared.trace.reply.FlushReply.{FlushReply};
+ghost use Rattle.ent_replay.specs.declared.trace.reply.ReserveReply.{ReserveReply};
 
 use crate::trace::call::Call;
 use crate::trace::check_error::CheckError;
@@ -117,11 +120,12 @@ impl Checker {
     /// # Errors
     ///
     /// As of [`call`](Self::call).
-    pub fn alloc(&mut self, reply: AllocReply) -> Result<(), CheckError>
-        ensures takes { Takes self.old (Call.Alloc (Some reply)) self.new }
+    pub fn alloc<R: Into<AllocReply>>(&mut self, reply: R) -> Result<(), CheckError>
+        ensures takes { (told : AllocReply) × R.converts reply told
+            × Takes self.old (Call.Alloc (Some told)) self.new }
         ensures answers { Answers self.new.comparer result }
     {
-        self.call(Call::Alloc(Some(reply)))
+        self.call(Call::Alloc(Some(reply.into())))
     }
 
     /// A handle was freed.
@@ -141,11 +145,12 @@ impl Checker {
     /// # Errors
     ///
     /// As of [`call`](Self::call).
-    pub fn flush(&mut self, reply: FlushReply) -> Result<(), CheckError>
-        ensures takes { Takes self.old (Call.Flush (Some reply)) self.new }
+    pub fn flush<R: Into<FlushReply>>(&mut self, reply: R) -> Result<(), CheckError>
+        ensures takes { (told : FlushReply) × R.converts reply told
+            × Takes self.old (Call.Flush (Some told)) self.new }
         ensures answers { Answers self.new.comparer result }
     {
-        self.call(Call::Flush(Some(reply)))
+        self.call(Call::Flush(Some(reply.into())))
     }
 
     /// The state of a handle was read.
@@ -178,13 +183,14 @@ impl Checker {
     /// # Errors
     ///
     /// As of [`call`](Self::call). The answer is compared at the next other call, or at the end.
-    pub fn reserve(
+    pub fn reserve<R: Into<ReserveReply>>(
         &mut self,
         caller: u32,
         requested: u32,
-        reply: ReserveReply,
+        reply: R,
     ) -> Result<(), CheckError>
-        ensures takes { Takes self.old (Call.Reserve (record { number = 0; caller = caller; requested = requested; reply = reply })) self.new }
+        ensures takes { (told : ReserveReply) × R.converts reply told
+            × Takes self.old (Call.Reserve (reservation_of caller requested told)) self.new }
         ensures answers { Answers self.new.comparer result }
     {
         self.call(Call::Reserve(Reservation::new(caller, requested, reply)))

@@ -2,7 +2,8 @@
 ghost use Rattle.std.specs.Prelude.{◌≡◌, ◌∷◌, ◌++◌, [], OnOk, OnErr};
 ghost use Rattle.ent_replay.specs.Checker.{reserve_lines};
 ghost use Rattle.ent_replay.specs.Logs.{emptied};
-ghost use Rattle.ent_replay.specs.Recording.{TakesAll};
+ghost use Rattle.ent_replay.specs.Recording.{TakesAll, reservation_of};
+ghost use Rattle.ent_replay.specs.declared.trace.reply.ReserveReply.{ReserveReply};
 
 use crate::trace::checker::Checker;
 use crate::trace::reply::ReserveReply;
@@ -61,15 +62,12 @@ impl Log {
     /// # Errors
     ///
     /// `Memory`: out of memory. Nothing is appended.
-    pub fn push(&mut self, requested: u32, reply: ReserveReply) -> Result<(), Memory>
-        ensures ok { OnOk result (self.new ≡ record self.old {
-          reservations = self.old.reservations ++ record {
-            number = 0;
-            caller = self.old.caller;
-            requested = requested;
-            reply = reply;
-          } ∷ [];
-        }) }
+    pub fn push<R: Into<ReserveReply>>(&mut self, requested: u32, reply: R) -> Result<(), Memory>
+        ensures ok { OnOk result ((told : ReserveReply) × R.converts reply told
+            × (self.new ≡ record self.old {
+              reservations = self.old.reservations
+                  ++ reservation_of self.old.caller requested told ∷ [];
+            })) }
         ensures err { OnErr result (self.new ≡ self.old) }
     {
         self.reservations

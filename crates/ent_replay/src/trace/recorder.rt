@@ -5,6 +5,8 @@ ghost use Rattle.ent_alloc.specs.Sequential.{opening};
 ghost use Rattle.ent_replay.specs.Logs.{emptied, new_logs};
 ghost use Rattle.ent_replay.specs.Lending.{LendsLogs};
 ghost use Rattle.ent_replay.specs.Recording.{TakesAll, Answers, Finishes, lines_in_all};
+ghost use Rattle.ent_replay.specs.declared.trace.reply.AllocReply.{AllocReply};
+ghost use Rattle.ent_replay.specs.declared.trace.reply.FlushReply.{FlushReply};
 
 use crate::trace::call::Call;
 use crate::trace::check_error::CheckError;
@@ -109,13 +111,13 @@ impl Recorder {
     /// # Errors
     ///
     /// As of [`call`](Self::call).
-    pub fn alloc(&mut self, reply: AllocReply) -> Result<(), CheckError>
-        ensures takes { TakesAll self.old.checker
-            (lines_in_all self.old.logs.items ++ Call.Alloc (Some reply) ∷ []) self.new.checker }
+    pub fn alloc<R: Into<AllocReply>>(&mut self, reply: R) -> Result<(), CheckError>
+        ensures takes { (told : AllocReply) × R.converts reply told × TakesAll self.old.checker
+            (lines_in_all self.old.logs.items ++ Call.Alloc (Some told) ∷ []) self.new.checker }
         ensures emptied { self.new.logs.items ≡ map emptied self.old.logs.items }
         ensures answers { Answers self.new.checker.comparer result }
     {
-        self.call(Call::Alloc(Some(reply)))
+        self.call(Call::Alloc(Some(reply.into())))
     }
 
     /// A handle was freed.
@@ -138,13 +140,13 @@ impl Recorder {
     /// # Errors
     ///
     /// As of [`call`](Self::call).
-    pub fn flush(&mut self, reply: FlushReply) -> Result<(), CheckError>
-        ensures takes { TakesAll self.old.checker
-            (lines_in_all self.old.logs.items ++ Call.Flush (Some reply) ∷ []) self.new.checker }
+    pub fn flush<R: Into<FlushReply>>(&mut self, reply: R) -> Result<(), CheckError>
+        ensures takes { (told : FlushReply) × R.converts reply told × TakesAll self.old.checker
+            (lines_in_all self.old.logs.items ++ Call.Flush (Some told) ∷ []) self.new.checker }
         ensures emptied { self.new.logs.items ≡ map emptied self.old.logs.items }
         ensures answers { Answers self.new.checker.comparer result }
     {
-        self.call(Call::Flush(Some(reply)))
+        self.call(Call::Flush(Some(reply.into())))
     }
 
     /// The state of a handle was read.

@@ -1,5 +1,8 @@
 //! What an allocator answered.
 ghost use Rattle.std.specs.Prelude.{◌≡◌, IfOk};
+ghost use Rattle.ent_replay.specs.declared.trace.reply.AllocReply.TheVariants.{Handle as AllocHandle};
+ghost use Rattle.ent_replay.specs.declared.trace.reply.FlushReply.TheVariants.{Born as FlushBorn};
+ghost use Rattle.ent_replay.specs.declared.trace.reply.ReserveReply.TheVariants.{Handles as ReserveHandles};
 
 use crate::handle_list::HandleList;
 use ent_handle::{Handle, Memory};
@@ -14,6 +17,14 @@ pub enum AllocReply {
     Space,
     /// Handles were requested since the last flush.
     NeedsFlush,
+}
+
+impl From<Handle> for AllocReply {
+    ghost from_gives = { λ handle reply. reply ≡ AllocHandle handle };
+
+    fn from(handle: Handle) -> Self {
+        AllocReply::Handle(handle)
+    }
 }
 
 /// What was answered to a call that frees a handle.
@@ -52,6 +63,14 @@ impl FlushReply {
     }
 }
 
+impl From<Vec<Handle>> for FlushReply {
+    ghost from_gives = { λ born reply. reply ≡ FlushBorn born.items };
+
+    fn from(born: Vec<Handle>) -> Self {
+        FlushReply::Born(HandleList::new(born))
+    }
+}
+
 /// What was answered to a reservation.
 #[derive(Debug, Drop)]
 pub enum ReserveReply {
@@ -73,5 +92,13 @@ impl ReserveReply {
             ReserveReply::Space => ReserveReply::Space,
             ReserveReply::SpaceLeft(left) => ReserveReply::SpaceLeft(*left),
         })
+    }
+}
+
+impl From<Vec<Handle>> for ReserveReply {
+    ghost from_gives = { λ handles reply. reply ≡ ReserveHandles handles.items };
+
+    fn from(handles: Vec<Handle>) -> Self {
+        ReserveReply::Handles(HandleList::new(handles))
     }
 }

@@ -1,5 +1,6 @@
 //! A reservation of handles.
 ghost use Rattle.std.specs.Prelude.{◌≡◌, IfOk};
+ghost use Rattle.ent_replay.specs.Recording.{reservation_of};
 
 use crate::trace::reply::ReserveReply;
 use ent_handle::Memory;
@@ -21,14 +22,15 @@ pub struct Reservation {
 impl Reservation {
     /// The reservation of so many handles by this caller, with its answer. It has no number yet, so
     /// its number is 0.
-    pub fn new(caller: u32, requested: u32, reply: ReserveReply) -> Self
-        ensures { result ≡ record { number = 0; caller = caller; requested = requested; reply = reply } }
+    pub fn new<R: Into<ReserveReply>>(caller: u32, requested: u32, reply: R) -> Self
+        ensures is { result ≡ reservation_of caller requested result.reply }
+        ensures reply { R.converts reply result.reply }
     {
         Reservation {
             number: 0,
             caller,
             requested,
-            reply,
+            reply: reply.into(),
         }
     }
 
