@@ -11,9 +11,9 @@ use Rattle.ent_replay.proofs.Requested.{asked-settled}
 use Rattle.ent_replay.proofs.Keys.{empty_keeps}
 use Rattle.ent_replay.proofs.Lineups.{no_items}
 use Rattle.ent_replay.proofs.Settled.{all-settled, some-none, some-Shows}
-use Rattle.ent_replay.proofs.trace.checker.Checker.settle.Goals.{In_ok-sort_by_cached_key, In_ok-lineup}
-use Rattle.ent_replay.proofs.trace.checker.Checker.settle.Goals.{After-difference, After-make_all}
-use Rattle.ent_replay.proofs.trace.checker.Checker.settle.Goals as goal
+use Rattle.ent_replay.proofs.trace.comparer.Comparer.settle.Goals.{In_ok-sort_by_cached_key, In_ok-lineup}
+use Rattle.ent_replay.proofs.trace.comparer.Comparer.settle.Goals.{After-difference, After-make_all}
+use Rattle.ent_replay.proofs.trace.comparer.Comparer.settle.Goals as goal
 
 -- the sorted run requests as much
 requests : (c : In_ok-sort_by_cached_key)

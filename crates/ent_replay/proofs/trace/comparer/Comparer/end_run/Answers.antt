@@ -6,7 +6,7 @@ use Rattle.ent_replay.specs.Checker.{HasNoOrder, NoneFollows}
 use Rattle.ent_replay.proofs.Orders.{called-Follows, called-Shows, called-None, settled-None}
 use Rattle.ent_replay.proofs.Orders.{Shows-more, alone_Reaches}
 use Rattle.ent_replay.proofs.Stops.{on_differs, on_both, on_err}
-use Rattle.ent_replay.proofs.trace.checker.Checker.end_run.Goals as goal
+use Rattle.ent_replay.proofs.trace.comparer.Comparer.end_run.Goals as goal
 
 pub returns-in_err-settle : goal.returns-in_err-settle
 returns-in_err-settle c =

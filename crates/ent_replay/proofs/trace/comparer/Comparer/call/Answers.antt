@@ -3,7 +3,7 @@ use Rattle.std.proofs.lemmas.Int.{ints}
 use Rattle.ent_replay.specs.Checker.{Checked}
 use Rattle.ent_replay.proofs.Fronts.{front_here}
 use Rattle.ent_replay.proofs.Keys.{IsChecking-called}
-use Rattle.ent_replay.proofs.trace.checker.Checker.call.Goals as goal
+use Rattle.ent_replay.proofs.trace.comparer.Comparer.call.Goals as goal
 
 pub returns-in-Some-clause-differs : goal.returns-in-Some-clause-differs
 returns-in-Some-clause-differs c = search (rules, ints, front_here)

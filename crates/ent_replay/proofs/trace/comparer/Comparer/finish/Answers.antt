@@ -1,7 +1,7 @@
 use Rattle.std.proofs.Common.{append-nil, arith, rules}
 use Rattle.std.proofs.lemmas.Grind.{common_steps}
 use Rattle.ent_replay.proofs.Stops.{on_differs, on_err}
-use Rattle.ent_replay.proofs.trace.checker.Checker.finish.Goals as goal
+use Rattle.ent_replay.proofs.trace.comparer.Comparer.finish.Goals as goal
 
 pub returns-clause-agrees : goal.returns-clause-agrees
 returns-clause-agrees c = grind (arith, common_steps)

@@ -6,7 +6,7 @@ use Rattle.ent_replay.specs.Checker.{IsChecking, IsKeyed}
 use Rattle.ent_alloc.specs.Sequential.{available}
 use Rattle.std.proofs.lemmas.Bool.{cases_lt}
 use Rattle.ent_replay.proofs.Keys.{IsChecking-push}
-use Rattle.ent_replay.proofs.trace.checker.Checker.add.Goals as goal
+use Rattle.ent_replay.proofs.trace.comparer.Comparer.add.Goals as goal
 
 pub invariant_of-result : goal.invariant_of-result
 invariant_of-result c =
