@@ -30,7 +30,9 @@ fn main() -> Result<(), Box<dyn Error>> {
         println!("{} handles, none of them twice", given.len());
     }
     let mut entities = shared.close(reservers)?;
-    println!("{} born", entities.flush()?.len());
+    let mut born = Vec::new();
+    entities.flush(&mut born)?;
+    println!("{} born", born.len());
     Ok(())
 }
 
