@@ -23,7 +23,7 @@ pub enum ReserveError {
     /// More handles were requested than the quota still allows: that of a reserver, or that of an
     /// allocator, which is 2^50 between two flushes. No handle was requested. A queue of commands
     /// keeps the refusal.
-    #[error("the credit left is {left}")]
+    #[error("the quota left is {left}")]
     Quota {
         /// How many the quota still allows.
         left: u64,
@@ -37,10 +37,12 @@ impl ReserveError {
     /// What a system makes of the error. The queue keeps a refusal, and the system goes on. Only
     /// want of memory ends the system:
     ///
-    /// ```text
-    /// if let Err(error) = commands.spawn(bundle) {
-    ///     error.or_memory()?;
-    /// }
+    /// ```
+    /// use forgeni::{OutOfMemory, ReserveError};
+    ///
+    /// let refused = ReserveError::Space { wanted: 2, left: 1 };
+    /// assert_eq!(refused.or_memory(), Ok(()));
+    /// assert_eq!(ReserveError::Memory.or_memory(), Err(OutOfMemory));
     /// ```
     ///
     /// # Errors

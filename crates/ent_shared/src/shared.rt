@@ -20,7 +20,7 @@ use crate::reserver::Reserver;
 use crate::seats::{merge, new_seat};
 use crate::word;
 use crate::word::Word;
-use ent_alloc::{Entities, LivingHandles, Refused, Reserved, Span};
+use ent_alloc::{Entities, Living, Refused, Reserved, Span};
 use ent_handle::Handle;
 use std::marker::Model;
 
@@ -101,7 +101,7 @@ impl Shared {
     }
 
     /// The handles that were alive when the phase was opened, by rising slot.
-    pub fn iter(&self) -> LivingHandles<'_>
+    pub fn iter(&self) -> Living<'_>
         ensures living { set.from_list result ≡ self.now.start.live }
         ensures rising { AllPairs (λ g h. g.index < h.index) result }
         ensures count { length result ≡ set.len self.now.start.live }

@@ -8,7 +8,7 @@ ghost use Rattle.ent_shared.specs.Phase.{IsBelow};
 use crate::numbering::Numbering;
 use crate::other_phase::OtherPhase;
 use crate::shared::Shared;
-use ent_alloc::LivingHandles;
+use ent_alloc::Living;
 use ent_handle::Handle;
 use std::alloc::Global;
 use std::marker::{Model, PhantomData};
@@ -92,6 +92,7 @@ impl<J: Numbering> Reserver<J> {
     }
 
     /// Which of the reservers it is: its position in the list in which they were given out, from 0.
+    #[must_use]
     pub fn number(&self) -> usize
         ensures { result ≡ self.now.reserver.own.number }
     {
@@ -100,6 +101,7 @@ impl<J: Numbering> Reserver<J> {
 
     /// How many handles it may still request in this phase: 2^40 less what it has requested, served
     /// or not.
+    #[must_use]
     pub fn quota_left(&self) -> u64
         ensures { result ≡ self.now.reserver.own.left }
     {
@@ -107,6 +109,7 @@ impl<J: Numbering> Reserver<J> {
     }
 
     /// How many reservers the phase has.
+    #[must_use]
     pub fn count(&self) -> usize
         ensures { result ≡ self.now.shared.count }
     {
@@ -114,6 +117,7 @@ impl<J: Numbering> Reserver<J> {
     }
 
     /// Whether it is of this phase.
+    #[must_use]
     pub fn is_of(&self, shared: &Shared<J>) -> bool
         ensures number { IsTrue result ↔ (self.now.number ≡ shared.now.number) }
         ensures shared { IsTrue result → self.now.shared ≡ shared.now.shared }
@@ -122,6 +126,7 @@ impl<J: Numbering> Reserver<J> {
     }
 
     /// Whether the entity was alive when the phase was opened, as [`Shared::is_alive`] says it.
+    #[must_use]
     pub fn is_alive(&self, handle: Handle) -> bool
         ensures { result ≡ set.contains self.now.shared.start.live handle }
     {
@@ -129,6 +134,7 @@ impl<J: Numbering> Reserver<J> {
     }
 
     /// The row of the entity when the phase was opened, as [`Shared::row`] says it.
+    #[must_use]
     pub fn row(&self, handle: Handle) -> Option<u32>
         ensures value { result ≡ map.get self.now.shared.rows handle }
         ensures alive { OnSome result (set.contains self.now.shared.start.live handle ≡ true) }
@@ -137,7 +143,8 @@ impl<J: Numbering> Reserver<J> {
     }
 
     /// The entities that were alive when the phase was opened, as [`Shared::iter`] has them.
-    pub fn iter(&self) -> LivingHandles<'_>
+    #[must_use]
+    pub fn iter(&self) -> Living<'_>
         ensures living { set.from_list result ≡ self.now.shared.start.live }
         ensures rising { AllPairs (λ g h. g.index < h.index) result }
         ensures count { length result ≡ set.len self.now.shared.start.live }

@@ -11,7 +11,7 @@ ghost use Rattle.ent_total.specs.Sharing.{AreOf, MayComeHome, all_home, reserver
 use crate::homecoming::bring_home;
 use crate::numbering::Numbering;
 use crate::reserver::Reserver;
-use ent_alloc::LivingHandles;
+use ent_alloc::Living;
 use ent_handle::{Handle, Memory};
 use std::alloc::Global;
 use std::marker::{Model, PhantomData};
@@ -23,7 +23,7 @@ use std::sync::Arc;
 /// it back. If the `Shared` is dropped, the allocator goes with the last of the reservers.
 ///
 /// It is `Send` and `Sync`: any thread may read it.
-#[must_use = "the allocator is inside, until the phase is closed"]
+#[must_use]
 #[derive(Drop)]
 pub struct Shared<J: Numbering> {
     alloc: Global,
@@ -80,6 +80,7 @@ impl<J: Numbering> Shared<J> {
     }
 
     /// How many reservers it has, whether they exist, are at home or were lost.
+    #[must_use]
     pub fn count(&self) -> usize
         ensures { result ≡ self.now.shared.count }
     {
@@ -87,6 +88,7 @@ impl<J: Numbering> Shared<J> {
     }
 
     /// How many reservers are at home: a close that was refused took them.
+    #[must_use]
     pub fn at_home(&self) -> usize
         ensures { result ≡ length self.now.home }
     {
@@ -110,6 +112,7 @@ impl<J: Numbering> Shared<J> {
     /// })?;
     /// # Ok::<(), Box<dyn std::error::Error + Send + Sync>>(())
     /// ```
+    #[must_use]
     pub fn is_alive(&self, handle: Handle) -> bool
         ensures { result ≡ set.contains self.now.shared.start.live handle }
     {
@@ -119,6 +122,7 @@ impl<J: Numbering> Shared<J> {
     /// The row that was set with the entity ([`Entities::try_set_row`]) when the phase was opened.
     /// `None` if the entity was not alive then, or had no row. Any thread may ask, and it takes
     /// constant time.
+    #[must_use]
     pub fn row(&self, handle: Handle) -> Option<u32>
         ensures value { result ≡ map.get self.now.shared.rows handle }
         ensures alive { OnSome result (set.contains self.now.shared.start.live handle ≡ true) }
@@ -127,6 +131,7 @@ impl<J: Numbering> Shared<J> {
     }
 
     /// How many entities were alive when the phase was opened.
+    #[must_use]
     pub fn len(&self) -> u32
         ensures { result ≡ set.len self.now.shared.start.live }
     {
@@ -134,6 +139,7 @@ impl<J: Numbering> Shared<J> {
     }
 
     /// Whether no entity was alive when the phase was opened.
+    #[must_use]
     pub fn is_empty(&self) -> bool
         ensures { IsTrue result ↔ (set.len self.now.shared.start.live ≡ 0) }
     {
@@ -152,7 +158,8 @@ impl<J: Numbering> Shared<J> {
     /// assert_eq!(shared.iter().collect::<Vec<_>>(), [old]);
     /// # Ok::<(), Box<dyn std::error::Error + Send + Sync>>(())
     /// ```
-    pub fn iter(&self) -> LivingHandles<'_>
+    #[must_use]
+    pub fn iter(&self) -> Living<'_>
         ensures living { set.from_list result ≡ self.now.shared.start.live }
         ensures rising { AllPairs (λ g h. g.index < h.index) result }
         ensures count { length result ≡ set.len self.now.shared.start.live }

@@ -39,6 +39,7 @@ impl<J: Numbering> Unclosed<J> {
 
     /// The allocator, which is still shared, the reservers that are handed back, and why it was not
     /// closed.
+    #[must_use]
     pub fn into_parts(self) -> (Shared<J>, Vec<Reserver<J>>, CloseError)
         ensures shared { result.0 ≡ self.shared }
         ensures reservers { result.1.items ≡ self.reservers.items }

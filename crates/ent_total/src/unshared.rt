@@ -36,6 +36,7 @@ impl Unshared {
     ghost use Rattle.std.specs.Prelude.{◌≡◌};
 
     /// The allocator as it was, and why it was not shared.
+    #[must_use]
     pub fn into_parts(self) -> (Entities, ShareError)
         ensures entities { result.0 ≡ self.entities }
         ensures error { result.1 ≡ self.error }

@@ -69,7 +69,9 @@ impl Walk<'_> {
             return Ok(false);
         }
         let text: String = (name..end - 1).map(|at| self.source.at(at)).collect();
-        if forms::KEPT_ATTRIBUTES.contains(&text.as_str()) {
+        // `must_use` may say why.
+        let says_why = self.source.at(name) == "must_use" && self.source.at(name + 1) == "=";
+        if forms::KEPT_ATTRIBUTES.contains(&text.as_str()) || says_why {
             return Ok(false);
         }
         Err(self
@@ -100,7 +102,7 @@ impl Walk<'_> {
                     .fault(at, format!("an unknown derive: `{name}`")));
             }
         }
-        if names.contains(&"Clone") && !names.contains(&"Copy") {
+        if names.contains(&"Clone") && !names.contains(&"Copy") && !self.is_of_copies(end) {
             let what = "`Clone` without `Copy`, which may fail in the kit and not in Rust";
             return Err(self.source.fault(at, what));
         }
@@ -114,6 +116,17 @@ impl Walk<'_> {
             self.replace(at, end, format!("#[derive({})]", kept.join(", ")));
         }
         Ok(names.contains(&forms::ERROR_DERIVE))
+    }
+
+    /// Whether each field of the type that comes after this place can be copied.
+    fn is_of_copies(&self, at: usize) -> bool {
+        let mut words = (at..).take_while(|at| self.source.at(*at) != "{");
+        let of = words
+            .find(|at| self.source.at(*at) == "struct")
+            .map(|at| self.source.at(at + 1));
+        forms::OF_COPIES
+            .iter()
+            .any(|it| it.0 == self.krate && Some(it.1) == of)
     }
 
     /// The place after the visibility that begins here.

@@ -10,8 +10,8 @@
 mod changes;
 mod comments;
 mod docs;
+mod ghost_types;
 mod messages;
-
 mod rights;
 mod visible;
 
@@ -87,12 +87,24 @@ impl Audit<'_> {
         if self.has_to_be_narrow() {
             return self.narrowed();
         }
+        if let Some(len) = self.renamed(self.out) {
+            self.at += len;
+            self.out += len;
+            return Ok(());
+        }
         if let Some((from, to)) = self.changed() {
             self.at += from;
             self.out += to;
             return Ok(());
         }
         let (from, to) = (self.source.at(self.at), self.result.at(self.out));
+        if from == to && self.keeps_call_of_list() {
+            let what = format!(
+                "a call of a list that stays: `{}`",
+                self.source.at(self.at + 1)
+            );
+            return Err(self.source.fault(self.at, what));
+        }
         if from == to {
             self.at += 1;
             self.out += 1;
@@ -106,6 +118,9 @@ impl Audit<'_> {
     fn ghost_end(&mut self) -> Option<usize> {
         let (source, at) = (self.source, self.at);
         let starts = |tokens: &[&str]| source.has(at, tokens);
+        if let Some(end) = self.ghost_type_end() {
+            return Some(end);
+        }
         match source.at(at) {
             "pub" if starts(&["pub", "ghost"]) => self.ghost_item_end(),
             "ghost" => self.ghost_item_end(),
@@ -245,11 +260,33 @@ impl Audit<'_> {
         Ok(None)
     }
 
+    /// How many tokens a function's name takes with the `fn` or the type before it, if the result has the package's
+    /// name of it at this place.
+    fn renamed(&self, out: usize) -> Option<usize> {
+        let (source, at) = (self.source, self.at);
+        let mut all = forms::RENAMED_FUNCTIONS.iter();
+        let is_renamed = |it: &&forms::RenamedFunction| {
+            if ![source.at(at + 1), source.at(at + 2)].contains(&it.from) {
+                return false;
+            }
+            let of = (0..at).rev().find(|at| source.at(*at) == "impl");
+            let is_own = it.krate == self.krate && of.is_some_and(|of| source.at(of + 1) == it.of);
+            let owner = source.at(at);
+            is_own && source.has(at, &["fn", it.from]) && self.result.has(out, &["fn", it.to])
+                || (owner == it.of || is_own && owner == "Self")
+                    && source.has(at + 1, &["::", it.from])
+                    && self.result.has(out, &[owner, "::", it.to])
+        };
+        let renamed = all.find(is_renamed);
+        renamed.map(|_| if source.at(at) == "fn" { 2 } else { 3 })
+    }
+
     /// Whether the result has a `const` here, before a function that is `const` in the package alone.
     fn is_added_const(&self) -> bool {
         let (name, path) = (self.source.at(self.at + 1), self.source.path);
         self.source.at(self.at) == "fn"
-            && self.result.has(self.out, &["const", "fn", name])
+            && (self.result.has(self.out, &["const", "fn", name])
+                || self.result.at(self.out) == "const" && self.renamed(self.out + 1).is_some())
             && forms::is_constant(self.krate, path, name)
     }
 
@@ -281,6 +318,7 @@ impl Audit<'_> {
         let padding = forms::is_padded(self.krate, self.source.path).then_some(forms::PADDING);
         imports
             .chain(padding)
+            .chain([forms::LIST_TRAIT])
             .map(|path| pieces(&format!("use {path};")))
             .find(|line| has(self.result, self.out, line))
             .map(|line| line.len())

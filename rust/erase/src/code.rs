@@ -35,7 +35,7 @@ impl Walk<'_> {
 
     /// One token of code, and what belongs to it.
     pub(crate) fn code_token(&mut self, at: usize) -> Next {
-        if let Some(end) = self.rights.end(at) {
+        if let Some(end) = self.gone_end(at) {
             self.take_out_part(at, end);
             return Ok(end);
         }
@@ -278,12 +278,18 @@ impl Walk<'_> {
         let name = self.source.at(at);
         if !["::", "."].contains(&self.source.before(at)) {
             self.check_right(at)?;
+            let is_ghost = self.names.ghost_traits.contains(name);
+            if is_ghost || self.types.is_ghost(self.source, at) {
+                let what = format!("an unknown form of a ghost type: `{name}`");
+                return Err(self.source.fault(at, what));
+            }
             self.need(at)?;
             let is_field = self.source.at(at + 1) == ":";
             if !is_field && !self.is_known(name) {
                 return Err(self.unknown_name(at));
             }
         }
+        self.rename_call(at);
         Ok(at + 1)
     }
 
@@ -350,7 +356,9 @@ impl Walk<'_> {
             self.import(at, renamed.import)?;
             return Ok(at + 1);
         }
-        self.check_sorting(at, open)?;
+        if let Some(end) = self.list_call(at, open)? {
+            return Ok(end);
+        }
         let is_known = |forms: &&Forms| forms.methods.contains(&name);
         if self.names.forms.iter().any(is_known) {
             return Ok(at + 1);
@@ -368,25 +376,8 @@ impl Walk<'_> {
             .fault(at, format!("an unknown method, or form of it: `{name}`")))
     }
 
-    /// A slice's own `sort_by_key` ends the program if memory runs out, and returns nothing. So the result of a call
-    /// of that name must be used, or its list must be declared as one.
-    fn check_sorting(&self, at: usize, open: usize) -> Result<(), Fault> {
-        let name = self.source.at(at);
-        let is_used = ["?", "."].contains(&self.source.at(self.source.partner(open) + 1));
-        if !forms::SORTING.contains(&name) || is_used {
-            return Ok(());
-        }
-        let list = self.source.before(at - 1);
-        let declared = [list, ":", "&", "mut", "Vec", "<"];
-        if (0..self.source.len()).any(|at| self.source.has(at, &declared)) {
-            return Ok(());
-        }
-        let what = format!("a `{name}` that may be a slice's own");
-        Err(self.source.fault(at, what))
-    }
-
     /// An import from the kit goes to the top of the file, so a module within the file must have none.
-    fn import(&mut self, at: usize, path: &'static str) -> Result<(), Fault> {
+    pub(crate) fn import(&mut self, at: usize, path: &'static str) -> Result<(), Fault> {
         if self.is_module {
             let what = format!(
                 "a name of the kit in a module within a file: `{}`",
@@ -402,7 +393,7 @@ impl Walk<'_> {
     fn renamed(&self, name: &str, at: usize) -> Option<&'static Renamed> {
         let fits = |argument: &&[&str]| match argument {
             ["\""] => self.source.at(at).starts_with('"'),
-            _ if *argument == forms::OF_RIGHT => self.rights.end(at).is_some(),
+            _ if *argument == forms::OF_RIGHT => self.rights.gone.contains_key(&at),
             _ => self.source.has(at, argument),
         };
         let mut all = self.names.forms.iter().flat_map(|forms| forms.renamed);

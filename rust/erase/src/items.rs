@@ -1,6 +1,7 @@
 //! Items: what stands in a file, in an `impl` block and in a trait.
 
 use crate::forms;
+use crate::ghost_types::file_of_module;
 use crate::names::{block, header};
 use crate::source::Fault;
 use crate::walk::{Next, Walk};
@@ -79,15 +80,27 @@ impl Walk<'_> {
     fn ghost_item(&self, at: usize, scope: Scope) -> Result<Option<usize>, Fault> {
         match self.source.at(at) {
             "ghost" => self.ghost(at, scope).map(Some),
+            "trait" if self.names.ghost_traits.contains(self.source.at(at + 1)) => {
+                let open = block(self.source, at)?;
+                let (mut next, close) = (open + 1, self.source.partner(open));
+                while next < close {
+                    next = self.ghost(next, Scope::Trait)?;
+                }
+                Ok(Some(close + 1))
+            }
+            "mod" if self.source.at(at + 2) == ";" => {
+                let file = file_of_module(self.source, self.source.at(at + 1));
+                Ok(self.names.ghost_files.contains(&file).then_some(at + 3))
+            }
             "impl" => {
                 if let Some(end) = self.derived_equality(at)? {
                     return Ok(Some(end));
                 }
                 let of = header(self.source, at)?.implemented;
-                let Some(name) = of.filter(|name| forms::GHOST_TRAITS.contains(name)) else {
+                let Some(name) = of.filter(|name| self.names.is_ghost_trait(name)) else {
                     return Ok(None);
                 };
-                if !self.ghosts.contains(name) {
+                if !self.ghosts.contains(name) && !self.names.ghost_traits.contains(name) {
                     let what = format!("`{name}`, which isn't imported from the kit");
                     return Err(self.source.fault(at, what));
                 }
@@ -281,7 +294,7 @@ impl Walk<'_> {
         let mut at = at;
         while at < end {
             let mut comma = self.source.find(at, end, &[","]).unwrap_or(end);
-            while let Some(next) = self.rights.end(comma) {
+            while let Some(next) = self.gone_end(comma) {
                 comma = self.source.find(next, end, &[","]).unwrap_or(end);
             }
             let start = at;
@@ -295,7 +308,7 @@ impl Walk<'_> {
             if self.source.at(at) == "ghost" {
                 self.ghost_field(at, comma)?;
                 self.cut_item(start, (comma + 1).min(end))?;
-            } else if self.is_right(at, comma) {
+            } else if self.is_right(at, comma) || self.types.is_phantom(self.source, at) {
                 self.cut_item(start, (comma + 1).min(end))?;
             } else {
                 self.attributes(start, visible, &[])?;

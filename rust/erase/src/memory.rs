@@ -59,7 +59,7 @@ impl Fields {
 }
 
 /// The named fields of a source's structs and variants: the place of each owner's name, and of the field's.
-fn fields(source: &Source<'_>) -> Vec<(usize, usize)> {
+pub(crate) fn fields(source: &Source<'_>) -> Vec<(usize, usize)> {
     let mut found = Vec::new();
     for at in 0..source.len() {
         let is_enum = source.at(at) == "enum";
@@ -128,7 +128,7 @@ fn is_end(source: &Source<'_>, at: usize) -> bool {
 pub(crate) struct Rights<'a> {
     /// The tokens that go, by the first of them: the place after the last one. A comma that parted them from others is
     /// one of them.
-    gone: BTreeMap<usize, usize>,
+    pub(crate) gone: BTreeMap<usize, usize>,
     /// The functions, each with the names in it that have the right.
     functions: Vec<(Range<usize>, BTreeSet<&'a str>)>,
 }
@@ -168,11 +168,6 @@ impl<'a> Rights<'a> {
         rights
     }
 
-    /// The place after what goes here, if something does.
-    pub(crate) fn end(&self, at: usize) -> Option<usize> {
-        self.gone.get(&at).copied()
-    }
-
     /// Whether the name at this place has the right. If it can't be told, `None`.
     pub(crate) fn has(&self, source: &Source<'_>, at: usize) -> Option<bool> {
         let name = source.at(at);
@@ -191,7 +186,7 @@ impl<'a> Rights<'a> {
 }
 
 /// The blocks of `impl`, each with the name of its type.
-fn owners<'a>(source: &Source<'a>) -> Vec<(Range<usize>, &'a str)> {
+pub(crate) fn owners<'a>(source: &Source<'a>) -> Vec<(Range<usize>, &'a str)> {
     let blocks =
         (0..source.len()).filter(|at| source.at(*at) == "impl" && begins_item(source, *at));
     let found = blocks.filter_map(|at| {
@@ -218,7 +213,7 @@ fn before_angles<'a>(source: &Source<'a>, at: usize) -> &'a str {
 }
 
 /// Where the signature of the function at this place ends, and the function itself.
-fn function(source: &Source<'_>, at: usize) -> Option<(usize, usize)> {
+pub(crate) fn function(source: &Source<'_>, at: usize) -> Option<(usize, usize)> {
     let ends = ["{", ";", forms::CLAUSES[0], forms::CLAUSES[1]];
     let signature = source.find(at, source.len(), &ends)?;
     let mut end = signature;
@@ -232,14 +227,9 @@ fn function(source: &Source<'_>, at: usize) -> Option<(usize, usize)> {
 /// Whether the function of this signature has an `rt` that hands out the right.
 fn makes_rights(source: &Source<'_>, names: &Names, signature: Range<usize>) -> bool {
     let is_bound = signature.clone().any(|at| source.has(at, &["rt", ":"]));
-    let is_made = |at: usize| {
-        let hands_out = |name: &&str| *name == source.at(at);
-        names
-            .forms
-            .iter()
-            .flat_map(|forms| forms.hands_out_right)
-            .any(|it| hands_out(it))
-    };
+    let lists = names.forms.iter().flat_map(|forms| forms.hands_out_right);
+    let known: Vec<&&str> = lists.collect();
+    let is_made = |at: usize| known.contains(&&source.at(at));
     is_bound && signature.into_iter().any(is_made)
 }
 

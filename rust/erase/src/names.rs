@@ -6,8 +6,10 @@
 
 use crate::conditions::has_condition;
 use crate::forms::{self, Forms};
+use crate::ghost_types;
 use crate::memory::Fields;
 use crate::source::{Fault, Source};
+use crate::types::Types;
 use std::collections::{BTreeMap, BTreeSet};
 
 /// What all sources together declare, and where the result has it.
@@ -25,6 +27,12 @@ pub struct Names {
     aliases: BTreeSet<String>,
     /// Their traits.
     pub traits: BTreeSet<String>,
+    /// Those of them that have ghost members only.
+    pub(crate) ghost_traits: BTreeSet<String>,
+    /// Their structs with a field that is a `PhantomData` of a ghost type, and the field.
+    pub(crate) phantoms: BTreeSet<(String, String)>,
+    /// The paths of those of them in which all is ghost.
+    pub(crate) ghost_files: BTreeSet<String>,
     /// Their functions that take a `self`. For each name, whether all functions of that name only look at it.
     pub methods: BTreeMap<String, bool>,
     /// The ghost members that their traits declare.
@@ -33,6 +41,8 @@ pub struct Names {
     conditions: BTreeMap<(String, String), BTreeSet<bool>>,
     /// Their fields.
     pub(crate) fields: Fields,
+    /// The types that they declare.
+    pub(crate) values: Types,
     /// The names of std and of the kit that they may use.
     pub forms: Vec<&'static Forms>,
     /// For each trait, by its name and its crate, what it has.
@@ -70,6 +80,7 @@ impl Names {
     pub fn add(&mut self, source: &Source<'_>) -> Result<(), Fault> {
         let mut members = BTreeSet::new();
         self.fields.add(source);
+        self.values.add(source);
         for at in 0..source.len() {
             match source.at(at) {
                 "trait" | "impl" if begins_item(source, at) => {
@@ -133,10 +144,23 @@ impl Names {
         }
         match kind {
             "struct" | "enum" => {
+                let renamed = forms::RENAMED_FUNCTIONS.iter().find(|it| it.of == name);
+                if renamed.is_some_and(|it| it.krate != krate(source)) {
+                    return Err(taken(source, at + 1));
+                }
                 let files = self.types.entry(name.to_owned()).or_default();
                 files.insert(source.path.to_owned());
             }
-            "trait" => drop(self.traits.insert(name.to_owned())),
+            "trait" => {
+                let is_ghost = ghost_types::is_ghost_trait(source, at);
+                let is_new = self.traits.insert(name.to_owned());
+                if !is_new && (is_ghost || self.ghost_traits.contains(name)) {
+                    return Err(taken(source, at + 1));
+                }
+                if is_ghost {
+                    self.ghost_traits.insert(name.to_owned());
+                }
+            }
             "type" if !is_member => drop(self.aliases.insert(name.to_owned())),
             "fn" => {
                 if !is_member {
@@ -204,6 +228,10 @@ impl Names {
     ///
     /// One is for a type that isn't the sources' own, or of a trait that isn't known.
     pub fn add_blocks(&mut self, source: &Source<'_>) -> Result<(), Fault> {
+        self.phantoms.extend(ghost_types::phantoms(source, self));
+        if ghost_types::is_ghost(source, self) {
+            self.ghost_files.insert(source.path.to_owned());
+        }
         for at in 0..source.len() {
             if source.at(at) != "impl" || !begins_item(source, at) {
                 continue;
@@ -211,7 +239,7 @@ impl Names {
             let header = header(source, at)?;
             if header
                 .implemented
-                .is_some_and(|name| forms::GHOST_TRAITS.contains(&name))
+                .is_some_and(|name| self.is_ghost_trait(name))
             {
                 continue;
             }
@@ -344,6 +372,11 @@ impl Names {
         files.any(|file| file.starts_with(&folder))
     }
 
+    /// Whether each `impl` of the trait is ghost as a whole.
+    pub(crate) fn is_ghost_trait(&self, name: &str) -> bool {
+        forms::GHOST_TRAITS.contains(&name) || self.ghost_traits.contains(name)
+    }
+
     /// Whether this is another name for a type, which may be a type of std.
     pub fn is_alias(&self, name: &str) -> bool {
         self.aliases.contains(name) && !self.types.contains_key(name)
@@ -363,6 +396,11 @@ impl Names {
     pub(crate) fn has_function(&self, path: &str, name: &str) -> bool {
         let key = (path.to_owned(), name.to_owned());
         self.conditions.contains_key(&key)
+    }
+
+    /// Whether the sources declare a type of this name.
+    pub fn is_type(&self, name: &str) -> bool {
+        self.types.contains_key(name)
     }
 
     /// Whether a path may lead to the name.

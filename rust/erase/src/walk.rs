@@ -2,6 +2,7 @@
 
 use crate::edit::{Change, Edit};
 use crate::forms;
+use crate::ghost_types::GhostTypes;
 use crate::lex::Kind;
 use crate::memory::Rights;
 use crate::names::Names;
@@ -31,6 +32,8 @@ pub struct Walk<'a> {
     pub(crate) of_std: BTreeSet<&'a str>,
     /// The ghost names that it imports from the kit.
     pub(crate) ghosts: BTreeSet<&'a str>,
+    /// The ghost types.
+    pub(crate) types: GhostTypes<'a>,
     /// Where the right to allocate goes.
     pub(crate) rights: Rights<'a>,
     /// The names that it binds or imports.
@@ -68,6 +71,7 @@ impl<'a> Walk<'a> {
             declared: declarations.map(|at| source.at(at + 1)).collect(),
             of_std: BTreeSet::new(),
             ghosts: BTreeSet::new(),
+            types: GhostTypes::of(source, names),
             rights: Rights::default(),
             bound: bound(source),
             is_signature: false,
@@ -121,11 +125,18 @@ impl<'a> Walk<'a> {
         });
     }
 
+    /// The place after what goes here with the right to allocate or with a ghost type, if something does.
+    pub(crate) fn gone_end(&self, at: usize) -> Option<usize> {
+        let (rights, types) = (&self.rights.gone, &self.types.gone);
+        rights.get(&at).or_else(|| types.get(&at)).copied()
+    }
+
     /// Takes out a part of a list with its comma. No blanks stay where it was the last one.
     pub(crate) fn take_out_part(&mut self, from: usize, end: usize) {
         let closes = [")", "}", ">", "|"].contains(&self.source.at(end));
         let opens = ["(", "{", "<", "|"].contains(&self.source.before(from));
         match (opens, closes) {
+            _ if ["<", "::"].contains(&self.source.at(from)) => self.take_out_after(from, end),
             (true, true) => self.edits.push(Edit {
                 from: self.source.token(from - 1).to,
                 to: self.source.token(end).from,

@@ -13,7 +13,7 @@ use crate::c::D;
 use ent_other::E;
 use std::alloc::Global;
 use std::fmt;
-use std::marker::Model;
+use std::marker::{Model, PhantomData};
 use std::sync::Arc;
 use thiserror::Error;
 
@@ -45,6 +45,9 @@ impl<T: Drop + Copy> From<T> for F {
     {
         // Of o.
         let p: Vec<u8> = k.iter().collect(alloc);
+        p.push(2)?;
+        k.push(p, 2);
+        let y = Vec::with_capacity(alloc, 2);
         F::I
     }
 }
@@ -86,6 +89,24 @@ impl Q {
         u(t, alloc, |_: Global, v: u8| w(v));
         let Self { r, alloc } = s(self.alloc, t);
         Q { alloc, r }
+    }
+}
+
+/// Of x.
+pub trait X {
+    ghost y: { A };
+}
+
+/// Of z.
+struct Z<J: X> {
+    of: PhantomData<J>,
+    r: u8,
+}
+
+impl<J: X> Z<J> {
+    fn of_z<K: X>(self, t: Z<K>, v: &Z<K>) -> Vec<Z<J>> {
+        let Z { of: _, r } = self;
+        d::<J>(Z { r, of: PhantomData })
     }
 }
 
@@ -169,6 +190,16 @@ fn no_code_may_go_into_a_comment() {
             "`{token}` in a comment:\n{other}"
         );
     }
+}
+
+/// What is no list keeps its call, and a list doesn't.
+#[test]
+fn a_list_s_calls_may_not_stay() {
+    let known = result();
+    assert!(known.contains("p.push_fallibly(2)") && known.contains("k.push(p, 2)"));
+    assert!(known.contains("Vec::with_capacity_fallibly(2)"));
+    let other = known.replace("p.push_fallibly(2)", "p.push(2)");
+    assert!(audited(SOURCE, &other).is_err());
 }
 
 #[test]

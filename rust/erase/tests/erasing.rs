@@ -203,6 +203,43 @@ fn who_may_call_a_function_with_a_condition() {
 }
 
 #[test]
+fn all_may_call_a_function_that_only_requires_a_closure() {
+    gives(
+        "pub fn a<F: FnMut(u8)>(keep: F)\n    requires { F.IsAlwaysCallable keep }\n    ensures { b }\n{\n}\n",
+        "#[inline]\npub fn a<F: FnMut(u8)>(keep: F)\n    // requires { F.IsAlwaysCallable keep }\n    \
+         // ensures { b }\n{\n}\n",
+    );
+    gives(
+        "pub fn a<F: FnMut(u8)>(keep: F)\n    requires { F.IsAlwaysCallable keep × b }\n{\n}\n",
+        "#[inline]\npub(crate) fn a<F: FnMut(u8)>(keep: F)\n    // requires { F.IsAlwaysCallable keep × b }\n{\n}\n",
+    );
+    gives(
+        "pub fn a<F: FnMut(u8)>(keep: F)\n    requires { F.IsAlwaysCallable keep }\n    requires { b }\n{\n}\n",
+        "#[inline]\npub(crate) fn a<F: FnMut(u8)>(keep: F)\n    // requires { F.IsAlwaysCallable keep }\n    \
+         // requires { b }\n{\n}\n",
+    );
+}
+
+#[test]
+fn a_clone_that_is_refused_no_memory() {
+    gives(
+        "struct A;\n\nimpl A {\n    fn again(&self) -> Self {\n        A\n    }\n}\n\nimpl Clone for A {\n    \
+         ghost is_infallible = { λ _. ⊤ };\n\n    fn clone(&self) -> Result<Self, std::alloc::AllocError> {\n        \
+         Ok(self.again())\n    }\n}\n",
+        "struct A;\n\nimpl A {\n    #[inline]\n    fn again(&self) -> Self {\n        A\n    }\n}\n\n\
+         impl Clone for A {\n    #[inline]\n    fn clone(&self) -> Self {\n        self.again()\n    }\n}\n",
+    );
+}
+
+#[test]
+fn links_to_the_package() {
+    gives(
+        "/// [`A`](forgeni::A), [`B`](crate::B).\nstruct B;\n",
+        "/// [`A`](crate::A), [`B`](crate::proved::ent_here::B).\nstruct B;\n",
+    );
+}
+
+#[test]
 fn attributes_for_the_prover() {
     gives(
         "//! A.\n#![tactic(auto)]\n\nmod b;\n\n/// C.\n#[tactic(auto, using(crate::d::e))]\nfn c() {\n    \
@@ -282,13 +319,13 @@ fn names_of_the_kit_are_imported() {
     gives(
         "//! A.\n\nuse super::b;\nuse std::alloc::Global;\n\nfn c(alloc: Global, d: Vec<u8>) -> Vec<u8> {\n    prove_eq!(1, 1);\n    \
          d.iter().collect(alloc)\n}\n",
-        "//! A.\n\nuse crate::kit::prove_eq;\nuse crate::kit::vec::CollectIn;\nuse crate::kit::vec::Vec;\n\
+        "//! A.\n\nuse alloc::vec::Vec;\nuse crate::kit::prove_eq;\nuse crate::kit::vec::CollectIn;\n\
          use super::b;\n\n#[inline]\nfn c(d: Vec<u8>) -> Vec<u8> {\n    prove_eq!(1, 1);\n    \
          d.iter().collect_in()\n}\n",
     );
     gives(
         "ghost use A.{b};\n\n/// C.\n#[derive(Drop)]\nstruct C(Vec<u8>);\n",
-        "use crate::kit::vec::Vec;\n\n/// C.\nstruct C(Vec<u8>);\n",
+        "use alloc::vec::Vec;\n\n/// C.\nstruct C(Vec<u8>);\n",
     );
 }
 
@@ -393,11 +430,12 @@ fn padded_texts() {
     let wanted =
         "use crate::kit::padded;\n\n#[inline]\nfn a(f: A) -> A {\n    padded!(f, \"{b}\")\n}\n";
     let path = "crates/ent_handle/src/text.rt";
-    let plain = wanted.replace("padded!", "write!");
+    let plain = format!("// Made.\n\n{}", wanted.replace("padded!", "write!"));
     let (result, audited) = erased_of("ent_handle", path, source, &plain).expect("known forms");
     assert_eq!(body(&result), Some(wanted));
     assert!(audited.is_ok(), "it is as the source says");
-    let (result, audited) = erased_of("ent_handle", PATH, source, wanted).expect("known forms");
+    let padded = format!("// Made.\n\n{wanted}");
+    let (result, audited) = erased_of("ent_handle", PATH, source, &padded).expect("known forms");
     assert_eq!(body(&result), Some(&*format!("#[inline]\n{source}")));
     assert!(audited.is_err());
 }
@@ -415,6 +453,25 @@ fn constants() {
     assert!(audited.is_err());
     let (result, _) = erased_of("ent_alloc", PATH, source, "").expect("known forms");
     assert!(!result.contains("const"));
+}
+
+/// The allocator's `new` has another name. Another type's hasn't.
+#[test]
+fn functions_by_another_name() {
+    let source = "impl Entities {\n    pub fn new() -> Self {\n        A::new();\n        Self::new();\n        \
+                  Entities::new()\n    }\n}\n\nimpl A {\n    fn new() -> Self {\n        Self::new();\n        \
+                  Entities::new()\n    }\n}\n\nstruct Entities;\n\nstruct A;\n";
+    let new = source.replace("Entities::new", "Entities::with_exact_limits");
+    let new = new.replacen("pub fn new", "#[inline]\n    pub fn with_exact_limits", 1);
+    let new = new.replacen("Self::new", "Self::with_exact_limits", 1);
+    let wanted = new.replace("    fn new", "    #[inline]\n    fn new");
+    let misplaced = wanted.replace("fn new", "fn with_exact_limits");
+    let path = "crates/ent_alloc/src/here.rt";
+    let (result, audited) = erased_of("ent_alloc", path, source, &misplaced).expect("known forms");
+    assert_eq!(body(&result), Some(&*wanted));
+    assert!(audited.is_err());
+    // Another crate has no type of the name.
+    assert!(erased_of("ent_here", PATH, source, "").is_err());
 }
 
 #[test]
@@ -436,7 +493,7 @@ fn messages_of_an_enum() {
          #[error(\"no b\")]\n    B,\n    #[error(\"{c} of {d:?}\")]\n    C { c: u8, d: E },\n    \
          #[error(\"{c}\")]\n    F {\n        /// C.\n        c: u8,\n        d: Vec<u8>,\n    },\n    \
          #[error(\"{{g}}\")]\n    G(u8),\n}\n\nstruct H;\n",
-        "use crate::kit::vec::Vec;\n\n/// A.\n#[derive(Debug)]\npub enum A {\n    /// B.\n    B,\n    \
+        "use alloc::vec::Vec;\n\n/// A.\n#[derive(Debug)]\npub enum A {\n    /// B.\n    B,\n    \
          C { c: u8, d: E },\n    F {\n        /// C.\n        c: u8,\n        d: Vec<u8>,\n    },\n    G(u8),\n}\n\n\
          impl core::fmt::Display for A {\n    \
          fn fmt(&self, f: &mut core::fmt::Formatter<'_>) -> core::fmt::Result {\n        match self {\n            \

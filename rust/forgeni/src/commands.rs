@@ -3,7 +3,6 @@
 use crate::component::{Birth, ComponentId};
 use crate::errors::OutOfMemory;
 use crate::handle::Handle;
-use crate::numbers::Numbers;
 use crate::proved::ent_handle::Memory;
 use crate::proved::ent_queue::{self, Bundle};
 use crate::proved::ent_total;
@@ -19,11 +18,11 @@ use core::fmt;
 // A call writes the queue, so two of them in a list share no line of a processor's cache.
 #[repr(align(128))]
 pub struct Commands {
-    proved: ent_total::Issuer<Numbers>,
+    proved: ent_total::Issuer,
 }
 
 impl Commands {
-    pub(crate) fn of(proved: ent_total::Issuer<Numbers>) -> Self {
+    pub(crate) fn of(proved: ent_total::Issuer) -> Self {
         Self { proved }
     }
 
@@ -53,7 +52,7 @@ impl Commands {
         components: &[(ComponentId, i64)],
     ) -> Result<Vec<Handle>, SpawnError> {
         let bundle = Bundle::of(components)?;
-        Ok(self.proved.spawn_many(count, &bundle)?.into())
+        Ok(self.proved.spawn_many(count, &bundle)?)
     }
 
     /// Gives the entity the components, instead of those that it has under the same numbers.
@@ -118,7 +117,7 @@ impl Commands {
     ///
     /// `OutOfMemory`: there is no memory for the list.
     pub fn by_birth(&self) -> Result<Vec<Handle>, OutOfMemory> {
-        Ok(self.proved.world().view().by_birth()?.into())
+        Ok(self.proved.world().view().by_birth()?)
     }
 
     /// Which of the systems it is: its position in the list that
@@ -160,15 +159,15 @@ impl fmt::Debug for Commands {
 /// [`OpenWorld::close`](crate::OpenWorld::close) and
 /// [`OpenWorld::close_lost`](crate::OpenWorld::close_lost) take it.
 pub struct CommandQueue {
-    proved: ent_total::Issued<Numbers>,
+    proved: ent_total::Issued,
 }
 
 impl CommandQueue {
-    pub(crate) fn of(proved: ent_total::Issued<Numbers>) -> Self {
+    pub(crate) fn of(proved: ent_total::Issued) -> Self {
         Self { proved }
     }
 
-    pub(crate) fn proved(self) -> ent_total::Issued<Numbers> {
+    pub(crate) fn proved(self) -> ent_total::Issued {
         self.proved
     }
 

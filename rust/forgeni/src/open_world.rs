@@ -4,8 +4,7 @@ use crate::commands::{CommandQueue, Commands};
 use crate::component::{Birth, ComponentId};
 use crate::errors::OutOfMemory;
 use crate::handle::Handle;
-use crate::kit::vec::Vec as List;
-use crate::numbers::{next_number, Numbers};
+use crate::numbers::next_number;
 use crate::proved::ent_total::{self, FinishFault, NumberedWorld, ShareFault};
 use crate::sync::Queues;
 use crate::world::World;
@@ -16,9 +15,9 @@ use core::fmt;
 /// The greatest number of systems of a phase.
 const SYSTEMS: usize = 1024;
 
-type Phase = ent_total::WorldPhase<Numbers>;
-type Issued = ent_total::Issued<Numbers>;
-type Ended = Result<(NumberedWorld, ent_total::Queues), ent_total::Unfinished<Numbers>>;
+type Phase = ent_total::WorldPhase;
+type Issued = ent_total::Issued;
+type Ended = Result<(NumberedWorld, ent_total::Queues), ent_total::Unfinished>;
 
 /// A world in a phase. It can be read, as it was when it was opened.
 ///
@@ -76,7 +75,7 @@ impl OpenWorld {
 
     /// Memory ran out on the way, and no system has begun: the world is as it was.
     fn undo(self) -> Unopened {
-        match self.proved.close_lost(List::new()) {
+        match self.proved.close_lost(Vec::new()) {
             Ok((world, _)) => Unopened {
                 world: World::of(world, self.next),
                 error: OpenError::Memory,
@@ -112,7 +111,7 @@ impl OpenWorld {
     ///
     /// `OutOfMemory`: there is no memory for the list.
     pub fn by_birth(&self) -> Result<Vec<Handle>, OutOfMemory> {
-        Ok(self.proved.world().view().by_birth()?.into())
+        Ok(self.proved.world().view().by_birth()?)
     }
 
     /// How many systems the phase has.
@@ -172,9 +171,8 @@ impl OpenWorld {
 }
 
 /// The queues as the proved code takes them, in the same memory.
-fn issued(queues: Vec<CommandQueue>) -> List<Issued> {
-    let all: Vec<Issued> = queues.into_iter().map(CommandQueue::proved).collect();
-    all.into()
+fn issued(queues: Vec<CommandQueue>) -> Vec<Issued> {
+    queues.into_iter().map(CommandQueue::proved).collect()
 }
 
 impl fmt::Debug for OpenWorld {
@@ -299,8 +297,8 @@ pub struct Unfinished {
 
 impl Unfinished {
     /// The phase goes on. The queues are handed back in the memory of the list that had them.
-    fn of(refused: ent_total::Unfinished<Numbers>, next: Birth) -> Self {
-        let queues: Vec<Issued> = refused.queues.into();
+    fn of(refused: ent_total::Unfinished, next: Birth) -> Self {
+        let queues = refused.queues;
         Self {
             open: OpenWorld {
                 proved: refused.phase,

@@ -11,7 +11,7 @@ use crate::proved::ent_storage::Storage;
 fn one_reservation_of_2_to_the_31() {
     let count: u32 = 1 << 31;
     let limits = Limits::new(count, 1).expect("limits");
-    let Ok((shared, mut reservers)) = share(Entities::new(limits), 1) else {
+    let Ok((shared, mut reservers)) = share(Entities::with_limits(limits), 1) else {
         panic!("memory is ample");
     };
     let reserver = &mut reservers[0];

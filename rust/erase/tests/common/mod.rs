@@ -91,7 +91,9 @@ pub fn audited(text: &str, result: &str) -> Result<(), Fault> {
         names.crates.insert(name.to_owned(), path);
     }
     let source = Source::read(PATH, text)?;
+    names.add(&Source::read("crates/ent_other/src/lib.rt", "struct E;")?)?;
     names.add(&source)?;
+    names.add_blocks(&source)?;
     audited_with(&source, result, &names)
 }
 

@@ -66,7 +66,7 @@ impl fmt::Debug for String {
     }
 }
 
-/// `to_string` that is handed the right to allocate.
+/// The kit's `to_string`.
 pub trait ToStringIn {
     fn to_string_in(&self) -> Result<String, AllocError>;
 }

@@ -6,7 +6,8 @@
 pub use ::alloc::collections::LinkedList;
 
 use super::alloc::AllocFailed;
-use super::vec::Vec;
+use super::vec::FallibleVec;
+use ::alloc::vec::Vec;
 use core::ops::{Deref, DerefMut};
 
 /// A map by rising key. It is Rust's.
@@ -37,7 +38,7 @@ impl<K: Ord, V> BTreeMap<K, V> {
         if let Some(old) = self.0.get_mut(&key) {
             return Ok(Some(core::mem::replace(old, value)));
         }
-        match Vec::<Node<K, V>>::with_capacity(LEVELS) {
+        match Vec::<Node<K, V>>::with_capacity_fallibly(LEVELS) {
             Ok(room) => drop(core::hint::black_box(room)),
             Err(_) => {
                 return Err(AllocFailed {

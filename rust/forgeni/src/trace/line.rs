@@ -5,8 +5,8 @@ use super::reply::{AllocReply, FlushReply, FreeReply, ReserveReply};
 use crate::entities::State;
 use crate::errors::OutOfMemory;
 use crate::handle::Handle;
-use crate::kit::vec::Vec as List;
-use crate::limits::Limits;
+use crate::kit::vec::FallibleVec;
+use crate::proved::ent_alloc::Limits;
 use crate::proved::ent_replay::trace::{self, Line};
 use crate::proved::ent_replay::HandleList;
 use crate::proved::{ent_alloc, ent_handle};
@@ -30,7 +30,7 @@ impl Call {
                 requested: reservation.requested,
                 reply: reservation.reply.proved()?,
             }),
-            Self::State(handle, state) => Line::State(*handle, Some(state.proved())),
+            Self::State(handle, state) => Line::State(*handle, Some(*state)),
             Self::Len(len) => Line::Len(Some(*len)),
         })
     }
@@ -48,7 +48,7 @@ impl Call {
                 requested: it.requested,
                 reply: ReserveReply::of(it.reply),
             }),
-            Line::State(handle, state) => Self::State(handle, state.map_or(State::Gone, State::of)),
+            Line::State(handle, state) => Self::State(handle, state.unwrap_or(State::Gone)),
             Line::Len(len) => Self::Len(len.unwrap_or(0)),
         }
     }
@@ -133,7 +133,7 @@ impl ReserveReply {
 
 /// A copy of the handles.
 fn proved_list(handles: &[Handle]) -> Result<HandleList, OutOfMemory> {
-    let mut list: List<ent_handle::Handle> = List::with_capacity(handles.len())?;
+    let mut list: Vec<ent_handle::Handle> = Vec::with_capacity_fallibly(handles.len())?;
     for handle in handles {
         list.push_reserved(*handle);
     }
@@ -142,5 +142,5 @@ fn proved_list(handles: &[Handle]) -> Result<HandleList, OutOfMemory> {
 
 /// The handles, in the memory of the list.
 pub(super) fn list(handles: HandleList) -> Vec<Handle> {
-    handles.into_vec().into()
+    handles.into_vec()
 }

@@ -31,7 +31,7 @@ impl core::fmt::Display for ReserveError {
     fn fmt(&self, f: &mut core::fmt::Formatter<'_>) -> core::fmt::Result {
         match self {
             ReserveError::Space { wanted, left } => write!(f, "{wanted} wanted and {left} left"),
-            ReserveError::Quota { left } => write!(f, "the credit left is {left}"),
+            ReserveError::Quota { left } => write!(f, "the quota left is {left}"),
             ReserveError::Memory => write!(f, "out of memory"),
         }
     }
@@ -43,10 +43,12 @@ impl ReserveError {
     /// What a system makes of the error. The queue keeps a refusal, and the system goes on. Only
     /// want of memory ends the system:
     ///
-    /// ```text
-    /// if let Err(error) = commands.spawn(bundle) {
-    ///     error.or_memory()?;
-    /// }
+    /// ```
+    /// use forgeni::{OutOfMemory, ReserveError};
+    ///
+    /// let refused = ReserveError::Space { wanted: 2, left: 1 };
+    /// assert_eq!(refused.or_memory(), Ok(()));
+    /// assert_eq!(ReserveError::Memory.or_memory(), Err(OutOfMemory));
     /// ```
     ///
     /// # Errors

@@ -3,15 +3,17 @@
 //! The reservations of a run, lined up: those that agree, in an order in which they may have come, and
 //! the others.
 
-use crate::kit::vec::Vec;
+use alloc::vec::Vec;
+use crate::kit::vec::FallibleVec;
 use crate::proved::ent_replay::by_caller::ByCaller;
 use crate::proved::ent_replay::handle_list::HandleList;
+use crate::proved::ent_replay::trace::call::Call;
 use crate::proved::ent_replay::trace::difference::Difference;
 use crate::proved::ent_replay::trace::fitting::fits_reserved;
 use crate::proved::ent_replay::trace::front::front_at;
-use crate::proved::ent_replay::trace::line::{Line, Reservation};
 use crate::proved::ent_replay::trace::placed::Placed;
 use crate::proved::ent_replay::trace::reply::ReserveReply;
+use crate::proved::ent_replay::trace::reservation::Reservation;
 use crate::proved::ent_replay::trace::suspect::suspect;
 use crate::proved::ent_alloc::{Entities, Reserved, Space, Span};
 use crate::proved::ent_handle::Memory;
@@ -89,10 +91,10 @@ impl Lineup {
             let free = blocked.get(caller).is_none();
             if free && fits_at(entities, at, &one.reservation)? {
                 at -= i64::from(one.reservation.requested);
-                placed.push(one)?;
+                placed.push_fallibly(one)?;
             } else {
                 blocked.insert(caller, one.key)?;
-                left.push(one)?;
+                left.push_fallibly(one)?;
             }
         }
         Ok(Lineup {
@@ -123,8 +125,8 @@ impl Lineup {
         let given = reply_at(entities, cursor, reservation.requested)?;
         Ok(Difference {
             number: reservation.number,
-            expected: Line::Reserve(with_reply(&reservation, reply_of(given))),
-            told: Line::Reserve(reservation),
+            expected: Call::Reserve(with_reply(&reservation, reply_of(given))),
+            told: Call::Reserve(reservation),
             front: front_at(entities, cursor)?,
             cursor,
         })
@@ -171,7 +173,7 @@ pub(super) fn make_all(entities: &mut Entities, run: &[Placed])
 fn listed(reserved: Reserved<'_>) -> Result<HandleList, Memory>
     // ensures { IfOk result (λ handles. handles ≡ reserved.entry) }
 {
-    let mut handles = Vec::with_capacity(reserved.len())?;
+    let mut handles = Vec::with_capacity_fallibly(reserved.len())?;
     for handle in reserved {
         handles.push_reserved(handle);
     }
