@@ -91,7 +91,9 @@ CONSTANT |= {("ent_alloc/limits", it) for it in ("generations", "keeping_placeho
 CONSTANT |= {("ent_handle/handle", it) for it in "from_bits from_parts generation index new to_bits".split()}
 # What `prove_eq!` may call, and whose stand-in is an enum alone (the empty path: what is imported from these crates).
 READS, WITHOUT_METHODS = {"cursor"}, {"", "either::Either"}
-# A file with a type of one word and its field, a file whose texts keep a width, and a function with another name.
+# A file with a type that shares no line of a cache, one with a type of one word and its field, a file whose texts keep a width, and
+# functions with another name.
+APART_TYPE = "ent_total/reserver", "Reserver"
 WORD_TYPE, PADDED, RENAMED = ("ent_handle/handle", "Handle", "bits"), "ent_handle/text", {("Entities", "new"): "with_exact_limits"}
 RENAMED |= {("Vec", it): it + "_fallibly" for it in ("from_slice", "with_capacity")}
 # Calls of the kit's list that Rust's has otherwise, with the receivers that are no lists. A wrong one doesn't compile.
@@ -560,6 +562,8 @@ class Reader:
         if (self.result, self.look(1).text, self.look(2).text) == (WORD_TYPE[0], "struct", WORD_TYPE[1]):
             self.insert(len(self.out) - 2, ", PartialEq, Eq")
             self.add("#[repr(transparent)]", "layout")
+        if (self.result, self.look(1).text, self.look(2).text) == (APART_TYPE[0], "struct", APART_TYPE[1]):
+            self.add("#[repr(align(128))]", "layout")
         return True
 
     def is_derives(self):

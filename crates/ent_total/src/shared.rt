@@ -23,7 +23,7 @@ use std::sync::Arc;
 /// it back. If the `Shared` is dropped, the allocator goes with the last of the reservers.
 ///
 /// It is `Send` and `Sync`: any thread may read it.
-#[must_use = "the allocator is inside, until the phase is closed"]
+#[must_use]
 #[derive(Drop)]
 pub struct Shared<J: Numbering> {
     alloc: Global,

@@ -328,6 +328,7 @@ pub const BARE: &[&str] = &[
     "FnMut",
     "FnOnce",
     "From",
+    "Into",
     "Hash",
     "Item",
     "Iterator",
@@ -410,13 +411,22 @@ pub struct Layout {
     pub attribute: &'static str,
 }
 
-/// The types with a layout of their own: Rust promises that an `Option` of a word that is never 0 takes no more
-/// room than the word, and by this attribute it promises it of a handle.
-pub const LAYOUTS: &[Layout] = &[Layout {
-    krate: "ent_handle",
-    name: "Handle",
-    attribute: "#[repr(transparent)]",
-}];
+/// The types with a layout of their own.
+pub const LAYOUTS: &[Layout] = &[
+    // Rust promises that an `Option` of a word that is never 0 takes no more room than the word, and by this
+    // attribute it promises it of a handle.
+    Layout {
+        krate: "ent_handle",
+        name: "Handle",
+        attribute: "#[repr(transparent)]",
+    },
+    // A reservation writes the reserver, so two of them in a list share no line of a processor's cache.
+    Layout {
+        krate: "ent_total",
+        name: "Reserver",
+        attribute: "#[repr(align(128))]",
+    },
+];
 
 /// The layout of the type of this crate, if it has one of its own.
 pub fn layout_of(krate: &str, name: &str) -> Option<&'static Layout> {
@@ -659,6 +669,7 @@ const METHODS: &[&str] = &[
     "any",
     "as_bytes",
     "as_chunks",
+    "as_mut_slice",
     "as_ref",
     "as_slice",
     "binary_search",

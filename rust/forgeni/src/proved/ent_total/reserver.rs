@@ -22,6 +22,7 @@ use crate::kit::sync::Arc;
 ///     scope.spawn(|| only.reserve());
 /// });
 /// ```
+#[repr(align(128))]
 pub struct Reserver {
     pub(super) shared: Arc<crate::proved::ent_shared::Shared>,
     pub(super) reserver: crate::proved::ent_shared::Reserver,

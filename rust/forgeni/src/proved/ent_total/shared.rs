@@ -14,7 +14,7 @@ use crate::kit::sync::Arc;
 /// it back. If the `Shared` is dropped, the allocator goes with the last of the reservers.
 ///
 /// It is `Send` and `Sync`: any thread may read it.
-#[must_use = "the allocator is inside, until the phase is closed"]
+#[must_use]
 pub struct Shared {
     shared: Arc<crate::proved::ent_shared::Shared>,
     home: Vec<crate::proved::ent_shared::Reserver>,
