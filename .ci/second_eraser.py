@@ -93,7 +93,7 @@ CONSTANT |= {("ent_handle/handle", it) for it in "from_bits from_parts generatio
 READS, WITHOUT_METHODS = {"cursor"}, {"", "either::Either"}
 # A file with a type that shares no line of a cache, one with a type of one word and its field, a file whose texts keep a width, and
 # functions with another name.
-APART_TYPE = "ent_total/reserver", "Reserver"
+APART_TYPES = {("ent_total/reserver", "Reserver"), ("ent_total/commands", "Commands")}
 WORD_TYPE, PADDED, RENAMED = ("ent_handle/handle", "Handle", "bits"), "ent_handle/text", {("Entities", "new"): "with_exact_limits"}
 RENAMED |= {("Vec", it): it + "_fallibly" for it in ("from_slice", "with_capacity")}
 # Calls of the kit's list that Rust's has otherwise, with the receivers that are no lists. A wrong one doesn't compile.
@@ -112,8 +112,8 @@ LEXEME = re.compile(
     % "|".join(re.escape(it) for it in OPERATORS),
     re.VERBOSE | re.DOTALL | re.ASCII,
 )
-# That a closure may be called: any of Rust's may.
-OF_A_CLOSURE = re.compile(r"requires\s+(?:\w+\s+)?\{\s*[A-Z]\w*\.IsAlwaysCallable\s+\w+\s*\}")
+# That a closure may be called: any of Rust's may. And that commands are ready: the package lends none that aren't, and they stay so.
+OF_A_CLOSURE = re.compile(r"requires\s+(?:\w+\s+)?\{\s*(?:[A-Z]\w*\.IsAlwaysCallable\s+\w+|IsReady\s+self\.old)\s*\}")
 ADDED = re.compile(r"""\"[^"]*"|'?\w+|::|->|=>|\.\.|\S""")
 BINARY = set("+ - * / % ^ & | && || << == != < > <= >= = += -= *= /= %= ^= |= &= <<=".split())
 Token = collections.namedtuple("Token", "kind text start end line")
@@ -562,7 +562,7 @@ class Reader:
         if (self.result, self.look(1).text, self.look(2).text) == (WORD_TYPE[0], "struct", WORD_TYPE[1]):
             self.insert(len(self.out) - 2, ", PartialEq, Eq")
             self.add("#[repr(transparent)]", "layout")
-        if (self.result, self.look(1).text, self.look(2).text) == (APART_TYPE[0], "struct", APART_TYPE[1]):
+        if self.look(1).text == "struct" and (self.result, self.look(2).text) in APART_TYPES:
             self.add("#[repr(align(128))]", "layout")
         return True
 

@@ -426,6 +426,12 @@ pub const LAYOUTS: &[Layout] = &[
         name: "Reserver",
         attribute: "#[repr(align(128))]",
     },
+    // A command writes the queue, so two systems in a list share none either.
+    Layout {
+        krate: "ent_total",
+        name: "Commands",
+        attribute: "#[repr(align(128))]",
+    },
 ];
 
 /// The layout of the type of this crate, if it has one of its own.
