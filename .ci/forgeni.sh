@@ -1,6 +1,6 @@
 #!/usr/bin/env bash
 # The package in plain Rust: its tests, its docs and its lints, with the standard library and without it, each example, which must print
-# what its first comment says, and the archive of it, which must build by itself in an empty folder.
+# what its first comment says, and the archive of it, which must build and pass its tests by itself in an empty folder.
 set -eu
 cd "$(dirname "$0")/../rust/forgeni"
 if grep -rnw unsafe --include=*.rs .. | grep -v "forbid(unsafe_code)"; then
@@ -33,5 +33,5 @@ empty=$(mktemp -d)
 trap 'rm -rf "$empty"' EXIT
 cargo package --offline --no-verify --allow-dirty --quiet --target-dir "$empty/packed"
 tar -xzf "$empty"/packed/package/forgeni-*.crate -C "$empty"
-(cd "$empty"/forgeni-* && cargo build --offline --quiet)
-echo "rust/forgeni: its archive builds by itself"
+(cd "$empty"/forgeni-* && cargo test --offline --quiet)
+echo "rust/forgeni: its archive builds by itself, and its tests pass"

@@ -21,63 +21,85 @@ LINTS = "#![allow(dead_code, unused_imports, unused_variables, clippy::all)]"
 
 # What differs between a source without its ghost words and its result: each class, how often it occurs today, and why it keeps the meaning.
 TABLE = {
-    "derive(Drop)": (74, "in the kit a type may be dropped only if it says so, in Rust each may; no type here has a destructor"),
+    "derive(Drop)": (77, "in the kit a type may be dropped only if it says so, in Rust each may; no type here has a destructor"),
     "derive(Error)": (15, "written out as the next class"),
     "messages": (15, "`impl Display` writes the texts of `#[error(..)]`, and `impl Error` is empty, as the kit's derive has it"),
     "bound Drop": (8, "as derive(Drop), for a type parameter"),
-    "crate path": (225, "a crate is a module of the package: `crate::x` is `crate::proved::NAME::x`"),
-    "sister path": (170, "as crate path, for the crates that a crate uses"),
-    "stand-in path": (74, "the kit's own `Vec`, words, maps and threads are the package's `kit`, by PATHS"),
-    "core path": (20, "the kit's std and Rust's have the same there, by PATHS"),
-    "import": (58, "`Vec`, `prove_eq!` and the trait of `collect_in` need no import in the kit"),
+    "crate path": (212, "a crate is a module of the package: `crate::x` is `crate::proved::NAME::x`"),
+    "sister path": (172, "as crate path, for the crates that a crate uses"),
+    "stand-in path": (39, "the kit's own words, maps and threads are the package's `kit`, by PATHS"),
+    "core path": (18, "the kit's std and Rust's have the same there, by PATHS"),
+    "import": (89, "`Vec`, `prove_eq!` and the traits of `collect_in` and of lists need no import in the kit"),
     "collect_in": (2, "Rust's `Iterator` has a `collect` without an allocator"),
-    "formatter": (5, "the kit's `Formatter<W>` writes to a `W`, Rust's to a `dyn Write`; each use is `write_str` or `write!`"),
+    "formatter": (6, "the kit's `Formatter<W>` writes to a `W`, Rust's to a `dyn Write`; each use is `write_str` or `write!`"),
     "visibility": (217, "`pub(crate)` would open a module to the whole package; too narrow a word fails to compile"),
-    "inline": (601, "a hint to the compiler, on each function with a body and without a hint of its own"),
-    "alignment": (1, "`Handle` is aligned as the word that the package turns it into; no source reads a layout"),
-    "const": (6, "what makes an allocator without memory may be called in a constant: CONSTANT lists them"),
+    "condition": (68, "a function with a `requires` may be called by proved code alone, which the package's own is; so it isn't `pub`"),
+    "inline": (634, "a hint to the compiler, on each function with a body and without a hint of its own"),
+    "layout": (1, "`Handle` is laid out as its word, so that an `Option` of it is; no source reads a layout"),
+    "equality": (2, "`impl PartialEq` and `impl Eq` of `Handle`, which compare its one field, are derived, so that a constant is a pattern"),
+    "padded": (2, "`padded!` is `write!` with a width, for which nobody can ask in the kit"),
+    "allocator": (282, "the right to allocate, `Global`, is handed to nobody in Rust: parameters, arguments, fields, what is bound"),
+    "ghost trait": (16, "a trait with ghost members alone, its imports and impls, and a module of nothing else"),
+    "ghost type": (79, "a type parameter that such a trait bounds, as an argument, and in a `PhantomData`"),
+    "clone": (4, "the kit's `clone` may be refused memory; that of an iterator asks for none, and calls its `again`"),
+    "list call": (94, "a list is Rust's own; what the kit's has otherwise is a call of `FallibleVec`, whose names no list of Rust has"),
+    "with_exact_limits": (5, "the allocator's `new(limits)`: in Rust `new()` has no parameter"),
+    "const": (12, "what makes an allocator without memory may be called in a constant: CONSTANT lists them"),
 }
 
 # The paths of the kit, and what stands for them.
 PATHS = {f"std::{it}": f"crate::kit::{it}" for it in "alloc collections sync thread".split()}
-PATHS |= {f"std::{it}": f"core::{it}" for it in "cmp error fmt marker mem num".split()}
+PATHS |= {f"std::{it}": f"core::{it}" for it in "cmp error fmt hash marker mem num".split()}
 PATHS |= {it: f"crate::kit::{it}" for it in "atomic_table either itoa smallvec".split()} | {"thiserror": ""}
+# The type of the right to allocate is written so until it goes.
+RIGHT = "@Global"
 # What may be imported or called from there. `Model` and the derive `Error` are for the prover and for `messages`.
-GHOST_IMPORTS = {"std::marker::Model", "thiserror::Error"}
+GHOST_IMPORTS = {"std::marker::Model", "thiserror::Error", "std::alloc::Global"}
 IMPORTS = set(
     "std::alloc::Global std::alloc::AllocError std::alloc::AllocFailed std::collections::BTreeMap std::collections::LinkedList std::sync::Arc "
     "std::thread::Threads std::thread::join_mut std::cmp::Ordering std::error::Error std::fmt std::marker::PhantomData std::mem "
-    "std::num::NonZeroU32 atomic_table::Badge atomic_table::Join atomic_table::Play atomic_table::Seat atomic_table::Split "
-    "atomic_table::Table atomic_table::TableRule either::Either either::Left either::Right itoa::Buffer itoa::Integer "
-    "smallvec::SmallVec".split()
+    "std::num::NonZeroU32 std::num::NonZeroU64 std::hash::Hash std::hash::Hasher atomic_table::Badge atomic_table::Join "
+    "atomic_table::Play atomic_table::Seat atomic_table::Split atomic_table::Table atomic_table::TableRule either::Either "
+    "either::Left either::Right itoa::Buffer itoa::Integer smallvec::SmallVec".split()
 )
 PRELUDE = set(
-    "Some None Ok Err Option Result Vec Self self Iterator ExactSizeIterator From Default Copy Clone Send Sync Fn FnMut FnOnce Ord PartialOrd "
+    "Some None Ok Err Option Result Vec Self self Iterator DoubleEndedIterator ExactSizeIterator From Default Copy Clone Send Sync Fn FnMut FnOnce Ord PartialOrd "
     "PartialEq Eq bool char str u8 u16 u32 u64 u128 usize i64".split()
 )
 ASSOCIATED = set(
-    "Arc::new Arc::try_clone Arc::try_unwrap BTreeMap::new Badge::blank Buffer::new NonZeroU32::new SmallVec::new SmallVec::with_capacity "
-    "Table::of_words Vec::new Vec::with_capacity fmt::Display fmt::Formatter fmt::Result i64::from mem::replace str::from_utf8 "
-    "u16::from_le_bytes u32::MAX u32::from_le_bytes u64::from u64::from_le_bytes usize::from".split()
+    "Arc::new Arc::try_clone Arc::try_unwrap BTreeMap::new Badge::blank Buffer::new NonZeroU32::new NonZeroU64::MIN NonZeroU64::new "
+    "SmallVec::new SmallVec::with_capacity Table::of_words Vec::new Vec::with_capacity fmt::Debug fmt::Display fmt::Formatter "
+    "fmt::Result i64::from mem::replace str::from_utf8 u16::from_le_bytes u32::MAX u32::from_le_bytes u64::from u64::from_le_bytes usize::from".split()
 )
 METHODS = set(
     "all as_bytes as_chunks as_slice binary_search binary_search_by_key capacity cast_signed cast_unsigned checked_add checked_sub clear "
     "close_with cmp collect contains copied count enumerate extend_from_slice fetch_add fetch_sub filter format free get get_mut insert into "
-    "into_badge into_seat is_ascii_digit is_empty is_err is_none is_none_or is_some iter join_seat len load_new_seat map map_err max min next ok "
-    "ok_or parse pop position push push_reserved remove reserve resize retain saturating_add saturating_mul saturating_sub size_hint "
-    "sort_by_cached_key sort_by_key sort_unstable split_at split_at_mut split_first split_first_chunk split_seat swap_remove take then "
-    "to_le_bytes truncate unwrap unwrap_or word write_str".split()
+    "into_badge into_seat is_ascii_digit is_empty is_err is_none is_none_or is_some iter join_seat len load_new_seat map map_err max min next next_back ok "
+    "ok_or parse pop position push push_reserved remove reserve resize retain reverse saturating_add saturating_mul saturating_sub size_hint "
+    "sort_by_cached_key sort_by_key sort_unstable split_at split_at_mut split_first split_first_chunk split_last split_seat swap_remove take then "
+    "to_le_bytes truncate unwrap unwrap_or word write_str write_u64".split()
 )
 # Methods of a trait of these crates that another type or trait has too. Each call of one can mean no other method.
 SHARED_NAMES = {
     "run": "`System` has it, and `Worker` of the same crate, which is no `System`",
     "take": "`Sink` has it, called on a parameter `S: Sink`; `Machine` and `Checker` are no `Sink`, and iterators are none",
 }
-CONSTANT = {(f"ent_alloc/{it}", "new") for it in ("entities", "limits", "slots")} | {("ent_storage/handle_map", "new")}
-CONSTANT |= {("ent_alloc/limits", "default_limits"), ("ent_alloc/requests", "none")}
+CONSTANT = {(f"ent_alloc/{it}", "new") for it in ("entities", "limits", "slots")}
+CONSTANT |= {("ent_storage/handle_map", it) for it in ("limit", "new", "with_limit")} | {("ent_storage/handle_map/limit", it) for it in ("of", "slots")}
+CONSTANT |= {("ent_alloc/limits", "default_limits"), ("ent_alloc/requests", "none"), ("ent_alloc/entities", "with_limits")}
+CONSTANT |= {("ent_alloc/limits", it) for it in ("generations", "keeping_placeholder", "slots")}
+CONSTANT |= {("ent_handle/handle", it) for it in "from_bits from_parts generation index new to_bits".split()}
 # What `prove_eq!` may call, and whose stand-in is an enum alone (the empty path: what is imported from these crates).
 READS, WITHOUT_METHODS = {"cursor"}, {"", "either::Either"}
-ALIGNED = ("ent_handle/handle", "Handle")
+# A file with a type that shares no line of a cache, one with a type of one word and its field, a file whose texts keep a width, and
+# functions with another name.
+APART_TYPE = "ent_total/reserver", "Reserver"
+WORD_TYPE, PADDED, RENAMED = ("ent_handle/handle", "Handle", "bits"), "ent_handle/text", {("Entities", "new"): "with_exact_limits"}
+RENAMED |= {("Vec", it): it + "_fallibly" for it in ("from_slice", "with_capacity")}
+# Calls of the kit's list that Rust's has otherwise, with the receivers that are no lists. A wrong one doesn't compile.
+LISTS = {"capacity": "living", "extend_from_slice": "", "push": "living", "push_reserved": "", "resize": "", "sort_by_cached_key": ""}
+LISTS |= {"sort_by_key": "", "reserve": "] index living self shared storage"}
+LISTS |= {"insert": "blocked calls commands items last latest living queue seen spent values"}
 DERIVES = set("Clone Copy Debug Default PartialEq Eq Hash".split())
 KEYWORDS = set(
     "as async await break const continue crate dyn else enum extern false fn for if impl in let loop match mod move mut pub ref return "
@@ -90,6 +112,8 @@ LEXEME = re.compile(
     % "|".join(re.escape(it) for it in OPERATORS),
     re.VERBOSE | re.DOTALL | re.ASCII,
 )
+# That a closure may be called: any of Rust's may.
+OF_A_CLOSURE = re.compile(r"requires\s+(?:\w+\s+)?\{\s*[A-Z]\w*\.IsAlwaysCallable\s+\w+\s*\}")
 ADDED = re.compile(r"""\"[^"]*"|'?\w+|::|->|=>|\.\.|\S""")
 BINARY = set("+ - * / % ^ & | && || << == != < > <= >= = += -= *= /= %= ^= |= &= <<=".split())
 Token = collections.namedtuple("Token", "kind text start end line")
@@ -149,13 +173,20 @@ class Unit:
     """What is erased together: the crates, what they declare and name, and how often each class of difference was made."""
 
     def __init__(self, crates, packages):
-        self.crates, self.packages, self.others, self.uses = crates, packages, set(), []
+        self.crates, self.packages, self.others, self.uses, self.conditions, self.facts = crates, packages, set(), [], set(), set()
         self.counts, self.functions = collections.Counter(), collections.defaultdict(set)
+
+    def learn(self, notes):
+        """What another file has to know of this one."""
+        self.facts |= {(name, of) for kind, name, of in notes if kind == "fact"}
+        twice = {of for name, of in self.facts if name == "right"} & {of for name, of in self.facts if name == "field"}
+        if twice:
+            raise Refused(f"a field `{min(twice)}` that has the right to allocate, and one that hasn't")
 
     def collect(self, notes):
         self.counts.update(name for kind, name, _ in notes if kind == "count")
         self.others |= {name for kind, name, _ in notes if kind == "other"}
-        self.uses += [it for it in notes if it[0] not in ("count", "other", "function", "add")]
+        self.uses += [it for it in notes if it[0] not in ("count", "other", "function", "add", "fact")]
         for _, name, of in (it for it in notes if it[0] == "function"):
             self.functions[name].add(of)
 
@@ -182,7 +213,8 @@ class Reader:
     def __init__(self, text, result, unit, first=None):
         self.text, self.unit, self.result, self.crate = text, unit, result.removesuffix(".rs"), result.split("/")[0]
         self.at, self.far, self.out, self.log, self.imports_at, self.owner, self.no_struct = 0, 0, [], [], None, "", False
-        self.error, self.errs, self.fields, self.arms, self.declared, self.of = "", False, [], "", "", ""
+        self.error, self.errs, self.fields, self.arms, self.declared, self.of, self.requires = "", False, [], "", "", "", False
+        self.tag, self.target, self.variant, self.bounds = "", "", "", {}
         self.names, self.imports = ([first.names[0]], first.imports) if first else ([set()], {})
 
     def file(self):
@@ -191,8 +223,12 @@ class Reader:
             self.text.fail(f"{self.text.token(self.far).text!r} in a form that is in no rule", self.text.token(self.far).start)
         head = len(self.out)
         for name in sorted({name for kind, name, _ in self.log if kind == "add"}):
-            self.add(f"use crate::kit::{name};", "import")
+            self.add(f"use {name};", "import")
         self.out[self.imports_at or 0 : 0] = self.cut(head)
+        if self.texts(0).count("PhantomData") == 1 and ("count", "ghost type", None) in self.log:
+            at = self.texts(0).index("PhantomData")
+            self.out[at - 5 : at + 2] = []
+            self.log.remove(("count", "core path", None))
         return self
 
     # The signs of the grammar.
@@ -205,6 +241,8 @@ class Reader:
             return self.word(of)
         if kind == "rule":
             return self.rule(of)
+        if kind == "%":
+            return self.list(of)
         mark = (self.at, len(self.out), len(self.log))
         if kind == "or":
             return any(self.all(it, mark) for it in of)
@@ -214,10 +252,22 @@ class Reader:
         elif kind in "!&":
             self.reset(mark)
             return bool(found) == (kind == "&")
-        elif kind in "*+%":
-            while found and (kind != "%" or self.sees(",") and self.take()) and self.match(of):
+        elif kind in "*+":
+            while found and self.match(of):
                 pass
-        return found or kind in "*?%"
+        return found or kind in "*?"
+
+    def list(self, of):
+        """Parts with commas. A part of which nothing is left takes a comma with it."""
+        while True:
+            begin = len(self.out)
+            if not self.match(of):
+                return True
+            is_gone = len(self.out) == begin
+            if not self.sees(","):
+                self.out.pop() if is_gone and self.out[-1].text == "," else None
+                return True
+            self.drop() if is_gone else self.take()
 
     def all(self, parts, mark):
         for part in parts:
@@ -281,6 +331,11 @@ class Reader:
         found, self.out[mark:] = self.out[mark:], []
         return found
 
+    def insert(self, mark, words, kind=None):
+        rest = self.cut(mark)
+        self.add(words, kind)
+        self.out += rest
+
     def set(self, name, value):
         setattr(self, name, value)
         return True
@@ -291,6 +346,95 @@ class Reader:
 
     def use(self, kind, name):
         return self.note(kind, name, f"{self.text.name}:{self.look().line}")
+
+    # What is for the prover alone, or for the kit's allocator.
+
+    def texts(self, mark):
+        return [it.text for it in self.out[mark:]]
+
+    def knows(self, name, of):
+        return (name, of) in self.unit.facts
+
+    def is_phantom(self, name):
+        """Whether this field of the type of the literal or pattern is a `PhantomData` of a ghost type."""
+        return any(self.knows("phantom", (of, self.tag, name)) for kind, of in self.unit.facts if kind == "ghost")
+
+    def gone(self, mark, kind):
+        """What was written since isn't in the results."""
+        return self.note("count", kind) and self.cut(mark)
+
+    def is_of(self, name, kind):
+        """Whether the innermost binding of a name is of this kind."""
+        found = next((it for it in reversed(self.names) if {name, f"{name}: {kind}"} & it), ())
+        return f"{name}: {kind}" in found
+
+    def is_right(self, words):
+        """Whether these words are a value that has the right to allocate."""
+        if len(words) == 3:
+            return words[1] == "." and self.knows("right", words[2])
+        return words == [RIGHT] or len(words) == 1 and self.is_of(words[0], RIGHT)
+
+    def after_parameter(self, mark, _):
+        name, *of = self.texts(mark)
+        if of == [":", RIGHT]:
+            self.names[-1].add(f"{name}: {RIGHT}")
+            self.gone(mark, "allocator")
+
+    def after_passed(self, mark, _):
+        self.gone(mark, "allocator") if self.is_right(self.texts(mark)) else None
+
+    def after_fielded(self, mark, _):
+        name, *of = self.texts(mark)[self.texts(mark).index(":") - 1 :]
+        of = [it for it in of[1:] if it != ","]
+        self.note("fact", "right" if of == [RIGHT] else "field", name)
+        if of in ([RIGHT], ["PhantomData"]):
+            self.gone(mark, "allocator" if of == [RIGHT] else "ghost type")
+        elif of[0] == "PhantomData":
+            self.note("fact", "phantom", (self.bounds.get(of[2]), self.declared, name))
+
+    def after_part(self, mark, _):
+        """A field in a literal or a pattern."""
+        name, *of = self.texts(mark)
+        if self.knows("right", name) and (of in ([], [":", "_"]) or self.is_right(of[1:])):
+            self.names[-1] |= set() if of else {f"{name}: {RIGHT}"}
+            self.gone(mark, "allocator")
+        elif of in ([":", "_"], [":", "PhantomData"]) and self.is_phantom(name):
+            self.gone(mark, "ghost type")
+
+    def after_generic(self, mark, _):
+        name, *bound = self.texts(mark)
+        self.bounds[name] = "".join(bound[1:])
+        if self.knows("ghost", self.bounds[name]):
+            self.names[-1].add(f"{name}: ghost")
+            self.gone(mark, "ghost type")
+
+    def after_argument(self, mark, _):
+        words = self.texts(mark)
+        if words == [RIGHT] or len(words) == 1 and self.is_of(words[0], "ghost"):
+            self.gone(mark, "allocator" if words == [RIGHT] else "ghost type")
+
+    def after_generics(self, mark, _):
+        self.cut(mark) if self.texts(mark) in (["<", ">"], ["::"]) else None
+
+    after_closed, after_arguments, after_turbofish, after_named_part = after_parameter, after_generics, after_generics, after_part
+
+    def after_trait(self, mark, notes):
+        has_ghosts = any(it[1] == "(ghost members and imports)" for it in self.log[notes:])
+        if has_ghosts and self.texts(mark)[-2:] == ["{", "}"]:
+            self.note("fact", "ghost", self.declared) and self.gone(mark, "ghost trait")
+
+    def after_module(self, mark, _):
+        inside = self.result.removesuffix("/mod") + "/" + self.declared
+        self.gone(mark, "ghost trait") if self.knows("empty", inside) else None
+
+    def is_step(self):
+        """A name after a `::`, or of a member. One function has another name."""
+        before = self.out[-1 - (self.out[-1].text == "::")].text
+        to = RENAMED.get((self.target if before in ("Self", "fn") else before, self.look().text))
+        if to is None:
+            return self.word("NAME")
+        self.note("add", "crate::kit::vec::FallibleVec") if before == "Vec" else None
+        return self.drop() and self.add(to, "list call" if before == "Vec" else to)
 
     # Names.
 
@@ -322,7 +466,7 @@ class Reader:
         first, whole = words[0], "::".join(words)
         kit = next((it for it in PATHS if whole.startswith(it + "::")), None)
         known = first in PRELUDE | {"crate", "super"} | self.imports.keys() or any(first in it for it in self.names)
-        self.note("add", "vec::Vec") if first == "Vec" else None
+        self.note("add", "alloc::vec::Vec") if first == "Vec" else None
         if not known and kit is None and not (first in self.unit.crates and len(words) > 1):
             self.use("name", first)
         elif len(words) > 1:
@@ -337,12 +481,14 @@ class Reader:
             self.add("crate::proved::", "sister path")
         elif len(words) > 1 and words[0] in self.unit.packages:
             self.use("path", "::".join(words))
+        if words == ["Global"] and self.imports.get("Global") == "std::alloc::Global":
+            return self.out.append(self.drop()._replace(text=RIGHT)) or True
         return self.take() and (words[0] != "crate" or self.add(f"::proved::{self.crate}", "crate path"))
 
     def is_prefix(self):
         """What stands before the names that are imported."""
         words, after = self.words()
-        self.prefix, self.left = words if after == "::" else words[:-1], []
+        self.prefix, self.left, self.taken = words if after == "::" else words[:-1], [], []
         kit = next((it for it in PATHS if "::".join([*words, ""]).startswith(it + "::")), None)
         if kit == "::".join(words) and after != "::":
             self.set("at", self.look(2 * len(self.prefix) - 1).end)
@@ -358,42 +504,66 @@ class Reader:
         old, new = self.out[mark].text, self.out[-1].text
         whole = "::".join([*self.prefix, old])
         foreign = (self.prefix or [""])[0] in self.unit.packages - self.unit.crates
+        self.taken.append(old)
         if new in self.unit.packages | PRELUDE:
             self.use("refused", f"an import named `{new}`")
         self.imports[new] = whole if foreign else ""
-        self.left.append(not (foreign and whole in GHOST_IMPORTS))
+        is_ghost = not foreign and self.knows("ghost", old)
+        self.note("count", "ghost trait") if is_ghost else None
+        self.left.append(not (foreign and whole in GHOST_IMPORTS or is_ghost))
         self.cut(mark) if not self.left[-1] else foreign and self.use("import", whole)
 
     def after_use(self, mark, notes):
         if not any(self.left):
-            self.out[mark:], self.log[notes:] = [], []
+            self.out[mark:], self.log[notes:] = [], [it for it in self.log[notes:] if it[1] == "ghost trait"]
             return
         if not all(self.left):
             self.out += [it for it in self.cut(mark) if it.text not in ("{", ",", "}")]
         self.imports_at = mark if self.imports_at is None else self.imports_at
+        found = [self.has_condition(it) for it in self.taken]
+        if any(found) and self.out[mark].text == "pub":
+            self.narrow(mark) if all(found) else self.use("refused", "a `pub use` of which a part has a condition")
+
+    def has_condition(self, name):
+        """Whether an imported name is that of a function with a condition: in the file that the path leads to, or else in the crate."""
+        first, *rest = self.prefix or [""]
+        crate = self.crate if first == "crate" else first if first in self.unit.crates else None
+        path = "/".join([crate, *rest] if crate else [self.result.removesuffix("/mod"), *self.prefix])
+        return any(it == name and (file == path or file.startswith(path + "/")) for file, it in self.unit.conditions)
+
+    def narrow(self, mark):
+        """`pub` becomes `pub(crate)`, where nothing else says more."""
+        at = next(at for at in range(mark, len(self.out)) if self.out[at].text in ("pub", "fn"))
+        if self.out[at].text == "pub" and self.out[at + 1].text != "(":
+            self.insert(at + 1, "(crate)", "condition")
 
     def is_method(self):
         name = self.look().text
         if self.look(1).text not in ("(", "::") or self.look().kind != "id":
             return False
         self.use("method", name)
+        if name in LISTS and self.out[-2].text not in LISTS[name].split():
+            self.note("add", "crate::kit::vec::FallibleVec")
+            to = {"capacity": "sized_capacity", "push_reserved": name}.get(name, name + "_fallibly")
+            return self.drop() and self.add(to, "list call")
         if name != "collect":
             return self.word("NAME")
         self.drop()
-        return self.note("add", "vec::CollectIn") and self.add("collect_in", "collect_in")
+        return self.note("add", "crate::kit::vec::CollectIn") and self.add("collect_in", "collect_in")
 
     def is_binary(self):
         found = self.sees(*BINARY) and self.take()
         return found and (found.text != ">" or not self.sees(">", ">=") or self.take())
 
-    def is_const(self):
-        if self.sees("const"):
-            return self.take()
-        return (self.result, self.look(1).text) in CONSTANT and self.add("const", "const")
+    def add_padded(self):
+        return self.note("add", "crate::kit::padded") and self.add("padded", "padded")
 
     def is_aligned(self):
-        if (self.result, self.look(1).text, self.look(2).text) == (ALIGNED[0], "struct", ALIGNED[1]):
-            self.add("#[repr(align(8))]", "alignment")
+        if (self.result, self.look(1).text, self.look(2).text) == (WORD_TYPE[0], "struct", WORD_TYPE[1]):
+            self.insert(len(self.out) - 2, ", PartialEq, Eq")
+            self.add("#[repr(transparent)]", "layout")
+        if (self.result, self.look(1).text, self.look(2).text) == (APART_TYPE[0], "struct", APART_TYPE[1]):
+            self.add("#[repr(align(128))]", "layout")
         return True
 
     def is_derives(self):
@@ -421,10 +591,10 @@ class Reader:
         self.out += [it for at, it in enumerate(bounds) if it.text != "+" or bounds[at - 1].text not in ("+", ":")]
 
     def after_predicate(self, mark, _):
-        self.cut(mark) if ":" not in [it.text for it in self.out[mark:]] else None
+        self.cut(mark) if ":" not in self.texts(mark) else None
 
     def after_variant_of(self, mark, _):
-        if "[" in [it.text for it in self.out[mark:]]:
+        if "[" in self.texts(mark):
             self.use("refused", "the elements of an array in a variant, which are dropped in another order where a later part doesn't match")
 
     def after_variant(self, *_):
@@ -448,6 +618,13 @@ class Reader:
             self.use("refused", f"an impl of `{self.of}` for a type of the kit: a method of Rust's may have its name")
         if self.of == "std::marker::Model" and self.out[-2].text == "{":
             self.out[mark:], self.log[notes:] = [], [("count", "(models)", None)]
+        elif self.knows("ghost", self.of) and self.out[-2].text == "{":
+            self.gone(mark, "ghost trait")
+        elif (self.result, self.target) == WORD_TYPE[:2] and self.of in ("PartialEq", "Eq"):
+            eq = f"#[inline]fneq(&self,other:&Self)->bool{{self.{WORD_TYPE[2]}==other.{WORD_TYPE[2]}}}"
+            if "".join(self.texts(mark)).split("{", 1)[1] != eq * (self.of == "PartialEq") + "}":
+                self.use("refused", f"an `{self.of}` of `{self.target}` that isn't that of the derive")
+            self.out[mark:], self.log[notes:] = [], [("count", "equality", None)]
         elif self.of == "std::marker::Model" or self.of == "Drop" and self.is_provers("Drop"):
             self.use("refused", "a model with code, or a destructor")
 
@@ -456,10 +633,18 @@ class Reader:
         at = max(at for at in range(notes) if self.log[at][0] == "function")
         self.log[at] = ("function", self.log[at][1], (self.owner, receiver))
 
-    def after_function(self, mark, _):
-        if self.out[-1].text == "}" and self.out[mark].text != "#":
-            body = self.cut(mark)
-            self.out += body if self.add("#[inline]", "inline") else []
+    def after_cloner(self, mark, _):
+        rest = self.cut(mark)
+        self.out += rest if self.add("#[inline]", "inline") else []
+
+    def after_function(self, mark, notes):
+        if self.requires:
+            name = next(name for kind, name, _ in self.log[notes:] if kind == "function")
+            self.unit.conditions |= set() if self.owner else {(self.result, name)}
+            self.narrow(mark)
+        at = next(at for at in range(mark, len(self.out)) if self.out[at].text in ("pub", "const", "fn"))
+        if self.out[-1].text == "}" and not {"inline", "cold"} & {it.text for it in self.out[mark:at]}:
+            self.insert(at, "#[inline]", "inline")
 
 
 # The grammar: `-` reads and writes nothing, `&` and `!` look ahead, `%` is a list with commas, a word in capitals is one of WORDS or `is_..`.
@@ -474,19 +659,23 @@ use       = visible? 'use' PREFIX ('{' leaf% '}' | leaf) ';'
 leaf      = NAME ('as' NAME)?
 module    = visible? 'mod' DECLARED ';'
 constant  = visible? 'const' CONSTANT ':' type ('=' expression)? ';'
-attribute = -('#' '[' ('tactic' | 'cycle') group ']') | '#' '[' 'derive' DERIVES ']' | -('#' '[' 'error' '(' ERROR ')' ']') | hint
+attribute = -('#' '[' ('tactic' | 'cycle') group ']') | '#' '[' 'derive' DERIVES ']' | -('#' '[' 'error' '(' ERROR ')' ']') | hint | lint
 hint      = '#' '[' ('inline' ('(' ('always' | 'never') ')')? | 'cold') ']'
+lint      = '#' '[' ('must_use' ('=' STR)? | 'non_exhaustive') ']'
 visible   = 'pub' ('(' SCOPE ')')?
 struct    = attribute* ALIGNED visible? 'struct' DECLARED generics ('{' named '}' | ('(' unnamed% ')')? ';')
 enum      = attribute* visible? 'enum' DECLARED generics '{' variant% '}'
 variant   = attribute* VARIANT ('{' named '}' | '(' unnamed% ')')? ('=' NUM)?
-named     = (ghost | attribute* visible? FIELD ':' type (',' | &'}'))*
+named     = (ghost | fielded)*
+fielded   = attribute* visible? FIELD ':' type (',' | &'}')
 unnamed   = attribute* visible? type
-impl      = attribute* 'impl' generics (TRAIT type 'for' OF)? type where OWNER members
+impl      = attribute* 'impl' generics (TRAIT type 'for' OF)? TARGET type where OWNER members
 trait     = attribute* visible? 'trait' DECLARED generics bounds where TRAIT_OWNER members
 members   = '{' member* '}'
 alias     = visible? 'type' CONSTANT generics ('=' type)? ';'
-member    = ghost | alias | constant | function
+member    = ghost | alias | constant | cloner | function
+cloner    = 'fn' &'clone' FUNCTION '(' &('&' 'self' ')') receiver ')' '->' -('Result' '<') 'Self' -(',' 'std' '::' 'alloc' '::' 'AllocError' '>') cloning
+cloning   = '{' -('Ok' '(') 'self' '.' &'again' METHOD '(' ')' -')' '}'
 function  = attribute* visible? CONST? 'fn' FUNCTION (writer | generics) '(' receiver? parameter% ')' arrow? where clause* (block | ';')
 writer    = -('<' 'W' ':' 'fmt' '::' 'Write' '>')
 receiver  = '&'? LIFE? 'mut'? 'self' (',' | &')')
@@ -494,7 +683,7 @@ parameter = pattern ':' type
 arrow     = '->' type
 where     = ('where' predicate*)?
 predicate = !(CLAUSE_WORD | '{' | ';') type bounds (',' | &'{' | &CLAUSE_WORD)
-clause    = -(CLAUSE_WORD '*'? NAME? CLAUSE)
+clause    = -(CALLABLE | CLAUSE_WORD '*'? NAME? CLAUSE)
 generics  = ('<' generic% '>')?
 generic   = 'const' BIND ':' type | (LIFE | BIND) bounds ('=' type)?
 bounds    = (':' (bound '+'?)*)?
@@ -507,7 +696,7 @@ argument  = LIFE | NUM | NAME '=' type | type
 pattern   = one ('|' one)*
 one       = ('&' | '&&') 'mut'? one | '_' | '..' | '(' pattern% ')' | '[' pattern% ']' | literal ('..=' literal)? | tagged | bind
 bind      = 'mut'? BIND ('@' one)?
-tagged    = TAG path (variant_of)?
+tagged    = TAG path OF_TYPE (variant_of)?
 variant_of = '(' pattern% ')' | '{' named_part% '}'
 named_part = '..' | NAME ':' pattern | 'mut'? BIND
 literal   = '-'? NUM | STR | CHAR | 'true' | 'false'
@@ -523,21 +712,24 @@ condition = expression
 expression = (range | operand) rest*
 range     = ('..=' | '..') operand
 operand   = ('-' | '!' | '*' | ('&' | '&&') 'mut'?)* primary
-rest      = '?' | '.' (NUM | method | NAME) | '(' inner% ')' | '[' index ']' | 'as' type | range | BINARY operand
-method    = METHOD ('::' arguments)? '(' inner% ')'
+rest      = '?' | '.' (NUM | method | NAME) | '(' passed% ')' | '[' index ']' | 'as' type | range | BINARY operand
+method    = METHOD turbofish? '(' passed% ')'
+turbofish = '::' arguments
+passed    = inner
 inner     = expression
 index     = '..' &']' | inner ('..' &']')?
 primary   = literal | '(' inner% ')' | '[' (inner ';' inner | inner%) ']' | compound_of | closure | let | leave | macro | value
 compound_of = if | match | loop | block
 let       = 'let' pattern '=' operand rest_of_let*
-rest_of_let = '?' | '.' (NUM | method | NAME) | '(' inner% ')' | '[' index ']'
+rest_of_let = '?' | '.' (NUM | method | NAME) | '(' passed% ')' | '[' index ']'
 leave     = ('return' | 'break') expression? | 'continue'
-closure   = 'move'? ('||' | '|' (one (':' type)?)% '|') (arrow clause* block | clause clause* block | expression)
+closure   = 'move'? ('||' | '|' closed% '|') (arrow clause* block | clause clause* block | expression)
+closed    = one (':' type)?
 value     = struct_of | path
-struct_of = STRUCT path '{' part% '}'
+struct_of = STRUCT path OF_TYPE '{' part% '}'
 part      = '..' NAME &'}' | (NAME | NUM) ':' inner | path
-path      = HEAD ('::' NAME)* ('::' arguments)?
-macro     = 'matches' '!' '(' inner ',' pattern ')' | 'unreachable' '!' '(' ')' | 'write' '!' '(' 'f' ',' STR ')' | proves
+path      = HEAD ('::' STEP)* turbofish?
+macro     = 'matches' '!' '(' inner ',' pattern ')' | 'unreachable' '!' '(' ')' | WRITE '!' '(' 'f' ',' STR ')' | proves
 proves    = 'prove_eq' '!' '(' read ',' read ')'
 read      = NUM | path ('.' (READER '(' ')' | NAME))*
 """
@@ -548,18 +740,23 @@ WORDS = {it.upper(): lambda r, it=it: r.look().kind == it and r.take() for it in
     "NAME": lambda r: r.look().kind == "id" and r.look().text not in KEYWORDS and r.take(),
     "UNTIL_SEMICOLON": lambda r: r.set("at", r.text.text.index(";", r.at)),
     "CLAUSE": lambda r: r.sees("{") and r.set("at", r.text.after_clause(r.look().start)),
-    "CLAUSE_WORD": lambda r: r.sees("requires", "ensures") and r.take(),
+    "CLAUSE_WORD": lambda r: r.sees("requires", "ensures") and r.set("requires", r.requires or r.sees("requires")) and r.take(),
+    "CALLABLE": lambda r: (found := OF_A_CLOSURE.match(r.text.text, r.look().start)) and r.set("at", found.end()),
     "SCOPE": lambda r: r.sees("crate", "super") and r.add("super", "visibility" if r.drop().text == "crate" else None),
     "FORMATTER": lambda r: r.imports.get("fmt") == "std::fmt" and r.add("'_"),
     "BIND": lambda r: r.word("NAME") and (r.names[-1].add(r.out[-1].text) or True),
     "FIELD": lambda r: r.word("NAME") and r.set("fields", [*r.fields, r.out[-1].text]),
     "CONSTANT": lambda r: r.note("other", r.look().text) and r.word("BIND"),
     "VARIANT": lambda r: r.note("other", r.look().text) and r.set("variant", r.look().text) and r.word("NAME"),
-    "FUNCTION": lambda r: r.note("function", r.look().text, (r.owner, "")) and (r.word("NAME") if r.owner else r.is_declared()),
+    "FUNCTION": lambda r: r.note("function", r.look().text, (r.owner, "")) and (r.is_step() if r.owner else r.is_declared()),
     "READER": lambda r: r.look(1).text == "(" and r.use("read", r.look().text) and r.word("NAME"),
     "ERROR": lambda r: r.set("error", r.look().text) and r.word("STR"),
     "TRAIT": lambda r: r.set("trait", "::".join(r.imports.get(it) or it for it in r.words()[0])),
-    "OF": lambda r: r.set("of", r.trait) and r.set("target", r.look().text),
+    "OF": lambda r: r.set("of", r.trait),
+    "CONST": lambda r: r.sees("const") and r.take() or (r.result, r.look(1).text) in CONSTANT and r.add("const", "const"),
+    "WRITE": lambda r: r.sees("write") and (r.take() if r.result != PADDED else r.drop() and r.add_padded()),
+    "TARGET": lambda r: r.set("target", r.look().text),
+    "OF_TYPE": lambda r: r.set("tag", r.target if r.out[-1].text == "Self" else r.out[-1].text),
     "OWNER": lambda r: r.set("owner", f"impl trait {r.of.split('::')[-1]}" if r.of else "impl"),
     "TRAIT_OWNER": lambda r: r.set("owner", f"trait {r.declared}"),
     "STRUCT": lambda r: not r.no_struct and r.words()[1] == "{" and r.words()[0][-1][:1].isupper(),
@@ -569,10 +766,11 @@ WORDS = {it.upper(): lambda r, it=it: r.look().kind == it and r.take() for it in
 # The rules whose names are their own, those that are read in another state, and what is noted of a form.
 SCOPES = set("module struct enum impl trait function closure arm block".split())
 STATES = {"condition": {"no_struct": True}, "inner": {"no_struct": False}, "block": {"no_struct": False, "owner": ""}}
-STATES |= {"impl": {"owner": "", "of": ""}, "trait": {"owner": ""}, "variant": {"error": "", "fields": []}}
+STATES |= {it: {"requires": False} for it in ("function", "closure")} | {it: {"tag": ""} for it in ("tagged", "struct_of")}
+STATES |= {"impl": {"owner": "", "of": "", "target": ""}, "trait": {"owner": ""}, "variant": {"error": "", "fields": []}}
 STATES |= {it: {"arms": "", "error": "", "errs": False} for it in ("struct", "enum")}
-NOTES = {"writer": ("count", "formatter"), "ghost": ("count", "(ghost members and imports)")}
-NOTES |= {"clause": ("count", "(clauses)"), "proves": ("add", "prove_eq")}
+NOTES = {"cloner": ("count", "clone"), "writer": ("count", "formatter"), "ghost": ("count", "(ghost members and imports)")}
+NOTES |= {"clause": ("count", "(clauses)"), "proves": ("add", "crate::kit::prove_eq")}
 
 
 def parsed(words):
@@ -622,11 +820,14 @@ def erase(top, crates):
             result = f"{folder.parent.name}/{'mod' if inside == 'lib' else inside}.rs"
             files.append((Text(path.read_text(), str(path.relative_to(top))), result))
     firsts = [Reader(text, result, unit).file() for text, result in files]
+    for reader, (_, result) in zip(firsts, files):
+        is_empty = not reader.out and any(it[:2] == ("fact", "ghost") for it in reader.log)
+        unit.learn(reader.log + [("fact", "empty", result.removesuffix(".rs"))] * is_empty)
     readers = [Reader(text, result, unit, first).file() for (text, result), first in zip(files, firsts)]
     for reader in readers:
         unit.collect(reader.log)
     unit.check()
-    made = {result: (text.name, reader.out) for (text, result), reader in zip(files, readers)}
+    made = {result: (text.name, it.out) for (text, result), it in zip(files, readers) if not it.knows("empty", it.result)}
     modules = LINTS + "".join(f" pub mod {it};" for it in crates)
     return made | {"mod.rs": ("crates.txt", Text(modules, "").tokens())}, unit
 

@@ -1,4 +1,4 @@
--- What a fault prints.
+-- What a fault prints, and which one stands for another.
 use Rattle.std.specs.Prelude.{ℕ, List, ◌++◌, codes}
 use Rattle.std.specs.Fmt.{decimal}
 use Rattle.ent_alloc.specs.declared.fault.AllocFault.{AllocFault}
@@ -6,6 +6,10 @@ use Rattle.ent_alloc.specs.declared.fault.AllocFault.TheVariants as alloc
 use Rattle.ent_alloc.specs.declared.fault.FreeFault.{FreeFault}
 use Rattle.ent_alloc.specs.declared.fault.FreeFault.TheVariants as free
 use Rattle.ent_alloc.specs.declared.space.Space.{Space}
+use Rattle.ent_alloc.specs.declared.refused.Refused.{Refused}
+use Rattle.ent_alloc.specs.declared.refused.Refused.TheVariants as refused
+use Rattle.ent_alloc.specs.declared.reserve_error.ReserveError.{ReserveError}
+use Rattle.ent_alloc.specs.declared.reserve_error.ReserveError.TheVariants as reserve
 
 abbrev pub alloc_fault_text : AllocFault → List ℕ
 alloc_fault_text alloc.NeedsFlush = codes "a flush is needed first"
@@ -19,3 +23,8 @@ free_fault_text free.Memory = codes "out of memory"
 
 abbrev pub space_text : Space → List ℕ
 space_text s = decimal s.wanted ++ (codes " wanted and " ++ (decimal s.left ++ codes " left"))
+
+-- a refusal among the faults of what keeps in a list what it reserves
+abbrev pub as_reserve_error : Refused → ReserveError
+as_reserve_error (refused.Space wanted left) = reserve.Space wanted left
+as_reserve_error (refused.Quota left) = reserve.Quota left

@@ -9,14 +9,15 @@ use Rattle.std.proofs.lemmas.List.Sums.{sum_by-append, sum_by-cons}
 use Rattle.ent_handle.specs.Handle.{Handle}
 use Rattle.ent_alloc.specs.Sequential.{listed_alone}
 use Rattle.ent_shared.specs.declared.record.Record.{Record}
-use Rattle.ent_shared.specs.declared.refused.Refused.{Refused as Refusal}
-use Rattle.ent_shared.specs.declared.refused.Refused.TheVariants.{Quota, Space}
+use Rattle.ent_alloc.specs.declared.refused.Refused.{Refused as Refusal}
+use Rattle.ent_alloc.specs.declared.refused.Refused.TheVariants.{Quota, Space}
 use Rattle.ent_shared.specs.Phase.{Shared, Reserver}
 use Rattle.ent_shared.specs.Record.{after_reservation, reservation_at}
 use Rattle.ent_shared.specs.Replies.{Reserves}
 use Rattle.ent_queue.specs.Command.{Command, Refused, HasRange, IsRefusal}
 use Rattle.ent_queue.specs.Reserving.{stands_for, cost, FitsCredit, FitCredit, Gains, IsReturned}
-use Rattle.ent_queue.specs.Reserving.{as_fault, refused_by}
+use Rattle.ent_queue.specs.Reserving.{refused_by}
+use Rattle.ent_alloc.specs.Fault.{as_reserve_error}
 use Rattle.std.proofs.lemmas.List.{map-append}
 use Rattle.ent_shared.specs.declared.record.Reservation.{Reservation}
 
@@ -115,5 +116,5 @@ pub is_refusal : (shared : Shared) (before after : Reserver) (n : ℕ) (why : Re
     → IsReturned shared before after n (Err why) → HasRange why → IsRefusal n why
 is_refusal shared before after n it replied range = grind (arith, common_steps)
 
-pub refused_by_fault : (n : ℕ) (why : Refusal) → refused_by n (as_fault why) ≡ Refused n why ∷ []
+pub refused_by_fault : (n : ℕ) (why : Refusal) → refused_by n (as_reserve_error why) ≡ Refused n why ∷ []
 refused_by_fault n it = search rules

@@ -6,18 +6,19 @@ use Rattle.std.proofs.lemmas.Grind.{common_steps}
 use Rattle.ent_handle.specs.Handle.{Handle}
 use Rattle.ent_handle.specs.declared.memory.Memory.{Memory}
 use Rattle.ent_shared.specs.declared.record.Record.{Record}
-use Rattle.ent_shared.specs.declared.refused.Refused.{Refused as Refusal}
+use Rattle.ent_alloc.specs.declared.refused.Refused.{Refused as Refusal}
 use Rattle.ent_shared.specs.Phase.{Shared, Reserver}
 use Rattle.ent_alloc.specs.Sequential.{listed_alone}
-use Rattle.ent_queue.specs.declared.fault.QueueFault.{QueueFault}
-use Rattle.ent_queue.specs.declared.fault.QueueFault.TheVariants as fault
+use Rattle.ent_alloc.specs.declared.reserve_error.ReserveError.{ReserveError as QueueFault}
+use Rattle.ent_alloc.specs.declared.reserve_error.ReserveError.TheVariants as fault
 use Rattle.ent_storage.specs.Bundle.{Bundle}
 use Rattle.ent_queue.specs.Command.{Command, Spawn, SpawnMany, Refused}
 use Rattle.ent_queue.specs.Commands.{Issued, IsReady, Extends, queue_of, reserver_of, shared_of}
 use Rattle.ent_queue.specs.Reserving.{stands_for, FitsCredit, Gains, IsReturned, queued, as_list}
-use Rattle.ent_queue.specs.Reserving.{refused_by, as_fault}
+use Rattle.ent_queue.specs.Reserving.{refused_by}
+use Rattle.ent_alloc.specs.Fault.{as_reserve_error}
 use Rattle.ent_queue.proofs.Gaining.{gains_nothing, gains_none, served_gains, refused_gains}
-use Rattle.ent_shared.specs.declared.refused.Refused.TheVariants.{Space, Quota}
+use Rattle.ent_alloc.specs.declared.refused.Refused.TheVariants.{Space, Quota}
 
 -- the commands that a call added, and that the record has gained them
 pub record Added (old new : List Command) (before after : Record) : Type 0 where
@@ -81,7 +82,7 @@ module _ (shared : Shared) (before after : Reserver) (old new : List Command) wh
       }
   added_spawn items (Err f) ok refused memory replied =
       added_refusal 1 f refused (λ e. memory (ap Err e))
-      (λ why e. replied (Err why) (ap Err (same_fault f (as_fault why) e)))
+      (λ why e. replied (Err why) (ap Err (same_fault f (as_reserve_error why) e)))
 
   pub added_many : (n : ℕ) (items : Bundle) (result : Result (Vec Handle Global) QueueFault)
       → IfOk result (λ hs. new ≡ old ++ SpawnMany hs.items items ∷ [])

@@ -6,7 +6,7 @@ use Rattle.std.specs.List.{All, flat_map}
 use Rattle.std.proofs.lemmas.List.Elements.{All-head, All-tail}
 use Rattle.std.proofs.Math.Seq.{drop-append_seam}
 use Rattle.ent_handle.specs.Handle.{Handle, IsHandle, bits}
-use Rattle.ent_shared.specs.declared.refused.Refused.{Refused as Refusal}
+use Rattle.ent_alloc.specs.declared.refused.Refused.{Refused as Refusal}
 use Rattle.ent_storage.specs.Bundle.{Bundle, IsBundle}
 use Rattle.ent_queue.specs.Command.{Command, IsRefusal, IsCommand, Spawn, SpawnMany, Insert, Remove}
 use Rattle.ent_queue.specs.Command.{Despawn, Refused}
@@ -20,7 +20,7 @@ use Rattle.ent_queue.proofs.Numbers.{unpacked_handle-bytes, length-bytes_4, leng
 use Rattle.ent_queue.proofs.Parts.{length-handles, unpacked_handles-bytes, drop-handles}
 use Rattle.ent_queue.proofs.Parts.{BundleBegins, bundle_begins}
 use Rattle.ent_storage.proofs.Few.{few_items}
-use Rattle.ent_shared.specs.declared.refused.Refused.TheVariants.{Space, Quota}
+use Rattle.ent_alloc.specs.declared.refused.Refused.TheVariants.{Space, Quota}
 
 -- What the parts after the byte for a kind say: a handle and a bundle, many handles and a bundle,
 -- and a refusal.

@@ -4,8 +4,8 @@ use Rattle.std.specs.List.{All}
 use Rattle.ent_handle.specs.declared.component.ComponentId.{ComponentId}
 use Rattle.ent_handle.specs.Handle.{Handle, IsHandle}
 use Rattle.ent_storage.specs.Bundle.{Bundle, IsBundle}
-use Rattle.ent_shared.specs.declared.refused.Refused.{Refused as Refusal}
-use Rattle.ent_shared.specs.declared.refused.Refused.TheVariants.{Space, Quota}
+use Rattle.ent_alloc.specs.declared.refused.Refused.{Refused as Refusal}
+use Rattle.ent_alloc.specs.declared.refused.Refused.TheVariants.{Space, Quota}
 
 -- Spawn and SpawnMany give what was reserved its components, Insert sets components of an entity,
 -- Remove takes one away, Despawn takes the entity. Refused stands for a request that was

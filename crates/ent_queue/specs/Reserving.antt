@@ -8,12 +8,13 @@ use Rattle.ent_alloc.specs.declared.space.Space.{Space as OutOfSpace}
 use Rattle.ent_shared.specs.declared.record.Reservation.{Reservation}
 use Rattle.ent_shared.specs.declared.record.RecordEntry.TheVariants.{Own}
 use Rattle.ent_shared.specs.declared.record.Record.{Record}
-use Rattle.ent_shared.specs.declared.refused.Refused.{Refused as Refusal}
-use Rattle.ent_shared.specs.declared.refused.Refused.TheVariants.{Space, Quota}
+use Rattle.ent_alloc.specs.declared.refused.Refused.{Refused as Refusal}
+use Rattle.ent_alloc.specs.declared.refused.Refused.TheVariants.{Space, Quota}
 use Rattle.ent_shared.specs.Phase.{Shared, Reserver}
 use Rattle.ent_shared.specs.Replies.{Reserves}
-use Rattle.ent_queue.specs.declared.fault.QueueFault.{QueueFault}
-use Rattle.ent_queue.specs.declared.fault.QueueFault.TheVariants as fault
+use Rattle.ent_alloc.specs.declared.reserve_error.ReserveError.{ReserveError as QueueFault}
+use Rattle.ent_alloc.specs.declared.reserve_error.ReserveError.TheVariants as fault
+use Rattle.ent_alloc.specs.Fault.{as_reserve_error}
 use Rattle.ent_queue.specs.Command.{Command, Spawn, SpawnMany, Insert, Remove, Despawn, Refused}
 
 -- the reservations for which a command stands: how many handles were requested, and the reply
@@ -60,15 +61,10 @@ pub record Gains (before : Record) (commands : List Command) (after : Record) : 
   pub left : after.left + sum_by cost commands ≡ before.left
   pub within : FitCredit before.left commands
 
--- a refusal as a fault of the queue
-abbrev pub as_fault : Refusal → QueueFault
-as_fault (Space wanted left) = fault.Space wanted left
-as_fault (Quota left) = fault.Quota left
-
 -- the result of a reservation as the queue hands it on
 abbrev pub queued : {X : Type 0} → Result X Refusal → Result X QueueFault
 queued (Ok x) = Ok x
-queued (Err why) = Err (as_fault why)
+queued (Err why) = Err (as_reserve_error why)
 
 -- the same with the handles in a vector
 abbrev pub as_list : Result (Vec Handle Global) QueueFault → Result (List Handle) QueueFault

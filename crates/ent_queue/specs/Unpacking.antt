@@ -6,8 +6,8 @@ use Rattle.std.specs.Int.{w16, w32, w64, cast_signed, from_le_bytes}
 use Rattle.std.specs.Simd.{first_chunks}
 use Rattle.ent_handle.specs.declared.component.ComponentId.{ComponentId}
 use Rattle.ent_handle.specs.Handle.{Handle}
-use Rattle.ent_shared.specs.declared.refused.Refused.{Refused as Refusal}
-use Rattle.ent_shared.specs.declared.refused.Refused.TheVariants.{Space, Quota}
+use Rattle.ent_alloc.specs.declared.refused.Refused.{Refused as Refusal}
+use Rattle.ent_alloc.specs.declared.refused.Refused.TheVariants.{Space, Quota}
 use Rattle.ent_storage.specs.Bundle.{Bundle}
 use Rattle.ent_queue.specs.Command.{Command, Spawn, SpawnMany, Insert, Remove, Despawn}
 use Rattle.ent_queue.specs.Command.{Refused, IsCommand}

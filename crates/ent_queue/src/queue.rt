@@ -1,7 +1,7 @@
 ghost use Rattle.std.specs.Prelude.{◌≡◌, ◌↔◌, ◌++◌, ◌∷◌, [], length, IsTrue, OnOk, OnErr};
 ghost use Rattle.std.specs.Prelude.{IfOk, IfErr, IsErrOf, Result, List, All};
 ghost use Rattle.ent_handle.specs.Handle.{Handle as HandleValue};
-ghost use Rattle.ent_shared.specs.declared.refused.Refused.{Refused as Refusal};
+ghost use Rattle.ent_alloc.specs.declared.refused.Refused.{Refused as Refusal};
 ghost use Rattle.ent_shared.specs.Phase.{IsOf};
 ghost use Rattle.ent_alloc.specs.Sequential.{listed_alone};
 ghost use Rattle.ent_storage.specs.Bundle.{IsBundle};
@@ -10,11 +10,11 @@ ghost use Rattle.ent_queue.specs.Command.{Spawn, SpawnMany, Insert, Remove, Desp
 ghost use Rattle.ent_queue.specs.Packing.{queue_bytes};
 
 use crate::entries::Entries;
-use crate::fault::QueueFault;
 use crate::kind::{INSERT, SPAWN};
 use crate::writing::{
     write_bundle, write_despawn, write_many, write_refused, write_remove, write_with_bundle,
 };
+use ent_alloc::ReserveError as QueueFault;
 use ent_handle::{ComponentId, Handle, Memory};
 use ent_shared::{Reserver, Shared};
 use std::alloc::Global;

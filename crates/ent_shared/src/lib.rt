@@ -5,15 +5,14 @@
 mod phase;
 mod plays;
 mod record;
-mod refused;
 mod reserver;
 mod rule;
 pub mod seats;
 mod shared;
 mod word;
 
+pub use ent_alloc::Refused;
 pub use phase::share;
 pub use record::{Record, RecordEntry, Reservation, Start};
-pub use refused::Refused;
 pub use reserver::Reserver;
 pub use shared::Shared;

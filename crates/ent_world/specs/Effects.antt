@@ -5,8 +5,8 @@ use Rattle.ent_handle.specs.declared.birth.Birth.{Birth}
 use Rattle.ent_handle.specs.declared.component.ComponentId.{ComponentId}
 use Rattle.ent_handle.specs.Handle.{Handle}
 use Rattle.ent_alloc.specs.Sequential.{after_alloc, after_free}
-use Rattle.ent_shared.specs.declared.refused.Refused.{Refused as Refusal}
-use Rattle.ent_shared.specs.declared.refused.Refused.TheVariants as refusal
+use Rattle.ent_alloc.specs.declared.refused.Refused.{Refused as Refusal}
+use Rattle.ent_alloc.specs.declared.refused.Refused.TheVariants as refusal
 use Rattle.ent_storage.specs.Components.{with_items}
 use Rattle.ent_storage.specs.EntityMap.{Entity, with_components}
 use Rattle.ent_storage.specs.Bundle.{Bundle}

@@ -19,7 +19,7 @@ use Rattle.ent_alloc.specs.History.{Call, IsLegal, after_history}
 use Rattle.ent_alloc.proofs.FreshHandles.{length-fresh}
 use Rattle.ent_alloc.proofs.ListLaws.{All-left, All-right}
 use Rattle.ent_alloc.proofs.Taken.{after_take-served}
-use Rattle.ent_shared.specs.declared.refused.Refused.TheVariants as refusal
+use Rattle.ent_alloc.specs.declared.refused.Refused.TheVariants as refusal
 use Rattle.ent_queue.specs.Command.{Command, Refused}
 use Rattle.ent_queue.specs.Reserving.{stands_for, cost, FitsCredit, FitCredit}
 use Rattle.ent_world.specs.Effects.{applied}

@@ -9,7 +9,7 @@ use Rattle.std.specs.List.{flat_map}
 use Rattle.std.proofs.lemmas.List.Elements.{All-nil, All-cons, All-head}
 use Rattle.ent_handle.specs.Handle.{Handle}
 use Rattle.ent_alloc.proofs.ListLaws.{All-left, All-right}
-use Rattle.ent_shared.specs.declared.refused.Refused.TheVariants as refusal
+use Rattle.ent_alloc.specs.declared.refused.Refused.TheVariants as refusal
 use Rattle.ent_queue.specs.Command.{Command, Refused}
 use Rattle.ent_world.specs.declared.fault.Fault.{Fault}
 use Rattle.ent_world.specs.declared.fault.FaultKind.{FaultKind}

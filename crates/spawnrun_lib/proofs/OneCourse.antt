@@ -20,7 +20,7 @@ use Rattle.ent_alloc.specs.Sequential.{Allocator, reply_to}
 use Rattle.ent_alloc.specs.History.{Call}
 use Rattle.ent_alloc.proofs.ListLaws.{filter_all}
 use Rattle.ent_alloc.proofs.PoolLaw.{reply-none}
-use Rattle.ent_shared.specs.declared.refused.Refused.TheVariants.{Space, Quota}
+use Rattle.ent_alloc.specs.declared.refused.Refused.TheVariants.{Space, Quota}
 use Rattle.ent_storage.proofs.OneList.{one_list_with}
 use Rattle.ent_queue.specs.Command.{Command, Spawn, SpawnMany, Refused}
 use Rattle.ent_world.specs.World.{World}

@@ -13,13 +13,19 @@ impl Walk<'_> {
         Ok(self.source.partner(open) + 1)
     }
 
-    /// The attributes of an item. Returns whether its error messages are derived.
-    pub(crate) fn attributes(&mut self, at: usize, end: usize) -> Result<bool, Fault> {
+    /// The attributes of an item, of which a derive gets these names more. Returns whether the item's error
+    /// messages are derived.
+    pub(crate) fn attributes(
+        &mut self,
+        at: usize,
+        end: usize,
+        added: &[&str],
+    ) -> Result<bool, Fault> {
         let mut at = at;
         let mut derives_error = false;
         while at < end {
             let next = self.after_attribute(at)?;
-            derives_error |= self.attribute(at, next, derives_error)?;
+            derives_error |= self.attribute(at, next, derives_error, added)?;
             at = next;
         }
         Ok(derives_error)
@@ -35,7 +41,7 @@ impl Walk<'_> {
         let mut at = at;
         while at < end {
             let next = self.after_attribute(at)?;
-            self.attribute(at, next, derives_error)?;
+            self.attribute(at, next, derives_error, &[])?;
             at = next;
         }
         Ok(())
@@ -47,6 +53,7 @@ impl Walk<'_> {
         at: usize,
         end: usize,
         derives_error: bool,
+        added: &[&str],
     ) -> Result<bool, Fault> {
         let name = at + 2 + usize::from(self.source.at(at + 1) == "!");
         let word = self.source.at(name);
@@ -55,14 +62,16 @@ impl Walk<'_> {
             return Ok(false);
         }
         if word == "derive" {
-            return self.derive(at, name, end);
+            return self.derive(at, name, end, added);
         }
         if word == "error" && derives_error {
             self.cut_lines(at, end)?;
             return Ok(false);
         }
         let text: String = (name..end - 1).map(|at| self.source.at(at)).collect();
-        if forms::KEPT_ATTRIBUTES.contains(&text.as_str()) {
+        // `must_use` may say why.
+        let says_why = self.source.at(name) == "must_use" && self.source.at(name + 1) == "=";
+        if forms::KEPT_ATTRIBUTES.contains(&text.as_str()) || says_why {
             return Ok(false);
         }
         Err(self
@@ -70,8 +79,15 @@ impl Walk<'_> {
             .fault(at, format!("an unknown attribute: `{text}`")))
     }
 
-    /// `#[derive(..)]`, with the word at `name`. Returns whether it derives error messages.
-    fn derive(&mut self, at: usize, name: usize, end: usize) -> Result<bool, Fault> {
+    /// `#[derive(..)]`, with the word at `name`, which gets these names more. Returns whether it derives error
+    /// messages.
+    fn derive(
+        &mut self,
+        at: usize,
+        name: usize,
+        end: usize,
+        added: &[&str],
+    ) -> Result<bool, Fault> {
         self.expect(name + 1, "(")?;
         let names: Vec<&str> = (name + 2..self.source.partner(name + 1))
             .map(|at| self.source.at(at))
@@ -86,20 +102,31 @@ impl Walk<'_> {
                     .fault(at, format!("an unknown derive: `{name}`")));
             }
         }
-        if names.contains(&"Clone") && !names.contains(&"Copy") {
+        if names.contains(&"Clone") && !names.contains(&"Copy") && !self.is_of_copies(end) {
             let what = "`Clone` without `Copy`, which may fail in the kit and not in Rust";
             return Err(self.source.fault(at, what));
         }
         let kept = names
             .iter()
             .filter(|name| forms::KEPT_DERIVES.contains(name));
-        let kept: Vec<&str> = kept.copied().collect();
+        let kept: Vec<&str> = kept.chain(added).copied().collect();
         if kept.is_empty() {
             self.cut_lines(at, end)?;
-        } else if kept.len() < names.len() {
+        } else if kept.len() != names.len() || !added.is_empty() {
             self.replace(at, end, format!("#[derive({})]", kept.join(", ")));
         }
         Ok(names.contains(&forms::ERROR_DERIVE))
+    }
+
+    /// Whether each field of the type that comes after this place can be copied.
+    fn is_of_copies(&self, at: usize) -> bool {
+        let mut words = (at..).take_while(|at| self.source.at(*at) != "{");
+        let of = words
+            .find(|at| self.source.at(*at) == "struct")
+            .map(|at| self.source.at(at + 1));
+        forms::OF_COPIES
+            .iter()
+            .any(|it| it.0 == self.krate && Some(it.1) == of)
     }
 
     /// The place after the visibility that begins here.

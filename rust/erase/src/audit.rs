@@ -4,11 +4,16 @@
 //! side. Where they differ, the source's have to be ghost, or one of the two has to be in the short
 //! list of what is put in place of what. So nothing can be lost, as code that went into a comment,
 //! nor be added. Then it does the same with the comments: those of the result are those of the source,
-//! but for what stood at ghost items, and the clauses.
+//! but for what stood at ghost items, and the clauses. A clause in docs is one of the next function. And no
+//! more than the package itself may call a function with a condition.
 
 mod changes;
 mod comments;
+mod docs;
+mod ghost_types;
 mod messages;
+mod rights;
+mod visible;
 
 use crate::forms;
 use crate::lex::Kind;
@@ -32,11 +37,12 @@ pub fn audit(
         result,
         krate,
         names,
-        changes: changes(krate, names),
+        changes: changes(krate, source.path, names),
         at: 0,
         out: 0,
         is_ghost: vec![false; source.len()],
         is_clause: vec![false; source.len()],
+        contracts: Vec::new(),
     };
     while audit.at < source.len() || audit.out < result.len() {
         audit.step()?;
@@ -59,6 +65,8 @@ struct Audit<'a> {
     is_ghost: Vec<bool>,
     /// Those of them that are clauses.
     is_clause: Vec<bool>,
+    /// For each clause its first token, and the token of the result that comes after it.
+    contracts: Vec<(usize, usize)>,
 }
 
 impl Audit<'_> {
@@ -76,12 +84,27 @@ impl Audit<'_> {
             self.out = end;
             return Ok(());
         }
+        if self.has_to_be_narrow() {
+            return self.narrowed();
+        }
+        if let Some(len) = self.renamed(self.out) {
+            self.at += len;
+            self.out += len;
+            return Ok(());
+        }
         if let Some((from, to)) = self.changed() {
             self.at += from;
             self.out += to;
             return Ok(());
         }
         let (from, to) = (self.source.at(self.at), self.result.at(self.out));
+        if from == to && self.keeps_call_of_list() {
+            let what = format!(
+                "a call of a list that stays: `{}`",
+                self.source.at(self.at + 1)
+            );
+            return Err(self.source.fault(self.at, what));
+        }
         if from == to {
             self.at += 1;
             self.out += 1;
@@ -95,6 +118,9 @@ impl Audit<'_> {
     fn ghost_end(&mut self) -> Option<usize> {
         let (source, at) = (self.source, self.at);
         let starts = |tokens: &[&str]| source.has(at, tokens);
+        if let Some(end) = self.ghost_type_end() {
+            return Some(end);
+        }
         match source.at(at) {
             "pub" if starts(&["pub", "ghost"]) => self.ghost_item_end(),
             "ghost" => self.ghost_item_end(),
@@ -102,6 +128,7 @@ impl Audit<'_> {
                 let open = source.find(at, source.len(), &["{"])?;
                 let end = source.partner(open) + 1;
                 self.is_clause[at..end].fill(true);
+                self.contracts.push((at, self.out));
                 Some(end)
             }
             "impl" => self.ghost_impl_end(),
@@ -115,7 +142,7 @@ impl Audit<'_> {
             ":" if starts(&[":", "Drop", "+"]) => None,
             ":" | "+" if starts(&[":", "Drop"]) || starts(&["+", "Drop"]) => Some(at + 2),
             "Drop" if starts(&["Drop", "+"]) => Some(at + 2),
-            _ => None,
+            _ => self.right_end(),
         }
     }
 
@@ -135,8 +162,11 @@ impl Audit<'_> {
             .map(|import| self.at + import.len())
     }
 
-    /// The end of an `impl` of a ghost trait.
+    /// The end of an `impl` of a ghost trait, or of one that is derived in the result.
     fn ghost_impl_end(&self) -> Option<usize> {
+        if let Some(end) = self.equality_end() {
+            return Some(end);
+        }
         let open = self.source.find(self.at, self.source.len(), &["{"])?;
         let header = self.at..open;
         let is_of = |at: usize| {
@@ -146,6 +176,30 @@ impl Audit<'_> {
             .into_iter()
             .any(is_of)
             .then(|| self.source.partner(open) + 1)
+    }
+
+    /// The end of an `impl` of the equality of a struct in whose place the result has a derive. Beside ghost members
+    /// it has nothing, or the comparison of the field.
+    fn equality_end(&self) -> Option<usize> {
+        let own = forms::COMPARED.iter().filter(|it| it.krate == self.krate);
+        let mut ends = own.filter_map(|it| {
+            let trait_at = forms::EQUALITY.iter().position(|name| {
+                let header = pieces(&format!("impl {name} for {} {{", it.name));
+                has(self.source, self.at, &header)
+            });
+            let close = self.source.partner(self.at + 4);
+            let mut next = self.at + 5;
+            while trait_at.is_some() && self.source.at(next) == "ghost" {
+                next = self.source.find(next, close, &[";"])? + 1;
+            }
+            let body = pieces(&it.body());
+            let is_same = match forms::EQUALITY[trait_at?] {
+                "PartialEq" => has(self.source, next, &body) && next + body.len() == close,
+                _ => next == close,
+            };
+            is_same.then_some(close + 1)
+        });
+        ends.next()
     }
 
     /// The end of an attribute for the prover, of a message, or of a derive of which nothing stays.
@@ -160,12 +214,16 @@ impl Audit<'_> {
         is_ghost.then(|| self.source.partner(open) + 1)
     }
 
-    /// What stays of the derive whose `[` stands here in the source.
+    /// What stays of the derive whose `[` stands here in the source, and what comes to it.
     fn kept_derives(&self, open: usize) -> Vec<&str> {
         let names = (open + 3..self.source.partner(open)).map(|at| self.source.at(at));
-        names
-            .filter(|name| forms::KEPT_DERIVES.contains(name))
-            .collect()
+        let kept = names.filter(|name| forms::KEPT_DERIVES.contains(name));
+        let end = self.source.partner(open) + 1;
+        let name = end + 1 + usize::from(self.source.at(end) == "pub");
+        let is_compared = self.source.at(name - 1) == "struct"
+            && forms::compared(self.krate, self.source.at(name)).is_some();
+        let added = if is_compared { forms::EQUALITY } else { &[] };
+        kept.chain(added.iter().copied()).collect()
     }
 
     /// The end of what was added to the result here, if something was.
@@ -202,11 +260,33 @@ impl Audit<'_> {
         Ok(None)
     }
 
+    /// How many tokens a function's name takes with the `fn` or the type before it, if the result has the package's
+    /// name of it at this place.
+    fn renamed(&self, out: usize) -> Option<usize> {
+        let (source, at) = (self.source, self.at);
+        let mut all = forms::RENAMED_FUNCTIONS.iter();
+        let is_renamed = |it: &&forms::RenamedFunction| {
+            if ![source.at(at + 1), source.at(at + 2)].contains(&it.from) {
+                return false;
+            }
+            let of = (0..at).rev().find(|at| source.at(*at) == "impl");
+            let is_own = it.krate == self.krate && of.is_some_and(|of| source.at(of + 1) == it.of);
+            let owner = source.at(at);
+            is_own && source.has(at, &["fn", it.from]) && self.result.has(out, &["fn", it.to])
+                || (owner == it.of || is_own && owner == "Self")
+                    && source.has(at + 1, &["::", it.from])
+                    && self.result.has(out, &[owner, "::", it.to])
+        };
+        let renamed = all.find(is_renamed);
+        renamed.map(|_| if source.at(at) == "fn" { 2 } else { 3 })
+    }
+
     /// Whether the result has a `const` here, before a function that is `const` in the package alone.
     fn is_added_const(&self) -> bool {
         let (name, path) = (self.source.at(self.at + 1), self.source.path);
         self.source.at(self.at) == "fn"
-            && self.result.has(self.out, &["const", "fn", name])
+            && (self.result.has(self.out, &["const", "fn", name])
+                || self.result.at(self.out) == "const" && self.renamed(self.out + 1).is_some())
             && forms::is_constant(self.krate, path, name)
     }
 
@@ -235,7 +315,10 @@ impl Audit<'_> {
                 .map(|import| import.path);
             named.chain(forms.renamed.iter().map(|renamed| renamed.import))
         });
+        let padding = forms::is_padded(self.krate, self.source.path).then_some(forms::PADDING);
         imports
+            .chain(padding)
+            .chain([forms::LIST_TRAIT])
             .map(|path| pieces(&format!("use {path};")))
             .find(|line| has(self.result, self.out, line))
             .map(|line| line.len())

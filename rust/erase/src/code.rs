@@ -35,6 +35,10 @@ impl Walk<'_> {
 
     /// One token of code, and what belongs to it.
     pub(crate) fn code_token(&mut self, at: usize) -> Next {
+        if let Some(end) = self.gone_end(at) {
+            self.take_out_part(at, end);
+            return Ok(end);
+        }
         let token = self.source.at(at);
         match self.source.token(at).kind {
             Kind::Word => return self.word(at),
@@ -52,7 +56,7 @@ impl Walk<'_> {
                 if !is_ghost && !["#", "const", "fn", "pub", "use"].contains(&self.source.at(end)) {
                     return Err(self.source.fault(at, "an attribute of code"));
                 }
-                self.attribute(at, end, false)?;
+                self.attribute(at, end, false, &[])?;
                 Ok(end)
             }
             ".." => self.range(at),
@@ -217,7 +221,10 @@ impl Walk<'_> {
     fn macro_call(&mut self, at: usize) -> Next {
         let name = self.source.at(at);
         let mut lists = self.names.forms.iter();
-        if let Some(import) = lists.find_map(|forms| imported(forms.macros, name)) {
+        if name == "write" && forms::is_padded(self.krate, self.source.path) {
+            self.replace(at, at + 1, "padded");
+            self.import(at, forms::PADDING)?;
+        } else if let Some(import) = lists.find_map(|forms| imported(forms.macros, name)) {
             self.import(at, import)?;
         } else if !self
             .names
@@ -270,13 +277,35 @@ impl Walk<'_> {
     fn name(&mut self, at: usize) -> Next {
         let name = self.source.at(at);
         if !["::", "."].contains(&self.source.before(at)) {
+            self.check_right(at)?;
+            let is_ghost = self.names.ghost_traits.contains(name);
+            if is_ghost || self.types.is_ghost(self.source, at) {
+                let what = format!("an unknown form of a ghost type: `{name}`");
+                return Err(self.source.fault(at, what));
+            }
             self.need(at)?;
             let is_field = self.source.at(at + 1) == ":";
             if !is_field && !self.is_known(name) {
                 return Err(self.unknown_name(at));
             }
         }
+        self.rename_call(at);
         Ok(at + 1)
+    }
+
+    /// The right to allocate is handed on in known forms alone.
+    fn check_right(&self, at: usize) -> Result<(), Fault> {
+        let name = self.source.at(at);
+        let has_right = match self.rights.has(self.source, at) {
+            _ if name == forms::RIGHT => true,
+            None => self.names.fields.has(name) || name == "alloc",
+            Some(has_right) => has_right,
+        };
+        if has_right {
+            let what = format!("an unknown form of the right to allocate: `{name}`");
+            return Err(self.source.fault(at, what));
+        }
+        Ok(())
     }
 
     pub(crate) fn unknown_name(&self, at: usize) -> Fault {
@@ -314,16 +343,22 @@ impl Walk<'_> {
         if self.source.has(open, &["::", "<"]) {
             open = self.source.after_angles(open + 1)?;
         }
+        let name = self.source.at(at);
         if self.source.at(open) != "(" {
+            if self.names.fields.has(name) {
+                let what = format!("an unknown form of the right to allocate: `.{name}`");
+                return Err(self.source.fault(at, what));
+            }
             return Ok(at + 1);
         }
-        let name = self.source.at(at);
         if let Some(renamed) = self.renamed(name, open + 1) {
             self.replace(at, at + 1, renamed.to);
             self.import(at, renamed.import)?;
             return Ok(at + 1);
         }
-        self.check_sorting(at, open)?;
+        if let Some(end) = self.list_call(at, open)? {
+            return Ok(end);
+        }
         let is_known = |forms: &&Forms| forms.methods.contains(&name);
         if self.names.forms.iter().any(is_known) {
             return Ok(at + 1);
@@ -341,25 +376,8 @@ impl Walk<'_> {
             .fault(at, format!("an unknown method, or form of it: `{name}`")))
     }
 
-    /// A slice's own `sort_by_key` ends the program if memory runs out, and returns nothing. So the result of a call
-    /// of that name must be used, or its list must be declared as one.
-    fn check_sorting(&self, at: usize, open: usize) -> Result<(), Fault> {
-        let name = self.source.at(at);
-        let is_used = ["?", "."].contains(&self.source.at(self.source.partner(open) + 1));
-        if !forms::SORTING.contains(&name) || is_used {
-            return Ok(());
-        }
-        let list = self.source.before(at - 1);
-        let declared = [list, ":", "&", "mut", "Vec", "<"];
-        if (0..self.source.len()).any(|at| self.source.has(at, &declared)) {
-            return Ok(());
-        }
-        let what = format!("a `{name}` that may be a slice's own");
-        Err(self.source.fault(at, what))
-    }
-
     /// An import from the kit goes to the top of the file, so a module within the file must have none.
-    fn import(&mut self, at: usize, path: &'static str) -> Result<(), Fault> {
+    pub(crate) fn import(&mut self, at: usize, path: &'static str) -> Result<(), Fault> {
         if self.is_module {
             let what = format!(
                 "a name of the kit in a module within a file: `{}`",
@@ -375,6 +393,7 @@ impl Walk<'_> {
     fn renamed(&self, name: &str, at: usize) -> Option<&'static Renamed> {
         let fits = |argument: &&[&str]| match argument {
             ["\""] => self.source.at(at).starts_with('"'),
+            _ if *argument == forms::OF_RIGHT => self.rights.gone.contains_key(&at),
             _ => self.source.has(at, argument),
         };
         let mut all = self.names.forms.iter().flat_map(|forms| forms.renamed);

@@ -11,18 +11,24 @@ pub const GHOST_MEMBERS: &[&str] = &[
     "eq",
     "first",
     "from_gives",
+    "hash_input",
     "holds",
     "invariant",
     "inverse",
+    "inverse_ok",
+    "is_clone",
     "is_default",
+    "is_infallible",
     "laws",
     "left",
     "matches_eq",
     "matches_partial_cmp",
+    "next_back_gives",
     "next_gives",
     "output",
     "partial_cmp",
     "remaining",
+    "respects_eq",
     "right",
     "spent",
     "then",
@@ -40,6 +46,18 @@ pub const GHOST_TRAITS: &[&str] = &["Model"];
 /// derives and from bounds.
 pub const DROP: &str = "Drop";
 
+/// The type of the right to allocate, which the kit's `std::alloc` has. A value of it goes, wherever it is handed on.
+pub const RIGHT: &str = "Global";
+
+/// Types of the kit whose last argument may be that type.
+pub const RIGHT_TYPES: &[&str] = &["Arc", "Table", "Vec"];
+
+/// In a list of how arguments may begin: the right to allocate, and no more.
+pub const OF_RIGHT: &[&str] = &["alloc"];
+
+/// The type by which a struct has a type parameter that none of its other fields has.
+pub const PHANTOM: &str = "PhantomData";
+
 /// Attributes that speak to the prover.
 pub const GHOST_ATTRIBUTES: &[&str] = &["tactic", "cycle"];
 
@@ -51,6 +69,7 @@ pub const KEPT_ATTRIBUTES: &[&str] = &[
     "inline(always)",
     "inline(never)",
     "must_use",
+    "non_exhaustive",
     "test",
 ];
 
@@ -84,12 +103,16 @@ const fn kept(name: &'static str, members: &'static [&'static str]) -> KeptTrait
 
 /// Those traits. The traits of the sources are known too.
 const KEPT_TRAITS: &[KeptTrait] = &[
+    kept("Debug", &["fmt"]),
+    kept("Clone", &["clone"]),
     kept("Default", &["default"]),
     kept("Display", &["fmt"]),
+    kept("DoubleEndedIterator", &["next_back"]),
     kept("Eq", &[]),
     kept("Error", &[]),
     kept("ExactSizeIterator", &["len"]),
     kept("From", &["from"]),
+    kept("Hash", &["hash"]),
     kept("Iterator", &["Item", "next", "size_hint"]),
     kept("Join", &[]),
     kept("Ord", &["cmp"]),
@@ -103,6 +126,20 @@ const KEPT_TRAITS: &[KeptTrait] = &[
 /// The trait of std or of the kit of this name.
 pub fn kept_trait(name: &str) -> Option<&'static KeptTrait> {
     KEPT_TRAITS.iter().find(|it| it.name == name)
+}
+
+/// The traits by which a value is written. A type may have both, though both have a `fmt`: a call names the trait.
+const TEXTS: &[&str] = &["Debug", "Display"];
+
+/// Whether these two are those traits.
+pub fn are_texts(one: Option<&str>, other: Option<&str>) -> bool {
+    one != other
+        && [one, other]
+            .iter()
+            .flatten()
+            .filter(|it| TEXTS.contains(it))
+            .count()
+            == 2
 }
 
 /// Words after which a source declares a name.
@@ -156,14 +193,61 @@ pub fn is_of_std(name: &str) -> bool {
 pub const OWN_CALLS: &[(&str, &[&str])] = &[
     ("and", &["requests"]),
     ("end", &["self"]),
-    ("flush", &["allocator", "entities", "self"]),
+    ("flush", &["allocator", "entities", "self", "world"]),
     ("read", &["applying"]),
     ("replace", &["calls"]),
     ("write", &["self"]),
 ];
 
-/// Methods of the kit's list that a slice of Rust has too. Those of the kit return a `Result`.
-pub const SORTING: &[&str] = &["sort", "sort_by_cached_key", "sort_by_key"];
+/// The kit's list, which is Rust's own in the package.
+pub const LIST: &str = "Vec";
+
+/// A call of the kit's list that Rust's own has otherwise, or not at all.
+pub struct ListCall {
+    /// Its name in the sources.
+    pub from: &'static str,
+    /// How many arguments it has.
+    pub arguments: usize,
+    /// Its name in the results. The trait that has it has no name that a list of Rust has.
+    pub to: &'static str,
+}
+
+const fn list_call(from: &'static str, arguments: usize, to: &'static str) -> ListCall {
+    ListCall {
+        from,
+        arguments,
+        to,
+    }
+}
+
+/// Those calls.
+pub const LIST_CALLS: &[ListCall] = &[
+    list_call("capacity", 0, "sized_capacity"),
+    list_call("extend_from_slice", 1, "extend_from_slice_fallibly"),
+    list_call("insert", 2, "insert_fallibly"),
+    list_call("push", 1, "push_fallibly"),
+    list_call("push_reserved", 1, "push_reserved"),
+    list_call("reserve", 1, "reserve_fallibly"),
+    list_call("resize", 2, "resize_fallibly"),
+    list_call("sort", 0, "sort_fallibly"),
+    list_call("sort_by_cached_key", 1, "sort_by_cached_key_fallibly"),
+    list_call("sort_by_key", 1, "sort_by_key_fallibly"),
+];
+
+/// The same of what is called by a path.
+pub const LIST_PATHS: &[(&str, &str)] = &[
+    ("from_slice", "from_slice_fallibly"),
+    ("with_capacity", "with_capacity_fallibly"),
+];
+
+/// The path of that trait.
+pub const LIST_TRAIT: &str = "crate::kit::vec::FallibleVec";
+
+/// Names of values of which no declaration tells whether they are lists, and whether they are.
+pub const RECEIVERS: &[(&str, bool)] = &[
+    // A queue of commands, or what lends one.
+    ("queue", false),
+];
 
 /// Methods that only look at a value, so that nothing changes if they aren't called.
 pub const LOOKING: &[&str] = &["cursor"];
@@ -236,6 +320,7 @@ pub const BARE: &[&str] = &[
     "Clone",
     "Copy",
     "Default",
+    "DoubleEndedIterator",
     "Eq",
     "Err",
     "ExactSizeIterator",
@@ -243,6 +328,7 @@ pub const BARE: &[&str] = &[
     "FnMut",
     "FnOnce",
     "From",
+    "Hash",
     "Item",
     "Iterator",
     "None",
@@ -304,7 +390,8 @@ pub struct Import {
 pub struct Renamed {
     /// Its name in the sources.
     pub from: &'static str,
-    /// How its arguments may begin, each as tokens. A quote stands for any text.
+    /// How its arguments may begin, each as tokens. A quote stands for any text, and `OF_RIGHT` for the right to
+    /// allocate.
     pub arguments: &'static [&'static [&'static str]],
     /// Its name in the result.
     pub to: &'static str,
@@ -313,7 +400,7 @@ pub struct Renamed {
 }
 
 /// A type whose layout in memory the package chooses. The kit has no word for it, and no contract
-/// speaks of it.
+/// speaks of it. A line whose type isn't there is an error.
 pub struct Layout {
     /// The crate that declares the type.
     pub krate: &'static str,
@@ -323,13 +410,22 @@ pub struct Layout {
     pub attribute: &'static str,
 }
 
-/// The types with a layout of their own: a handle is aligned as the package's own handle is, so that
-/// a list of the one is turned into a list of the other in its memory.
-pub const LAYOUTS: &[Layout] = &[Layout {
-    krate: "ent_handle",
-    name: "Handle",
-    attribute: "#[repr(align(8))]",
-}];
+/// The types with a layout of their own.
+pub const LAYOUTS: &[Layout] = &[
+    // Rust promises that an `Option` of a word that is never 0 takes no more room than the word, and by this
+    // attribute it promises it of a handle.
+    Layout {
+        krate: "ent_handle",
+        name: "Handle",
+        attribute: "#[repr(transparent)]",
+    },
+    // A reservation writes the reserver, so two of them in a list share no line of a processor's cache.
+    Layout {
+        krate: "ent_total",
+        name: "Reserver",
+        attribute: "#[repr(align(128))]",
+    },
+];
 
 /// The layout of the type of this crate, if it has one of its own.
 pub fn layout_of(krate: &str, name: &str) -> Option<&'static Layout> {
@@ -338,15 +434,104 @@ pub fn layout_of(krate: &str, name: &str) -> Option<&'static Layout> {
         .find(|layout| layout.krate == krate && layout.name == name)
 }
 
-/// Functions that are `const` in the package, so that a `static` can have what they make: the crate, the
-/// file and the function. In the kit the list that they make isn't of a `const` function.
+/// A struct of one field whose `impl PartialEq` compares this field of the two, and nothing else.
+pub struct Compared {
+    /// The crate that declares the type.
+    pub krate: &'static str,
+    /// Its name.
+    pub name: &'static str,
+    /// Its field.
+    pub field: &'static str,
+}
+
+impl Compared {
+    /// The code of the only function of the `impl`.
+    pub fn body(&self) -> String {
+        let field = self.field;
+        format!("fn eq(&self, other: &Self) -> bool {{ self.{field} == other.{field} }}")
+    }
+}
+
+/// Those structs. Their two impls are printed as the derives that do the same: Rust takes a constant as a pattern
+/// only if its type derives both. The sources can't derive them, since a derive compares what a model's `inverse`
+/// makes of the two values, and a handle's makes another word of a number that is no handle's.
+pub const COMPARED: &[Compared] = &[Compared {
+    krate: "ent_handle",
+    name: "Handle",
+    field: "bits",
+}];
+
+/// The traits of those impls.
+pub const EQUALITY: &[&str] = &["PartialEq", "Eq"];
+
+/// The struct of this crate whose equality is derived in the package, if it is one.
+pub fn compared(krate: &str, name: &str) -> Option<&'static Compared> {
+    COMPARED
+        .iter()
+        .find(|it| it.krate == krate && it.name == name)
+}
+
+/// Files of crates in which what `fmt` writes is padded in the package, as Rust's own numbers and texts are. In the
+/// kit nobody can ask for a width.
+pub const PADDED: &[(&str, &str)] = &[("ent_handle", "text.rt")];
+
+/// Whether `write!` is `padded!` in this file of this crate.
+pub fn is_padded(krate: &str, path: &str) -> bool {
+    let file = path.rsplit('/').next();
+    PADDED.iter().any(|it| it.0 == krate && file == Some(it.1))
+}
+
+/// The path of the macro that pads.
+pub const PADDING: &str = "crate::kit::padded";
+
+/// A function of a type that has another name in the package.
+pub struct RenamedFunction {
+    /// The crate that declares the type.
+    pub krate: &'static str,
+    /// The type. No other crate declares one of its name.
+    pub of: &'static str,
+    /// The function's name in the sources.
+    pub from: &'static str,
+    /// Its name in the result.
+    pub to: &'static str,
+}
+
+/// Those functions. The allocator's `new` has a parameter, the limits. In Rust `new()` has none, so the package adds
+/// it, and has the sources' own by another name. It isn't `with_limits`, which keeps a handle back.
+pub const RENAMED_FUNCTIONS: &[RenamedFunction] = &[RenamedFunction {
+    krate: "ent_alloc",
+    of: "Entities",
+    from: "new",
+    to: "with_exact_limits",
+}];
+
+/// Types that derive `Clone` and aren't `Copy`, though each of their fields is: the crate and the type. So `clone` can't
+/// fail in the kit either. They are iterators.
+pub const OF_COPIES: &[(&str, &str)] = &[("ent_alloc", "Living")];
+
+/// Functions that are `const` in the package, so that a `const` or a `static` can have what they make: the crate,
+/// the file and the function. In the kit what they call isn't `const`.
 pub const CONSTANTS: &[(&str, &str, &str)] = &[
     ("ent_alloc", "entities.rt", "new"),
+    ("ent_alloc", "entities.rt", "with_limits"),
     ("ent_alloc", "limits.rt", "default_limits"),
+    ("ent_alloc", "limits.rt", "generations"),
+    ("ent_alloc", "limits.rt", "keeping_placeholder"),
     ("ent_alloc", "limits.rt", "new"),
+    ("ent_alloc", "limits.rt", "slots"),
     ("ent_alloc", "requests.rt", "none"),
     ("ent_alloc", "slots.rt", "new"),
+    ("ent_handle", "handle.rt", "from_bits"),
+    ("ent_handle", "handle.rt", "from_parts"),
+    ("ent_handle", "handle.rt", "generation"),
+    ("ent_handle", "handle.rt", "index"),
+    ("ent_handle", "handle.rt", "new"),
+    ("ent_handle", "handle.rt", "to_bits"),
+    ("ent_storage", "handle_map.rt", "limit"),
     ("ent_storage", "handle_map.rt", "new"),
+    ("ent_storage", "handle_map.rt", "with_limit"),
+    ("ent_storage", "limit.rt", "of"),
+    ("ent_storage", "limit.rt", "slots"),
 ];
 
 /// Whether this function of a file of this crate is one of them.
@@ -379,6 +564,8 @@ pub struct Forms {
     pub associated: &'static [Associated],
     /// The type that a test is handed as `rt`. Rust hands a test nothing, so it makes one.
     pub runtime: Option<&'static str>,
+    /// The types and traits of an `rt` that hands out the right to allocate.
+    pub hands_out_right: &'static [&'static str],
 }
 
 /// A module that leads to this path, without ghost names.
@@ -400,7 +587,7 @@ pub static PACKAGE: Forms = Forms {
     modules: MODULES,
     prelude: &[Import {
         name: "Vec",
-        path: "crate::kit::vec::Vec",
+        path: "alloc::vec::Vec",
     }],
     macros: &[Import {
         name: "prove_eq",
@@ -409,13 +596,14 @@ pub static PACKAGE: Forms = Forms {
     kept_macros: &["matches", "unreachable", "write"],
     renamed: &[Renamed {
         from: "collect",
-        arguments: &[&["alloc"]],
+        arguments: &[OF_RIGHT],
         to: "collect_in",
         import: "crate::kit::vec::CollectIn",
     }],
     methods: METHODS,
     associated: ASSOCIATED,
     runtime: None,
+    hands_out_right: &[],
 };
 
 const MODULES: &[Module] = &[
@@ -423,11 +611,12 @@ const MODULES: &[Module] = &[
     module("either", "crate::kit::either", &["Either", "Left", "Right"]),
     module("itoa", "crate::kit::itoa", &["Buffer", "Integer"]),
     module("smallvec", "crate::kit::smallvec", &["SmallVec"]),
-    module(
-        "std::alloc",
-        "crate::kit::alloc",
-        &["AllocError", "AllocFailed", "Global"],
-    ),
+    Module {
+        path: "std::alloc",
+        to: "crate::kit::alloc",
+        names: &["AllocError", "AllocFailed"],
+        ghost: &[RIGHT],
+    },
     module("std::cmp", "core::cmp", &["Ordering", "Reverse"]),
     module(
         "std::collections",
@@ -446,8 +635,9 @@ const MODULES: &[Module] = &[
         names: &["PhantomData"],
         ghost: GHOST_TRAITS,
     },
+    module("std::hash", "core::hash", &["Hash", "Hasher"]),
     module("std::mem", "core::mem", &["replace", "swap"]),
-    module("std::num", "core::num", &["NonZeroU32"]),
+    module("std::num", "core::num", &["NonZeroU32", "NonZeroU64"]),
     module("std::sync", "crate::kit::sync", &["Arc"]),
     module(
         "std::thread",
@@ -527,6 +717,7 @@ const METHODS: &[&str] = &[
     "max",
     "min",
     "next",
+    "next_back",
     "ok",
     "ok_or",
     "parse",
@@ -539,6 +730,7 @@ const METHODS: &[&str] = &[
     "resize",
     "retain",
     "rev",
+    "reverse",
     "saturating_add",
     "saturating_mul",
     "saturating_sub",
@@ -561,6 +753,7 @@ const METHODS: &[&str] = &[
     "unwrap_or",
     "word",
     "write_str",
+    "write_u64",
     "zip",
 ];
 
@@ -571,6 +764,7 @@ const ASSOCIATED: &[Associated] = &[
     ("Badge", &["blank"]),
     ("Buffer", &["new"]),
     ("NonZeroU32", &["new"]),
+    ("NonZeroU64", &["MIN", "new"]),
     ("SmallVec", &["new", "with_capacity"]),
     ("Vec", &["new", "with_capacity"]),
     ("str", &["from_utf8"]),

@@ -1,8 +1,9 @@
 //! Functions: their signatures, their contracts and their bodies.
 
 use crate::edit::{Change, Edit};
-use crate::forms;
+use crate::forms::{self, RenamedFunction};
 use crate::items::Scope;
+use crate::memory::owners;
 use crate::source::Fault;
 use crate::walk::{Next, Walk};
 
@@ -35,6 +36,36 @@ const KIT_FMT: &[&str] = &[
     ")",
 ];
 
+/// `clone` in the kit, from its parameters to the end of its body. It may be refused memory, and this one
+/// isn't.
+const KIT_CLONE: &[&str] = &[
+    "(",
+    "&",
+    "self",
+    ")",
+    "->",
+    "Result",
+    "<",
+    "Self",
+    ",",
+    "std",
+    "::",
+    "alloc",
+    "::",
+    "AllocError",
+    ">",
+    "{",
+    "Ok",
+    "(",
+    "self",
+    ".",
+    "again",
+    "(",
+    ")",
+    ")",
+    "}",
+];
+
 impl Walk<'_> {
     /// The function whose `fn` stands at `at`. Its attributes begin at `start`, and what makes it
     /// visible at `visible`.
@@ -49,6 +80,9 @@ impl Walk<'_> {
         if self.source.at(at + 1) == "fmt" {
             self.fmt_signature(next)?;
         }
+        if self.source.at(at + 1) == "clone" {
+            return self.clone_of_itself(start, visible, next);
+        }
         if self.source.at(next) == "<" {
             let end = self.source.after_angles(next)?;
             self.signature(next, end)?;
@@ -59,7 +93,8 @@ impl Walk<'_> {
         if !self.test_runtime(start, visible, next)? {
             self.signature(next + 1, close)?;
         }
-        let end = self.rest_of_function(close + 1)?;
+        let is_shown = self.narrow(visible, at, scope) && self.is_documented(start);
+        let end = self.rest_of_function(close + 1, is_shown.then_some(start))?;
         let has_body = self.source.before(end) == "}";
         if has_body && scope != Scope::Trait && !self.has_inline(start, visible) {
             let indent = self.indent(visible)?;
@@ -68,10 +103,44 @@ impl Walk<'_> {
         if self.source.before(at) != "const" && self.is_constant(at) {
             self.insert(at, "const ".to_owned());
         }
+        self.rename_function(at, scope);
         if self.is_program(at, scope) {
             self.insert(at, "pub ".to_owned());
         }
         Ok(end)
+    }
+
+    /// Puts the package's name of the function in the place of its name, if they differ.
+    fn rename_function(&mut self, at: usize, scope: Scope) {
+        let mut all = forms::RENAMED_FUNCTIONS.iter();
+        let renamed = all.find(|it| it.krate == self.krate && it.from == self.source.at(at + 1));
+        let Some(renamed) = renamed.filter(|it| scope == Scope::Impl && self.own_type(at) == it.of)
+        else {
+            return;
+        };
+        self.replace(at + 1, at + 2, renamed.to);
+    }
+
+    /// Puts the package's name in the place of the name here, if it is the last one of the path of such a function.
+    pub(crate) fn rename_call(&mut self, at: usize) {
+        let mut all = forms::RENAMED_FUNCTIONS.iter();
+        let is_of = |it: &&RenamedFunction| match self.source.before(at - 1) {
+            "Self" => self.own_type(at) == it.of,
+            name => name == it.of,
+        };
+        let name = self.source.at(at);
+        let is_last = at > 1 && self.source.before(at) == "::";
+        if let Some(renamed) = all.find(|it| is_last && it.from == name && is_of(it)) {
+            self.replace(at, at + 1, renamed.to);
+        }
+    }
+
+    /// The type of the `impl` around this place.
+    fn own_type(&self, at: usize) -> &str {
+        let owner = owners(self.source)
+            .into_iter()
+            .find(|it| it.0.contains(&at));
+        owner.map_or("", |it| it.1)
     }
 
     /// Whether the function is `const` in the package.
@@ -107,6 +176,23 @@ impl Walk<'_> {
         (start..visible).any(|at| ["inline", "cold", "test"].contains(&self.source.at(at)))
     }
 
+    /// The `clone` of an `impl Clone`, from its parameters on: it calls `again` of the type, which takes no
+    /// memory.
+    fn clone_of_itself(&mut self, start: usize, visible: usize, at: usize) -> Next {
+        if !self.source.has(at, KIT_CLONE) {
+            return Err(self.source.fault(at, "another `clone` than by `again`"));
+        }
+        if !self.has_inline(start, visible) {
+            let indent = self.indent(visible)?;
+            self.insert(visible, format!("#[inline]\n{indent}"));
+        }
+        self.take_out(at + 5, at + 7);
+        self.take_out_after(at + 8, at + 15);
+        self.take_out(at + 16, at + 18);
+        self.take_out_after(at + 23, at + 24);
+        Ok(at + KIT_CLONE.len())
+    }
+
     /// The signature of `fmt` from its generics on.
     fn fmt_signature(&mut self, at: usize) -> Result<(), Fault> {
         if self.source.has(at, KIT_FMT) {
@@ -119,9 +205,11 @@ impl Walk<'_> {
             .fault(at, "another signature of `fmt` than the kit's"))
     }
 
-    /// What a function returns, its bounds, its contract, and its body or `;`.
-    fn rest_of_function(&mut self, at: usize) -> Next {
+    /// What a function returns, its bounds, its contract, and its body or `;`. The docs above `item`
+    /// show the contract, if that is there.
+    fn rest_of_function(&mut self, at: usize, item: Option<usize>) -> Next {
         let mut at = at;
+        let mut has_bounds = false;
         loop {
             let token = self.source.at(at);
             if token == ";" {
@@ -137,7 +225,10 @@ impl Walk<'_> {
                 return Err(self.source.fault(at, "a body is missing"));
             }
             if forms::CLAUSES.contains(&token) {
-                at = self.contract(at)?;
+                at = match item {
+                    Some(item) => self.shown_contract(item, at, has_bounds)?,
+                    None => self.contract(at)?,
+                };
                 if !["{", ";", ""].contains(&self.source.at(at)) {
                     return Err(self.unknown_clause(at));
                 }
@@ -146,6 +237,7 @@ impl Walk<'_> {
             if self.source.is_word(at) && token != "where" && self.is_after_type(at) {
                 return Err(self.unknown_clause(at));
             }
+            has_bounds |= token == "where" && !self.source.has(at + 2, &[":", "Drop", ","]);
             let end = match token {
                 "(" | "[" => self.source.partner(at) + 1,
                 _ => at + 1,
@@ -179,10 +271,7 @@ impl Walk<'_> {
     /// All clauses of a contract, of which the first begins here. They become comments. The place
     /// after them is that of the body, or of a `;`, which goes up to the signature.
     pub(crate) fn contract(&mut self, at: usize) -> Next {
-        let mut end = at;
-        while forms::CLAUSES.contains(&self.source.at(end)) {
-            end = self.after_clause(end)?;
-        }
+        let end = self.after_clauses(at)?;
         let from = self.source.token(at - 1).to;
         let mut to = self.source.token(end - 1).to;
         let mut text = String::new();
@@ -206,6 +295,15 @@ impl Walk<'_> {
         Ok(end)
     }
 
+    /// The place after the clauses of which the first begins here.
+    pub(crate) fn after_clauses(&self, at: usize) -> Next {
+        let mut end = at;
+        while forms::CLAUSES.contains(&self.source.at(end)) {
+            end = self.after_clause(end)?;
+        }
+        Ok(end)
+    }
+
     /// The place after the clause that begins here: `requires NAME { .. }`, perhaps with a star or
     /// without a name.
     fn after_clause(&self, at: usize) -> Next {
@@ -221,7 +319,7 @@ impl Walk<'_> {
     }
 
     /// How many blanks stand before the first code of the line of this token.
-    fn first_column(&self, at: usize) -> usize {
+    pub(crate) fn first_column(&self, at: usize) -> usize {
         let from = self.source.token(at).from;
         let line = self.source.text[..from].rfind('\n').map_or(0, |at| at + 1);
         let text = &self.source.text[line..];

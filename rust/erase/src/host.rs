@@ -1,7 +1,7 @@
 //! What the repository's own tests may use beside the forms of the package: the runtime that the kit
 //! hands a test, and the calls that take it. `rust/erased_tests` has them below `crate::host`.
 
-use crate::forms::{module, Associated, Forms, Import, Module, Renamed};
+use crate::forms::{module, Associated, Forms, Import, Module, Renamed, OF_RIGHT};
 
 /// The names.
 pub static HOST: Forms = Forms {
@@ -24,6 +24,7 @@ pub static HOST: Forms = Forms {
     methods: METHODS,
     associated: ASSOCIATED,
     runtime: Some("HostRuntime"),
+    hands_out_right: &["AllocGlobal", "HostRuntime"],
 };
 
 const fn import(name: &'static str, path: &'static str) -> Import {
@@ -84,13 +85,13 @@ const RENAMED: &[Renamed] = &[
     },
     Renamed {
         from: "to_string",
-        arguments: &[&["alloc", ")"]],
+        arguments: &[OF_RIGHT],
         to: "to_string_in",
         import: "crate::host::string::ToStringIn",
     },
     Renamed {
         from: "to_vec",
-        arguments: &[&["alloc", ")"]],
+        arguments: &[OF_RIGHT],
         to: "to_kit_vec",
         import: "crate::host::slice::ToKitVec",
     },
@@ -143,5 +144,5 @@ const ASSOCIATED: &[Associated] = &[
     ("Ordering", &["Equal", "Greater", "Less", "SeqCst"]),
     ("String", &["from_str", "new", "with_capacity"]),
     ("i64", &["MAX", "MIN", "from", "try_from"]),
-    ("Vec", &["from_array", "from_slice", "new", "with_capacity"]),
+    ("Vec", &["from_slice", "new", "with_capacity"]),
 ];

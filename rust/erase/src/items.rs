@@ -1,6 +1,7 @@
 //! Items: what stands in a file, in an `impl` block and in a trait.
 
 use crate::forms;
+use crate::ghost_types::file_of_module;
 use crate::names::{block, header};
 use crate::source::Fault;
 use crate::walk::{Next, Walk};
@@ -31,7 +32,7 @@ impl Walk<'_> {
     fn item(&mut self, start: usize, scope: Scope) -> Next {
         if self.source.has(start, &["#", "!"]) {
             let end = self.after_attribute(start)?;
-            self.attribute(start, end, false)?;
+            self.attribute(start, end, false, &[])?;
             return Ok(end);
         }
         let mut at = start;
@@ -46,7 +47,11 @@ impl Walk<'_> {
             self.cut_item(start, end)?;
             return Ok(end);
         }
-        let derives_error = self.attributes(start, visible)?;
+        let added = match self.source.at(at) {
+            "struct" if self.check_compared(at, scope)? => forms::EQUALITY,
+            _ => &[],
+        };
+        let derives_error = self.attributes(start, visible, added)?;
         self.visibility(visible, scope)?;
         let end = match self.source.at(at) {
             "use" => return self.use_item(start, at, scope),
@@ -75,12 +80,27 @@ impl Walk<'_> {
     fn ghost_item(&self, at: usize, scope: Scope) -> Result<Option<usize>, Fault> {
         match self.source.at(at) {
             "ghost" => self.ghost(at, scope).map(Some),
+            "trait" if self.names.ghost_traits.contains(self.source.at(at + 1)) => {
+                let open = block(self.source, at)?;
+                let (mut next, close) = (open + 1, self.source.partner(open));
+                while next < close {
+                    next = self.ghost(next, Scope::Trait)?;
+                }
+                Ok(Some(close + 1))
+            }
+            "mod" if self.source.at(at + 2) == ";" => {
+                let file = file_of_module(self.source, self.source.at(at + 1));
+                Ok(self.names.ghost_files.contains(&file).then_some(at + 3))
+            }
             "impl" => {
+                if let Some(end) = self.derived_equality(at)? {
+                    return Ok(Some(end));
+                }
                 let of = header(self.source, at)?.implemented;
-                let Some(name) = of.filter(|name| forms::GHOST_TRAITS.contains(name)) else {
+                let Some(name) = of.filter(|name| self.names.is_ghost_trait(name)) else {
                     return Ok(None);
                 };
-                if !self.ghosts.contains(name) {
+                if !self.ghosts.contains(name) && !self.names.ghost_traits.contains(name) {
                     let what = format!("`{name}`, which isn't imported from the kit");
                     return Err(self.source.fault(at, what));
                 }
@@ -88,6 +108,52 @@ impl Walk<'_> {
             }
             _ => Ok(None),
         }
+    }
+
+    /// The place after an `impl` here that is printed as a derive: it must be that of the derive.
+    fn derived_equality(&self, at: usize) -> Result<Option<usize>, Fault> {
+        let (implemented, name) = (self.source.at(at + 1), self.source.at(at + 3));
+        let Some(compared) = forms::compared(self.krate, name) else {
+            return Ok(None);
+        };
+        let begins = self.source.has(at + 2, &["for", name, "{"]);
+        if !begins || !forms::EQUALITY.contains(&implemented) {
+            return Ok(None);
+        }
+        let close = self.source.partner(at + 4);
+        let mut next = at + 5;
+        while self.source.at(next) == "ghost" {
+            next = self.ghost(next, Scope::Impl)?;
+        }
+        let code: String = (next..close).map(|at| self.source.at(at)).collect();
+        let body = compared.body().replace(' ', "");
+        let wanted = if implemented == "Eq" { "" } else { &body };
+        if code == wanted {
+            return Ok(Some(close + 1));
+        }
+        let what = format!("an impl of `{implemented}` that isn't that of the derive");
+        Err(self.source.fault(at, what))
+    }
+
+    /// Checks that a struct whose equality is derived has the one field, and the impls that become the derives.
+    fn check_compared(&self, at: usize, scope: Scope) -> Result<bool, Fault> {
+        let name = self.source.at(at + 1);
+        let Some(compared) = forms::compared(self.krate, name).filter(|_| scope == Scope::File)
+        else {
+            return Ok(false);
+        };
+        let fields = at + 3..self.source.partner(at + 2);
+        let has_field = self.source.has(at + 2, &["{", compared.field, ":"]);
+        let is_only = self.source.find(fields.start, fields.end, &[","]) == Some(fields.end - 1);
+        let has = |implemented: &str| {
+            let header = ["impl", implemented, "for", name, "{"];
+            (0..self.source.len()).any(|at| self.source.has(at, &header))
+        };
+        if has_field && is_only && forms::EQUALITY.iter().all(|it| has(it)) {
+            return Ok(true);
+        }
+        let what = format!("`{name}` isn't a struct of one field that is compared");
+        Err(self.source.fault(at, what))
     }
 
     /// A ghost import or a ghost member.
@@ -179,6 +245,7 @@ impl Walk<'_> {
         }
         self.signature(at + 1, body)?;
         let end = self.source.partner(body);
+        self.is_public_trait = scope == Scope::Trait && self.source.before(at) == "pub";
         self.items(body + 1, end, scope)?;
         Ok(end + 1)
     }
@@ -226,7 +293,10 @@ impl Walk<'_> {
     fn fields(&mut self, at: usize, end: usize) -> Result<(), Fault> {
         let mut at = at;
         while at < end {
-            let comma = self.source.find(at, end, &[","]).unwrap_or(end);
+            let mut comma = self.source.find(at, end, &[","]).unwrap_or(end);
+            while let Some(next) = self.gone_end(comma) {
+                comma = self.source.find(next, end, &[","]).unwrap_or(end);
+            }
             let start = at;
             while self.source.at(at) == "#" {
                 at = self.after_attribute(at)?;
@@ -238,14 +308,22 @@ impl Walk<'_> {
             if self.source.at(at) == "ghost" {
                 self.ghost_field(at, comma)?;
                 self.cut_item(start, (comma + 1).min(end))?;
+            } else if self.is_right(at, comma) || self.types.is_phantom(self.source, at) {
+                self.cut_item(start, (comma + 1).min(end))?;
             } else {
-                self.attributes(start, visible)?;
+                self.attributes(start, visible, &[])?;
                 self.visibility(visible, Scope::File)?;
                 self.code(at, comma)?;
             }
             at = comma + 1;
         }
         Ok(())
+    }
+
+    /// Whether the field that begins here, up to the comma, has the right to allocate.
+    fn is_right(&self, at: usize, comma: usize) -> bool {
+        let is_imported = self.ghosts.contains(forms::RIGHT);
+        is_imported && comma == at + 3 && self.source.has(at + 1, &[":", forms::RIGHT])
     }
 
     /// `ghost NAME: { .. }` or `ghost NAME: { .. } by { .. }`, up to the comma.

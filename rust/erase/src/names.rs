@@ -4,8 +4,12 @@
 //! that of its slice. So no source may give one of these names another meaning, and a method must be the same one
 //! however it is looked up.
 
+use crate::conditions::has_condition;
 use crate::forms::{self, Forms};
+use crate::ghost_types;
+use crate::memory::Fields;
 use crate::source::{Fault, Source};
+use crate::types::Types;
 use std::collections::{BTreeMap, BTreeSet};
 
 /// What all sources together declare, and where the result has it.
@@ -23,10 +27,22 @@ pub struct Names {
     aliases: BTreeSet<String>,
     /// Their traits.
     pub traits: BTreeSet<String>,
+    /// Those of them that have ghost members only.
+    pub(crate) ghost_traits: BTreeSet<String>,
+    /// Their structs with a field that is a `PhantomData` of a ghost type, and the field.
+    pub(crate) phantoms: BTreeSet<(String, String)>,
+    /// The paths of those of them in which all is ghost.
+    pub(crate) ghost_files: BTreeSet<String>,
     /// Their functions that take a `self`. For each name, whether all functions of that name only look at it.
     pub methods: BTreeMap<String, bool>,
     /// The ghost members that their traits declare.
     pub members: BTreeSet<String>,
+    /// Their free functions, by file and name: whether those of that name have a condition.
+    conditions: BTreeMap<(String, String), BTreeSet<bool>>,
+    /// Their fields.
+    pub(crate) fields: Fields,
+    /// The types that they declare.
+    pub(crate) values: Types,
     /// The names of std and of the kit that they may use.
     pub forms: Vec<&'static Forms>,
     /// For each trait, by its name and its crate, what it has.
@@ -63,6 +79,8 @@ impl Names {
     /// A name has another meaning for the eraser, or an `impl` is for a type that isn't the sources' own.
     pub fn add(&mut self, source: &Source<'_>) -> Result<(), Fault> {
         let mut members = BTreeSet::new();
+        self.fields.add(source);
+        self.values.add(source);
         for at in 0..source.len() {
             match source.at(at) {
                 "trait" | "impl" if begins_item(source, at) => {
@@ -76,6 +94,7 @@ impl Names {
                     members.extend(own);
                 }
                 "enum" if source.is_word(at + 1) => self.add_variants(source, at)?,
+                "use" if source.before(at) == "pub" => self.add_other_names(source, at)?,
                 "ghost" if is_declared_member(source, at) => {
                     self.members.insert(source.at(at + 1).to_owned());
                 }
@@ -125,12 +144,30 @@ impl Names {
         }
         match kind {
             "struct" | "enum" => {
+                let renamed = forms::RENAMED_FUNCTIONS.iter().find(|it| it.of == name);
+                if renamed.is_some_and(|it| it.krate != krate(source)) {
+                    return Err(taken(source, at + 1));
+                }
                 let files = self.types.entry(name.to_owned()).or_default();
                 files.insert(source.path.to_owned());
             }
-            "trait" => drop(self.traits.insert(name.to_owned())),
+            "trait" => {
+                let is_ghost = ghost_types::is_ghost_trait(source, at);
+                let is_new = self.traits.insert(name.to_owned());
+                if !is_new && (is_ghost || self.ghost_traits.contains(name)) {
+                    return Err(taken(source, at + 1));
+                }
+                if is_ghost {
+                    self.ghost_traits.insert(name.to_owned());
+                }
+            }
             "type" if !is_member => drop(self.aliases.insert(name.to_owned())),
             "fn" => {
+                if !is_member {
+                    let key = (source.path.to_owned(), name.to_owned());
+                    let all = self.conditions.entry(key).or_default();
+                    all.insert(has_condition(source, at));
+                }
                 if let Some(receiver) = receiver(source, at) {
                     // A slice's method takes a range without an end.
                     let end = source.find(at, source.len(), &["{", ";"]).unwrap_or(at);
@@ -154,6 +191,23 @@ impl Names {
         Ok(())
     }
 
+    /// Adds the other names under which a source passes on items of another crate.
+    fn add_other_names(&mut self, source: &Source<'_>, at: usize) -> Result<(), Fault> {
+        let end = source.find(at, source.len(), &[";"]).unwrap_or(at);
+        if !self.crates.contains_key(source.at(at + 1)) {
+            return Ok(());
+        }
+        for at in at..end {
+            if source.before(at) == "as" {
+                if self.is_taken(source.at(at)) {
+                    return Err(taken(source, at));
+                }
+                self.items.insert(source.at(at).to_owned());
+            }
+        }
+        Ok(())
+    }
+
     fn add_variants(&mut self, source: &Source<'_>, at: usize) -> Result<(), Fault> {
         let body = block(source, at)?;
         let end = source.partner(body);
@@ -174,6 +228,10 @@ impl Names {
     ///
     /// One is for a type that isn't the sources' own, or of a trait that isn't known.
     pub fn add_blocks(&mut self, source: &Source<'_>) -> Result<(), Fault> {
+        self.phantoms.extend(ghost_types::phantoms(source, self));
+        if ghost_types::is_ghost(source, self) {
+            self.ghost_files.insert(source.path.to_owned());
+        }
         for at in 0..source.len() {
             if source.at(at) != "impl" || !begins_item(source, at) {
                 continue;
@@ -181,7 +239,7 @@ impl Names {
             let header = header(source, at)?;
             if header
                 .implemented
-                .is_some_and(|name| forms::GHOST_TRAITS.contains(&name))
+                .is_some_and(|name| self.is_ghost_trait(name))
             {
                 continue;
             }
@@ -217,9 +275,13 @@ impl Names {
             let no_file = || BTreeSet::from([String::new()]);
             let files = self.types.get(header.of).cloned().unwrap_or_else(no_file);
             let is_here = files.contains(source.path);
+            // A type of this crate hides those of the same name of the crates below.
+            let of_crate = |file: &String| file.split('/').nth(1) == Some(krate(source));
+            let is_of_crate = files.iter().any(of_crate);
             let meant = files
                 .into_iter()
-                .filter(|file| !is_here || file == source.path);
+                .filter(|file| !is_here || file == source.path)
+                .filter(|file| !is_of_crate || of_crate(file));
             self.blocks.extend(meant.map(|file| Block {
                 of: (file, header.of.to_owned()),
                 implemented: header.implemented.map(str::to_owned),
@@ -271,6 +333,7 @@ impl Names {
     ///
     /// The first method that isn't: it is in two blocks, or a trait of std gives it to the type too.
     pub fn check(&self) -> Result<(), Fault> {
+        self.fields.check()?;
         let mut found = BTreeMap::new();
         let iterators: BTreeSet<_> = self
             .blocks
@@ -287,7 +350,9 @@ impl Names {
                 let is_other = before.is_some_and(|(other, how)| {
                     let is_one_own = other.is_none() != implemented.is_none();
                     let is_same = other == implemented && other.is_some();
-                    !(is_same || is_one_own && block.is_plain && how == receiver)
+                    // No source calls it by a point.
+                    let are_texts = forms::are_texts(other, implemented);
+                    !(is_same || are_texts || is_one_own && block.is_plain && how == receiver)
                 });
                 let is_iterator = iterators.contains(&block.of) && !is_of_std;
                 if is_other || is_iterator && receiver.is_some() && forms::is_of_std(name) {
@@ -300,9 +365,42 @@ impl Names {
         Ok(())
     }
 
+    /// Whether this crate declares a struct or an enum of this name.
+    pub fn has_type(&self, krate: &str, name: &str) -> bool {
+        let folder = format!("crates/{krate}/");
+        let mut files = self.types.get(name).into_iter().flatten();
+        files.any(|file| file.starts_with(&folder))
+    }
+
+    /// Whether each `impl` of the trait is ghost as a whole.
+    pub(crate) fn is_ghost_trait(&self, name: &str) -> bool {
+        forms::GHOST_TRAITS.contains(&name) || self.ghost_traits.contains(name)
+    }
+
     /// Whether this is another name for a type, which may be a type of std.
     pub fn is_alias(&self, name: &str) -> bool {
         self.aliases.contains(name) && !self.types.contains_key(name)
+    }
+
+    /// Whether the free functions of this name have a condition, those of this file, or of all files of
+    /// this folder. There is no answer if some have one and others don't.
+    pub(crate) fn has_condition(&self, place: &str, name: &str) -> Option<bool> {
+        let is_there = |path: &str| path == place || path.starts_with(&format!("{place}/"));
+        let all = self.conditions.iter();
+        let all = all.filter(|((path, own), _)| own == name && is_there(path));
+        let all: BTreeSet<bool> = all.flat_map(|(_, all)| all).copied().collect();
+        (all.len() < 2).then(|| all.contains(&true))
+    }
+
+    /// Whether a file of the sources has a free function of this name.
+    pub(crate) fn has_function(&self, path: &str, name: &str) -> bool {
+        let key = (path.to_owned(), name.to_owned());
+        self.conditions.contains_key(&key)
+    }
+
+    /// Whether the sources declare a type of this name.
+    pub fn is_type(&self, name: &str) -> bool {
+        self.types.contains_key(name)
     }
 
     /// Whether a path may lead to the name.
@@ -325,6 +423,7 @@ impl Names {
             || forms::PRIMITIVES.contains(&name)
             || forms::CRATES.contains(&name)
             || forms::GHOST_TRAITS.contains(&name)
+            || name == forms::RIGHT
             || forms::kept_trait(name).is_some()
             || self.crates.contains_key(name)
             || self.forms.iter().any(is_of)
@@ -359,7 +458,7 @@ pub(crate) struct Header<'a> {
     /// The last name of the trait that it implements, if it implements one.
     pub(crate) implemented: Option<&'a str>,
     /// The last name of its type, without `&`.
-    of: &'a str,
+    pub(crate) of: &'a str,
     /// Whether the type has no parameters.
     is_plain: bool,
     /// Whether it is for a reference to the type.

@@ -31,6 +31,8 @@ impl<'a> Walk<'a> {
             if taken.has_ghosts {
                 self.keep_names(at + 2 + length(module), &taken.kept);
             }
+        } else if self.ghost_import(start, at, end)? {
+            return Ok(end);
         } else if first == "crate" || self.names.crates.contains_key(first) {
             self.lead_to_crate(at + 1);
         } else if !["super", "self"].contains(&first) && !self.declared.contains(first) {
@@ -39,12 +41,26 @@ impl<'a> Walk<'a> {
                 .fault(at + 1, format!("an unknown crate: `{first}`")));
         }
         self.check_import(at + 1, end - 1)?;
+        self.narrow_import(at, end)?;
         if scope == Scope::File {
             let begin = self.begin_of_item(start)?;
             self.first_use.get_or_insert(begin);
             self.first_item.get_or_insert(begin);
         }
         Ok(end)
+    }
+
+    /// Whether an import of the sources is that of a ghost trait, which goes.
+    fn ghost_import(&mut self, start: usize, at: usize, end: usize) -> Result<bool, Fault> {
+        let is_ghost = |at: usize| self.names.ghost_traits.contains(self.source.at(at));
+        if (at..end).all(|at| !is_ghost(at)) {
+            return Ok(false);
+        }
+        if self.source.at(end - 2) == "}" || self.source.at(end - 3) == "as" {
+            return Err(self.source.fault(at, "an unknown import of a ghost trait"));
+        }
+        self.cut_item(start, end)?;
+        Ok(true)
     }
 
     /// An import must give no name another meaning, and must name all that it imports. From the sources it imports
@@ -94,6 +110,7 @@ impl<'a> Walk<'a> {
         }
         self.need(at)?;
         self.rest_of_path(at)?;
+        self.list_path(at)?;
         Ok(at + 1)
     }
 
@@ -217,7 +234,9 @@ impl<'a> Walk<'a> {
         };
         for at in places {
             let name = self.source.at(at);
-            if module.ghost.contains(&name) {
+            if name == forms::PHANTOM && self.types.has_no_phantom {
+                taken.has_ghosts = true;
+            } else if module.ghost.contains(&name) {
                 self.ghosts.insert(name);
                 taken.has_ghosts = true;
             } else if module.names.contains(&name) {

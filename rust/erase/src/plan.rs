@@ -1,10 +1,9 @@
 //! What is erased, and where the results go.
 
 use crate::audit::audit;
-use crate::clauses::shown;
 use crate::crates::{add_names, below, read, Crate, File};
 use crate::erase;
-use crate::forms::PACKAGE;
+use crate::forms::{Layout, LAYOUTS, PACKAGE};
 use crate::host::HOST;
 use crate::names::Names;
 use crate::source::{Fault, Source};
@@ -40,7 +39,7 @@ pub static PROVED: Target = Target {
 //! The proved crates of this repository as plain Rust, each a module.
 //!
 //! `rust/erase` makes all files here of the sources below `crates/`. What is ghost is taken out, and the
-//! clauses of each contract stay below its signature as comments. None of these files is edited by
+//! clauses of a contract go to the docs of a public call, and else stay as comments. None of these files is edited by
 //! hand: the gate makes them anew and compares.
 //!
 //! The proofs are of the sources, before that.
@@ -70,16 +69,19 @@ pub type Files = BTreeMap<PathBuf, String>;
 ///
 /// # Errors
 ///
-/// A file can't be read, a source has an unknown form, a result isn't its source, or the face shows
-/// clauses that aren't there.
+/// A file can't be read, a source has an unknown form, a result isn't its source, or a type with a
+/// layout of its own isn't there.
 pub fn package(repository: &Path) -> Result<Files, Box<dyn Error>> {
     let crates = crates_below(repository, TOPS)?;
     let mut names = Names::new(&[&PACKAGE]);
     add_names(&mut names, &crates, PROVED.path)?;
-    let mut files = erased(&crates, &PROVED, &names)?;
-    let clauses = shown(repository, Path::new(PROVED.folder), &files)?;
-    files.extend(clauses);
-    Ok(files)
+    let is_missing =
+        |it: &&Layout| names.crates.contains_key(it.krate) && !names.has_type(it.krate, it.name);
+    if let Some(Layout { krate, name, .. }) = LAYOUTS.iter().find(is_missing) {
+        let what = format!("the table LAYOUTS has `{name}` of {krate}, which isn't there");
+        return Err(what.into());
+    }
+    erased(&crates, &PROVED, &names)
 }
 
 /// Erases the tests of those crates.
@@ -115,7 +117,11 @@ fn erased(crates: &[Crate], target: &Target, names: &Names) -> Result<Files, Box
     let mut files = Files::new();
     let mut faults = Vec::new();
     for krate in crates {
-        for file in &krate.files {
+        for file in krate
+            .files
+            .iter()
+            .filter(|file| !names.ghost_files.contains(&file.path))
+        {
             let path = folder.join(&krate.name).join(&file.result);
             match audited(krate, file, &path, names) {
                 Ok(text) => drop(files.insert(path, text)),

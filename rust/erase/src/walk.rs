@@ -1,7 +1,10 @@
 //! A walk through the code of one source, which collects what has to change.
 
 use crate::edit::{Change, Edit};
+use crate::forms;
+use crate::ghost_types::GhostTypes;
 use crate::lex::Kind;
+use crate::memory::Rights;
 use crate::names::Names;
 use crate::scope::bound;
 use crate::source::{Fault, Source};
@@ -29,12 +32,18 @@ pub struct Walk<'a> {
     pub(crate) of_std: BTreeSet<&'a str>,
     /// The ghost names that it imports from the kit.
     pub(crate) ghosts: BTreeSet<&'a str>,
+    /// The ghost types.
+    pub(crate) types: GhostTypes<'a>,
+    /// Where the right to allocate goes.
+    pub(crate) rights: Rights<'a>,
     /// The names that it binds or imports.
     pub(crate) bound: BTreeSet<&'a str>,
     /// Whether the place is in a signature or a header, where `Drop` is a bound.
     pub(crate) is_signature: bool,
     /// Whether the place is in a module within the file.
     pub(crate) is_module: bool,
+    /// Whether the place is in a trait that the package may show.
+    pub(crate) is_public_trait: bool,
     /// Where imports may go: the first byte of the first `use` that stays.
     pub(crate) first_use: Option<usize>,
     /// The first byte of the first item that stays.
@@ -62,9 +71,12 @@ impl<'a> Walk<'a> {
             declared: declarations.map(|at| source.at(at + 1)).collect(),
             of_std: BTreeSet::new(),
             ghosts: BTreeSet::new(),
+            types: GhostTypes::of(source, names),
+            rights: Rights::default(),
             bound: bound(source),
             is_signature: false,
             is_module: false,
+            is_public_trait: false,
             first_use: None,
             first_item: None,
         };
@@ -74,6 +86,7 @@ impl<'a> Walk<'a> {
                 let _ = walk.taken(at + 1, module);
             }
         }
+        walk.rights = Rights::of(source, names, walk.ghosts.contains(forms::RIGHT));
         walk
     }
 
@@ -110,6 +123,28 @@ impl<'a> Walk<'a> {
             to: self.source.token(end - 1).to,
             change: Change::Text(String::new()),
         });
+    }
+
+    /// The place after what goes here with the right to allocate or with a ghost type, if something does.
+    pub(crate) fn gone_end(&self, at: usize) -> Option<usize> {
+        let (rights, types) = (&self.rights.gone, &self.types.gone);
+        rights.get(&at).or_else(|| types.get(&at)).copied()
+    }
+
+    /// Takes out a part of a list with its comma. No blanks stay where it was the last one.
+    pub(crate) fn take_out_part(&mut self, from: usize, end: usize) {
+        let closes = [")", "}", ">", "|"].contains(&self.source.at(end));
+        let opens = ["(", "{", "<", "|"].contains(&self.source.before(from));
+        match (opens, closes) {
+            _ if ["<", "::"].contains(&self.source.at(from)) => self.take_out_after(from, end),
+            (true, true) => self.edits.push(Edit {
+                from: self.source.token(from - 1).to,
+                to: self.source.token(end).from,
+                change: Change::Text(String::new()),
+            }),
+            (false, true) => self.take_out_after(from, end),
+            _ => self.take_out(from, end),
+        }
     }
 
     /// Puts a text before the code's token at this place.

@@ -13,7 +13,8 @@ use crate::c::D;
 use ent_other::E;
 use std::alloc::Global;
 use std::fmt;
-use std::marker::Model;
+use std::marker::{Model, PhantomData};
+use std::sync::Arc;
 use thiserror::Error;
 
 /// Of F.
@@ -35,7 +36,7 @@ impl<T: Drop + Copy> From<T> for F {
     ghost from_gives = { j };
 
     /// Of k.
-    fn from(k: T, alloc: J) -> Self
+    fn from(k: T, alloc: Global) -> Self
         // Of l.
         requires l { k ≡ m }
 
@@ -44,7 +45,68 @@ impl<T: Drop + Copy> From<T> for F {
     {
         // Of o.
         let p: Vec<u8> = k.iter().collect(alloc);
+        p.push(2)?;
+        k.push(p, 2);
+        let y = Vec::with_capacity(alloc, 2);
         F::I
+    }
+}
+
+/// Of q.
+pub fn q(k: u8) -> u8
+    // Of r.
+    ensures r { k }
+{
+    k
+}
+
+impl F {
+    /// Of s.
+    pub fn s(&self) -> u8
+        ensures s { k ≡ l
+            t }
+    {
+        q(2)
+    }
+
+    /// Of t.
+    pub fn t(&self)
+        requires t { k }
+        ensures { l }
+    {
+        self.s();
+    }
+}
+
+struct Q {
+    alloc: Global,
+    r: Arc<u8, Global>,
+}
+
+impl Q {
+    fn s(self, t: u8, alloc: Global) -> Q {
+        let Q { alloc: _, r } = self;
+        u(t, alloc, |_: Global, v: u8| w(v));
+        let Self { r, alloc } = s(self.alloc, t);
+        Q { alloc, r }
+    }
+}
+
+/// Of x.
+pub trait X {
+    ghost y: { A };
+}
+
+/// Of z.
+struct Z<J: X> {
+    of: PhantomData<J>,
+    r: u8,
+}
+
+impl<J: X> Z<J> {
+    fn of_z<K: X>(self, t: Z<K>, v: &Z<K>) -> Vec<Z<J>> {
+        let Z { of: _, r } = self;
+        d::<J>(Z { r, of: PhantomData })
     }
 }
 
@@ -130,6 +192,16 @@ fn no_code_may_go_into_a_comment() {
     }
 }
 
+/// What is no list keeps its call, and a list doesn't.
+#[test]
+fn a_list_s_calls_may_not_stay() {
+    let known = result();
+    assert!(known.contains("p.push_fallibly(2)") && known.contains("k.push(p, 2)"));
+    assert!(known.contains("Vec::with_capacity_fallibly(2)"));
+    let other = known.replace("p.push_fallibly(2)", "p.push(2)");
+    assert!(audited(SOURCE, &other).is_err());
+}
+
 #[test]
 fn messages_may_not_be_exchanged() {
     let other = result().replace("write!(f, \"no i\")", "write!(f, \"{h} of f\")");
@@ -147,4 +219,53 @@ fn clauses_may_not_be_lost() {
         let other = lines.replace(&format!("{line}\n"), "");
         assert!(audited(SOURCE, &other).is_err(), "without {line}");
     }
+}
+
+#[test]
+fn docs_may_not_show_another_contract() {
+    let shown = "/// ensures r { k }\n";
+    let hidden = "    // ensures { l }\n";
+    let (result, q) = (result(), "pub fn q(k: u8) -> u8 {");
+    assert!(result.contains(shown) && result.contains(hidden) && result.contains(q));
+    let moved = result
+        .replace(shown, "")
+        .replace(q, "pub fn q(k: u8) -> u8\n    // ensures r { k }\n{");
+    assert!(
+        audited(SOURCE, &moved).is_err(),
+        "a clause that is no longer in the docs:\n{moved}"
+    );
+    let at = result.find("/// Of s.").expect("docs of s");
+    let block = result.find("///\n/// <details>").expect("docs of q");
+    let end = block
+        + result[block..]
+            .find("#[inline]")
+            .expect("the end of the docs of q");
+    let other = format!(
+        "{}{}{}{}",
+        &result[..block],
+        &result[end..at],
+        &result[block..end],
+        &result[at..]
+    );
+    assert!(
+        audited(SOURCE, &other).is_err(),
+        "a contract in the docs of another function:\n{other}"
+    );
+}
+
+#[test]
+fn only_the_package_may_call_a_function_with_a_condition() {
+    let (source, narrow) = ("pub fn a()\n    requires { b }\n{}\n", "pub(crate) fn a()");
+    let result = erased(source).expect("known forms");
+    assert!(result.contains(narrow));
+    let wide = result.replace(narrow, "pub fn a()");
+    assert!(
+        audited(source, &wide).is_err(),
+        "a condition that nobody tests:\n{wide}"
+    );
+    let other = "pub fn a()\n    ensures { b }\n{}\n";
+    let result = erased(other)
+        .expect("known forms")
+        .replace("pub fn a()", narrow);
+    assert!(audited(other, &result).is_err(), "too narrow:\n{result}");
 }

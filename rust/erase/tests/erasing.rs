@@ -89,8 +89,8 @@ fn clauses_become_comments() {
 #[test]
 fn clauses_after_bounds() {
     gives(
-        "pub fn a<R>(b: &R)\nwhere\n    R: Clone,\n    requires { c }\n{\n}\n",
-        "#[inline]\npub fn a<R>(b: &R)\nwhere\n    R: Clone,\n    // requires { c }\n{\n}\n",
+        "fn a<R>(b: &R)\nwhere\n    R: Clone,\n    requires { c }\n{\n}\n",
+        "#[inline]\nfn a<R>(b: &R)\nwhere\n    R: Clone,\n    // requires { c }\n{\n}\n",
     );
 }
 
@@ -122,6 +122,123 @@ fn clauses_of_closures() {
     );
 }
 
+/// The docs of a contract with these lines, below a doc comment with the same margin.
+fn shown(margin: &str, clauses: &[&str]) -> String {
+    let head = [
+        "",
+        "<details><summary>Contract</summary>",
+        "",
+        "In the words of the folder `specs/` of crate `ent_here`:",
+        "",
+        "```text",
+    ];
+    let lines = head.iter().chain(clauses).chain(&["```", "", "</details>"]);
+    let lines = lines.map(|line| format!("/// {line}"));
+    let lines = lines.map(|line| format!("{margin}{}\n", line.trim_end()));
+    lines.collect()
+}
+
+#[test]
+fn clauses_of_what_the_package_shows_go_to_its_docs() {
+    let contract = shown(
+        "    ",
+        &["// Why.", "ensures b { c", "    ≡ d }", "", "ensures { e }"],
+    );
+    gives(
+        "impl A {\n    /// Of a.\n    #[must_use]\n    pub fn a(&self) -> u8\n        // Why.\n        \
+         ensures b { c\n            ≡ d }\n\n        ensures { e }\n    {\n        1\n    }\n}\n",
+        &format!(
+            "impl A {{\n    /// Of a.\n{contract}    #[must_use]\n    #[inline]\n    pub fn a(&self) -> u8 {{\n        \
+             1\n    }}\n}}\n"
+        ),
+    );
+    let contract = shown("", &["ensures { c }"]);
+    gives(
+        "/// Of a.\n#[tactic(auto)]\npub fn a<T>(b: T)\nwhere\n    T: Copy,\n    ensures { c }\n{\n}\n",
+        &format!(
+            "/// Of a.\n{contract}#[inline]\npub fn a<T>(b: T)\nwhere\n    T: Copy,\n{{\n}}\n"
+        ),
+    );
+    gives(
+        "/// Of a.\npub fn a() ensures { c } {\n}\n",
+        &format!("/// Of a.\n{contract}#[inline]\npub fn a() {{\n}}\n"),
+    );
+}
+
+#[test]
+fn clauses_of_a_trait_that_the_package_shows_go_to_its_docs() {
+    let contract = shown("    ", &["requires { b }", "ensures { c }"]);
+    gives(
+        "/// Of A.\npub trait A {\n    /// Of a.\n    fn a(&self) -> u8\n        requires { b }\n        \
+         ensures { c };\n}\n",
+        &format!(
+            "/// Of A.\npub trait A {{\n    /// Of a.\n{contract}    fn a(&self) -> u8;\n}}\n"
+        ),
+    );
+}
+
+#[test]
+fn without_docs_the_clauses_of_a_public_call_stay_comments() {
+    gives(
+        "// Why.\npub fn a()\n    ensures { c }\n{\n}\n",
+        "// Why.\n#[inline]\npub fn a()\n    // ensures { c }\n{\n}\n",
+    );
+}
+
+#[test]
+fn who_may_call_a_function_with_a_condition() {
+    gives(
+        "/// Of A.\nimpl A {\n    /// Of a.\n    pub fn a(&self)\n        ensures { b }\n        \
+         requires { c }\n    {\n    }\n}\n\n/// Of d.\npub const fn d()\n    requires { c }\n{\n}\n",
+        "/// Of A.\nimpl A {\n    /// Of a.\n    #[inline]\n    pub(crate) fn a(&self)\n        // ensures { b }\n        \
+         // requires { c }\n    {\n    }\n}\n\n/// Of d.\n#[inline]\npub(crate) const fn d()\n    \
+         // requires { c }\n{\n}\n",
+    );
+    gives(
+        "pub use b::a;\npub use b::{C, d};\n\nmod b {\n    pub fn a()\n        requires { c }\n    {\n    }\n\n    \
+         pub fn d() {}\n\n    pub struct C;\n}\n",
+        "pub(crate) use b::a;\npub use b::{C, d};\n\nmod b {\n    #[inline]\n    pub(crate) fn a()\n        \
+         // requires { c }\n    {\n    }\n\n    #[inline]\n    pub fn d() {}\n\n    pub struct C;\n}\n",
+    );
+}
+
+#[test]
+fn all_may_call_a_function_that_only_requires_a_closure() {
+    gives(
+        "pub fn a<F: FnMut(u8)>(keep: F)\n    requires { F.IsAlwaysCallable keep }\n    ensures { b }\n{\n}\n",
+        "#[inline]\npub fn a<F: FnMut(u8)>(keep: F)\n    // requires { F.IsAlwaysCallable keep }\n    \
+         // ensures { b }\n{\n}\n",
+    );
+    gives(
+        "pub fn a<F: FnMut(u8)>(keep: F)\n    requires { F.IsAlwaysCallable keep × b }\n{\n}\n",
+        "#[inline]\npub(crate) fn a<F: FnMut(u8)>(keep: F)\n    // requires { F.IsAlwaysCallable keep × b }\n{\n}\n",
+    );
+    gives(
+        "pub fn a<F: FnMut(u8)>(keep: F)\n    requires { F.IsAlwaysCallable keep }\n    requires { b }\n{\n}\n",
+        "#[inline]\npub(crate) fn a<F: FnMut(u8)>(keep: F)\n    // requires { F.IsAlwaysCallable keep }\n    \
+         // requires { b }\n{\n}\n",
+    );
+}
+
+#[test]
+fn a_clone_that_is_refused_no_memory() {
+    gives(
+        "struct A;\n\nimpl A {\n    fn again(&self) -> Self {\n        A\n    }\n}\n\nimpl Clone for A {\n    \
+         ghost is_infallible = { λ _. ⊤ };\n\n    fn clone(&self) -> Result<Self, std::alloc::AllocError> {\n        \
+         Ok(self.again())\n    }\n}\n",
+        "struct A;\n\nimpl A {\n    #[inline]\n    fn again(&self) -> Self {\n        A\n    }\n}\n\n\
+         impl Clone for A {\n    #[inline]\n    fn clone(&self) -> Self {\n        self.again()\n    }\n}\n",
+    );
+}
+
+#[test]
+fn links_to_the_package() {
+    gives(
+        "/// [`A`](forgeni::A), [`B`](crate::B).\nstruct B;\n",
+        "/// [`A`](crate::A), [`B`](crate::proved::ent_here::B).\nstruct B;\n",
+    );
+}
+
 #[test]
 fn attributes_for_the_prover() {
     gives(
@@ -142,6 +259,7 @@ fn drop_in_derives() {
         "#[derive(Debug)]\nstruct A;\n",
     );
     stays("#[derive(Clone, Copy, Debug, Default, PartialEq, Eq, Hash)]\nstruct A;\n");
+    stays("#[non_exhaustive]\n#[must_use]\nenum A {\n    B,\n}\n");
 }
 
 #[test]
@@ -173,7 +291,7 @@ fn paths() {
          use std::cmp::Ordering;\nuse std::fmt;\nuse thiserror::Error;\npub use either::{Either, Left};\n\n\
          type F = Result<ent_other::E, std::cmp::Ordering>;\ntype G = crate::a::H<fmt::Result>;\n",
         "use crate::proved::ent_here::a::B;\nuse crate::proved::ent_here::{C, d};\n\
-         use crate::proved::ent_other::E;\nuse crate::kit::alloc::{AllocError, Global};\n\
+         use crate::proved::ent_other::E;\nuse crate::kit::alloc::AllocError;\n\
          use core::cmp::Ordering;\nuse core::fmt;\npub use crate::kit::either::{Either, Left};\n\n\
          type F = Result<crate::proved::ent_other::E, core::cmp::Ordering>;\n\
          type G = crate::proved::ent_here::a::H<fmt::Result>;\n",
@@ -199,15 +317,15 @@ fn what_the_crate_alone_sees() {
 #[test]
 fn names_of_the_kit_are_imported() {
     gives(
-        "//! A.\n\nuse super::b;\n\nfn c<F>(alloc: F, d: Vec<u8>) -> Vec<u8> {\n    prove_eq!(1, 1);\n    \
+        "//! A.\n\nuse super::b;\nuse std::alloc::Global;\n\nfn c(alloc: Global, d: Vec<u8>) -> Vec<u8> {\n    prove_eq!(1, 1);\n    \
          d.iter().collect(alloc)\n}\n",
-        "//! A.\n\nuse crate::kit::prove_eq;\nuse crate::kit::vec::CollectIn;\nuse crate::kit::vec::Vec;\n\
-         use super::b;\n\n#[inline]\nfn c<F>(alloc: F, d: Vec<u8>) -> Vec<u8> {\n    prove_eq!(1, 1);\n    \
-         d.iter().collect_in(alloc)\n}\n",
+        "//! A.\n\nuse alloc::vec::Vec;\nuse crate::kit::prove_eq;\nuse crate::kit::vec::CollectIn;\n\
+         use super::b;\n\n#[inline]\nfn c(d: Vec<u8>) -> Vec<u8> {\n    prove_eq!(1, 1);\n    \
+         d.iter().collect_in()\n}\n",
     );
     gives(
         "ghost use A.{b};\n\n/// C.\n#[derive(Drop)]\nstruct C(Vec<u8>);\n",
-        "use crate::kit::vec::Vec;\n\n/// C.\nstruct C(Vec<u8>);\n",
+        "use alloc::vec::Vec;\n\n/// C.\nstruct C(Vec<u8>);\n",
     );
 }
 
@@ -227,19 +345,99 @@ fn body(result: &str) -> Option<&str> {
     result.split_once("\n\n").map(|it| it.1)
 }
 
-/// A handle is aligned as the package's own. Another type isn't, nor one of another crate.
+/// A handle, whose equality is derived in the package, and its layout is chosen there.
+const HANDLE: &str = "\
+/// A.
+#[derive(Drop, Ord)]
+pub struct Handle {
+    bits: u32,
+}
+
+/// Of both.
+impl PartialEq for Handle {
+    ghost eq = { a };
+
+    fn eq(&self, other: &Self) -> bool {
+        self.bits == other.bits
+    }
+}
+
+impl Eq for Handle {
+    ghost laws = { a; b };
+}
+
+struct Handles;
+";
+
+/// Another type has no layout, nor one of another crate.
 #[test]
 fn layouts() {
-    let source =
-        "/// A.\n#[derive(Drop, Eq)]\npub struct Handle {\n    a: u32,\n}\n\nstruct Handles;\n";
     let wanted =
-        "/// A.\n#[derive(Eq)]\n#[repr(align(8))]\npub struct Handle {\n    a: u32,\n}\n\n\
-                  struct Handles;\n";
-    let misplaced = wanted.replace("\nstruct Handles", "\n#[repr(align(8))]\nstruct Handles");
-    let (result, audited) = erased_of("ent_handle", PATH, source, &misplaced).expect("known forms");
+        "/// A.\n#[derive(Ord, PartialEq, Eq)]\n#[repr(transparent)]\npub struct Handle {\n    \
+                  bits: u32,\n}\n\nstruct Handles;\n";
+    let misplaced = wanted.replace("\nstruct Handles", "\n#[repr(transparent)]\nstruct Handles");
+    let (result, audited) = erased_of("ent_handle", PATH, HANDLE, &misplaced).expect("known forms");
     assert_eq!(body(&result), Some(wanted));
     assert!(audited.is_err());
-    stays("pub struct Handle {\n    a: u32,\n}\n");
+    stays("pub struct Handle {\n    bits: u32,\n}\n");
+}
+
+/// The equality of a handle is printed as the derive, if it is that of the derive. That of another type stays.
+#[test]
+fn equality_of_one_field() {
+    let result = |source: &str| erased_of("ent_handle", PATH, source, "").map(|it| it.0);
+    let known = result(HANDLE).expect("known forms");
+    let differing = [
+        ("PartialEq, ", ""),
+        (", Eq", ""),
+        ("PartialEq, Eq", "Eq, PartialEq"),
+        ("struct Handles", "impl Eq for Handle {}\n\nstruct Handles"),
+    ];
+    for (from, to) in differing {
+        let other = known.replacen(from, to, 1);
+        assert!(other != known, "{from}");
+        let audited = erased_of("ent_handle", PATH, HANDLE, &other).expect("known forms");
+        assert!(audited.1.is_err(), "{other}");
+    }
+    let refused = [
+        ("self.bits == other.bits", "self.bits != other.bits"),
+        ("self.bits == other.bits", "self.bits == self.bits"),
+        ("self.bits == other.bits", "true"),
+        (
+            "self.bits == other.bits\n    }",
+            "self.bits == other.bits\n    }\n\n    fn ne(&self, other: &Self) -> bool {\n        true\n    }",
+        ),
+        ("    bits: u32,", "    bits: u32,\n    more: u32,"),
+        ("    bits: u32,", "    more: u32,"),
+        ("impl Eq for Handle {\n    ghost laws = { a; b };\n}\n", ""),
+        ("ghost laws = { a; b };", "type A = u8;"),
+    ];
+    for (from, to) in refused {
+        let other = HANDLE.replacen(from, to, 1);
+        assert!(other != HANDLE, "{from}");
+        assert!(result(&other).is_err(), "{other}");
+    }
+    gives(
+        &HANDLE[HANDLE.find("impl Eq").expect("an impl")..].replace("Handle", "A"),
+        "impl Eq for A {}\n\nstruct As;\n",
+    );
+}
+
+/// The text of a handle keeps a width. That of another file doesn't.
+#[test]
+fn padded_texts() {
+    let source = "fn a(f: A) -> A {\n    write!(f, \"{b}\")\n}\n";
+    let wanted =
+        "use crate::kit::padded;\n\n#[inline]\nfn a(f: A) -> A {\n    padded!(f, \"{b}\")\n}\n";
+    let path = "crates/ent_handle/src/text.rt";
+    let plain = format!("// Made.\n\n{}", wanted.replace("padded!", "write!"));
+    let (result, audited) = erased_of("ent_handle", path, source, &plain).expect("known forms");
+    assert_eq!(body(&result), Some(wanted));
+    assert!(audited.is_ok(), "it is as the source says");
+    let padded = format!("// Made.\n\n{wanted}");
+    let (result, audited) = erased_of("ent_handle", PATH, source, &padded).expect("known forms");
+    assert_eq!(body(&result), Some(&*format!("#[inline]\n{source}")));
+    assert!(audited.is_err());
 }
 
 /// What makes an empty allocator is `const`. Another function isn't, nor one of another file.
@@ -255,6 +453,25 @@ fn constants() {
     assert!(audited.is_err());
     let (result, _) = erased_of("ent_alloc", PATH, source, "").expect("known forms");
     assert!(!result.contains("const"));
+}
+
+/// The allocator's `new` has another name. Another type's hasn't.
+#[test]
+fn functions_by_another_name() {
+    let source = "impl Entities {\n    pub fn new() -> Self {\n        A::new();\n        Self::new();\n        \
+                  Entities::new()\n    }\n}\n\nimpl A {\n    fn new() -> Self {\n        Self::new();\n        \
+                  Entities::new()\n    }\n}\n\nstruct Entities;\n\nstruct A;\n";
+    let new = source.replace("Entities::new", "Entities::with_exact_limits");
+    let new = new.replacen("pub fn new", "#[inline]\n    pub fn with_exact_limits", 1);
+    let new = new.replacen("Self::new", "Self::with_exact_limits", 1);
+    let wanted = new.replace("    fn new", "    #[inline]\n    fn new");
+    let misplaced = wanted.replace("fn new", "fn with_exact_limits");
+    let path = "crates/ent_alloc/src/here.rt";
+    let (result, audited) = erased_of("ent_alloc", path, source, &misplaced).expect("known forms");
+    assert_eq!(body(&result), Some(&*wanted));
+    assert!(audited.is_err());
+    // Another crate has no type of the name.
+    assert!(erased_of("ent_here", PATH, source, "").is_err());
 }
 
 #[test]
@@ -276,7 +493,7 @@ fn messages_of_an_enum() {
          #[error(\"no b\")]\n    B,\n    #[error(\"{c} of {d:?}\")]\n    C { c: u8, d: E },\n    \
          #[error(\"{c}\")]\n    F {\n        /// C.\n        c: u8,\n        d: Vec<u8>,\n    },\n    \
          #[error(\"{{g}}\")]\n    G(u8),\n}\n\nstruct H;\n",
-        "use crate::kit::vec::Vec;\n\n/// A.\n#[derive(Debug)]\npub enum A {\n    /// B.\n    B,\n    \
+        "use alloc::vec::Vec;\n\n/// A.\n#[derive(Debug)]\npub enum A {\n    /// B.\n    B,\n    \
          C { c: u8, d: E },\n    F {\n        /// C.\n        c: u8,\n        d: Vec<u8>,\n    },\n    G(u8),\n}\n\n\
          impl core::fmt::Display for A {\n    \
          fn fmt(&self, f: &mut core::fmt::Formatter<'_>) -> core::fmt::Result {\n        match self {\n            \

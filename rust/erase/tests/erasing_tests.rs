@@ -60,9 +60,9 @@ fn methods_that_take_it_are_renamed() {
          b.expect_in(&rt, \"c\");\n    b.expect_in(\n        rt,\n        \"c\",\n    );\n}\n",
     );
     gives(
-        "fn a(alloc: C) {\n    (b.to_vec(alloc), b.to_string(alloc));\n}\n",
-        "use crate::host::slice::ToKitVec;\nuse crate::host::string::ToStringIn;\n\n#[inline]\nfn a(alloc: C) {\n    \
-         (b.to_kit_vec(alloc), b.to_string_in(alloc));\n}\n",
+        "use std::alloc::Global;\n\nfn a(alloc: Global) {\n    (b.to_vec(alloc), b.to_string(alloc));\n}\n",
+        "use crate::host::slice::ToKitVec;\nuse crate::host::string::ToStringIn;\n\n#[inline]\nfn a() {\n    \
+         (b.to_kit_vec(), b.to_string_in());\n}\n",
     );
     assert!(erased_test("fn a() {\n    b.expect(\"c\");\n}\n").is_err());
 }

@@ -120,6 +120,30 @@ const REFUSED: &[(&str, usize, &str)] = &[
         3,
         "an unknown clause: `promises`",
     ),
+    // Clones.
+    (
+        "struct A;\n\nimpl Clone for A {\n    fn clone(&self) -> Result<Self, std::alloc::AllocError> {\n        \
+         Ok(A)\n    }\n}\n",
+        4,
+        "another `clone` than by `again`",
+    ),
+    // Functions with a condition.
+    (
+        "pub use b::{a, C};\n\nmod b {\n    pub fn a()\n        requires { c }\n    {\n    }\n\n    pub struct C;\n}\n",
+        1,
+        "a function with a condition needs a `pub use` of its own",
+    ),
+    (
+        "pub use b::a;\n\nmod b {\n    pub fn a()\n        requires { c }\n    {\n    }\n}\n\nmod d {\n    \
+         pub fn a() {}\n}\n",
+        1,
+        "several functions `a`, of which some have a condition",
+    ),
+    (
+        "/// Of a.\npub fn a()\n    ensures { \"```\" }\n{\n}\n",
+        3,
+        "a clause that ends its block of docs",
+    ),
     // Blocks and signs.
     (
         "fn a() {\n    b();\n    proof { c }\n}\n",
@@ -179,9 +203,9 @@ const REFUSED: &[(&str, usize, &str)] = &[
         "an impl of an unknown trait: `Drop`",
     ),
     (
-        "impl Clone for A {}\n",
+        "impl AsMut for A {}\n",
         1,
-        "an impl of an unknown trait: `Clone`",
+        "an impl of an unknown trait: `AsMut`",
     ),
     (
         "mod a {\n    pub(crate) fn b() {}\n}\n",

@@ -7,7 +7,7 @@
 //! 1024 born
 //! ```
 
-use forgeni::{Entities, Handle, Refused, Reserver};
+use forgeni::{Entities, Handle, ReserveError, Reserver};
 use std::collections::HashSet;
 use std::error::Error;
 use std::thread;
@@ -35,12 +35,12 @@ fn main() -> Result<(), Box<dyn Error>> {
 }
 
 /// One thread reserves one by one, the other at once.
-fn side_by_side(a: &mut Reserver, b: &mut Reserver) -> Result<Vec<Handle>, Refused> {
+fn side_by_side(a: &mut Reserver, b: &mut Reserver) -> Result<Vec<Handle>, ReserveError> {
     thread::scope(|scope| {
         let bulk = scope.spawn(|| b.reserve_many(400));
         let mut given = (0..600)
             .map(|_| a.reserve())
-            .collect::<Result<Vec<Handle>, Refused>>()?;
+            .collect::<Result<Vec<Handle>, ReserveError>>()?;
         given.extend(bulk.join().expect("it doesn't panic")?);
         Ok(given)
     })

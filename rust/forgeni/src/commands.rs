@@ -3,9 +3,6 @@
 use crate::component::{Birth, ComponentId};
 use crate::errors::OutOfMemory;
 use crate::handle::Handle;
-use crate::kit::alloc::Global;
-use crate::lists::all_handles;
-use crate::numbers::Numbers;
 use crate::proved::ent_handle::Memory;
 use crate::proved::ent_queue::{self, Bundle};
 use crate::proved::ent_total;
@@ -21,11 +18,11 @@ use core::fmt;
 // A call writes the queue, so two of them in a list share no line of a processor's cache.
 #[repr(align(128))]
 pub struct Commands {
-    proved: ent_total::Issuer<Numbers>,
+    proved: ent_total::Issuer,
 }
 
 impl Commands {
-    pub(crate) fn of(proved: ent_total::Issuer<Numbers>) -> Self {
+    pub(crate) fn of(proved: ent_total::Issuer) -> Self {
         Self { proved }
     }
 
@@ -36,11 +33,10 @@ impl Commands {
     ///
     /// `Memory`, and then nothing has changed. With `Space` and `Credit` the queue keeps the
     /// refusal, which is a fault of the sync point's report.
-    #[doc = include_str!("proved/ent_total/issuer.spawn.md")]
     #[inline]
     pub fn spawn(&mut self, components: &[(ComponentId, i64)]) -> Result<Handle, SpawnError> {
-        let bundle = Bundle::of(Global, components)?;
-        Ok(Handle::of(self.proved.spawn(Global, &bundle)?))
+        let bundle = Bundle::of(components)?;
+        Ok(self.proved.spawn(&bundle)?)
     }
 
     /// Reserves `count` handles at once, each of which is to have the components. It takes time for each
@@ -49,15 +45,14 @@ impl Commands {
     /// # Errors
     ///
     /// As [`spawn`](Self::spawn).
-    #[doc = include_str!("proved/ent_total/issuer.spawn_many.md")]
     #[inline]
     pub fn spawn_many(
         &mut self,
         count: u32,
         components: &[(ComponentId, i64)],
     ) -> Result<Vec<Handle>, SpawnError> {
-        let bundle = Bundle::of(Global, components)?;
-        Ok(all_handles(self.proved.spawn_many(Global, count, &bundle)?))
+        let bundle = Bundle::of(components)?;
+        Ok(self.proved.spawn_many(count, &bundle)?)
     }
 
     /// Gives the entity the components, instead of those that it has under the same numbers.
@@ -65,15 +60,14 @@ impl Commands {
     /// # Errors
     ///
     /// `OutOfMemory`, and then nothing has changed.
-    #[doc = include_str!("proved/ent_total/issuer.insert.md")]
     #[inline]
     pub fn insert(
         &mut self,
         handle: Handle,
         components: &[(ComponentId, i64)],
     ) -> Result<(), OutOfMemory> {
-        let bundle = Bundle::of(Global, components)?;
-        Ok(self.proved.insert(Global, handle.proved(), &bundle)?)
+        let bundle = Bundle::of(components)?;
+        Ok(self.proved.insert(handle, &bundle)?)
     }
 
     /// Takes the component out of the entity, if it has it.
@@ -81,10 +75,9 @@ impl Commands {
     /// # Errors
     ///
     /// `OutOfMemory`, and then nothing has changed.
-    #[doc = include_str!("proved/ent_total/issuer.remove.md")]
     #[inline]
     pub fn remove(&mut self, handle: Handle, id: ComponentId) -> Result<(), OutOfMemory> {
-        Ok(self.proved.remove(Global, handle.proved(), id)?)
+        Ok(self.proved.remove(handle, id)?)
     }
 
     /// Takes the entity out of the world.
@@ -92,34 +85,30 @@ impl Commands {
     /// # Errors
     ///
     /// `OutOfMemory`, and then nothing has changed.
-    #[doc = include_str!("proved/ent_total/issuer.despawn.md")]
     #[inline]
     pub fn despawn(&mut self, handle: Handle) -> Result<(), OutOfMemory> {
-        Ok(self.proved.despawn(Global, handle.proved())?)
+        Ok(self.proved.despawn(handle)?)
     }
 
     /// The value of the entity's component, if the entity is alive and has it.
-    #[doc = include_str!("proved/ent_world/view.get.md")]
     #[inline]
     #[must_use]
     pub fn get(&self, handle: Handle, id: ComponentId) -> Option<i64> {
-        self.proved.world().view().get(handle.proved(), id)
+        self.proved.world().view().get(handle, id)
     }
 
     /// When and by whom the entity was brought to life, if it is alive.
-    #[doc = include_str!("proved/ent_world/view.birth.md")]
     #[inline]
     #[must_use]
     pub fn birth(&self, handle: Handle) -> Option<Birth> {
-        self.proved.world().view().birth(handle.proved())
+        self.proved.world().view().birth(handle)
     }
 
     /// Whether the entity is alive. What the systems of the phase spawn isn't yet.
-    #[doc = include_str!("proved/ent_world/view.contains.md")]
     #[inline]
     #[must_use]
     pub fn contains(&self, handle: Handle) -> bool {
-        self.proved.world().view().contains(handle.proved())
+        self.proved.world().view().contains(handle)
     }
 
     /// The handles of all entities, by birth and then by handle.
@@ -127,9 +116,8 @@ impl Commands {
     /// # Errors
     ///
     /// `OutOfMemory`: there is no memory for the list.
-    #[doc = include_str!("proved/ent_world/view.by_birth.md")]
     pub fn by_birth(&self) -> Result<Vec<Handle>, OutOfMemory> {
-        Ok(all_handles(self.proved.world().view().by_birth()?))
+        Ok(self.proved.world().view().by_birth()?)
     }
 
     /// Which of the systems it is: its position in the list that
@@ -150,7 +138,6 @@ impl Commands {
     /// let queue = only.finish();
     /// only.spawn(&[]);
     /// ```
-    #[doc = include_str!("proved/ent_total/issuer.finish.md")]
     #[inline]
     #[must_use]
     pub fn finish(self) -> CommandQueue {
@@ -172,15 +159,15 @@ impl fmt::Debug for Commands {
 /// [`OpenWorld::close`](crate::OpenWorld::close) and
 /// [`OpenWorld::close_lost`](crate::OpenWorld::close_lost) take it.
 pub struct CommandQueue {
-    proved: ent_total::Issued<Numbers>,
+    proved: ent_total::Issued,
 }
 
 impl CommandQueue {
-    pub(crate) fn of(proved: ent_total::Issued<Numbers>) -> Self {
+    pub(crate) fn of(proved: ent_total::Issued) -> Self {
         Self { proved }
     }
 
-    pub(crate) fn proved(self) -> ent_total::Issued<Numbers> {
+    pub(crate) fn proved(self) -> ent_total::Issued {
         self.proved
     }
 

@@ -1,7 +1,6 @@
 //! Frames: systems run on workers over one world, and the sync point applies what they issued.
 
 use crate::errors::OutOfMemory;
-use crate::kit::alloc::Global;
 use crate::kit::thread::StdThreads;
 use crate::proved::ent_handle::Memory;
 use crate::proved::ent_runner::{self, NoGate};
@@ -89,7 +88,6 @@ use std::sync::{Mutex, PoisonError};
 ///
 /// With more than one worker, threads are started as [`std::thread::scope`] starts them. If memory
 /// for that runs out, it ends the process.
-#[doc = include_str!("proved/ent_total/framing.run_frame.md")]
 pub fn run_frame<S: System>(
     world: &mut World,
     systems: &[S],
@@ -101,7 +99,7 @@ pub fn run_frame<S: System>(
     }
     guarded.extend(systems.iter().map(Guarded::new));
     let proved = &mut world.proved;
-    let ran = proved.run_frame(&StdThreads, Global, &guarded, workers, &NoGate);
+    let ran = proved.run_frame(&StdThreads, &guarded, workers, &NoGate);
     let panic = guarded.into_iter().find_map(Guarded::panic);
     if let Some(panic) = panic {
         resume_unwind(panic);
@@ -139,7 +137,6 @@ impl<S: System> ent_runner::System for Guarded<'_, S> {
     /// world is closed with what was reserved.
     fn run(
         &self,
-        _: Global,
         view: &ent_world::View<'_>,
         commands: &mut ent_queue::Commands<'_>,
     ) -> Result<(), Memory> {

@@ -125,7 +125,6 @@
 //!   before, as for an `Arc`.
 //! - A [`HandleMap`] is cloned, extended, collected, or used up by an iterator. `Reservers::into_inner`
 //!   makes a list.
-//! - A close after one that was refused with [`CloseError::InUse`] may make a list.
 //! - `run_frame` with more than one worker starts threads.
 //!
 //! # Proved, trusted, tested
@@ -168,14 +167,12 @@ mod handle;
 pub mod handle_map;
 #[allow(dead_code, missing_docs, unreachable_pub)]
 mod kit;
+mod lending;
 mod lent;
-mod limits;
-mod lists;
 mod numbers;
 mod open_world;
 mod phase;
 #[rustfmt::skip]
-#[allow(missing_docs)]
 mod proved;
 mod report;
 #[cfg(feature = "std")]
@@ -199,21 +196,19 @@ mod world;
 pub use commands::{CommandQueue, Commands, SpawnError};
 pub use component::{Birth, ComponentId};
 pub use entities::{Entities, Freed, Living, State};
-pub use errors::{Absent, AllocError, BornError, CloseError, FreeError, InsertError, OtherPhase};
-pub use errors::{OutOfMemory, Refused, RequestError, RequestManyError, ShareError};
-pub use errors::{Unallocated, Unclosed, Unshared};
+pub use errors::{Absent, AllocError, FreeError, OutOfMemory, Refused, ReserveError};
 #[cfg(feature = "std")]
 pub use frames::{run_frame, FrameError};
 pub use handle::{Handle, ParseHandleError};
-pub use handle_map::{HandleMap, InsertionError, Uninserted};
+pub use handle_map::{HandleMap, InsertError, Uninserted};
 pub use lent::Lent;
-pub use limits::Limits;
+pub use proved::ent_alloc::Limits;
 pub use open_world::{FinishError, OpenError, OpenWorld, Unfinished, Unopened};
 pub use report::{Fault, FaultKind, Report};
 #[cfg(feature = "std")]
 pub use reservers::{Lends, Reservers, Unpooled};
-pub use sharing::{Reserver, Shared};
-pub use storage::Storage;
+pub use sharing::{CloseError, OtherPhase, Reserver, ShareError, Shared, Unclosed, Unshared};
+pub use storage::{Bundle, Items, Storage, StorageError};
 pub use sync::{GoOnError, Queues, Stopped, SyncError, SyncErrorKind};
 #[cfg(feature = "std")]
 pub use system::System;

@@ -3,13 +3,7 @@
 //! This is what the package is trusted for: that no number is given twice. All that the numbers are
 //! for is proved.
 
-use crate::proved::ent_total::Numbering;
 use core::sync::atomic::{AtomicU64, Ordering};
-
-/// The numbers of this program.
-pub(crate) struct Numbers;
-
-impl Numbering for Numbers {}
 
 /// The number that is given next. It would take centuries to come round.
 static NEXT: AtomicU64 = AtomicU64::new(0);

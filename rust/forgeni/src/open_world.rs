@@ -4,10 +4,7 @@ use crate::commands::{CommandQueue, Commands};
 use crate::component::{Birth, ComponentId};
 use crate::errors::OutOfMemory;
 use crate::handle::Handle;
-use crate::kit::alloc::Global;
-use crate::kit::vec::Vec as List;
-use crate::lists::all_handles;
-use crate::numbers::{next_number, Numbers};
+use crate::numbers::next_number;
 use crate::proved::ent_total::{self, FinishFault, NumberedWorld, ShareFault};
 use crate::sync::Queues;
 use crate::world::World;
@@ -18,9 +15,9 @@ use core::fmt;
 /// The greatest number of systems of a phase.
 const SYSTEMS: usize = 1024;
 
-type Phase = ent_total::WorldPhase<Numbers>;
-type Issued = ent_total::Issued<Numbers>;
-type Ended = Result<(NumberedWorld, ent_total::Queues), ent_total::Unfinished<Numbers>>;
+type Phase = ent_total::WorldPhase;
+type Issued = ent_total::Issued;
+type Ended = Result<(NumberedWorld, ent_total::Queues), ent_total::Unfinished>;
 
 /// A world in a phase. It can be read, as it was when it was opened.
 ///
@@ -45,7 +42,7 @@ impl OpenWorld {
                 error: OpenError::Memory,
             });
         }
-        match ent_total::open(Global, world, count) {
+        match ent_total::open(world, count) {
             Ok(opening) => Self {
                 proved: opening.numbered(next_number()),
                 next,
@@ -78,7 +75,7 @@ impl OpenWorld {
 
     /// Memory ran out on the way, and no system has begun: the world is as it was.
     fn undo(self) -> Unopened {
-        match self.proved.close_lost(List::new(Global)) {
+        match self.proved.close_lost(Vec::new()) {
             Ok((world, _)) => Unopened {
                 world: World::of(world, self.next),
                 error: OpenError::Memory,
@@ -88,27 +85,24 @@ impl OpenWorld {
     }
 
     /// The value of the entity's component, if the entity is alive and has it.
-    #[doc = include_str!("proved/ent_world/view.get.md")]
     #[inline]
     #[must_use]
     pub fn get(&self, handle: Handle, id: ComponentId) -> Option<i64> {
-        self.proved.world().view().get(handle.proved(), id)
+        self.proved.world().view().get(handle, id)
     }
 
     /// When and by whom the entity was brought to life, if it is alive.
-    #[doc = include_str!("proved/ent_world/view.birth.md")]
     #[inline]
     #[must_use]
     pub fn birth(&self, handle: Handle) -> Option<Birth> {
-        self.proved.world().view().birth(handle.proved())
+        self.proved.world().view().birth(handle)
     }
 
     /// Whether the entity is alive. What the systems spawn isn't yet.
-    #[doc = include_str!("proved/ent_world/view.contains.md")]
     #[inline]
     #[must_use]
     pub fn contains(&self, handle: Handle) -> bool {
-        self.proved.world().view().contains(handle.proved())
+        self.proved.world().view().contains(handle)
     }
 
     /// The handles of all entities, by birth and then by handle.
@@ -116,13 +110,11 @@ impl OpenWorld {
     /// # Errors
     ///
     /// `OutOfMemory`: there is no memory for the list.
-    #[doc = include_str!("proved/ent_world/view.by_birth.md")]
     pub fn by_birth(&self) -> Result<Vec<Handle>, OutOfMemory> {
-        Ok(all_handles(self.proved.world().view().by_birth()?))
+        Ok(self.proved.world().view().by_birth()?)
     }
 
     /// How many systems the phase has.
-    #[doc = include_str!("proved/ent_total/world_phase.count.md")]
     #[inline]
     #[must_use]
     pub fn count(&self) -> usize {
@@ -130,7 +122,6 @@ impl OpenWorld {
     }
 
     /// How many queues it has already: a close that was refused took them.
-    #[doc = include_str!("proved/ent_total/world_phase.at_home.md")]
     #[inline]
     #[must_use]
     pub fn at_home(&self) -> usize {
@@ -148,7 +139,6 @@ impl OpenWorld {
     /// [`Missing`](FinishError::Missing) and [`Memory`](FinishError::Memory) all queues come back,
     /// in their order. With [`InUse`](FinishError::InUse) the phase keeps them, as
     /// [`close_lost`](Self::close_lost) does.
-    #[doc = include_str!("proved/ent_total/finishing.close.md")]
     pub fn close(self, queues: Vec<CommandQueue>) -> Result<(World, Queues), Unfinished> {
         Self::ended(self.proved.close(issued(queues)), self.next)
     }
@@ -167,7 +157,6 @@ impl OpenWorld {
     /// `Commands` or the queue of a system exists that wasn't handed in. The phase keeps those that
     /// were, and they stay before those that the next close is given. One that was given to
     /// [`core::mem::forget`] exists for good.
-    #[doc = include_str!("proved/ent_total/finishing.close_lost.md")]
     pub fn close_lost(self, queues: Vec<CommandQueue>) -> Result<(World, Queues), Unfinished> {
         Self::ended(self.proved.close_lost(issued(queues)), self.next)
     }
@@ -182,9 +171,8 @@ impl OpenWorld {
 }
 
 /// The queues as the proved code takes them, in the same memory.
-fn issued(queues: Vec<CommandQueue>) -> List<Issued> {
-    let all: Vec<Issued> = queues.into_iter().map(CommandQueue::proved).collect();
-    all.into()
+fn issued(queues: Vec<CommandQueue>) -> Vec<Issued> {
+    queues.into_iter().map(CommandQueue::proved).collect()
 }
 
 impl fmt::Debug for OpenWorld {
@@ -309,8 +297,8 @@ pub struct Unfinished {
 
 impl Unfinished {
     /// The phase goes on. The queues are handed back in the memory of the list that had them.
-    fn of(refused: ent_total::Unfinished<Numbers>, next: Birth) -> Self {
-        let queues: Vec<Issued> = refused.queues.into();
+    fn of(refused: ent_total::Unfinished, next: Birth) -> Self {
+        let queues = refused.queues;
         Self {
             open: OpenWorld {
                 proved: refused.phase,

@@ -1,7 +1,6 @@
 //! What a sync point has done.
 
 use crate::handle::Handle;
-use crate::lists::all_handles;
 use crate::proved::ent_world;
 use alloc::vec::Vec;
 
@@ -27,7 +26,7 @@ pub enum FaultKind {
 impl From<ent_world::FaultKind> for FaultKind {
     fn from(kind: ent_world::FaultKind) -> Self {
         match kind {
-            ent_world::FaultKind::NotAlive(handle) => Self::NotAlive(Handle::of(handle)),
+            ent_world::FaultKind::NotAlive(handle) => Self::NotAlive(handle),
             ent_world::FaultKind::Space { wanted, left } => Self::Space { wanted, left },
             ent_world::FaultKind::Quota { left } => Self::Credit { left },
         }
@@ -66,10 +65,9 @@ impl Report {
     /// In the memory of the proved one: the two kinds of faults have one layout, so `collect` asks
     /// for none.
     pub(crate) fn of(proved: ent_world::SyncReport) -> Self {
-        let faults: Vec<ent_world::Fault> = proved.faults.into();
         Self {
-            born: all_handles(proved.born),
-            faults: faults.into_iter().map(Fault::from).collect(),
+            born: proved.born,
+            faults: proved.faults.into_iter().map(Fault::from).collect(),
         }
     }
 

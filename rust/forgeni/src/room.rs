@@ -1,7 +1,6 @@
 //! Room for very many things at once, which the package's own calls don't ask for: tests alone. All
 //! memory is there but where a test says so.
 
-use crate::kit::alloc::Global;
 use crate::proved::ent_alloc::{Entities, Limits};
 use crate::proved::ent_handle::{Birth, Handle};
 use crate::proved::ent_shared::share;
@@ -12,7 +11,7 @@ use crate::proved::ent_storage::Storage;
 fn one_reservation_of_2_to_the_31() {
     let count: u32 = 1 << 31;
     let limits = Limits::new(count, 1).expect("limits");
-    let Ok((shared, mut reservers)) = share(Global, Entities::new(Global, limits), 1) else {
+    let Ok((shared, mut reservers)) = share(Entities::with_limits(limits), 1) else {
         panic!("memory is ample");
     };
     let reserver = &mut reservers[0];
@@ -28,7 +27,7 @@ fn one_reservation_of_2_to_the_31() {
 /// Room for 2^24 entities, which is given back.
 #[test]
 fn a_storage_with_room_for_2_to_the_24() {
-    let mut storage = Storage::new(Global);
+    let mut storage = Storage::new();
     assert!(storage.reserve(1 << 24).is_ok(), "memory is ample");
     assert!(storage.spare() >= 1 << 24);
 }
@@ -37,7 +36,7 @@ fn a_storage_with_room_for_2_to_the_24() {
 /// before, or more, and fewer entities get theirs.
 #[test]
 fn a_storage_with_room_for_2_to_the_31() {
-    let mut storage = Storage::new(Global);
+    let mut storage = Storage::new();
     let ok = storage.reserve(1 << 31).is_ok();
     assert_eq!(storage.spare() >= 1 << 31, ok);
     assert!(storage.is_empty());

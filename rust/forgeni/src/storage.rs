@@ -1,166 +1,11 @@
-//! A storage beside an allocator.
+//! A storage beside an allocator, and the bundles that entities are given.
 
-use crate::component::{Birth, ComponentId};
-use crate::errors::{Absent, BornError, InsertError, OutOfMemory};
-use crate::handle::Handle;
-use crate::kit::alloc::Global;
-use crate::lists::all_handles;
-use crate::proved::ent_storage;
-use alloc::vec::Vec;
+use alloc::alloc::handle_alloc_error;
+use core::alloc::Layout;
 use core::fmt;
 
-/// What living entities are made of: for each handle its birth, and a value for each component that
-/// the entity has.
-///
-/// It does not know which handles an allocator has given: keep it beside an
-/// [`Entities`](crate::Entities). A [`World`](crate::World) has both.
-///
-/// ```
-/// use forgeni::{Birth, ComponentId, Entities, Storage};
-///
-/// const SPEED: ComponentId = ComponentId(0);
-///
-/// let mut entities = Entities::new();
-/// let mut storage = Storage::new();
-/// let cart = entities.alloc()?;
-/// storage.born(cart, Birth { frame: 0, system: 0, ordinal: 0 })?;
-/// storage.insert(cart, &[(SPEED, 40)])?;
-/// assert_eq!(storage.get(cart, SPEED), Some(40));
-/// # Ok::<(), Box<dyn std::error::Error>>(())
-/// ```
-///
-/// It may go to another thread, and many threads may read it at once: it is `Send` and `Sync`.
-pub struct Storage {
-    proved: ent_storage::Storage,
-}
-
-impl Storage {
-    /// A storage without entities. It takes no memory.
-    #[must_use]
-    pub fn new() -> Self {
-        Self {
-            proved: ent_storage::Storage::new(Global),
-        }
-    }
-
-    /// A storage without entities, as [`new`](Self::new) makes it.
-    ///
-    /// # Errors
-    ///
-    /// None: an empty storage takes no memory.
-    pub fn try_new() -> Result<Self, OutOfMemory> {
-        Ok(Self::new())
-    }
-
-    /// Adds an entity without components.
-    ///
-    /// # Errors
-    ///
-    /// `Present` or `Memory`, and then nothing has changed.
-    #[doc = include_str!("proved/ent_storage/storage.born.md")]
-    #[inline(always)]
-    pub fn born(&mut self, handle: Handle, birth: Birth) -> Result<(), BornError> {
-        Ok(self.proved.born(handle.proved(), birth)?)
-    }
-
-    /// Takes the entity out, with all its components. It takes no memory.
-    ///
-    /// # Errors
-    ///
-    /// `Absent`, and then nothing has changed.
-    #[doc = include_str!("proved/ent_storage/storage.despawn.md")]
-    #[inline]
-    pub fn despawn(&mut self, handle: Handle) -> Result<(), Absent> {
-        self.proved.despawn(handle.proved()).map_err(|_| Absent)
-    }
-
-    /// Sets each of the components, and leaves the entity's others as they are. If a component
-    /// stands twice in the list, its last value counts.
-    ///
-    /// # Errors
-    ///
-    /// `Absent` or `Memory`, and then nothing has changed.
-    #[doc = include_str!("proved/ent_storage/storage.insert.md")]
-    #[inline]
-    pub fn insert(
-        &mut self,
-        handle: Handle,
-        components: &[(ComponentId, i64)],
-    ) -> Result<(), InsertError> {
-        Ok(self.proved.insert(handle.proved(), components)?)
-    }
-
-    /// Takes the component out of the entity, and returns the value that it had, or `None` if the
-    /// entity didn't have it. It takes no memory.
-    ///
-    /// # Errors
-    ///
-    /// `Absent`, and then nothing has changed.
-    #[doc = include_str!("proved/ent_storage/storage.remove.md")]
-    #[inline]
-    pub fn remove(&mut self, handle: Handle, id: ComponentId) -> Result<Option<i64>, Absent> {
-        self.proved.remove(handle.proved(), id).map_err(|_| Absent)
-    }
-
-    /// The value of the entity's component, if the entity is there and has it.
-    #[doc = include_str!("proved/ent_storage/looking.get.md")]
-    #[inline]
-    #[must_use]
-    pub fn get(&self, handle: Handle, id: ComponentId) -> Option<i64> {
-        self.proved.get(handle.proved(), id)
-    }
-
-    /// When and by whom the entity was brought to life, if it is there.
-    #[doc = include_str!("proved/ent_storage/looking.birth.md")]
-    #[inline]
-    #[must_use]
-    pub fn birth(&self, handle: Handle) -> Option<Birth> {
-        self.proved.birth(handle.proved())
-    }
-
-    /// Whether the entity is there.
-    #[doc = include_str!("proved/ent_storage/looking.contains.md")]
-    #[inline]
-    #[must_use]
-    pub fn contains(&self, handle: Handle) -> bool {
-        self.proved.contains(handle.proved())
-    }
-
-    /// The entity's components and their values, by rising number, if the entity is there.
-    ///
-    /// If memory runs out for the list, the process ends, as with `Vec`.
-    #[doc = include_str!("proved/ent_storage/looking.items.md")]
-    #[must_use]
-    pub fn items(&self, handle: Handle) -> Option<Vec<(ComponentId, i64)>> {
-        self.proved.items(handle.proved()).map(Iterator::collect)
-    }
-
-    /// The handles of all entities, by birth and then by handle. The time is that of a sort.
-    ///
-    /// # Errors
-    ///
-    /// `OutOfMemory`: there is no memory for the list.
-    #[doc = include_str!("proved/ent_storage/looking.by_birth.md")]
-    pub fn by_birth(&self) -> Result<Vec<Handle>, OutOfMemory> {
-        Ok(all_handles(self.proved.by_birth()?))
-    }
-
-    /// How many entities there are.
-    #[doc = include_str!("proved/ent_storage/storage.len.md")]
-    #[inline]
-    #[must_use]
-    pub fn len(&self) -> usize {
-        self.proved.len()
-    }
-
-    /// Whether there are none.
-    #[doc = include_str!("proved/ent_storage/storage.is_empty.md")]
-    #[inline]
-    #[must_use]
-    pub fn is_empty(&self) -> bool {
-        self.proved.is_empty()
-    }
-}
+pub use crate::proved::ent_queue::Bundle;
+pub use crate::proved::ent_storage::{Items, Storage, StorageFault as StorageError};
 
 impl Default for Storage {
     fn default() -> Self {
@@ -175,3 +20,32 @@ impl fmt::Debug for Storage {
             .finish_non_exhaustive()
     }
 }
+
+impl Default for Bundle {
+    fn default() -> Self {
+        Self::new()
+    }
+}
+
+impl fmt::Debug for Bundle {
+    fn fmt(&self, out: &mut fmt::Formatter<'_>) -> fmt::Result {
+        let items = self.items().iter().map(|(id, value)| (id, value));
+        out.debug_map().entries(items).finish()
+    }
+}
+
+/// If memory runs out, the process ends, as when a `Vec` is cloned.
+impl Clone for Bundle {
+    fn clone(&self) -> Self {
+        let items = self.items();
+        Self::of(items).unwrap_or_else(|_| handle_alloc_error(Layout::for_value(items)))
+    }
+}
+
+impl PartialEq for Bundle {
+    fn eq(&self, other: &Self) -> bool {
+        self.items() == other.items()
+    }
+}
+
+impl Eq for Bundle {}

@@ -167,7 +167,6 @@ impl Stopped {
     /// - [`GoOnError::Memory`]: nothing has changed. It doesn't come: what goes on takes memory at
     ///   commands alone.
     /// - [`GoOnError::Stopped`]: it stopped again, there or later, and can go on from there.
-    #[doc = include_str!("proved/ent_total/applying.go_on.md")]
     pub fn go_on(self, world: &mut World) -> Result<Report, GoOnError> {
         let so_far = self.so_far;
         match self.rest.go_on(&mut world.proved) {

@@ -4,8 +4,6 @@ use crate::commands::SpawnError;
 use crate::component::ComponentId;
 use crate::errors::OutOfMemory;
 use crate::handle::Handle;
-use crate::kit::alloc::Global;
-use crate::lists::all_handles;
 use crate::proved::ent_queue::{self, Bundle};
 use alloc::vec::Vec;
 use core::fmt;
@@ -30,11 +28,10 @@ impl<'a, 'w> SystemCommands<'a, 'w> {
     ///
     /// `Memory`, and then nothing has changed. With `Space` and `Credit` the queue keeps the
     /// refusal, which is a fault of the frame's report, and the system may go on.
-    #[doc = include_str!("proved/ent_queue/commands.spawn.md")]
     #[inline]
     pub fn spawn(&mut self, components: &[(ComponentId, i64)]) -> Result<Handle, SpawnError> {
-        let bundle = Bundle::of(Global, components)?;
-        Ok(Handle::of(self.proved.spawn(&bundle)?))
+        let bundle = Bundle::of(components)?;
+        Ok(self.proved.spawn(&bundle)?)
     }
 
     /// Reserves `count` handles at once, each of which is to have the components. It takes time for each
@@ -43,15 +40,14 @@ impl<'a, 'w> SystemCommands<'a, 'w> {
     /// # Errors
     ///
     /// As [`spawn`](Self::spawn).
-    #[doc = include_str!("proved/ent_queue/commands.spawn_many.md")]
     #[inline]
     pub fn spawn_many(
         &mut self,
         count: u32,
         components: &[(ComponentId, i64)],
     ) -> Result<Vec<Handle>, SpawnError> {
-        let bundle = Bundle::of(Global, components)?;
-        Ok(all_handles(self.proved.spawn_many(count, &bundle)?))
+        let bundle = Bundle::of(components)?;
+        Ok(self.proved.spawn_many(count, &bundle)?)
     }
 
     /// Gives the entity the components, instead of those that it has under the same numbers.
@@ -59,15 +55,14 @@ impl<'a, 'w> SystemCommands<'a, 'w> {
     /// # Errors
     ///
     /// `OutOfMemory`, and then nothing has changed.
-    #[doc = include_str!("proved/ent_queue/commands.insert.md")]
     #[inline]
     pub fn insert(
         &mut self,
         handle: Handle,
         components: &[(ComponentId, i64)],
     ) -> Result<(), OutOfMemory> {
-        let bundle = Bundle::of(Global, components)?;
-        Ok(self.proved.insert(handle.proved(), &bundle)?)
+        let bundle = Bundle::of(components)?;
+        Ok(self.proved.insert(handle, &bundle)?)
     }
 
     /// Takes the component out of the entity, if it has it.
@@ -75,10 +70,9 @@ impl<'a, 'w> SystemCommands<'a, 'w> {
     /// # Errors
     ///
     /// `OutOfMemory`, and then nothing has changed.
-    #[doc = include_str!("proved/ent_queue/commands.remove.md")]
     #[inline]
     pub fn remove(&mut self, handle: Handle, id: ComponentId) -> Result<(), OutOfMemory> {
-        Ok(self.proved.remove(handle.proved(), id)?)
+        Ok(self.proved.remove(handle, id)?)
     }
 
     /// Takes the entity out of the world.
@@ -86,10 +80,9 @@ impl<'a, 'w> SystemCommands<'a, 'w> {
     /// # Errors
     ///
     /// `OutOfMemory`, and then nothing has changed.
-    #[doc = include_str!("proved/ent_queue/commands.despawn.md")]
     #[inline]
     pub fn despawn(&mut self, handle: Handle) -> Result<(), OutOfMemory> {
-        Ok(self.proved.despawn(handle.proved())?)
+        Ok(self.proved.despawn(handle)?)
     }
 }
 

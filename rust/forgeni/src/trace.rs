@@ -52,8 +52,7 @@ pub use reply::{AllocReply, FlushReply, FreeReply, ReserveReply};
 use crate::entities::State;
 use crate::errors::OutOfMemory;
 use crate::handle::Handle;
-use crate::kit::alloc::Global;
-use crate::limits::Limits;
+use crate::proved::ent_alloc::Limits;
 use crate::proved::ent_replay::trace::{self, Line};
 use core::fmt;
 use core::mem;
@@ -75,11 +74,10 @@ impl Checker {
     ///
     /// The limits are those of the allocator that is checked: how many slots it may make, and after
     /// which generation it gives a slot no more. The greatest ones go as far as handles do.
-    #[doc = include_str!("proved/ent_replay/trace/checker.new.md")]
     #[must_use]
     pub fn new(limits: Limits) -> Self {
         Self {
-            proved: Ok(trace::Checker::new(Global, line::limits(limits))),
+            proved: Ok(trace::Checker::new(line::limits(limits))),
             calls: 0,
         }
     }
@@ -100,7 +98,6 @@ impl Checker {
     /// `Differs`: an answer isn't the allocator's, of this call or of a reservation before it. `TooMany`:
     /// it is a reservation, and with it more than 2^50 handles were requested since the last flush.
     /// `Memory`.
-    #[doc = include_str!("proved/ent_replay/trace/checker.take.md")]
     pub fn call(&mut self, call: Call) -> Result<(), CheckError> {
         self.goes_on()?;
         self.calls += 1;
@@ -203,7 +200,6 @@ impl Checker {
     /// # Errors
     ///
     /// As of [`call`](Self::call).
-    #[doc = include_str!("proved/ent_replay/trace/checker.finish.md")]
     pub fn finish(mut self) -> Result<(), CheckError> {
         let proved = mem::replace(&mut self.proved, Err(CheckError::Memory))?;
         match proved.finish() {

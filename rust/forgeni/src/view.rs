@@ -3,7 +3,6 @@
 use crate::component::{Birth, ComponentId};
 use crate::errors::OutOfMemory;
 use crate::handle::Handle;
-use crate::lists::all_handles;
 use crate::proved::ent_world;
 use alloc::vec::Vec;
 use core::fmt;
@@ -20,27 +19,24 @@ impl<'a> View<'a> {
     }
 
     /// Whether the entity is alive. What the systems of the frame spawn isn't yet.
-    #[doc = include_str!("proved/ent_world/view.contains.md")]
     #[inline]
     #[must_use]
     pub fn contains(self, handle: Handle) -> bool {
-        self.proved.contains(handle.proved())
+        self.proved.contains(handle)
     }
 
     /// The value of the entity's component, if the entity is alive and has it.
-    #[doc = include_str!("proved/ent_world/view.get.md")]
     #[inline]
     #[must_use]
     pub fn get(self, handle: Handle, id: ComponentId) -> Option<i64> {
-        self.proved.get(handle.proved(), id)
+        self.proved.get(handle, id)
     }
 
     /// When and by whom the entity was brought to life, if it is alive.
-    #[doc = include_str!("proved/ent_world/view.birth.md")]
     #[inline]
     #[must_use]
     pub fn birth(self, handle: Handle) -> Option<Birth> {
-        self.proved.birth(handle.proved())
+        self.proved.birth(handle)
     }
 
     /// The handles of the entities that have the component, by birth and then by handle. It takes the time
@@ -49,9 +45,8 @@ impl<'a> View<'a> {
     /// # Errors
     ///
     /// `OutOfMemory`: there is no memory for the list.
-    #[doc = include_str!("proved/ent_world/view.with.md")]
     pub fn with(self, id: ComponentId) -> Result<Vec<Handle>, OutOfMemory> {
-        Ok(all_handles(self.proved.with(id)?))
+        Ok(self.proved.with(id)?)
     }
 
     /// The handles of all entities, by birth and then by handle. The time is that of a sort.
@@ -59,22 +54,19 @@ impl<'a> View<'a> {
     /// # Errors
     ///
     /// `OutOfMemory`: there is no memory for the list.
-    #[doc = include_str!("proved/ent_world/view.by_birth.md")]
     pub fn by_birth(self) -> Result<Vec<Handle>, OutOfMemory> {
-        Ok(all_handles(self.proved.by_birth()?))
+        Ok(self.proved.by_birth()?)
     }
 
     /// The handle of the entity with that birth, if there is one. If several entities have the
     /// birth, it is the least of their handles. It takes no memory. The time is that of a look at
     /// each entity.
-    #[doc = include_str!("proved/ent_world/view.of_birth.md")]
     #[must_use]
     pub fn of_birth(self, birth: Birth) -> Option<Handle> {
-        self.proved.of_birth(birth).map(Handle::of)
+        self.proved.of_birth(birth)
     }
 
     /// How often the world was flushed before the frame.
-    #[doc = include_str!("proved/ent_world/view.phase.md")]
     #[inline]
     #[must_use]
     pub fn phase(self) -> u64 {

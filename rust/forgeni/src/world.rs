@@ -5,9 +5,7 @@ use crate::component::{Birth, ComponentId};
 use crate::entities::Freed;
 use crate::errors::{AllocError, FreeError, OutOfMemory};
 use crate::handle::Handle;
-use crate::kit::alloc::Global;
-use crate::limits::Limits;
-use crate::lists::all_handles;
+use crate::proved::ent_alloc::Limits;
 use crate::numbers::next_number;
 use crate::open_world::{OpenWorld, Unopened};
 use crate::proved::ent_queue::Bundle;
@@ -75,7 +73,7 @@ impl World {
     #[must_use]
     pub fn with_limits(limits: Limits) -> Self {
         let proved = NumberedWorld {
-            world: ent_world::World::new(Global, limits.proved()),
+            world: ent_world::World::new(limits.keeping_placeholder()),
             number: next_number(),
         };
         Self::of(proved, first_birth(0))
@@ -133,15 +131,14 @@ impl World {
     /// # Errors
     ///
     /// As `spawn`.
-    #[doc = include_str!("proved/ent_world/world.spawn.md")]
     #[inline]
     pub fn spawn_with_birth(
         &mut self,
         birth: Birth,
         components: &[(ComponentId, i64)],
     ) -> Result<Handle, AllocError> {
-        let bundle = Bundle::of(Global, components)?;
-        Ok(Handle::of(self.proved.world.spawn(birth, &bundle)?))
+        let bundle = Bundle::of(components)?;
+        Ok(self.proved.world.spawn(birth, &bundle)?)
     }
 
     /// Takes a living entity out, with all its components.
@@ -149,43 +146,38 @@ impl World {
     /// # Errors
     ///
     /// `NeedsFlush`, `NotAlive` or `Memory`, and then nothing has changed.
-    #[doc = include_str!("proved/ent_world/world.despawn.md")]
     #[inline]
     pub fn despawn(&mut self, handle: Handle) -> Result<Freed, FreeError> {
-        Ok(Freed::of(self.proved.world.despawn(handle.proved())?))
+        Ok(self.proved.world.despawn(handle)?)
     }
 
     /// The value of the entity's component, if the entity is alive and has it.
-    #[doc = include_str!("proved/ent_world/world.get.md")]
     #[inline]
     #[must_use]
     pub fn get(&self, handle: Handle, id: ComponentId) -> Option<i64> {
-        self.proved.world.get(handle.proved(), id)
+        self.proved.world.get(handle, id)
     }
 
     /// When and by whom the entity was brought to life, if it is alive.
-    #[doc = include_str!("proved/ent_world/world.birth.md")]
     #[inline]
     #[must_use]
     pub fn birth(&self, handle: Handle) -> Option<Birth> {
-        self.proved.world.birth(handle.proved())
+        self.proved.world.birth(handle)
     }
 
     /// Whether the entity is alive.
-    #[doc = include_str!("proved/ent_world/world.contains.md")]
     #[inline]
     #[must_use]
     pub fn contains(&self, handle: Handle) -> bool {
-        self.proved.world.contains(handle.proved())
+        self.proved.world.contains(handle)
     }
 
     /// The entity's components and their values, by rising number, if it is alive.
     ///
     /// If memory runs out for the list, the process ends, as with `Vec`.
-    #[doc = include_str!("proved/ent_world/world.items.md")]
     #[must_use]
     pub fn items(&self, handle: Handle) -> Option<Vec<(ComponentId, i64)>> {
-        let items = self.proved.world.items(handle.proved())?;
+        let items = self.proved.world.items(handle)?;
         Some(items.collect())
     }
 
@@ -194,13 +186,11 @@ impl World {
     /// # Errors
     ///
     /// `OutOfMemory`: there is no memory for the list.
-    #[doc = include_str!("proved/ent_world/world.by_birth.md")]
     pub fn by_birth(&self) -> Result<Vec<Handle>, OutOfMemory> {
-        Ok(all_handles(self.proved.world.by_birth()?))
+        Ok(self.proved.world.by_birth()?)
     }
 
     /// How many entities are alive.
-    #[doc = include_str!("proved/ent_world/world.len.md")]
     #[inline]
     #[must_use]
     pub fn len(&self) -> usize {
@@ -208,7 +198,6 @@ impl World {
     }
 
     /// Whether no entity is alive.
-    #[doc = include_str!("proved/ent_world/world.is_empty.md")]
     #[inline]
     #[must_use]
     pub fn is_empty(&self) -> bool {
@@ -216,7 +205,6 @@ impl World {
     }
 
     /// How often the world was flushed. It stays at 2^64 - 1.
-    #[doc = include_str!("proved/ent_world/world.phase.md")]
     #[inline]
     #[must_use]
     pub fn phase(&self) -> u64 {
@@ -224,7 +212,6 @@ impl World {
     }
 
     /// How many slots are retired: they give no handle any more.
-    #[doc = include_str!("proved/ent_world/world.retired.md")]
     #[inline]
     #[must_use]
     pub fn retired(&self) -> u32 {
@@ -233,7 +220,6 @@ impl World {
 
     /// Whether any handle was requested since the last flush. It is so between
     /// [`OpenWorld::close`] and [`apply`](Self::apply), if a system has spawned.
-    #[doc = include_str!("proved/ent_world/world.needs_flush.md")]
     #[inline]
     #[must_use]
     pub fn needs_flush(&self) -> bool {
@@ -249,7 +235,6 @@ impl World {
     /// # Errors
     ///
     /// `OutOfMemory`, and then nothing has changed.
-    #[doc = include_str!("proved/ent_world/world.flush.md")]
     pub fn flush(&mut self) -> Result<(), OutOfMemory> {
         Ok(self.proved.world.flush()?)
     }
@@ -274,7 +259,6 @@ impl World {
     ///
     /// Rust's `Arc` ends the process if memory runs out. So as much memory is asked for before, and the
     /// process ends only if another thread takes it in between.
-    #[doc = include_str!("proved/ent_total/world_opening.open.md")]
     pub fn open(self, count: usize) -> Result<(OpenWorld, Vec<Commands>), Unopened> {
         OpenWorld::open(self.proved, self.next, count)
     }
@@ -290,7 +274,6 @@ impl World {
     /// - [`SyncError::Memory`]: nothing was done, and the call may be made again with the queues.
     /// - [`SyncError::Stopped`]: memory ran out at a command. All births stand, and of the commands
     ///   just those before. It may [go on](crate::Stopped::go_on).
-    #[doc = include_str!("proved/ent_total/applying.apply.md")]
     pub fn apply(&mut self, queues: Queues) -> Result<Report, SyncError> {
         Ok(Report::of(queues.apply(&mut self.proved)?))
     }

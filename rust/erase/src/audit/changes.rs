@@ -1,7 +1,7 @@
 //! What may stand in the result in place of what.
 
 use super::{has, pieces, Audit};
-use crate::forms::{Module, Renamed};
+use crate::forms::{self, Module, Renamed, OF_RIGHT};
 use crate::names::Names;
 use crate::walk::OWN_ONLY;
 
@@ -9,6 +9,8 @@ use crate::walk::OWN_ONLY;
 pub(super) struct Change {
     /// Whether it is only where a path begins.
     is_path: bool,
+    /// Whether it is only before an argument that is the right to allocate.
+    is_of_right: bool,
     from: Vec<String>,
     to: Vec<String>,
 }
@@ -17,6 +19,7 @@ impl Change {
     fn new(from: &str, to: &str) -> Self {
         Change {
             is_path: false,
+            is_of_right: false,
             from: pieces(from),
             to: pieces(to),
         }
@@ -31,13 +34,28 @@ impl Change {
 }
 
 /// The list of all that may stand in the result in place of what, but for derives.
-pub(super) fn changes(krate: &str, names: &Names) -> Vec<Change> {
+pub(super) fn changes(krate: &str, path: &str, names: &Names) -> Vec<Change> {
     let mut changes = vec![
         Change::new("pub(crate)", OWN_ONLY),
         Change::new("fmt<W: fmt::Write>(", "fmt("),
         Change::new("fmt::Formatter<W>", "fmt::Formatter<'_>"),
+        Change::new(
+            "-> Result<Self, std::alloc::AllocError> { Ok(self.again()) }",
+            "-> Self { self.again() }",
+        ),
         Change::of_path("crate::", &format!("{}::", names.crates[krate])),
     ];
+    for call in forms::LIST_CALLS.iter().filter(|it| it.from != it.to) {
+        let method = |name| format!(".{name}(");
+        changes.push(Change::new(&method(call.from), &method(call.to)));
+    }
+    for (from, to) in forms::LIST_PATHS {
+        let path = |name| format!("{}::{name}", forms::LIST);
+        changes.push(Change::of_path(&path(from), &path(to)));
+    }
+    if forms::is_padded(krate, path) {
+        changes.push(Change::new("write!(", "padded!("));
+    }
     for (name, path) in &names.crates {
         changes.push(Change::of_path(&format!("{name}::"), &format!("{path}::")));
     }
@@ -65,15 +83,24 @@ fn lists_with_ghosts(module: &Module) -> impl Iterator<Item = Change> + '_ {
         .names
         .iter()
         .flat_map(|name| module.ghost.iter().map(move |it| (it, name)));
-    pairs.map(|(ghost, name)| {
-        let from = format!("{}::{{{ghost}, {name}}}", module.path);
-        Change::of_path(&from, &format!("{}::{name}", module.to))
+    pairs.flat_map(|(ghost, name)| {
+        let lists = [format!("{ghost}, {name}"), format!("{name}, {ghost}")];
+        lists.map(|list| {
+            let from = format!("{}::{{{list}}}", module.path);
+            Change::of_path(&from, &format!("{}::{name}", module.to))
+        })
     })
 }
 
 /// A method by its other name, before each of its arguments.
 fn renamings(renamed: &Renamed) -> impl Iterator<Item = Change> + '_ {
     renamed.arguments.iter().map(|argument| {
+        if *argument == OF_RIGHT {
+            return Change {
+                is_of_right: true,
+                ..Change::new(&format!(".{}(", renamed.from), &format!(".{}(", renamed.to))
+            };
+        }
         let is_any_text = *argument == ["\""];
         let argument = if is_any_text {
             String::new()
@@ -91,6 +118,7 @@ impl Audit<'_> {
         let begins_path = !["::", "."].contains(&self.source.before(self.at));
         let fits = |change: &&Change| {
             (begins_path || !change.is_path)
+                && (!change.is_of_right || self.right_part(self.at + change.from.len()).is_some())
                 && has(self.source, self.at, &change.from)
                 && has(self.result, self.out, &change.to)
         };
@@ -98,6 +126,24 @@ impl Audit<'_> {
         let all = self.changes.iter().chain(derive.as_ref());
         let longest = all.filter(fits).max_by_key(|change| change.from.len())?;
         Some((longest.from.len(), longest.to.len()))
+    }
+
+    /// Whether a call here stays, though what the source says of its value tells that it is a list.
+    pub(super) fn keeps_call_of_list(&self) -> bool {
+        let (source, at) = (self.source, self.at);
+        let list = source.before(at);
+        let is_call =
+            |it: &&forms::ListCall| it.from != it.to && source.has(at, &[".", it.from, "("]);
+        if !forms::LIST_CALLS.iter().any(|it| is_call(&it)) {
+            return false;
+        }
+        let is_list = |at: usize| {
+            source.has(at, &[list, ":", "&", "mut", forms::LIST])
+                || source.has(at, &[list, ":", forms::LIST])
+                || source.has(at, &["let", "mut", list, "=", forms::LIST])
+        };
+        let is_other = |at: usize| source.has(at, &[list, ":"]) && !is_list(at);
+        (0..source.len()).any(is_list) && !(0..source.len()).any(is_other)
     }
 
     /// A derive of which some names stay.
@@ -110,6 +156,7 @@ impl Audit<'_> {
         let kept = self.kept_derives(at + 1).join(", ");
         Some(Change {
             is_path: false,
+            is_of_right: false,
             from: from.collect(),
             to: pieces(&format!("#[derive({kept})]")),
         })

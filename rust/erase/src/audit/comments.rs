@@ -1,5 +1,6 @@
 //! Comments: those of the source stay, and the clauses come to them.
 
+use super::docs::Line;
 use super::{pieces, Audit};
 use crate::lex::Kind;
 use crate::source::{Fault, Source};
@@ -10,12 +11,26 @@ impl Audit<'_> {
         let wanted = comments(self.source);
         let mut clauses = String::new();
         let mut next = 0;
-        for Comment { text, .. } in comments(self.result).iter().skip(1) {
+        // The first one says of which source the result is made.
+        let written = comments(self.result);
+        for line in self.lines(written.get(1..).unwrap_or_default())? {
+            let text = match line {
+                Line::Comment(text) => text,
+                Line::Clause(text) => {
+                    clauses.push_str(text);
+                    clauses.push('\n');
+                    continue;
+                }
+            };
             let is_same = |old: &Comment<'_>| self.led(old.text) == *text;
             match wanted[next..].iter().position(is_same) {
                 Some(passed) => {
                     self.only_ghost(&wanted[next..next + passed])?;
                     next += passed + 1;
+                }
+                None if is_docs(text) => {
+                    let what = format!("docs that the source doesn't have: `{text}`");
+                    return Err(self.source.fault(0, what));
                 }
                 None => {
                     clauses.push_str(text.trim_start_matches('/'));
@@ -55,10 +70,7 @@ impl Audit<'_> {
 
     /// A comment as it stands in the result: its links lead where the code's paths do.
     fn led(&self, comment: &str) -> String {
-        if !["///", "//!"]
-            .iter()
-            .any(|begin| comment.starts_with(begin))
-        {
+        if !is_docs(comment) {
             return comment.to_owned();
         }
         let own = ("crate", &self.names.crates[self.krate]);
@@ -71,15 +83,20 @@ impl Audit<'_> {
         for (name, path) in std::iter::once(own).chain(others) {
             text = text.replace(&format!("]({name}::"), &format!("]({path}::"));
         }
-        text
+        text.replace("](forgeni::", "](crate::")
     }
 }
 
+/// Whether a comment is of docs.
+fn is_docs(comment: &str) -> bool {
+    comment.starts_with("///") || comment.starts_with("//!")
+}
+
 /// A comment of a text.
-struct Comment<'a> {
-    text: &'a str,
+pub(super) struct Comment<'a> {
+    pub(super) text: &'a str,
     /// The place in the code of the token after it.
-    next: usize,
+    pub(super) next: usize,
     /// Whether an empty line stands between them.
     is_apart: bool,
 }

@@ -83,14 +83,18 @@ pub fn erased_of(
     Ok((result, other))
 }
 
-/// What the audit says of the result of a source of the package. The audit needs only the crates.
+/// What the audit says of the result of a source of the package.
 pub fn audited(text: &str, result: &str) -> Result<(), Fault> {
     let mut names = Names::new(&[&PACKAGE]);
     for name in ["ent_here", "ent_other"] {
         let path = format!("crate::proved::{name}");
         names.crates.insert(name.to_owned(), path);
     }
-    audited_with(&Source::read(PATH, text)?, result, &names)
+    let source = Source::read(PATH, text)?;
+    names.add(&Source::read("crates/ent_other/src/lib.rt", "struct E;")?)?;
+    names.add(&source)?;
+    names.add_blocks(&source)?;
+    audited_with(&source, result, &names)
 }
 
 fn audited_with(source: &Source<'_>, result: &str, names: &Names) -> Result<(), Fault> {

@@ -10,8 +10,6 @@ mod kit;
 #[path = "../../../forgeni/src/proved/mod.rs"]
 mod proved;
 
-use kit::alloc::Global;
-use kit::vec::Vec as List;
 use proved::ent_alloc::Limits;
 use proved::ent_replay::{read_schedule, write_outcome, Machine};
 use std::error::Error;
@@ -20,15 +18,13 @@ use std::io::{self, Read, Write};
 fn main() -> Result<(), Box<dyn Error>> {
     let mut schedule = Vec::new();
     io::stdin().read_to_end(&mut schedule)?;
-    let events = read_schedule(Global, &schedule).map_err(|_| "it is no schedule")?;
-    let mut machine =
-        Machine::new(Global, Limits::default_limits()).map_err(|_| "out of memory")?;
+    let events = read_schedule(&schedule).map_err(|_| "it is no schedule")?;
+    let mut machine = Machine::new(Limits::default_limits()).map_err(|_| "out of memory")?;
     let outcomes = machine.run(&events).map_err(|_| "out of memory")?;
-    let mut text = List::new(Global);
+    let mut text = Vec::new();
     for outcome in &outcomes {
         write_outcome(outcome, &mut text)?;
     }
-    let text: Vec<u8> = text.into();
     io::stdout().write_all(&text)?;
     Ok(())
 }

@@ -2,7 +2,7 @@
 
 pub use crate::kit::collections::BTreeMap;
 
-use crate::kit::alloc::{AllocFailed, Global};
+use crate::kit::alloc::AllocFailed;
 use std::hash::Hash;
 use std::ops::Deref;
 
@@ -10,7 +10,7 @@ use std::ops::Deref;
 pub struct HashMap<K, V>(std::collections::HashMap<K, V>);
 
 impl<K: Eq + Hash, V> HashMap<K, V> {
-    pub fn new(_alloc: Global) -> Self {
+    pub fn new() -> Self {
         HashMap(std::collections::HashMap::new())
     }
 

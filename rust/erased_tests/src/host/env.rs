@@ -2,7 +2,6 @@
 
 use super::rt::AllocGlobal;
 use super::string::String;
-use crate::kit::alloc::Global;
 use std::cell::RefCell;
 use std::io;
 
@@ -22,6 +21,6 @@ pub fn start_with<'a>(words: impl Iterator<Item = &'a str>) {
 
 /// The words.
 pub fn args(_rt: &impl AllocGlobal) -> io::Result<impl Iterator<Item = String>> {
-    let text = |word| String::of(Global, word).expect("it is never refused");
+    let text = |word| String::of(word).expect("it is never refused");
     Ok(WORDS.take().into_iter().map(text))
 }

@@ -1,6 +1,5 @@
 //! The runtime that a test is handed.
 
-use crate::kit::alloc::Global;
 use crate::kit::thread::Threads;
 use std::cell::RefCell;
 use std::io;
@@ -27,11 +26,7 @@ pub trait Abort {}
 pub trait Files {}
 
 /// The right to allocate.
-pub trait AllocGlobal {
-    fn alloc(&self) -> Global {
-        Global
-    }
-}
+pub trait AllocGlobal {}
 
 /// The right to print.
 pub trait Print {}
@@ -51,12 +46,6 @@ impl Print for HostRuntime {}
 impl Threads for HostRuntime {}
 
 impl<R: Abort> Abort for &R {}
-
-impl HostRuntime {
-    pub fn alloc(&self) -> Global {
-        Global
-    }
-}
 
 /// `expect` that is handed the right to end the process.
 pub trait ExpectIn {

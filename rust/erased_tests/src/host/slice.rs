@@ -1,16 +1,16 @@
 //! Lists of copies.
 
-use crate::kit::alloc::{AllocError, Global};
-use crate::kit::vec::Vec;
+use crate::kit::alloc::AllocError;
+use crate::kit::vec::FallibleVec;
 
-/// `to_vec` that is handed the right to allocate.
+/// The kit's `to_vec`.
 pub trait ToKitVec<T> {
-    fn to_kit_vec(&self, alloc: Global) -> Result<Vec<T>, AllocError>;
+    fn to_kit_vec(&self) -> Result<Vec<T>, AllocError>;
 }
 
 impl<T: Copy> ToKitVec<T> for [T] {
-    fn to_kit_vec(&self, alloc: Global) -> Result<Vec<T>, AllocError> {
-        Vec::from_slice(alloc, self)
+    fn to_kit_vec(&self) -> Result<Vec<T>, AllocError> {
+        Vec::from_slice_fallibly(self)
     }
 }
 
@@ -21,7 +21,7 @@ pub trait AppendCopies<T> {
 
 impl<T: Copy> AppendCopies<T> for Vec<T> {
     fn append_copies(&mut self, others: &mut Vec<T>) -> Result<(), AllocError> {
-        self.extend_from_slice(others)?;
+        self.extend_from_slice_fallibly(others)?;
         others.clear();
         Ok(())
     }

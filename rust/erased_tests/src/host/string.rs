@@ -1,6 +1,6 @@
 //! The kit's `String`: each call that may grow it returns a `Result`.
 
-use crate::kit::alloc::{AllocError, Global};
+use crate::kit::alloc::AllocError;
 use std::fmt;
 use std::ops::Deref;
 
@@ -9,18 +9,18 @@ use std::ops::Deref;
 pub struct String(std::string::String);
 
 impl String {
-    pub fn with_capacity(_alloc: Global, count: usize) -> Result<Self, AllocError> {
+    pub fn with_capacity(count: usize) -> Result<Self, AllocError> {
         let mut text = std::string::String::new();
         text.try_reserve(count)?;
         Ok(String(text))
     }
 
-    pub fn new(_alloc: Global) -> Self {
+    pub fn new() -> Self {
         String(std::string::String::new())
     }
 
-    pub fn from_str(alloc: Global, text: &str) -> Result<Self, AllocError> {
-        String::of(alloc, text.to_owned())
+    pub fn from_str(text: &str) -> Result<Self, AllocError> {
+        String::of(text.to_owned())
     }
 
     pub fn push_str(&mut self, text: &str) -> Result<(), AllocError> {
@@ -32,7 +32,7 @@ impl String {
         self.0.clear();
     }
 
-    pub fn of(_alloc: Global, text: std::string::String) -> Result<Self, AllocError> {
+    pub fn of(text: std::string::String) -> Result<Self, AllocError> {
         Ok(String(text))
     }
 
@@ -66,13 +66,13 @@ impl fmt::Debug for String {
     }
 }
 
-/// `to_string` that is handed the right to allocate.
+/// The kit's `to_string`.
 pub trait ToStringIn {
-    fn to_string_in(&self, alloc: Global) -> Result<String, AllocError>;
+    fn to_string_in(&self) -> Result<String, AllocError>;
 }
 
 impl<D: fmt::Display> ToStringIn for D {
-    fn to_string_in(&self, alloc: Global) -> Result<String, AllocError> {
-        String::of(alloc, self.to_string())
+    fn to_string_in(&self) -> Result<String, AllocError> {
+        String::of(self.to_string())
     }
 }

@@ -1,13 +1,11 @@
 //! What no line of a case writes: a request of four thousand million handles, and a list with room.
 
-use crate::kit::alloc::Global;
-use crate::kit::vec::Vec;
 use crate::proved::ent_alloc::{Entities, Limits, Span};
 use crate::proved::ent_handle::Handle;
 
 #[test]
 fn the_greatest_limits() {
-    let mut entities = Entities::new(Global, Limits::default_limits());
+    let mut entities = Entities::with_limits(Limits::default_limits());
     assert!(entities.room() == u32::MAX && entities.top() == 0);
     assert!(!entities.needs_flush() && entities.is_empty());
     let reserved = entities
@@ -29,8 +27,8 @@ fn a_flush_with_room_for_its_slots_is_not_refused() {
 }
 
 fn assert_flushes_one_by_one(room: usize) {
-    let mut entities = Entities::new(Global, Limits::default_limits());
-    let mut out = Vec::with_capacity(Global, room).expect("memory for a list");
+    let mut entities = Entities::with_limits(Limits::default_limits());
+    let mut out = Vec::with_capacity(room);
     // Room is made for more than one slot at a time, so most of these flushes find some.
     for index in 0..20 {
         entities.lower(1);

@@ -1,8 +1,6 @@
 //! How the faults of schedules, requests, queues, sync points and frames read, and what a system
 //! makes of one.
 
-use crate::kit::alloc::Global;
-use crate::kit::vec::Vec;
 use crate::proved::ent_handle::Memory;
 use crate::proved::ent_queue::QueueFault;
 use crate::proved::ent_replay::{Cause, ReadFault};
@@ -58,8 +56,8 @@ fn at_command(command: usize, system: usize) -> SyncFault {
         command,
         done: 7,
         so_far: SyncReport {
-            born: Vec::new(Global),
-            faults: Vec::new(Global),
+            born: Vec::new(),
+            faults: Vec::new(),
         },
     }
 }
@@ -68,7 +66,7 @@ fn at_command(command: usize, system: usize) -> SyncFault {
 fn stopped(fault: SyncFault) -> FrameFault {
     FrameFault::Sync {
         fault,
-        queues: Vec::new(Global),
+        queues: Vec::new(),
     }
 }
 

@@ -1,7 +1,5 @@
 //! Whole inputs, from sources that give them in pieces, fail, or never end.
 
-use crate::kit::alloc::Global;
-use crate::kit::vec::Vec;
 use crate::made::devices::{read_all, Failed, InputFault, Source};
 
 /// The longest input that `spawnrun` reads, in bytes.
@@ -55,7 +53,7 @@ impl Source for EndlessSource {
 }
 
 fn read(source: &mut impl Source, limit: usize) -> Result<Vec<u8>, InputFault> {
-    read_all(Global, source, limit)
+    read_all(source, limit)
 }
 
 /// Why the source is not read, if it is not.

@@ -1,9 +1,8 @@
 //! Worked use of maps by handle: one map of texts, which own memory, one of nothing, which has no size,
 //! and one of numbers, which are `Copy`.
 
-use crate::kit::alloc::Global;
 use crate::proved::ent_handle::Handle;
-use crate::proved::ent_storage::handle_map::{HandleMap, InsertFault, Uninserted};
+use crate::proved::ent_storage::handle_map::{HandleMap, InsertError, Uninserted};
 
 // Slot 2 has an early and a late occupant.
 fn early() -> Handle {
@@ -25,7 +24,7 @@ fn insert<T>(map: &mut HandleMap<T>, handle: Handle, value: T) -> Option<T> {
 
 #[test]
 fn texts() {
-    let mut names = HandleMap::new(Global);
+    let mut names = HandleMap::new();
     name_two(&mut names);
     refuse_early(&mut names);
     take_late(&mut names);
@@ -41,10 +40,10 @@ fn name_two(names: &mut HandleMap<String>) {
 
 // A later occupant of the slot has a name, so the new one comes back.
 fn refuse_early(names: &mut HandleMap<String>) {
-    let Err(Uninserted { value, why }) = names.insert(early(), "early".to_owned()) else {
+    let Err(Uninserted { value, error }) = names.insert(early(), "early".to_owned()) else {
         panic!("it is inserted")
     };
-    assert!(why == InsertFault::Later && value == "early" && names.len() == 2);
+    assert!(error == InsertError::Later && value == "early" && names.len() == 2);
     assert_eq!(names.get(late()).map(String::as_str), Some("late"));
     assert!(names.get(early()).is_none());
 }
@@ -57,7 +56,7 @@ fn take_late(names: &mut HandleMap<String>) {
 
 #[test]
 fn nothing() {
-    let mut marks = HandleMap::with_capacity(Global, 3).expect("memory for three");
+    let mut marks = HandleMap::with_capacity(3).expect("memory for three");
     mark(&mut marks);
     marks.clear();
     assert!(marks.is_empty() && marks.capacity() >= 3 && !marks.contains(first()));
@@ -72,7 +71,7 @@ fn mark(marks: &mut HandleMap<()>) {
 
 #[test]
 fn numbers() {
-    let mut health = HandleMap::new(Global);
+    let mut health = HandleMap::new();
     heal(&mut health);
     keep_weak(&mut health);
 }

@@ -1,6 +1,5 @@
 //! Commands of each kind: how their queue reads, and what a sync point makes of them.
 
-use crate::kit::alloc::Global;
 use crate::proved::ent_alloc::Limits;
 use crate::proved::ent_handle::{Birth, ComponentId, Handle};
 use crate::proved::ent_queue::{Bundle, BundleRef, CommandQueue, Commands, Entry, QueueFault};
@@ -19,7 +18,7 @@ fn first(index: u32) -> Handle {
 }
 
 fn bundle(items: &[(ComponentId, i64)]) -> Bundle {
-    Bundle::of(Global, items).expect("memory for a bundle")
+    Bundle::of(items).expect("memory for a bundle")
 }
 
 /// Issues a command of each kind, over five slots.
@@ -40,10 +39,10 @@ fn issue(commands: &mut Commands<'_>) {
 /// A world over five slots, and the queue of a phase in which one system issues.
 fn phase() -> (World, CommandQueue) {
     let limits = Limits::new(5, 7).expect("limits");
-    let opened = World::new(Global, limits).open(1).ok();
+    let opened = World::new(limits).open(1).ok();
     let (opened, mut reservers) = opened.expect("memory for a reserver");
     let reserver = reservers.get_mut(0).expect("a reserver");
-    let mut commands = Commands::new(Global, opened.shared(), reserver);
+    let mut commands = Commands::new(opened.shared(), reserver);
     issue(&mut commands);
     let queue = commands.finish();
     (opened.close(reservers), queue)

@@ -1,15 +1,13 @@
 //! The lists of handles in outcomes.
 
-use crate::kit::alloc::Global;
-use crate::kit::vec::Vec;
 use crate::proved::ent_handle::Handle;
 use crate::proved::ent_replay::HandleList;
 
 #[test]
 fn lists_of_handles() {
     let handle = Handle::new(2, 1).expect("a handle");
-    let list = HandleList::new(Vec::from_slice(Global, &[handle, handle]).expect("memory for two"));
-    let none = HandleList::new(Vec::new(Global));
+    let list = HandleList::new(vec![handle, handle]);
+    let none = HandleList::new(Vec::new());
     assert_eq!(
         (list.len(), list.is_empty(), none.is_empty()),
         (2, false, true)

@@ -5,10 +5,6 @@
 use ::alloc::collections::TryReserveError;
 use core::fmt;
 
-/// The right to allocate. It says nothing here: all memory is the program's global allocator's.
-#[derive(Clone, Copy, Debug, Default, PartialEq, Eq)]
-pub struct Global;
-
 /// Memory was refused.
 ///
 /// The contract: a call that returns it has changed nothing that its caller can see.

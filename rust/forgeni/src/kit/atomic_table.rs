@@ -8,7 +8,7 @@
 //!
 //! The contracts are those of the kit's `atomic_table/src/shared.rt`, `owned.rt` and `steps.rt`.
 
-use super::alloc::{AllocError, Global};
+use super::alloc::AllocError;
 use core::marker::PhantomData;
 use core::sync::atomic::{AtomicU64, Ordering::SeqCst};
 
@@ -28,9 +28,8 @@ pub trait Join<V> {}
 type Ghost<T> = PhantomData<fn() -> T>;
 
 /// Owns the word.
-pub struct Table<S, V, K, P: TableRule<S, V, K>, A> {
+pub struct Table<S, V, K, P: TableRule<S, V, K>> {
     pub shared: Shared<S, V, K, P>,
-    ghost: Ghost<A>,
 }
 
 /// The word as threads see it.
@@ -72,21 +71,16 @@ impl<V> Badge<V> {
     }
 }
 
-impl<S, V, K, P: TableRule<S, V, K>> Table<S, V, K, P, Global> {
+impl<S, V, K, P: TableRule<S, V, K>> Table<S, V, K, P> {
     /// A table of one word with this value, and its first seat. In the kit it may have more words,
     /// and takes memory for them. Here the word stands in the table itself, so it never fails.
     #[inline]
-    pub fn of_words(
-        _alloc: Global,
-        words: &[u64; 1],
-        _key: &K,
-    ) -> Result<(Self, Seat<S, V>), AllocError> {
+    pub fn of_words(words: &[u64; 1], _key: &K) -> Result<(Self, Seat<S, V>), AllocError> {
         let shared = Shared {
             words: [AtomicU64::new(words[0])],
             ghost: PhantomData,
         };
-        let ghost = PhantomData;
-        Ok((Table { shared, ghost }, Seat::ONE))
+        Ok((Table { shared }, Seat::ONE))
     }
 
     /// Ends the steps. Nobody shares the table any more, so what the word is now stays.
@@ -155,10 +149,10 @@ mod tests {
     impl Split<()> for Nothing {}
     impl Join<()> for Nothing {}
 
-    type Word = Table<(), (), (), Nothing, Global>;
+    type Word = Table<(), (), (), Nothing>;
 
     fn word(first: u64) -> (Word, Seat<(), ()>) {
-        Table::of_words(Global, &[first], &()).expect("it takes no memory")
+        Table::of_words(&[first], &()).expect("it takes no memory")
     }
 
     #[test]

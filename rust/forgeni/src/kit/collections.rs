@@ -5,8 +5,9 @@
 
 pub use ::alloc::collections::LinkedList;
 
-use super::alloc::{AllocFailed, Global};
-use super::vec::Vec;
+use super::alloc::AllocFailed;
+use super::vec::FallibleVec;
+use ::alloc::vec::Vec;
 use core::ops::{Deref, DerefMut};
 
 /// A map by rising key. It is Rust's.
@@ -23,7 +24,7 @@ const LEVELS: usize = 14;
 
 impl<K: Ord, V> BTreeMap<K, V> {
     /// The contract: no pairs. It takes no memory.
-    pub fn new(_alloc: Global) -> Self {
+    pub fn new() -> Self {
         BTreeMap(::alloc::collections::BTreeMap::new())
     }
 
@@ -37,7 +38,7 @@ impl<K: Ord, V> BTreeMap<K, V> {
         if let Some(old) = self.0.get_mut(&key) {
             return Ok(Some(core::mem::replace(old, value)));
         }
-        match Vec::<Node<K, V>>::with_capacity(Global, LEVELS) {
+        match Vec::<Node<K, V>>::with_capacity_fallibly(LEVELS) {
             Ok(room) => drop(core::hint::black_box(room)),
             Err(_) => {
                 return Err(AllocFailed {
@@ -70,7 +71,7 @@ mod tests {
 
     #[test]
     fn it_is_a_map_by_rising_key() {
-        let mut map = BTreeMap::new(Global);
+        let mut map = BTreeMap::new();
         for key in [5_u32, 1, 9, 1] {
             map.insert(key, key * 2).expect("memory");
         }
@@ -85,7 +86,7 @@ mod tests {
 
     #[test]
     fn a_refused_insertion_changes_nothing_and_a_key_with_a_value_needs_none() {
-        let mut map = BTreeMap::new(Global);
+        let mut map = BTreeMap::new();
         let refused = |pair| Err(AllocFailed { value: pair });
         assert_eq!(refuse(|| map.insert(1_u32, 2_u64)), refused((1, 2)));
         assert!(map.is_empty());

@@ -2,8 +2,9 @@
 //!
 //! The contracts are those of the kit's `smallvec/src/small_vec.rt` and `edits.rt`.
 
-use super::alloc::{AllocError, AllocFailed, Global};
-use super::vec::Vec;
+use super::alloc::{AllocError, AllocFailed};
+use super::vec::FallibleVec;
+use ::alloc::vec::Vec;
 use core::ops::{Deref, DerefMut};
 
 /// A list that takes memory only if it has more than `N` items. In safe code the places that are
@@ -18,7 +19,7 @@ pub enum SmallVec<T, const N: usize> {
 impl<T: Copy + Default, const N: usize> SmallVec<T, N> {
     /// The contract: no items. It takes no memory.
     #[inline]
-    pub fn new(_alloc: Global) -> Self {
+    pub fn new() -> Self {
         SmallVec::Inline {
             len: 0,
             items: [T::default(); N],
@@ -27,11 +28,11 @@ impl<T: Copy + Default, const N: usize> SmallVec<T, N> {
 
     /// The contract: no items, and room for that many. It succeeds if `count` is at most `N`.
     #[inline]
-    pub fn with_capacity(alloc: Global, count: usize) -> Result<Self, AllocError> {
+    pub fn with_capacity(count: usize) -> Result<Self, AllocError> {
         if count <= N {
-            return Ok(SmallVec::new(alloc));
+            return Ok(SmallVec::new());
         }
-        Ok(SmallVec::Heap(Vec::with_capacity(alloc, count)?))
+        Ok(SmallVec::Heap(Vec::with_capacity_fallibly(count)?))
     }
 
     #[inline]
@@ -55,7 +56,7 @@ impl<T: Copy + Default, const N: usize> SmallVec<T, N> {
                 *self = SmallVec::Heap(list);
                 Ok(())
             }
-            SmallVec::Heap(list) => list.insert(at, value),
+            SmallVec::Heap(list) => list.insert_fallibly(at, value),
         }
     }
 }
@@ -63,9 +64,9 @@ impl<T: Copy + Default, const N: usize> SmallVec<T, N> {
 /// The items with the value among them, in a list with room for as many more.
 #[cold]
 fn spill<T: Copy>(items: &[T], at: usize, value: T) -> Option<Vec<T>> {
-    let mut list = Vec::with_capacity(Global, 2 * items.len() + 1).ok()?;
-    list.extend_from_slice(items).ok()?;
-    list.insert(at, value).ok()?;
+    let mut list = Vec::with_capacity_fallibly(2 * items.len() + 1).ok()?;
+    list.extend_from_slice_fallibly(items).ok()?;
+    list.insert_fallibly(at, value).ok()?;
     Some(list)
 }
 
@@ -97,7 +98,7 @@ mod tests {
     use super::*;
 
     fn inline(items: &[u32]) -> SmallVec<u32, 4> {
-        let mut list = SmallVec::new(Global);
+        let mut list = SmallVec::new();
         for (at, item) in items.iter().enumerate() {
             refuse(|| list.insert(at, *item)).expect("there is room");
         }
@@ -106,13 +107,13 @@ mod tests {
 
     #[test]
     fn it_begins_empty() {
-        assert!(SmallVec::<u32, 4>::new(Global).is_empty());
-        assert!(SmallVec::<u32, 0>::new(Global).as_slice().is_empty());
+        assert!(SmallVec::<u32, 4>::new().is_empty());
+        assert!(SmallVec::<u32, 0>::new().as_slice().is_empty());
     }
 
     #[test]
     fn more_room_than_its_own_takes_memory() {
-        let of = |count| SmallVec::<u32, 4>::with_capacity(Global, count);
+        let of = |count| SmallVec::<u32, 4>::with_capacity(count);
         assert!(refuse(|| of(4)).is_ok_and(|list| list.is_empty()));
         assert!(refuse(|| of(5)).is_err());
         let mut list = of(5).expect("memory");
@@ -159,7 +160,7 @@ mod tests {
 
     #[test]
     fn without_room_of_its_own_the_first_item_takes_memory() {
-        let mut list = SmallVec::<u32, 0>::new(Global);
+        let mut list = SmallVec::<u32, 0>::new();
         assert_eq!(refuse(|| list.insert(0, 1)), Err(AllocFailed { value: 1 }));
         list.insert(0, 1).expect("memory");
         assert_eq!(list.as_slice(), [1]);

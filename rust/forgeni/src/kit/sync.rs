@@ -2,30 +2,30 @@
 //!
 //! The contracts are those of the kit's `std_alloc/src/arc/methods.rt`.
 
-use super::alloc::{AllocError, AllocFailed, Global};
-use super::vec::Vec;
-use core::marker::PhantomData;
+use super::alloc::{AllocError, AllocFailed};
+use super::vec::FallibleVec;
+use ::alloc::vec::Vec;
 use core::ops::Deref;
 
 /// A value that several owners share.
-pub struct Arc<T, A = Global>(::alloc::sync::Arc<T>, PhantomData<A>);
+pub struct Arc<T>(::alloc::sync::Arc<T>);
 
 /// As much memory as an `Arc` takes: two counts beside the value.
 #[repr(C)]
 struct Room<T>(usize, usize, T);
 
-impl<T> Arc<T, Global> {
+impl<T> Arc<T> {
     /// The contract: the value, shared by this owner alone, or the value back.
     ///
     /// Rust has no stable `Arc` that returns if memory runs out. So as much is asked for and given back
     /// first. If another thread takes it meanwhile, and no other memory is left, the program ends.
     #[inline]
-    pub fn new(alloc: Global, value: T) -> Result<Self, AllocFailed<T>> {
-        match Vec::<Room<T>>::with_capacity(alloc, 1) {
+    pub fn new(value: T) -> Result<Self, AllocFailed<T>> {
+        match Vec::<Room<T>>::with_capacity_fallibly(1) {
             Ok(room) => drop(core::hint::black_box(room)),
             Err(AllocError) => return Err(AllocFailed { value }),
         }
-        Ok(Arc(::alloc::sync::Arc::new(value), PhantomData))
+        Ok(Arc(::alloc::sync::Arc::new(value)))
     }
 
     /// The contract: one more owner, or an `Err` if there are too many to count.
@@ -35,13 +35,13 @@ impl<T> Arc<T, Global> {
         if ::alloc::sync::Arc::strong_count(&this.0) > isize::MAX as usize / 2 {
             return Err(AllocError);
         }
-        Ok(Arc(::alloc::sync::Arc::clone(&this.0), PhantomData))
+        Ok(Arc(::alloc::sync::Arc::clone(&this.0)))
     }
 
     /// The contract: the value, if this is the last owner, or the owner back.
     #[inline]
     pub fn try_unwrap(this: Self) -> Result<T, Self> {
-        ::alloc::sync::Arc::try_unwrap(this.0).map_err(|left| Arc(left, PhantomData))
+        ::alloc::sync::Arc::try_unwrap(this.0).map_err(Arc)
     }
 
     /// The contract: whether both share one value.
@@ -51,7 +51,7 @@ impl<T> Arc<T, Global> {
     }
 }
 
-impl<T, A> Deref for Arc<T, A> {
+impl<T> Deref for Arc<T> {
     type Target = T;
 
     #[inline]
@@ -67,15 +67,15 @@ mod tests {
 
     #[test]
     fn refused_memory_gives_the_value_back() {
-        let refused = refuse(|| Arc::new(Global, 7)).err();
+        let refused = refuse(|| Arc::new(7)).err();
         assert_eq!(refused, Some(AllocFailed { value: 7 }));
     }
 
     #[test]
     fn the_last_owner_has_the_value() {
-        let one = Arc::new(Global, 7).expect("memory");
+        let one = Arc::new(7).expect("memory");
         let two = Arc::try_clone(&one).expect("a second owner");
-        let other = Arc::new(Global, 7).expect("memory");
+        let other = Arc::new(7).expect("memory");
         assert!(Arc::ptr_eq(&one, &two) && !Arc::ptr_eq(&one, &other));
         let Err(one) = Arc::try_unwrap(one) else {
             panic!("there is a second owner");

@@ -1,7 +1,7 @@
 //! The proved crates of this repository as plain Rust, each a module.
 //!
 //! `rust/erase` makes all files here of the sources below `crates/`. What is ghost is taken out, and the
-//! clauses of each contract stay below its signature as comments. None of these files is edited by
+//! clauses of a contract go to the docs of a public call, and else stay as comments. None of these files is edited by
 //! hand: the gate makes them anew and compares.
 //!
 //! The proofs are of the sources, before that.

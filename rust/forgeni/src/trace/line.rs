@@ -5,10 +5,8 @@ use super::reply::{AllocReply, FlushReply, FreeReply, ReserveReply};
 use crate::entities::State;
 use crate::errors::OutOfMemory;
 use crate::handle::Handle;
-use crate::kit::alloc::Global;
-use crate::kit::vec::Vec as List;
-use crate::limits::Limits;
-use crate::lists::all_handles;
+use crate::kit::vec::FallibleVec;
+use crate::proved::ent_alloc::Limits;
 use crate::proved::ent_replay::trace::{self, Line};
 use crate::proved::ent_replay::HandleList;
 use crate::proved::{ent_alloc, ent_handle};
@@ -24,7 +22,7 @@ impl Call {
     pub(super) fn line(&self, number: u64) -> Result<Line, OutOfMemory> {
         Ok(match self {
             Self::Alloc(reply) => Line::Alloc(reply.proved()),
-            Self::Free(handle, reply) => Line::Free(handle.proved(), reply.proved()),
+            Self::Free(handle, reply) => Line::Free(*handle, reply.proved()),
             Self::Flush(reply) => Line::Flush(reply.proved()?),
             Self::Reserve(reservation) => Line::Reserve(trace::Reservation {
                 number,
@@ -32,7 +30,7 @@ impl Call {
                 requested: reservation.requested,
                 reply: reservation.reply.proved()?,
             }),
-            Self::State(handle, state) => Line::State(handle.proved(), Some(state.proved())),
+            Self::State(handle, state) => Line::State(*handle, Some(*state)),
             Self::Len(len) => Line::Len(Some(*len)),
         })
     }
@@ -41,19 +39,16 @@ impl Call {
     pub(super) fn of(line: Line) -> Self {
         match line {
             Line::Alloc(reply) => Self::Alloc(reply.map_or(AllocReply::Untold, AllocReply::of)),
-            Line::Free(handle, reply) => Self::Free(
-                Handle::of(handle),
-                reply.map_or(FreeReply::Untold, FreeReply::of),
-            ),
+            Line::Free(handle, reply) => {
+                Self::Free(handle, reply.map_or(FreeReply::Untold, FreeReply::of))
+            }
             Line::Flush(reply) => Self::Flush(reply.map_or(FlushReply::Untold, FlushReply::of)),
             Line::Reserve(it) => Self::Reserve(Reservation {
                 caller: it.caller,
                 requested: it.requested,
                 reply: ReserveReply::of(it.reply),
             }),
-            Line::State(handle, state) => {
-                Self::State(Handle::of(handle), state.map_or(State::Gone, State::of))
-            }
+            Line::State(handle, state) => Self::State(handle, state.unwrap_or(State::Gone)),
             Line::Len(len) => Self::Len(len.unwrap_or(0)),
         }
     }
@@ -62,7 +57,7 @@ impl Call {
 impl AllocReply {
     fn proved(self) -> Option<trace::AllocReply> {
         match self {
-            Self::Handle(handle) => Some(trace::AllocReply::Handle(handle.proved())),
+            Self::Handle(handle) => Some(trace::AllocReply::Handle(handle)),
             Self::Space => Some(trace::AllocReply::Space),
             Self::NeedsFlush => Some(trace::AllocReply::NeedsFlush),
             Self::Untold => None,
@@ -71,7 +66,7 @@ impl AllocReply {
 
     fn of(reply: trace::AllocReply) -> Self {
         match reply {
-            trace::AllocReply::Handle(handle) => Self::Handle(Handle::of(handle)),
+            trace::AllocReply::Handle(handle) => Self::Handle(handle),
             trace::AllocReply::Space => Self::Space,
             trace::AllocReply::NeedsFlush => Self::NeedsFlush,
         }
@@ -82,7 +77,7 @@ impl FreeReply {
     fn proved(self) -> Option<trace::FreeReply> {
         match self {
             Self::Freed => Some(trace::FreeReply::Freed),
-            Self::Next(handle) => Some(trace::FreeReply::Next(handle.proved())),
+            Self::Next(handle) => Some(trace::FreeReply::Next(handle)),
             Self::Retired => Some(trace::FreeReply::Retired),
             Self::NotAlive => Some(trace::FreeReply::NotAlive),
             Self::NeedsFlush => Some(trace::FreeReply::NeedsFlush),
@@ -93,7 +88,7 @@ impl FreeReply {
     fn of(reply: trace::FreeReply) -> Self {
         match reply {
             trace::FreeReply::Freed => Self::Freed,
-            trace::FreeReply::Next(handle) => Self::Next(Handle::of(handle)),
+            trace::FreeReply::Next(handle) => Self::Next(handle),
             trace::FreeReply::Retired => Self::Retired,
             trace::FreeReply::NotAlive => Self::NotAlive,
             trace::FreeReply::NeedsFlush => Self::NeedsFlush,
@@ -138,14 +133,14 @@ impl ReserveReply {
 
 /// A copy of the handles.
 fn proved_list(handles: &[Handle]) -> Result<HandleList, OutOfMemory> {
-    let mut list: List<ent_handle::Handle> = List::with_capacity(Global, handles.len())?;
+    let mut list: Vec<ent_handle::Handle> = Vec::with_capacity_fallibly(handles.len())?;
     for handle in handles {
-        list.push_reserved(handle.proved());
+        list.push_reserved(*handle);
     }
     Ok(HandleList::new(list))
 }
 
 /// The handles, in the memory of the list.
 pub(super) fn list(handles: HandleList) -> Vec<Handle> {
-    all_handles(handles.into_vec())
+    handles.into_vec()
 }

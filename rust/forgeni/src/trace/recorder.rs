@@ -7,7 +7,7 @@ use super::Checker;
 use crate::entities::State;
 use crate::errors::OutOfMemory;
 use crate::handle::Handle;
-use crate::limits::Limits;
+use crate::proved::ent_alloc::Limits;
 use alloc::vec::Vec;
 use core::fmt;
 

@@ -21,7 +21,7 @@ impl Entities {
     /// top. The floor is from the cursor to the top, at least `-room`, and equal to the cursor if
     /// the cursor is at least `-room`.
     #[inline]
-    pub fn settle(&mut self, cursor: i64, floor: i64)
+    pub(crate) fn settle(&mut self, cursor: i64, floor: i64)
         // requires flushed { self.old.allocator.asked ≡ 0 }
         // requires least { pos (top self.old.allocator) ≤ℤ (cursor +ℤ pos (2 ^ 50)) }
         // requires greatest { floor ≤ℤ pos (top self.old.allocator) }
@@ -55,7 +55,7 @@ impl Entities {
     ///
     /// At most 2^50 handles may be requested between two flushes.
     #[inline]
-    pub fn lower(&mut self, n: u32) -> Span
+    pub(crate) fn lower(&mut self, n: u32) -> Span
         // requires { self.old.allocator.asked + n ≤ 2 ^ 50 }
         // ensures span { let high = cursor self.old.allocator in
         //     result ≡ record { high = high; low = high -ℤ pos n } }
@@ -83,7 +83,7 @@ impl Entities {
     ///
     /// `Space`, with how many were left, if the positions reach past the last slot.
     #[inline]
-    pub fn reply(&self, span: Span) -> Result<Reserved<'_>, Space>
+    pub(crate) fn reply(&self, span: Span) -> Result<Reserved<'_>, Space>
         // requires { IsSpanOf self.now.allocator span }
         // ensures { let here = self.now.allocator in
         //     (n : ℕ) → span.low ≡ span.high -ℤ pos n
@@ -122,7 +122,7 @@ impl Entities {
     ///
     /// `Space`, with 1 wanted and 0 left, if the position is that of no slot.
     #[inline]
-    pub fn reply_one(&self, high: i64) -> Result<Handle, Space>
+    pub(crate) fn reply_one(&self, high: i64) -> Result<Handle, Space>
         // requires least { neg_ℤ (pos (2 ^ 60)) ≤ℤ high }
         // requires passed { high ≤ℤ pos (top self.now.allocator) }
         // ensures { let here = self.now.allocator in
@@ -137,6 +137,32 @@ impl Entities {
         } else {
             Err(Space { wanted: 1, left: 0 })
         }
+    }
+
+    /// How many handles can still be requested before a flush: 0 once a request was refused.
+    ///
+    /// ```
+    /// use forgeni::{Entities, Limits};
+    ///
+    /// let mut entities = Entities::with_limits(Limits::new(10, 1).unwrap());
+    /// entities.request_many(4)?;
+    /// assert_eq!(entities.left(), 6);
+    /// # Ok::<(), Box<dyn std::error::Error>>(())
+    /// ```
+    ///
+    /// <details><summary>Contract</summary>
+    ///
+    /// In the words of the folder `specs/` of crate `ent_alloc`:
+    ///
+    /// ```text
+    /// ensures { result ≡ length self.now.allocator.pool }
+    /// ```
+    ///
+    /// </details>
+    #[must_use]
+    #[inline]
+    pub fn left(&self) -> u32 {
+        self.available().saturating_sub(self.requests.asked) as u32
     }
 
     /// How many handles a request finds that finds the cursor at `high`.

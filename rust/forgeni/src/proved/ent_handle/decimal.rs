@@ -44,20 +44,28 @@ pub(super) fn decimal_value(bytes: &[u8]) -> Option<u32>
 ///
 /// - `Shape`: the text is not a decimal.
 /// - `Range`: it is a decimal, and its number is 2^32 or more.
+///
+/// <details><summary>Contract</summary>
+///
+/// In the words of the folder `specs/` of crate `ent_handle`:
+///
+/// ```text
+/// // The text is the decimal of the number that is read.
+/// ensures found { IfOk result (λ n. bytes.now ≡ decimal n) }
+/// // The decimal of each number below 2^32 is read as that number.
+/// ensures only { (n : ℕ) → n < 2 ^ 32 → bytes.now ≡ decimal n → result ≡ Ok n }
+///
+/// ensures shape { IsErrOf result TextFault.Shape ↔ (¬ IsDecimal bytes.now) }
+/// ensures range { IsErrOf result TextFault.Range
+///     ↔ (IsDecimal bytes.now × (2 ^ 32 ≤ digits_value 10 bytes.now)) }
+///
+/// // The whole result, as a function of the text.
+/// ensures exact { result ≡ number_of bytes.now }
+/// ```
+///
+/// </details>
 #[inline]
-pub fn read_decimal(bytes: &[u8]) -> Result<u32, TextFault>
-    // The text is the decimal of the number that is read.
-    // ensures found { IfOk result (λ n. bytes.now ≡ decimal n) }
-    // The decimal of each number below 2^32 is read as that number.
-    // ensures only { (n : ℕ) → n < 2 ^ 32 → bytes.now ≡ decimal n → result ≡ Ok n }
-
-    // ensures shape { IsErrOf result TextFault.Shape ↔ (¬ IsDecimal bytes.now) }
-    // ensures range { IsErrOf result TextFault.Range
-    //     ↔ (IsDecimal bytes.now × (2 ^ 32 ≤ digits_value 10 bytes.now)) }
-
-    // The whole result, as a function of the text.
-    // ensures exact { result ≡ number_of bytes.now }
-{
+pub fn read_decimal(bytes: &[u8]) -> Result<u32, TextFault> {
     if !is_decimal(bytes) {
         return Err(TextFault::Shape);
     }

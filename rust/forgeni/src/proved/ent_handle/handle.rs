@@ -1,30 +1,69 @@
 // Made of crates/ent_handle/src/handle.rt by rust/erase. It isn't edited by hand.
 
 use core::cmp::Ordering;
+use core::hash::{Hash, Hasher};
+use core::num::NonZeroU64;
 
-/// Names one occupant of one slot: the slot's index, and a generation that tells the slot's
-/// occupants apart.
+/// The name of an entity: the index of a slot, and a generation that tells the slot's entities
+/// apart. It is ordered by index and then by generation.
+///
+/// It takes 8 bytes, and so does an `Option<Handle>`. It is written `0v1`, by `Display` and by
+/// `Debug`, and parsed from that text.
+///
+/// A handle is only a name. One that was made by hand, or by another allocator, is the name of an
+/// entity here if one of that index and generation lives.
+///
+/// ```
+/// use forgeni::Handle;
+///
+/// let mut handles: Vec<Handle> = ["2v1", "0v7", "1v3"]
+///     .iter()
+///     .map(|text| text.parse())
+///     .collect::<Result<_, _>>()?;
+/// handles.sort();
+/// assert_eq!(format!("{handles:?}"), "[0v7, 1v3, 2v1]");
+/// handles.sort_by(Handle::by_bits);
+/// assert_eq!(format!("{handles:?}"), "[2v1, 1v3, 0v7]");
+/// # Ok::<(), forgeni::ParseHandleError>(())
+/// ```
 ///
 /// An index is 0 to 4,294,967,294, and a generation 1 to 2,147,483,647: Bevy's ranges without the
-/// index that its placeholder has. As in Bevy, each occupant of a slot has the generation after
-/// that of the one before it, so that an earlier handle does not name a later occupant. After the
-/// last generation a slot has no more occupants, where in Bevy the first one comes again. The order
-/// is this project's own: by index, then by generation. Bevy's is by generation first.
-#[derive(Clone, Copy, Debug, PartialEq, Eq, Hash)]
-#[repr(align(8))]
+/// index that its placeholder has. As in Bevy, each entity of a slot has the generation after that
+/// of the one before it, so that an earlier handle does not name a later entity. After the last
+/// generation a slot has no more entities, where in Bevy the first one comes again. The order is
+/// this project's own: that of Bevy and hecs is [`by_bits`](Self::by_bits).
+#[derive(Clone, Copy, PartialEq, Eq)]
+#[repr(transparent)]
 pub struct Handle {
-    index: u32,
-    generation: u32,
+    bits: NonZeroU64,
 }
 
 impl Handle {
-    /// The handle of these numbers, or `None` if one of them is out of range.
+    /// The handle of these numbers: an index below 4,294,967,295, a generation from 1 to
+    /// 2,147,483,647. `None` if one of them is out of its range.
+    ///
+    /// ```
+    /// use forgeni::Handle;
+    ///
+    /// const FIRST: Handle = Handle::new(0, 1).unwrap();
+    /// assert_eq!(FIRST.to_string(), "0v1");
+    /// assert_eq!(Handle::new(0, 0), None);
+    /// ```
+    ///
+    /// <details><summary>Contract</summary>
+    ///
+    /// In the words of the folder `specs/` of crate `ent_handle`:
+    ///
+    /// ```text
+    /// ensures in_range { IsSome result
+    ///     ↔ IsHandle (record { index = index; generation = generation }) }
+    /// ensures value { IfSome result (λ h. h ≡ record { index = index; generation = generation }) }
+    /// ```
+    ///
+    /// </details>
+    #[must_use]
     #[inline]
-    pub fn new(index: u32, generation: u32) -> Option<Self>
-        // ensures in_range { IsSome result
-        //     ↔ IsHandle (record { index = index; generation = generation }) }
-        // ensures value { IfSome result (λ h. h ≡ record { index = index; generation = generation }) }
-    {
+    pub const fn new(index: u32, generation: u32) -> Option<Self> {
         if index < u32::MAX && 1 <= generation && generation < 1 << 31 {
             Some(Handle::from_parts(index, generation))
         } else {
@@ -36,54 +75,147 @@ impl Handle {
     /// generation 1 to 2,147,483,647. It tests nothing when it runs, so it is for a caller that
     /// keeps such numbers. `new` tests them.
     #[inline]
-    pub fn from_parts(index: u32, generation: u32) -> Self
+    pub(crate) const fn from_parts(index: u32, generation: u32) -> Self
         // requires { IsHandle (record { index = index; generation = generation }) }
         // ensures { result ≡ record { index = index; generation = generation } }
     {
-        Handle { index, generation }
+        let bits = ((generation as u64) << 32) + index as u64;
+        // The bits are never 0, and to take another number for 0 costs less than a branch.
+        let bits = match NonZeroU64::new(bits) {
+            Some(bits) => bits,
+            None => NonZeroU64::MIN,
+        };
+        Handle { bits }
     }
 
-    /// Which slot it is: 0 to 4,294,967,294.
+    /// The index of its slot: 0 to 4,294,967,294.
+    ///
+    /// <details><summary>Contract</summary>
+    ///
+    /// In the words of the folder `specs/` of crate `ent_handle`:
+    ///
+    /// ```text
+    /// ensures { result ≡ self.index }
+    /// ```
+    ///
+    /// </details>
+    #[must_use]
     #[inline]
-    pub fn index(self) -> u32
-        // ensures { result ≡ self.index }
-    {
-        self.index
+    pub const fn index(self) -> u32 {
+        (self.bits.get() & 0xffff_ffff) as u32
     }
 
-    /// Which occupant of the slot it is: 1 to 2,147,483,647.
+    /// Its generation: 1 for the first entity of a slot, and at most 2,147,483,647.
+    ///
+    /// <details><summary>Contract</summary>
+    ///
+    /// In the words of the folder `specs/` of crate `ent_handle`:
+    ///
+    /// ```text
+    /// ensures { result ≡ self.generation }
+    /// ```
+    ///
+    /// </details>
+    #[must_use]
     #[inline]
-    pub fn generation(self) -> u32
-        // ensures { result ≡ self.generation }
-    {
-        self.generation
+    pub const fn generation(self) -> u32 {
+        (self.bits.get() >> 32) as u32
     }
 
-    /// The handle as one number: the generation times 2^32, plus the index.
+    /// Both numbers in one: the generation times 2^32, plus the index.
+    ///
+    /// ```
+    /// use forgeni::Handle;
+    ///
+    /// let handle = Handle::new(7, 2).unwrap();
+    /// assert_eq!(Handle::from_bits(handle.to_bits()), Some(handle));
+    /// ```
+    ///
+    /// <details><summary>Contract</summary>
+    ///
+    /// In the words of the folder `specs/` of crate `ent_handle`:
+    ///
+    /// ```text
+    /// ensures bits { result ≡ bits self }
+    /// ensures in_range { IsHandle self }
+    /// ```
+    ///
+    /// </details>
+    #[must_use]
     #[inline]
-    pub fn to_bits(self) -> u64
-        // ensures bits { result ≡ bits self }
+    pub const fn to_bits(self) -> u64 {
+        self.bits.get()
+    }
+
+    /// Both numbers in one with the index above, which is a rotation of the bits: one comparison of
+    /// these orders handles by index, then by generation.
+    #[inline]
+    fn index_first(self) -> u64
+        // ensures word { result ≡ self.index * 2 ^ 32 + self.generation }
         // ensures in_range { IsHandle self }
     {
-        (u64::from(self.generation) << 32) + u64::from(self.index)
+        (u64::from(self.index()) << 32) + u64::from(self.generation())
     }
 
-    /// The handle that has these bits, or `None` if no handle has them.
+    /// The order by bits, which is that of Bevy and hecs: by generation, then by index.
+    ///
+    /// ```
+    /// use forgeni::Handle;
+    ///
+    /// let [new, old] = [Handle::new(9, 1).unwrap(), Handle::new(0, 2).unwrap()];
+    /// assert!(new.by_bits(&old).is_lt() && new > old);
+    /// ```
+    ///
+    /// <details><summary>Contract</summary>
+    ///
+    /// In the words of the folder `specs/` of crate `ent_handle`:
+    ///
+    /// ```text
+    /// ensures bits { result ≡ nat_cmp (bits self.now) (bits other.now) }
+    /// ensures parts { result ≡ ordering_then
+    ///     (nat_cmp self.now.generation other.now.generation)
+    ///     (nat_cmp self.now.index other.now.index) }
+    /// ```
+    ///
+    /// </details>
+    #[must_use]
     #[inline]
-    pub fn from_bits(of: u64) -> Option<Self>
-        // ensures found { IfSome result (λ h. bits h ≡ of) }
-        // ensures in_range { IfSome result IsHandle }
-        // ensures none { IfNone result ((h : Handle) → IsHandle h → bits h ≢ of) }
-    {
+    pub fn by_bits(&self, other: &Self) -> Ordering {
+        self.to_bits().cmp(&other.to_bits())
+    }
+
+    /// The handle that [`to_bits`](Self::to_bits) packed into these bits. `None` if they are the
+    /// bits of no handle.
+    ///
+    /// <details><summary>Contract</summary>
+    ///
+    /// In the words of the folder `specs/` of crate `ent_handle`:
+    ///
+    /// ```text
+    /// ensures found { IfSome result (λ h. bits h ≡ of) }
+    /// ensures in_range { IfSome result IsHandle }
+    /// ensures none { IfNone result ((h : Handle) → IsHandle h → bits h ≢ of) }
+    /// ```
+    ///
+    /// </details>
+    #[must_use]
+    #[inline]
+    pub const fn from_bits(of: u64) -> Option<Self> {
         Handle::new((of & 0xffff_ffff) as u32, (of >> 32) as u32)
+    }
+}
+
+impl Hash for Handle {
+    #[inline]
+    fn hash<H: Hasher>(&self, state: &mut H) {
+        state.write_u64(self.bits.get());
     }
 }
 
 impl Ord for Handle {
     #[inline]
     fn cmp(&self, other: &Self) -> Ordering {
-        let by_index = self.index.cmp(&other.index);
-        by_index.then(self.generation.cmp(&other.generation))
+        self.index_first().cmp(&other.index_first())
     }
 }
 

@@ -1,6 +1,8 @@
 // Made of crates/ent_handle/src/text.rt by rust/erase. It isn't edited by hand.
 
-use crate::kit::vec::Vec;
+use alloc::vec::Vec;
+use crate::kit::padded;
+use crate::kit::vec::FallibleVec;
 use crate::proved::ent_handle::decimal::{decimal_value, is_decimal};
 use crate::proved::ent_handle::handle::Handle;
 use crate::proved::ent_handle::memory::Memory;
@@ -10,17 +12,17 @@ use core::fmt;
 /// Why a text is not a number, or not a handle.
 #[derive(Clone, Copy, Debug, PartialEq, Eq, Hash)]
 pub enum TextFault {
-    /// The text does not have the form.
+    /// It doesn't have the form, which is that of `0v1` for a handle.
     Shape,
-    /// The text has the form, but a number in it is out of range.
+    /// It has the form, and a number in it is out of range.
     Range,
 }
 
 impl core::fmt::Display for TextFault {
     fn fmt(&self, f: &mut core::fmt::Formatter<'_>) -> core::fmt::Result {
         match self {
-            TextFault::Shape => write!(f, "not of the form"),
-            TextFault::Range => write!(f, "a number out of range"),
+            TextFault::Shape => write!(f, "not of the form of a handle, as 0v1"),
+            TextFault::Range => write!(f, "no handle has these numbers"),
         }
     }
 }
@@ -28,12 +30,20 @@ impl core::fmt::Display for TextFault {
 impl core::error::Error for TextFault {}
 
 /// The bytes before the first separator and the bytes after it, or `None` if there is no separator.
+///
+/// <details><summary>Contract</summary>
+///
+/// In the words of the folder `specs/` of crate `ent_handle`:
+///
+/// ```text
+/// ensures found { IfSome result (λ parts. bytes.now ≡ parts.0.now ++ separator ∷ parts.1.now) }
+/// ensures first { IfSome result (λ parts. All (λ byte. byte ≢ separator) parts.0.now) }
+/// ensures none { IfNone result (All (λ byte. byte ≢ separator) bytes.now) }
+/// ```
+///
+/// </details>
 #[inline]
-pub fn split_once(bytes: &[u8], separator: u8) -> Option<(&[u8], &[u8])>
-    // ensures found { IfSome result (λ parts. bytes.now ≡ parts.0.now ++ separator ∷ parts.1.now) }
-    // ensures first { IfSome result (λ parts. All (λ byte. byte ≢ separator) parts.0.now) }
-    // ensures none { IfNone result (All (λ byte. byte ≢ separator) bytes.now) }
-{
+pub fn split_once(bytes: &[u8], separator: u8) -> Option<(&[u8], &[u8])> {
     let at = bytes.iter().position(|byte| *byte == separator)?;
     Some((&bytes[..at], &bytes[at + 1..]))
 }
@@ -48,20 +58,28 @@ impl Handle {
     ///
     /// - `Shape`: the text does not have this form.
     /// - `Range`: it has this form, and no handle has these numbers.
+    ///
+    /// <details><summary>Contract</summary>
+    ///
+    /// In the words of the folder `specs/` of crate `ent_handle`:
+    ///
+    /// ```text
+    /// // The text is that of the handle that is read.
+    /// ensures found { IfOk result (λ h. IsHandle h × (bytes.now ≡ handle_text h)) }
+    /// // The text of each handle is read as that handle.
+    /// ensures only { (h : HandleValue) → IsHandle h → bytes.now ≡ handle_text h → result ≡ Ok h }
+    ///
+    /// ensures shape { IsErrOf result TextFault.Shape ↔ (¬ HasHandleForm bytes.now) }
+    /// ensures range { IsErrOf result TextFault.Range ↔ (HasHandleForm bytes.now
+    ///     × ((h : HandleValue) → IsHandle h → bytes.now ≢ handle_text h)) }
+    ///
+    /// // The whole result, as a function of the text.
+    /// ensures exact { result ≡ handle_of bytes.now }
+    /// ```
+    ///
+    /// </details>
     #[inline]
-    pub fn read_text(bytes: &[u8]) -> Result<Self, TextFault>
-        // The text is that of the handle that is read.
-        // ensures found { IfOk result (λ h. IsHandle h × (bytes.now ≡ handle_text h)) }
-        // The text of each handle is read as that handle.
-        // ensures only { (h : HandleValue) → IsHandle h → bytes.now ≡ handle_text h → result ≡ Ok h }
-
-        // ensures shape { IsErrOf result TextFault.Shape ↔ (¬ HasHandleForm bytes.now) }
-        // ensures range { IsErrOf result TextFault.Range ↔ (HasHandleForm bytes.now
-        //     × ((h : HandleValue) → IsHandle h → bytes.now ≢ handle_text h)) }
-
-        // The whole result, as a function of the text.
-        // ensures exact { result ≡ handle_of bytes.now }
-    {
+    pub fn read_text(bytes: &[u8]) -> Result<Self, TextFault> {
         let Some((index, generation)) = split_once(bytes, b'v') else {
             return Err(TextFault::Shape);
         };
@@ -86,23 +104,31 @@ impl Handle {
     /// # Errors
     ///
     /// `Memory`: there is no memory for the text. `out` has the same items as before.
+    ///
+    /// <details><summary>Contract</summary>
+    ///
+    /// In the words of the folder `specs/` of crate `ent_handle`:
+    ///
+    /// ```text
+    /// ensures ok { OnOk result (out.new.items ≡ out.old.items ++ handle_text self.now) }
+    /// ensures err { OnErr result (out.new.items ≡ out.old.items) }
+    /// ensures full { OnErr result
+    ///     (vec_capacity out.old < vec_len out.old + length (handle_text self.now)) }
+    /// ensures capacity { vec_capacity out.old ≤ vec_capacity out.new }
+    /// ```
+    ///
+    /// </details>
     #[inline]
-    pub fn write_text(&self, out: &mut Vec<u8>) -> Result<(), Memory>
-        // ensures ok { OnOk result (out.new.items ≡ out.old.items ++ handle_text self.now) }
-        // ensures err { OnErr result (out.new.items ≡ out.old.items) }
-        // ensures full { OnErr result
-        //     (vec_capacity out.old < vec_len out.old + length (handle_text self.now)) }
-        // ensures capacity { vec_capacity out.old ≤ vec_capacity out.new }
-    {
+    pub fn write_text(&self, out: &mut Vec<u8>) -> Result<(), Memory> {
         let mut index = Buffer::new();
         let index = index.format(self.index()).as_bytes();
         let mut generation = Buffer::new();
         let generation = generation.format(self.generation()).as_bytes();
 
-        out.reserve(index.len() + 1 + generation.len())?;
-        out.extend_from_slice(index).unwrap();
+        out.reserve_fallibly(index.len() + 1 + generation.len())?;
+        out.extend_from_slice_fallibly(index).unwrap();
         out.push_reserved(b'v');
-        out.extend_from_slice(generation).unwrap();
+        out.extend_from_slice_fallibly(generation).unwrap();
         Ok(())
     }
 }
@@ -113,6 +139,16 @@ impl fmt::Display for Handle {
     fn fmt(&self, f: &mut fmt::Formatter<'_>) -> fmt::Result {
         let index = self.index();
         let generation = self.generation();
-        write!(f, "{index}v{generation}")
+        padded!(f, "{index}v{generation}")
+    }
+}
+
+/// As `Display` writes it.
+impl fmt::Debug for Handle {
+    #[inline]
+    fn fmt(&self, f: &mut fmt::Formatter<'_>) -> fmt::Result {
+        let slot = self.index();
+        let occupant = self.generation();
+        padded!(f, "{slot}v{occupant}")
     }
 }

@@ -28,27 +28,51 @@ impl<'a> BundleRef<'a> {
     }
 
     /// How many components there are.
+    ///
+    /// <details><summary>Contract</summary>
+    ///
+    /// In the words of the folder `specs/` of crate `ent_queue`:
+    ///
+    /// ```text
+    /// ensures { result ≡ length self.now }
+    /// ```
+    ///
+    /// </details>
     #[inline]
-    pub fn len(&self) -> usize
-        // ensures { result ≡ length self.now }
-    {
+    pub fn len(&self) -> usize {
         self.items.len()
     }
 
     /// Whether there is none.
+    ///
+    /// <details><summary>Contract</summary>
+    ///
+    /// In the words of the folder `specs/` of crate `ent_queue`:
+    ///
+    /// ```text
+    /// ensures { IsTrue result ↔ (self.now ≡ []) }
+    /// ```
+    ///
+    /// </details>
     #[inline]
-    pub fn is_empty(&self) -> bool
-        // ensures { IsTrue result ↔ (self.now ≡ []) }
-    {
+    pub fn is_empty(&self) -> bool {
         self.items.is_empty()
     }
 
     /// The components and their values, by strictly rising number.
+    ///
+    /// <details><summary>Contract</summary>
+    ///
+    /// In the words of the folder `specs/` of crate `ent_queue`:
+    ///
+    /// ```text
+    /// ensures items { result ≡ self.now }
+    /// ensures rising { T (is_sorted component_cmp self.now) }
+    /// ```
+    ///
+    /// </details>
     #[inline]
-    pub fn iter(&self) -> BundleItems<'a>
-        // ensures items { result ≡ self.now }
-        // ensures rising { T (is_sorted component_cmp self.now) }
-    {
+    pub fn iter(&self) -> BundleItems<'a> {
         BundleItems { left: self.items }
     }
 }

@@ -1,12 +1,12 @@
 // Made of crates/ent_queue/src/commands.rt by rust/erase. It isn't edited by hand.
 
-use crate::kit::vec::Vec;
-use crate::proved::ent_queue::fault::QueueFault;
+use alloc::vec::Vec;
+use crate::proved::ent_queue::bundle::Bundle as OwnBundle;
 use crate::proved::ent_queue::queue::CommandQueue;
+use crate::proved::ent_alloc::ReserveError as QueueFault;
 use crate::proved::ent_handle::{ComponentId, Handle, Memory};
 use crate::proved::ent_shared::{Reserver, Shared};
 use crate::proved::ent_storage::Bundle;
-use crate::kit::alloc::Global;
 
 /// Issues the commands of one system. They take effect when the queue is applied.
 ///
@@ -16,27 +16,25 @@ pub struct Commands<'a, Q = CommandQueue> {
     reserver: &'a mut Reserver,
     shared: &'a Shared,
     queue: Q,
-    alloc: Global,
 }
 
 impl<'a> Commands<'a> {
     /// Begins with an empty queue. The reserver is one of those that came with the allocator.
     #[inline]
-    pub fn new(alloc: Global, shared: &'a Shared, reserver: &'a mut Reserver) -> Self
+    pub(crate) fn new(shared: &'a Shared, reserver: &'a mut Reserver) -> Self
         // requires { IsOf shared.now reserver.old }
         // ensures same { result.reserver.ghost_name ≡ reserver.entry.ghost_name }
         // ensures reserver { reserver_of result ≡ reserver.old }
         // ensures shared { shared_of result ≡ shared.now }
         // ensures queue { queue_of result ≡ [] }
     {
-        Commands::resume(alloc, shared, reserver, CommandQueue::new(alloc))
+        Commands::resume(shared, reserver, CommandQueue::new())
     }
 
     /// Goes on with a queue that was begun before: what it has stays in front. The reserver may be
     /// another one than before, of those that came with the allocator.
     #[inline]
-    pub fn resume(
-        alloc: Global,
+    pub(crate) fn resume(
         shared: &'a Shared,
         reserver: &'a mut Reserver,
         queue: CommandQueue,
@@ -51,7 +49,6 @@ impl<'a> Commands<'a> {
             reserver,
             shared,
             queue,
-            alloc,
         }
     }
 
@@ -63,7 +60,7 @@ impl<'a> Commands<'a> {
     /// [`QueueFault::Space`] and [`QueueFault::Quota`] as [`Shared::reserve`] returns them; the
     /// queue then keeps the refusal, and [`QueueFault::or_memory`] lets a system go on.
     #[inline]
-    pub fn spawn<const INLINE: usize>(
+    pub(crate) fn spawn<const INLINE: usize>(
         &mut self,
         bundle: &Bundle<INLINE>,
     ) -> Result<Handle, QueueFault>
@@ -84,13 +81,44 @@ impl<'a> Commands<'a> {
         self.queue.spawn(self.shared, self.reserver, bundle.items())
     }
 
+    /// Reserves a handle, which is to have these components, in any order. Of a component that
+    /// stands there twice the last value counts.
+    ///
+    /// # Errors
+    ///
+    /// As [`Commands::spawn`].
+    #[inline]
+    pub(crate) fn spawn_with(
+        &mut self,
+        components: &[(ComponentId, i64)],
+    ) -> Result<Handle, QueueFault>
+        // requires { IsReady self.old }
+        // ensures extends { Extends self.old self.new }
+        // ensures ok { IfOk result (λ handle. queue_of self.new
+        //     ≡ queue_of self.old ++ Spawn handle (bundle_of components.now) ∷ []) }
+        // ensures refused { IfErr result (λ fault.
+        //     queue_of self.new ≡ queue_of self.old ++ refused_by 1 fault) }
+        // ensures memory { IsErrOf result QueueFault.Memory
+        //     → reserver_of self.new ≡ reserver_of self.old }
+
+        // Anything but Memory is the result of a reservation.
+        // ensures replies { (reply : Result HandleValue Refusal) → result ≡ queued reply
+        //     → IsReturned (shared_of self.new) (reserver_of self.old) (reserver_of self.new) 1
+        //     (listed_alone reply) }
+    {
+        let Ok(bundle) = OwnBundle::of(components) else {
+            return Err(QueueFault::Memory);
+        };
+        self.spawn(&bundle)
+    }
+
     /// Reserves `n` handles at once, each of which is to have the components.
     ///
     /// # Errors
     ///
     /// As [`Commands::spawn`], with [`Shared::reserve_many`] instead of [`Shared::reserve`].
     #[inline]
-    pub fn spawn_many<const INLINE: usize>(
+    pub(crate) fn spawn_many<const INLINE: usize>(
         &mut self,
         n: u32,
         bundle: &Bundle<INLINE>,
@@ -112,7 +140,41 @@ impl<'a> Commands<'a> {
         //     reply }
     {
         self.queue
-            .spawn_many(self.alloc, self.shared, self.reserver, n, bundle.items())
+            .spawn_many(self.shared, self.reserver, n, bundle.items())
+    }
+
+    /// Reserves `n` handles at once, each of which is to have these components, in any order. Of a
+    /// component that stands there twice the last value counts.
+    ///
+    /// # Errors
+    ///
+    /// As [`Commands::spawn_many`].
+    #[inline]
+    pub(crate) fn spawn_many_with(
+        &mut self,
+        n: u32,
+        components: &[(ComponentId, i64)],
+    ) -> Result<Vec<Handle>, QueueFault>
+        // requires { IsReady self.old }
+        // ensures extends { Extends self.old self.new }
+        // ensures ok { IfOk result (λ handles. queue_of self.new
+        //     ≡ queue_of self.old ++ SpawnMany handles.items (bundle_of components.now) ∷ []) }
+        // ensures length { IfOk result (λ handles. length handles.items ≡ n) }
+        // ensures refused { IfErr result (λ fault.
+        //     queue_of self.new ≡ queue_of self.old ++ refused_by n fault) }
+        // ensures memory { IsErrOf result QueueFault.Memory
+        //     → reserver_of self.new ≡ reserver_of self.old }
+
+        // Anything but Memory is the result of a reservation.
+        // ensures replies { (reply : Result (List HandleValue) Refusal)
+        //     → as_list result ≡ queued reply
+        //     → IsReturned (shared_of self.new) (reserver_of self.old) (reserver_of self.new) n
+        //     reply }
+    {
+        let Ok(bundle) = OwnBundle::of(components) else {
+            return Err(QueueFault::Memory);
+        };
+        self.spawn_many(n, &bundle)
     }
 
     /// Gives the entity the components, instead of those that it has under the same numbers.
@@ -121,7 +183,7 @@ impl<'a> Commands<'a> {
     ///
     /// `Memory`, and then nothing has changed.
     #[inline]
-    pub fn insert<const INLINE: usize>(
+    pub(crate) fn insert<const INLINE: usize>(
         &mut self,
         handle: Handle,
         bundle: &Bundle<INLINE>,
@@ -136,13 +198,36 @@ impl<'a> Commands<'a> {
         self.queue.insert(handle, bundle.items())
     }
 
+    /// Gives the entity these components, in any order, instead of those that it has under the same
+    /// numbers. Of a component that stands there twice the last value counts.
+    ///
+    /// # Errors
+    ///
+    /// `Memory`, and then nothing has changed.
+    #[inline]
+    pub(crate) fn insert_with(
+        &mut self,
+        handle: Handle,
+        components: &[(ComponentId, i64)],
+    ) -> Result<(), Memory>
+        // requires { IsReady self.old }
+        // ensures extends { Extends self.old self.new }
+        // ensures reserver { reserver_of self.new ≡ reserver_of self.old }
+        // ensures ok { OnOk result (queue_of self.new
+        //     ≡ queue_of self.old ++ Insert handle (bundle_of components.now) ∷ []) }
+        // ensures err { OnErr result (queue_of self.new ≡ queue_of self.old) }
+    {
+        let bundle = OwnBundle::of(components)?;
+        self.insert(handle, &bundle)
+    }
+
     /// Takes the component out of the entity, if it has it.
     ///
     /// # Errors
     ///
     /// `Memory`, and then nothing has changed.
     #[inline]
-    pub fn remove(&mut self, handle: Handle, id: ComponentId) -> Result<(), Memory>
+    pub(crate) fn remove(&mut self, handle: Handle, id: ComponentId) -> Result<(), Memory>
         // requires { IsReady self.old }
         // ensures extends { Extends self.old self.new }
         // ensures reserver { reserver_of self.new ≡ reserver_of self.old }
@@ -158,7 +243,7 @@ impl<'a> Commands<'a> {
     ///
     /// `Memory`, and then nothing has changed.
     #[inline]
-    pub fn despawn(&mut self, handle: Handle) -> Result<(), Memory>
+    pub(crate) fn despawn(&mut self, handle: Handle) -> Result<(), Memory>
         // requires { IsReady self.old }
         // ensures extends { Extends self.old self.new }
         // ensures reserver { reserver_of self.new ≡ reserver_of self.old }
@@ -171,16 +256,23 @@ impl<'a> Commands<'a> {
 
 impl<Q> Commands<'_, Q> {
     /// Gives the queue back, and the reserver to its owner.
+    ///
+    /// <details><summary>Contract</summary>
+    ///
+    /// In the words of the folder `specs/` of crate `ent_queue`:
+    ///
+    /// ```text
+    /// ensures reserver { self.exit.0.now ≡ self.entry.reserver.now }
+    /// ensures queue { result ≡ self.entry.queue }
+    /// ```
+    ///
+    /// </details>
     #[inline]
-    pub fn finish(self) -> Q
-        // ensures reserver { self.exit.0.now ≡ self.entry.reserver.now }
-        // ensures queue { result ≡ self.entry.queue }
-    {
+    pub fn finish(self) -> Q {
         let Commands {
             reserver: _,
             shared: _,
             queue,
-            alloc: _,
         } = self;
         queue
     }

@@ -26,26 +26,50 @@ impl<'a> HandlesRef<'a> {
     }
 
     /// How many handles there are.
+    ///
+    /// <details><summary>Contract</summary>
+    ///
+    /// In the words of the folder `specs/` of crate `ent_queue`:
+    ///
+    /// ```text
+    /// ensures { result ≡ length self.now }
+    /// ```
+    ///
+    /// </details>
     #[inline]
-    pub fn len(&self) -> usize
-        // ensures { result ≡ length self.now }
-    {
+    pub fn len(&self) -> usize {
         self.handles.len()
     }
 
     /// Whether there is none.
+    ///
+    /// <details><summary>Contract</summary>
+    ///
+    /// In the words of the folder `specs/` of crate `ent_queue`:
+    ///
+    /// ```text
+    /// ensures { IsTrue result ↔ (self.now ≡ []) }
+    /// ```
+    ///
+    /// </details>
     #[inline]
-    pub fn is_empty(&self) -> bool
-        // ensures { IsTrue result ↔ (self.now ≡ []) }
-    {
+    pub fn is_empty(&self) -> bool {
         self.handles.is_empty()
     }
 
     /// The handles, in the order of the reply.
+    ///
+    /// <details><summary>Contract</summary>
+    ///
+    /// In the words of the folder `specs/` of crate `ent_queue`:
+    ///
+    /// ```text
+    /// ensures { result ≡ self.now }
+    /// ```
+    ///
+    /// </details>
     #[inline]
-    pub fn iter(&self) -> Handles<'a>
-        // ensures { result ≡ self.now }
-    {
+    pub fn iter(&self) -> Handles<'a> {
         Handles {
             left: HandlesRef {
                 handles: self.handles,

@@ -1,15 +1,15 @@
 // Made of crates/ent_queue/src/queue.rt by rust/erase. It isn't edited by hand.
 
-use crate::kit::vec::Vec;
+use alloc::vec::Vec;
+use crate::kit::vec::FallibleVec;
 use crate::proved::ent_queue::entries::Entries;
-use crate::proved::ent_queue::fault::QueueFault;
 use crate::proved::ent_queue::kind::{INSERT, SPAWN};
 use crate::proved::ent_queue::writing::{
     write_bundle, write_despawn, write_many, write_refused, write_remove, write_with_bundle,
 };
+use crate::proved::ent_alloc::ReserveError as QueueFault;
 use crate::proved::ent_handle::{ComponentId, Handle, Memory};
 use crate::proved::ent_shared::{Reserver, Shared};
-use crate::kit::alloc::Global;
 
 /// How many bytes a refusal has.
 const REFUSAL: usize = 14;
@@ -25,40 +25,64 @@ pub struct CommandQueue {
 
 impl CommandQueue {
     #[inline]
-    pub(super) fn new(alloc: Global) -> Self
+    pub(super) fn new() -> Self
         // ensures { result ≡ [] }
     {
         CommandQueue {
-            bytes: Vec::new(alloc),
+            bytes: Vec::new(),
             count: 0,
         }
     }
 
     /// How many commands there are.
+    ///
+    /// <details><summary>Contract</summary>
+    ///
+    /// In the words of the folder `specs/` of crate `ent_queue`:
+    ///
+    /// ```text
+    /// ensures { result ≡ length self.now }
+    /// ```
+    ///
+    /// </details>
     #[inline]
-    pub fn len(&self) -> usize
-        // ensures { result ≡ length self.now }
-    {
+    pub fn len(&self) -> usize {
         self.entries().len()
     }
 
     /// Whether there is none.
+    ///
+    /// <details><summary>Contract</summary>
+    ///
+    /// In the words of the folder `specs/` of crate `ent_queue`:
+    ///
+    /// ```text
+    /// ensures { IsTrue result ↔ (self.now ≡ []) }
+    /// ```
+    ///
+    /// </details>
     #[inline]
-    pub fn is_empty(&self) -> bool
-        // ensures { IsTrue result ↔ (self.now ≡ []) }
-    {
+    pub fn is_empty(&self) -> bool {
         self.count == 0
     }
 
     /// The commands, in the order of issue. They are read in place.
+    ///
+    /// <details><summary>Contract</summary>
+    ///
+    /// In the words of the folder `specs/` of crate `ent_queue`:
+    ///
+    /// ```text
+    /// ensures entries { result ≡ self.now }
+    ///
+    /// // Each command is in its ranges. A refusal for want of slots says twice how many handles
+    /// // were wanted, and the two numbers are equal.
+    /// ensures each { All IsCommand self.now }
+    /// ```
+    ///
+    /// </details>
     #[inline]
-    pub fn entries(&self) -> Entries<'_>
-        // ensures entries { result ≡ self.now }
-
-        // Each command is in its ranges. A refusal for want of slots says twice how many handles
-        // were wanted, and the two numbers are equal.
-        // ensures each { All IsCommand self.now }
-    {
+    pub fn entries(&self) -> Entries<'_> {
         Entries::new(self.count, &self.bytes)
     }
 
@@ -76,10 +100,18 @@ impl CommandQueue {
     /// | 3, a removal | handle, component in 1 byte |
     /// | 4, a despawn | handle |
     /// | 5, a refusal | wanted in 4 bytes; 1 for `Space`, 2 for `Quota`; what was left in 8 bytes |
+    ///
+    /// <details><summary>Contract</summary>
+    ///
+    /// In the words of the folder `specs/` of crate `ent_queue`:
+    ///
+    /// ```text
+    /// ensures { result.now ≡ queue_bytes self.now }
+    /// ```
+    ///
+    /// </details>
     #[inline]
-    pub fn bytes(&self) -> &[u8]
-        // ensures { result.now ≡ queue_bytes self.now }
-    {
+    pub fn bytes(&self) -> &[u8] {
         &self.bytes
     }
 
@@ -101,7 +133,7 @@ impl CommandQueue {
         //     → IsReturned shared.now reserver.old reserver.new 1 (listed_alone reply) }
     {
         let own = 11 + 9 * items.len();
-        self.bytes.reserve(own.max(REFUSAL))?;
+        self.bytes.reserve_fallibly(own.max(REFUSAL))?;
         match shared.reserve(reserver) {
             Ok(handle) => {
                 write_with_bundle(&mut self.bytes, SPAWN, handle, items);
@@ -120,7 +152,6 @@ impl CommandQueue {
     #[inline]
     pub(super) fn spawn_many(
         &mut self,
-        alloc: Global,
         shared: &Shared,
         reserver: &mut Reserver,
         n: u32,
@@ -138,9 +169,9 @@ impl CommandQueue {
         //     → as_list result ≡ queued reply
         //     → IsReturned shared.now reserver.old reserver.new n reply }
     {
-        let mut handles = Vec::with_capacity(alloc, n as usize)?;
+        let mut handles = Vec::with_capacity_fallibly(n as usize)?;
         let own = 7 + 8 * n as usize + 9 * items.len();
-        self.bytes.reserve(own.max(REFUSAL))?;
+        self.bytes.reserve_fallibly(own.max(REFUSAL))?;
         match shared.reserve_many(reserver, n) {
             Ok(given) => {
                 write_many(&mut self.bytes, &mut handles, n, given);
@@ -166,7 +197,7 @@ impl CommandQueue {
         // ensures ok { OnOk result (self.new ≡ self.old ++ Insert handle items.now ∷ []) }
         // ensures err { OnErr result (self.new ≡ self.old) }
     {
-        self.bytes.reserve(11 + 9 * items.len())?;
+        self.bytes.reserve_fallibly(11 + 9 * items.len())?;
         write_with_bundle(&mut self.bytes, INSERT, handle, items);
         self.count += 1;
         Ok(())
@@ -177,7 +208,7 @@ impl CommandQueue {
         // ensures ok { OnOk result (self.new ≡ self.old ++ Remove handle id ∷ []) }
         // ensures err { OnErr result (self.new ≡ self.old) }
     {
-        self.bytes.reserve(10)?;
+        self.bytes.reserve_fallibly(10)?;
         write_remove(&mut self.bytes, handle, id);
         self.count += 1;
         Ok(())
@@ -188,7 +219,7 @@ impl CommandQueue {
         // ensures ok { OnOk result (self.new ≡ self.old ++ Despawn handle ∷ []) }
         // ensures err { OnErr result (self.new ≡ self.old) }
     {
-        self.bytes.reserve(9)?;
+        self.bytes.reserve_fallibly(9)?;
         write_despawn(&mut self.bytes, handle);
         self.count += 1;
         Ok(())

@@ -1,7 +1,6 @@
 // Made of crates/ent_replay/src/by_caller.rt by rust/erase. It isn't edited by hand.
 
 use crate::proved::ent_handle::Memory;
-use crate::kit::alloc::Global;
 use crate::kit::collections::BTreeMap;
 
 /// A value for each of some callers.
@@ -11,28 +10,52 @@ pub struct ByCaller<V> {
 
 impl<V: Copy> ByCaller<V> {
     /// No caller has a value. It takes no memory.
+    ///
+    /// <details><summary>Contract</summary>
+    ///
+    /// In the words of the folder `specs/` of crate `ent_replay`:
+    ///
+    /// ```text
+    /// ensures { result ≡ map.empty }
+    /// ```
+    ///
+    /// </details>
     #[inline]
-    pub fn new(alloc: Global) -> Self
-        // ensures { result ≡ map.empty }
-    {
+    pub fn new() -> Self {
         ByCaller {
-            values: BTreeMap::new(alloc),
+            values: BTreeMap::new(),
         }
     }
 
     /// Whether no caller has a value.
+    ///
+    /// <details><summary>Contract</summary>
+    ///
+    /// In the words of the folder `specs/` of crate `ent_replay`:
+    ///
+    /// ```text
+    /// ensures { IsTrue result ↔ (self.now ≡ map.empty) }
+    /// ```
+    ///
+    /// </details>
     #[inline]
-    pub fn is_empty(&self) -> bool
-        // ensures { IsTrue result ↔ (self.now ≡ map.empty) }
-    {
+    pub fn is_empty(&self) -> bool {
         self.values.is_empty()
     }
 
     /// The caller's value, found in logarithmic time.
+    ///
+    /// <details><summary>Contract</summary>
+    ///
+    /// In the words of the folder `specs/` of crate `ent_replay`:
+    ///
+    /// ```text
+    /// ensures { result ≡ map.get self.now caller }
+    /// ```
+    ///
+    /// </details>
     #[inline]
-    pub fn get(&self, caller: u32) -> Option<V>
-        // ensures { result ≡ map.get self.now caller }
-    {
+    pub fn get(&self, caller: u32) -> Option<V> {
         self.values.get(&caller).copied()
     }
 
@@ -41,18 +64,26 @@ impl<V: Copy> ByCaller<V> {
     /// # Errors
     ///
     /// Nothing changes if memory runs out.
+    ///
+    /// <details><summary>Contract</summary>
+    ///
+    /// In the words of the folder `specs/` of crate `ent_replay`:
+    ///
+    /// ```text
+    /// ensures ok { OnOk result (self.new ≡ map.insert self.old caller value) }
+    /// ensures err { OnErr result (self.new ≡ self.old) }
+    /// ```
+    ///
+    /// </details>
     #[inline]
-    pub fn insert(&mut self, caller: u32, value: V) -> Result<(), Memory>
-        // ensures ok { OnOk result (self.new ≡ map.insert self.old caller value) }
-        // ensures err { OnErr result (self.new ≡ self.old) }
-    {
+    pub fn insert(&mut self, caller: u32, value: V) -> Result<(), Memory> {
         self.values.insert(caller, value)?;
         Ok(())
     }
 
     /// Writes the value of a caller that has one. It takes no memory.
     #[inline]
-    pub fn replace(&mut self, caller: u32, value: V)
+    pub(crate) fn replace(&mut self, caller: u32, value: V)
         // requires { IsSome (map.get self.old caller) }
         // ensures { self.new ≡ map.insert self.old caller value }
     {
@@ -62,18 +93,34 @@ impl<V: Copy> ByCaller<V> {
     }
 
     /// Takes the caller's value out, if there is one.
+    ///
+    /// <details><summary>Contract</summary>
+    ///
+    /// In the words of the folder `specs/` of crate `ent_replay`:
+    ///
+    /// ```text
+    /// ensures { self.new ≡ map.remove self.old caller }
+    /// ```
+    ///
+    /// </details>
     #[inline]
-    pub fn remove(&mut self, caller: u32)
-        // ensures { self.new ≡ map.remove self.old caller }
-    {
+    pub fn remove(&mut self, caller: u32) {
         let _ = self.values.remove(&caller);
     }
 
     /// Takes all values out.
+    ///
+    /// <details><summary>Contract</summary>
+    ///
+    /// In the words of the folder `specs/` of crate `ent_replay`:
+    ///
+    /// ```text
+    /// ensures { self.new ≡ map.empty }
+    /// ```
+    ///
+    /// </details>
     #[inline]
-    pub fn clear(&mut self)
-        // ensures { self.new ≡ map.empty }
-    {
+    pub fn clear(&mut self) {
         self.values.clear();
     }
 }

@@ -1,6 +1,6 @@
 // Made of crates/ent_replay/src/handle_list.rt by rust/erase. It isn't edited by hand.
 
-use crate::kit::vec::Vec;
+use alloc::vec::Vec;
 use crate::proved::ent_handle::Handle;
 
 /// Handles in order.
@@ -11,42 +11,82 @@ pub struct HandleList {
 
 impl HandleList {
     /// The list of these handles. It takes no memory.
+    ///
+    /// <details><summary>Contract</summary>
+    ///
+    /// In the words of the folder `specs/` of crate `ent_replay`:
+    ///
+    /// ```text
+    /// ensures { result ≡ handles.items }
+    /// ```
+    ///
+    /// </details>
     #[inline]
-    pub fn new(handles: Vec<Handle>) -> Self
-        // ensures { result ≡ handles.items }
-    {
+    pub fn new(handles: Vec<Handle>) -> Self {
         HandleList { handles }
     }
 
     /// The handles.
+    ///
+    /// <details><summary>Contract</summary>
+    ///
+    /// In the words of the folder `specs/` of crate `ent_replay`:
+    ///
+    /// ```text
+    /// ensures { result.now ≡ self.now }
+    /// ```
+    ///
+    /// </details>
     #[inline]
-    pub fn as_slice(&self) -> &[Handle]
-        // ensures { result.now ≡ self.now }
-    {
+    pub fn as_slice(&self) -> &[Handle] {
         &self.handles
     }
 
     /// How many there are.
+    ///
+    /// <details><summary>Contract</summary>
+    ///
+    /// In the words of the folder `specs/` of crate `ent_replay`:
+    ///
+    /// ```text
+    /// ensures { result ≡ length self.now }
+    /// ```
+    ///
+    /// </details>
     #[inline]
-    pub fn len(&self) -> usize
-        // ensures { result ≡ length self.now }
-    {
+    pub fn len(&self) -> usize {
         self.handles.len()
     }
 
     /// Whether there is none.
+    ///
+    /// <details><summary>Contract</summary>
+    ///
+    /// In the words of the folder `specs/` of crate `ent_replay`:
+    ///
+    /// ```text
+    /// ensures { IsTrue result ↔ (self.now ≡ []) }
+    /// ```
+    ///
+    /// </details>
     #[inline]
-    pub fn is_empty(&self) -> bool
-        // ensures { IsTrue result ↔ (self.now ≡ []) }
-    {
+    pub fn is_empty(&self) -> bool {
         self.handles.is_empty()
     }
 
     /// Gives the handles back, with their memory.
+    ///
+    /// <details><summary>Contract</summary>
+    ///
+    /// In the words of the folder `specs/` of crate `ent_replay`:
+    ///
+    /// ```text
+    /// ensures { result.items ≡ self }
+    /// ```
+    ///
+    /// </details>
     #[inline]
-    pub fn into_vec(self) -> Vec<Handle>
-        // ensures { result.items ≡ self }
-    {
+    pub fn into_vec(self) -> Vec<Handle> {
         let HandleList { handles } = self;
         handles
     }

@@ -1,7 +1,8 @@
 // Made of crates/ent_replay/src/machine.rt by rust/erase. It isn't edited by hand.
 
+use alloc::vec::Vec;
 use crate::kit::prove_eq;
-use crate::kit::vec::Vec;
+use crate::kit::vec::FallibleVec;
 use crate::proved::ent_replay::by_caller::ByCaller;
 use crate::proved::ent_replay::event::Event;
 use crate::proved::ent_replay::fault::ReplayFault;
@@ -10,7 +11,6 @@ use crate::proved::ent_replay::outcome::Outcome;
 use crate::proved::ent_replay::stored_call::StoredCall;
 use crate::proved::ent_alloc::{AllocFault, CREDIT, Entities, FreeFault, Limits, Reserved};
 use crate::proved::ent_handle::{Handle, Memory};
-use crate::kit::alloc::Global;
 
 /// How many callers there are. They are numbered from 0.
 const CALLERS: u32 = 1024;
@@ -21,7 +21,6 @@ const CALLERS: u32 = 1024;
 /// allocator, how many handles each caller has requested since the last flush, and the open calls
 /// with the replies that their steps fixed. This project's own: Bevy has no such machine.
 pub struct Machine {
-    alloc: Global,
     entities: Entities,
     spent: ByCaller<u64>,
     calls: ByCaller<StoredCall>,
@@ -41,17 +40,24 @@ impl Machine {
     /// # Errors
     ///
     /// None: it takes no memory.
+    ///
+    /// <details><summary>Contract</summary>
+    ///
+    /// In the words of the folder `specs/` of crate `ent_replay`:
+    ///
+    /// ```text
+    /// ensures { result ≡ Ok (starting limits) }
+    /// ```
+    ///
+    /// </details>
     #[inline]
-    pub fn new(alloc: Global, limits: Limits) -> Result<Self, Memory>
-        // ensures { result ≡ Ok (starting limits) }
-    {
-        let entities = Entities::new(alloc, limits);
+    pub fn new(limits: Limits) -> Result<Self, Memory> {
+        let entities = Entities::with_exact_limits(limits);
         prove_eq!(entities.cursor(), 0);
         Ok(Machine {
-            alloc,
             entities,
-            spent: ByCaller::new(alloc),
-            calls: ByCaller::new(alloc),
+            spent: ByCaller::new(),
+            calls: ByCaller::new(),
         })
     }
 
@@ -70,15 +76,23 @@ impl Machine {
     /// - `Memory`: tested last, and only if the event makes a slot, frees a handle whose slot isn't
     ///   retired, brings handles to life, opens a call or lists the handles of a reply. A reply and
     ///   a flush ask for their whole list before they list a handle.
+    ///
+    /// <details><summary>Contract</summary>
+    ///
+    /// In the words of the folder `specs/` of crate `ent_replay`:
+    ///
+    /// ```text
+    /// ensures outcome { ¬ (result ≡ Err ReplayFault.Memory) → result ≡ outcome_of self.old event }
+    /// ensures state { ¬ (result ≡ Err ReplayFault.Memory)
+    ///     → self.new ≡ after_event self.old event }
+    /// ensures memory { result ≡ Err ReplayFault.Memory → self.new ≡ self.old }
+    /// ensures grows { result ≡ Err ReplayFault.Memory
+    ///     → event_takes_memory self.old (outcome_of self.old event) ≡ true }
+    /// ```
+    ///
+    /// </details>
     #[inline]
-    pub fn step(&mut self, event: Event) -> Result<Outcome, ReplayFault>
-        // ensures outcome { ¬ (result ≡ Err ReplayFault.Memory) → result ≡ outcome_of self.old event }
-        // ensures state { ¬ (result ≡ Err ReplayFault.Memory)
-        //     → self.new ≡ after_event self.old event }
-        // ensures memory { result ≡ Err ReplayFault.Memory → self.new ≡ self.old }
-        // ensures grows { result ≡ Err ReplayFault.Memory
-        //     → event_takes_memory self.old (outcome_of self.old event) ≡ true }
-    {
+    pub fn step(&mut self, event: Event) -> Result<Outcome, ReplayFault> {
         match event {
             Event::Alloc => self.alloc(),
             Event::Free(handle) => self.free(handle),
@@ -100,22 +114,30 @@ impl Machine {
     /// `RunMemory` if memory ran out. The first `done` events stand, and no later one was applied.
     /// Either the event at `done` would have taken memory, or `done` is 0 and there was no room to
     /// list the outcomes.
+    ///
+    /// <details><summary>Contract</summary>
+    ///
+    /// In the words of the folder `specs/` of crate `ent_replay`:
+    ///
+    /// ```text
+    /// ensures outcomes { IfOk result (λ outcomes.
+    ///     outcomes.items ≡ outcomes_of self.old events.now) }
+    /// ensures state { OnOk result (self.new ≡ after_events self.old events.now) }
+    /// ensures history { IfOk result (λ outcomes. IsAtRest self.old
+    ///     → StandInHistory (new_phase self.old) self.old events.now outcomes.items) }
+    /// ensures given_once { IfOk result (λ outcomes.
+    ///     AreGivenOnce (given_by_all outcomes.items)) }
+    ///
+    /// ensures cut { IfErr result (λ memory. memory.done < length events.now) }
+    /// ensures cut_state { IfErr result (λ memory.
+    ///     self.new ≡ after_events self.old (take memory.done events.now)) }
+    /// ensures grows { IfErr result (λ memory. RunsOutAt self.old events.now memory.done) }
+    /// ```
+    ///
+    /// </details>
     #[inline]
-    pub fn run(&mut self, events: &[Event]) -> Result<Vec<Result<Outcome, ReplayFault>>, RunMemory>
-        // ensures outcomes { IfOk result (λ outcomes.
-        //     outcomes.items ≡ outcomes_of self.old events.now) }
-        // ensures state { OnOk result (self.new ≡ after_events self.old events.now) }
-        // ensures history { IfOk result (λ outcomes. IsAtRest self.old
-        //     → StandInHistory (new_phase self.old) self.old events.now outcomes.items) }
-        // ensures given_once { IfOk result (λ outcomes.
-        //     AreGivenOnce (given_by_all outcomes.items)) }
-
-        // ensures cut { IfErr result (λ memory. memory.done < length events.now) }
-        // ensures cut_state { IfErr result (λ memory.
-        //     self.new ≡ after_events self.old (take memory.done events.now)) }
-        // ensures grows { IfErr result (λ memory. RunsOutAt self.old events.now memory.done) }
-    {
-        let Ok(mut outcomes) = Vec::with_capacity(self.alloc, events.len()) else {
+    pub fn run(&mut self, events: &[Event]) -> Result<Vec<Result<Outcome, ReplayFault>>, RunMemory> {
+        let Ok(mut outcomes) = Vec::with_capacity_fallibly(events.len()) else {
             return Err(RunMemory { done: 0 });
         };
         for (done, event) in events.iter().enumerate() {
@@ -168,7 +190,7 @@ impl Machine {
         if !self.calls.is_empty() {
             return Err(ReplayFault::Busy);
         }
-        let mut born = Vec::new(self.alloc);
+        let mut born = Vec::new();
         if self.entities.flush(&mut born).is_err() {
             return Err(ReplayFault::Memory);
         }
@@ -241,7 +263,7 @@ impl Machine {
             return Err(ReplayFault::NotStepped);
         };
         let outcome = match self.entities.reply(span) {
-            Ok(reserved) => match listed(self.alloc, reserved) {
+            Ok(reserved) => match listed(reserved) {
                 Ok(handles) => Outcome::Handles(handles),
                 Err(_) => return Err(ReplayFault::Memory),
             },
@@ -268,11 +290,11 @@ fn is_out_of_memory(outcome: &Result<Outcome, ReplayFault>) -> bool
 
 /// Lists the handles of a reply. A list that doesn't fit is refused before a handle is listed.
 #[inline]
-fn listed(alloc: Global, reserved: Reserved<'_>) -> Result<HandleList, Memory>
+fn listed(reserved: Reserved<'_>) -> Result<HandleList, Memory>
     // ensures ok { IfOk result (λ handles. handles ≡ reserved.entry) }
     // ensures memory { OnErr result (0 < length reserved.entry) }
 {
-    let mut handles = Vec::with_capacity(alloc, reserved.len())?;
+    let mut handles = Vec::with_capacity_fallibly(reserved.len())?;
     for handle in reserved {
         handles.push_reserved(handle);
     }

@@ -23,4 +23,4 @@ pub use machine::{Machine, RunMemory};
 pub use outcome::Outcome;
 pub use read_fault::{Cause, ReadFault};
 pub use reading::read_schedule;
-pub use writing::write_outcome;
+pub(crate) use writing::write_outcome;

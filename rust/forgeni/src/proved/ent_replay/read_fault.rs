@@ -18,10 +18,18 @@ pub enum Cause {
 
 impl Cause {
     /// The word that names it: `word`, `count`, `number` or `handle`.
+    ///
+    /// <details><summary>Contract</summary>
+    ///
+    /// In the words of the folder `specs/` of crate `ent_replay`:
+    ///
+    /// ```text
+    /// ensures { result.now ≡ line_cause_text self }
+    /// ```
+    ///
+    /// </details>
     #[inline]
-    pub fn text(self) -> &'static str
-        // ensures { result.now ≡ line_cause_text self }
-    {
+    pub fn text(self) -> &'static str {
         match self {
             Cause::Word => "word",
             Cause::Count => "count",

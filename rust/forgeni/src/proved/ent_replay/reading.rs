@@ -1,10 +1,10 @@
 // Made of crates/ent_replay/src/reading.rt by rust/erase. It isn't edited by hand.
 
-use crate::kit::vec::Vec;
+use alloc::vec::Vec;
+use crate::kit::vec::FallibleVec;
 use crate::proved::ent_replay::event::Event;
 use crate::proved::ent_replay::read_fault::{Cause, ReadFault};
 use crate::proved::ent_handle::{Handle, read_decimal, split_once};
-use crate::kit::alloc::Global;
 
 /// The first line of a text, and the text after its line feed.
 #[inline]
@@ -115,25 +115,33 @@ fn read_event(line: &[u8]) -> Result<Event, Cause>
 ///
 /// `Line` with the first line that is none of these, and the first of the causes that it has;
 /// `Memory` if memory ran out.
+///
+/// <details><summary>Contract</summary>
+///
+/// In the words of the folder `specs/` of crate `ent_replay`:
+///
+/// ```text
+/// // The events are spelled by the text.
+/// ensures found { IfOk result (λ events. AreEvents events.items × Spells events.items text.now) }
+/// // A spelled schedule is never refused but for memory.
+/// ensures only { (events : List Event)
+///     → AreEvents events → Spells events text.now → ReadsAsSchedule result (Ok events) }
+/// // A refused text has events up to the line that is named.
+/// ensures refused { IfErr result (ExplainsFault text.now) }
+///
+/// // All of it, as a function of the text.
+/// ensures exact { ReadsAsSchedule result (schedule_of text.now) }
+/// ```
+///
+/// </details>
 #[inline]
-pub fn read_schedule(alloc: Global, text: &[u8]) -> Result<Vec<Event>, ReadFault>
-    // The events are spelled by the text.
-    // ensures found { IfOk result (λ events. AreEvents events.items × Spells events.items text.now) }
-    // A spelled schedule is never refused but for memory.
-    // ensures only { (events : List Event)
-    //     → AreEvents events → Spells events text.now → ReadsAsSchedule result (Ok events) }
-    // A refused text has events up to the line that is named.
-    // ensures refused { IfErr result (ExplainsFault text.now) }
-
-    // All of it, as a function of the text.
-    // ensures exact { ReadsAsSchedule result (schedule_of text.now) }
-{
-    let mut events = Vec::new(alloc);
+pub fn read_schedule(text: &[u8]) -> Result<Vec<Event>, ReadFault> {
+    let mut events = Vec::new();
     let mut rest = text;
     while !rest.is_empty() {
         let (line, following) = first_line(rest);
         match read_event(line) {
-            Ok(event) => events.push(event)?,
+            Ok(event) => events.push_fallibly(event)?,
             Err(cause) => {
                 return Err(ReadFault::Line {
                     line: events.len() + 1,

@@ -1,13 +1,13 @@
 // Made of crates/ent_runner/src/claims.rt by rust/erase. It isn't edited by hand.
 
-use crate::kit::vec::Vec;
+use alloc::vec::Vec;
+use crate::kit::vec::FallibleVec;
 use crate::proved::ent_runner::claimer::Claimer;
 use crate::proved::ent_runner::rule::Opening;
 use crate::proved::ent_runner::word;
 use crate::proved::ent_runner::word::Word;
 use crate::proved::ent_handle::Memory;
 use crate::proved::ent_shared::seats::{merge, new_seat, split_first};
-use crate::kit::alloc::Global;
 
 /// The numbers below a count, which workers claim side by side, each with a [`Claimer`] of its own.
 pub struct Claims {
@@ -24,8 +24,7 @@ impl Claims {
     ///
     /// [`Memory`] if there is no memory for them. Nothing is left of them then.
     #[inline]
-    pub fn open(
-        alloc: Global,
+    pub(crate) fn open(
         numbers: usize,
         workers: usize,
     ) -> Result<(Claims, Vec<Claimer>), Memory>
@@ -39,9 +38,9 @@ impl Claims {
         // ensures unused { IfOk result (λ made. All (λ c.
         //     (c.own.claims ≡ []) × (c.own.ended ≡ false)) made.1.items) }
     {
-        let mut claimers = Vec::with_capacity(alloc, workers)?;
+        let mut claimers = Vec::with_capacity_fallibly(workers)?;
         let opening = Opening { numbers, workers };
-        let (word, mut all) = word::open(alloc, &opening)?;
+        let (word, mut all) = word::open(&opening)?;
         for _ in 0..workers {
             claimers.push_reserved(Claimer::new(split_first(&word, &mut all)));
         }
@@ -52,7 +51,7 @@ impl Claims {
     /// no number is left, and the claimer has ended: from then on it returns `None` without a step.
     /// It takes no memory and waits for nobody.
     #[inline]
-    pub fn next(&self, claimer: &mut Claimer) -> Option<usize>
+    pub(crate) fn next(&self, claimer: &mut Claimer) -> Option<usize>
         // requires { IsClaimerOf self.now claimer.old }
         // ensures stays { IsClaimerOf self.now claimer.new }
 
@@ -81,7 +80,7 @@ impl Claims {
 
     /// Ends the claiming, with all its claimers. It takes no memory.
     #[inline]
-    pub fn close(self, claimers: Vec<Claimer>)
+    pub(crate) fn close(self, claimers: Vec<Claimer>)
         // requires all { length claimers.items ≡ self.workers }
         // requires own { All (IsClaimerOf self) claimers.items }
 

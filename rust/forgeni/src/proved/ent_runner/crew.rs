@@ -3,7 +3,8 @@
 //! The workers of a frame are made before it and taken apart after it, in room that was asked for
 //! before the phase was opened.
 
-use crate::kit::vec::Vec;
+use alloc::vec::Vec;
+use crate::kit::vec::FallibleVec;
 use crate::proved::ent_runner::claimer::Claimer;
 use crate::proved::ent_runner::claims::Claims;
 use crate::proved::ent_runner::collecting::put_all;
@@ -11,7 +12,7 @@ use crate::proved::ent_runner::worker::{SystemQueue, Worker};
 use crate::proved::ent_handle::Memory;
 use crate::proved::ent_queue::CommandQueue;
 use crate::proved::ent_shared::Reserver;
-use crate::kit::alloc::{AllocError, Global};
+use crate::kit::alloc::AllocError;
 
 /// Room for what the workers hand back.
 pub(super) struct Returned {
@@ -35,56 +36,56 @@ pub(super) struct Room {
 impl Room {
     /// Room for that many systems and workers.
     #[inline]
-    pub(super) fn new(alloc: Global, systems: usize, workers: usize) -> Result<Self, Memory>
+    pub(super) fn new(systems: usize, workers: usize) -> Result<Self, Memory>
         // requires systems { systems ≤ 2 ^ 16 }
         // requires some { 0 < workers }
         // requires few { workers ≤ 64 }
         // ensures { IfOk result (IsRoomFor systems workers) }
     {
-        let (claims, unused) = Claims::open(alloc, systems, workers)?;
+        let (claims, unused) = Claims::open(systems, workers)?;
         Ok(Room {
             claims,
             unused,
-            workers: Vec::with_capacity(alloc, workers)?,
-            issued: lists_for_one(alloc, workers)?,
-            returned: Returned::new(alloc, systems, workers)?,
+            workers: Vec::with_capacity_fallibly(workers)?,
+            issued: lists_for_one(workers)?,
+            returned: Returned::new(systems, workers)?,
         })
     }
 }
 
 impl Returned {
     #[inline]
-    fn new(alloc: Global, systems: usize, workers: usize) -> Result<Self, AllocError>
+    fn new(systems: usize, workers: usize) -> Result<Self, AllocError>
         // ensures { IfOk result (HasReturns systems workers) }
     {
         Ok(Returned {
-            reservers: Vec::with_capacity(alloc, workers)?,
-            claimers: Vec::with_capacity(alloc, workers)?,
-            by_system: without_queues(alloc, systems)?,
-            queues: Vec::with_capacity(alloc, systems)?,
+            reservers: Vec::with_capacity_fallibly(workers)?,
+            claimers: Vec::with_capacity_fallibly(workers)?,
+            by_system: without_queues(systems)?,
+            queues: Vec::with_capacity_fallibly(systems)?,
         })
     }
 }
 
 /// That many lists, each with room for one queue.
 #[inline]
-fn lists_for_one(alloc: Global, count: usize) -> Result<Vec<Vec<SystemQueue>>, AllocError>
+fn lists_for_one(count: usize) -> Result<Vec<Vec<SystemQueue>>, AllocError>
     // ensures count { IfOk result (λ lists. length lists.items ≡ count) }
     // ensures each { IfOk result (λ lists. All IsRoomForOne lists.items) }
 {
-    let mut lists = Vec::with_capacity(alloc, count)?;
+    let mut lists = Vec::with_capacity_fallibly(count)?;
     for _ in 0..count {
-        lists.push_reserved(Vec::with_capacity(alloc, 1)?);
+        lists.push_reserved(Vec::with_capacity_fallibly(1)?);
     }
     Ok(lists)
 }
 
 /// For each of that many systems no queue yet.
 #[inline]
-fn without_queues(alloc: Global, count: usize) -> Result<Vec<Option<CommandQueue>>, AllocError>
+fn without_queues(count: usize) -> Result<Vec<Option<CommandQueue>>, AllocError>
     // ensures { IfOk result (λ by_system. by_system.items ≡ replicate count None) }
 {
-    let mut by_system = Vec::with_capacity(alloc, count)?;
+    let mut by_system = Vec::with_capacity_fallibly(count)?;
     for _ in 0..count {
         by_system.push_reserved(None);
     }

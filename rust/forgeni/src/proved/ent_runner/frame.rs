@@ -3,7 +3,7 @@
 //! A frame: workers run the systems while the world is open, and the sync point applies their
 //! queues.
 
-use crate::kit::vec::Vec;
+use alloc::vec::Vec;
 use crate::proved::ent_runner::claims::Claims;
 use crate::proved::ent_runner::collecting::collect;
 use crate::proved::ent_runner::crew::{Returned, Room, disband, recruit, some_stopped};
@@ -15,7 +15,6 @@ use crate::proved::ent_alloc::Limits;
 use crate::proved::ent_queue::CommandQueue;
 use crate::proved::ent_shared::Reserver;
 use crate::proved::ent_world::{OpenWorld, SyncFault, World};
-use crate::kit::alloc::Global;
 use core::mem;
 use crate::kit::thread::Threads;
 
@@ -40,9 +39,8 @@ use crate::kit::thread::Threads;
 ///   [`World::apply`] does the sync point. If it stopped at a command, [`World::apply_from`] goes
 ///   on there. Both end as this frame would have.
 #[inline]
-pub fn run_frame<R, S, G>(
+pub(crate) fn run_frame<R, S, G>(
     rt: &R,
-    alloc: Global,
     world: &mut World,
     systems: &[S],
     workers: usize,
@@ -87,10 +85,10 @@ where
     //     IsStop system command done queues) }
     // ensures stop_flushed { IfStoppedAt result (λ _ _ _ _ _. world.new.allocator.asked ≡ 0) }
 {
-    let Ok(room) = Room::new(alloc, systems.len(), workers) else {
+    let Ok(room) = Room::new(systems.len(), workers) else {
         return Err(FrameFault::Memory);
     };
-    let closed = mem::replace(world, World::new(alloc, Limits::default_limits()));
+    let closed = mem::replace(world, World::new(Limits::default_limits()));
     let (opened, reservers) = match closed.open(workers) {
         Ok(made) => made,
         Err((closed, _)) => {
@@ -98,7 +96,7 @@ where
             return Err(FrameFault::Memory);
         }
     };
-    let (closed, queues) = run_open(rt, alloc, room, opened, reservers, systems, gate);
+    let (closed, queues) = run_open(rt, room, opened, reservers, systems, gate);
     *world = closed;
     let Some(queues) = queues else {
         return Err(FrameFault::Lost);
@@ -114,7 +112,6 @@ where
 #[inline]
 fn run_open<R, S, G>(
     rt: &R,
-    alloc: Global,
     room: Room,
     opened: OpenWorld,
     reservers: Vec<Reserver>,
@@ -147,7 +144,7 @@ where
         returned,
     } = room;
     recruit(reservers, unused, issued, &mut workers);
-    work(rt, alloc, &opened, &claims, systems, gate, &mut workers);
+    work(rt, &opened, &claims, systems, gate, &mut workers);
     finish(opened, claims, workers, returned)
 }
 
@@ -155,7 +152,6 @@ where
 #[inline]
 fn work<R, S, G>(
     rt: &R,
-    alloc: Global,
     opened: &OpenWorld,
     claims: &Claims,
     systems: &[S],
@@ -177,7 +173,6 @@ where
     //     workers.new.items }
 {
     let stage = Stage {
-        alloc,
         shared: opened.shared(),
         view: opened.view(),
         systems,

@@ -20,7 +20,7 @@ mod worker;
 pub use claimer::Claimer;
 pub use claims::Claims;
 pub use crate::kit::either::{Either, Left, Right};
-pub use frame::run_frame;
+pub(crate) use frame::run_frame;
 pub use gate::{Gate, NoGate};
 pub use record::ClaimRecord;
 pub use report::{FrameFault, FrameReport};

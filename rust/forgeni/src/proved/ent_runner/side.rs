@@ -7,7 +7,6 @@ use crate::kit::either::{Either, Left, Right};
 use crate::proved::ent_handle::Memory;
 use crate::proved::ent_queue::Commands;
 use crate::proved::ent_world::View;
-use crate::kit::alloc::Global;
 
 /// A system of one of two types, so that one list holds systems of both. For three types there is
 /// `Either<A, Either<B, C>>`, and so on.
@@ -15,13 +14,12 @@ impl<A: System, B: System> System for Either<A, B> {
     #[inline]
     fn run(
         &self,
-        alloc: Global,
         view: &View<'_>,
         commands: &mut Commands<'_>,
     ) -> Result<(), Memory> {
         match self {
-            Left(system) => system.run(alloc, view, commands),
-            Right(system) => system.run(alloc, view, commands),
+            Left(system) => system.run(view, commands),
+            Right(system) => system.run(view, commands),
         }
     }
 }

@@ -3,7 +3,6 @@
 use crate::proved::ent_handle::Memory;
 use crate::proved::ent_queue::Commands;
 use crate::proved::ent_world::View;
-use crate::kit::alloc::Global;
 
 /// A system: it reads the world as the frame began, and issues commands that take effect at the
 /// frame's sync point.
@@ -16,11 +15,20 @@ pub trait System {
     ///
     /// `Memory`, if memory was refused to the system. The whole frame is then lost, and what the
     /// system had reserved stays reserved.
-    fn run(&self, alloc: Global, view: &View<'_>, commands: &mut Commands<'_>) -> Result<(), Memory>;
-        // requires { IsReady commands.old }
-        // ensures extends { Extends commands.old commands.new }
-        // ensures may { queue_of commands.old ≡ []
-        //     → OnOk result (may_issue self.now view.now (queue_of commands.new)) }
-        // ensures leaves { queue_of commands.old ≡ []
-        //     → OnErr result (may_leave self.now view.now (queue_of commands.new)) }
+    ///
+    /// <details><summary>Contract</summary>
+    ///
+    /// In the words of the folder `specs/` of crate `ent_runner`:
+    ///
+    /// ```text
+    /// requires { IsReady commands.old }
+    /// ensures extends { Extends commands.old commands.new }
+    /// ensures may { queue_of commands.old ≡ []
+    ///     → OnOk result (may_issue self.now view.now (queue_of commands.new)) }
+    /// ensures leaves { queue_of commands.old ≡ []
+    ///     → OnErr result (may_leave self.now view.now (queue_of commands.new)) }
+    /// ```
+    ///
+    /// </details>
+    fn run(&self, view: &View<'_>, commands: &mut Commands<'_>) -> Result<(), Memory>;
 }

@@ -6,7 +6,7 @@ use crate::proved::ent_runner::record::ClaimRecord;
 use crate::proved::ent_runner::rule::{Claim, Numbers, Opening};
 use crate::kit::atomic_table::{Badge, Table};
 use crate::proved::ent_shared::seats::{RecordsBadge, RecordsSeat, RecordsWord};
-use crate::kit::alloc::{AllocError, Global};
+use crate::kit::alloc::AllocError;
 use core::mem;
 
 pub(super) type Word = RecordsWord<ClaimRecord, Opening, Numbers>;
@@ -15,7 +15,7 @@ pub(super) type WordSeat = RecordsSeat<ClaimRecord>;
 
 /// A word that begins at 0, and a seat that has all records.
 #[inline]
-pub(super) fn open(alloc: Global, opening: &Opening) -> Result<(Word, WordSeat), AllocError>
+pub(super) fn open(opening: &Opening) -> Result<(Word, WordSeat), AllocError>
     // requires numbers { opening.now.numbers ≤ 2 ^ 16 }
     // requires some { 0 < opening.now.workers }
     // requires few { opening.now.workers ≤ 64 }
@@ -24,7 +24,7 @@ pub(super) fn open(alloc: Global, opening: &Opening) -> Result<(Word, WordSeat),
     // ensures seat { IfOk result (λ made. (made.1.table_id ≡ made.0.shared.table_id)
     //     × (made.1.me ≡ (replicate opening.now.workers (nothing_claimed opening.now.numbers), []))) }
 {
-    Table::of_words(alloc, &[0], opening)
+    Table::of_words(&[0], opening)
 }
 
 /// The claiming step: adds 1 to the word. Returns the number that it found.

@@ -2,7 +2,8 @@
 
 //! Workers: each claims systems, one after the other, runs them, and keeps their queues.
 
-use crate::kit::vec::Vec;
+use alloc::vec::Vec;
+use crate::kit::vec::FallibleVec;
 use crate::proved::ent_runner::claimer::Claimer;
 use crate::proved::ent_runner::claims::Claims;
 use crate::proved::ent_runner::gate::Gate;
@@ -11,7 +12,6 @@ use crate::proved::ent_handle::Memory;
 use crate::proved::ent_queue::{CommandQueue, Commands};
 use crate::proved::ent_shared::{Reserver, Shared};
 use crate::proved::ent_world::View;
-use crate::kit::alloc::Global;
 use crate::kit::thread::{Threads, join_mut};
 
 /// The queue that a system has issued.
@@ -22,7 +22,6 @@ pub(super) struct SystemQueue {
 
 /// What the workers of a frame have in common.
 pub(super) struct Stage<'a, S, G> {
-    pub(super) alloc: Global,
     pub(super) shared: &'a Shared,
     pub(super) view: View<'a>,
     pub(super) systems: &'a [S],
@@ -55,8 +54,8 @@ impl<S: System, G: Gate> Stage<'_, S, G> {
         //     (SystemMayIssue S.may_leave self.now.systems.now self.now.view system result.0) }
     {
         self.gate.entered(system);
-        let mut commands = Commands::new(self.alloc, self.shared, reserver);
-        let ran = self.systems[system].run(self.alloc, &self.view, &mut commands);
+        let mut commands = Commands::new(self.shared, reserver);
+        let ran = self.systems[system].run(&self.view, &mut commands);
         (commands.finish(), ran)
     }
 }
@@ -89,7 +88,7 @@ impl Worker {
             let (queue, ran) = stage.issue(system, &mut self.reserver);
             self.issued.push_reserved(SystemQueue { system, queue });
             ran?;
-            if self.issued.reserve(1).is_err() {
+            if self.issued.reserve_fallibly(1).is_err() {
                 return Ok(());
             }
         }

@@ -6,15 +6,14 @@
 mod phase;
 mod plays;
 mod record;
-mod refused;
 mod reserver;
 mod rule;
 pub mod seats;
 mod shared;
 mod word;
 
-pub use phase::share;
+pub use crate::proved::ent_alloc::Refused;
+pub(crate) use phase::share;
 pub use record::{Record, RecordEntry, Reservation, Start};
-pub use refused::Refused;
 pub use reserver::Reserver;
 pub use shared::Shared;

@@ -1,6 +1,7 @@
 // Made of crates/ent_shared/src/phase.rt by rust/erase. It isn't edited by hand.
 
-use crate::kit::vec::Vec;
+use alloc::vec::Vec;
+use crate::kit::vec::FallibleVec;
 use crate::proved::ent_shared::reserver::Reserver;
 use crate::proved::ent_shared::rule::Opening;
 use crate::proved::ent_shared::seats::split_first;
@@ -8,7 +9,6 @@ use crate::proved::ent_shared::shared::Shared;
 use crate::proved::ent_shared::word;
 use crate::proved::ent_alloc::Entities;
 use crate::proved::ent_handle::Memory;
-use crate::kit::alloc::Global;
 
 /// Shares a flushed allocator among `n` reservers, 1 to 1,024, each of which may request
 /// [`CREDIT`](crate::proved::ent_alloc::CREDIT) handles. Bevy has no such limits; they are this project's own.
@@ -17,8 +17,7 @@ use crate::kit::alloc::Global;
 ///
 /// [`Memory`], with the allocator as it was.
 #[inline]
-pub fn share(
-    alloc: Global,
+pub(crate) fn share(
     entities: Entities,
     n: usize,
 ) -> Result<(Shared, Vec<Reserver>), (Entities, Memory)>
@@ -37,13 +36,13 @@ pub fn share(
     // ensures own { IfOk result (λ made. All (IsOf made.0) made.1.items) }
     // ensures err { IfErr result (λ refused. refused.0 ≡ entities) }
 {
-    let mut reservers = match Vec::with_capacity(alloc, n) {
+    let mut reservers = match Vec::with_capacity_fallibly(n) {
         Ok(reservers) => reservers,
         Err(_) => return Err((entities, Memory)),
     };
     let top = i64::from(entities.top());
     let opening = Opening { entities, count: n };
-    let Ok((word, mut all)) = word::open(alloc, &opening) else {
+    let Ok((word, mut all)) = word::open(&opening) else {
         let Opening { entities, .. } = opening;
         return Err((entities, Memory));
     };

@@ -30,20 +30,36 @@ impl Reserver {
     }
 
     /// Which of the reservers it is: its position in the list that `share` gave, from 0.
+    ///
+    /// <details><summary>Contract</summary>
+    ///
+    /// In the words of the folder `specs/` of crate `ent_shared`:
+    ///
+    /// ```text
+    /// ensures { result ≡ self.now.own.number }
+    /// ```
+    ///
+    /// </details>
     #[inline]
-    pub fn number(&self) -> usize
-        // ensures { result ≡ self.now.own.number }
-    {
+    pub fn number(&self) -> usize {
         self.number
     }
 
     /// How many handles it may still request in this phase: [`CREDIT`] less what it has requested,
     /// served or not.
+    ///
+    /// <details><summary>Contract</summary>
+    ///
+    /// In the words of the folder `specs/` of crate `ent_shared`:
+    ///
+    /// ```text
+    /// ensures left { result ≡ self.now.own.left }
+    /// ensures credit { result + requested_by self.now.own ≡ credit }
+    /// ```
+    ///
+    /// </details>
     #[inline]
-    pub fn left(&self) -> u64
-        // ensures left { result ≡ self.now.own.left }
-        // ensures credit { result + requested_by self.now.own ≡ credit }
-    {
+    pub fn left(&self) -> u64 {
         self.left
     }
 }

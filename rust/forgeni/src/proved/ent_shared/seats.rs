@@ -5,10 +5,9 @@
 pub use crate::proved::ent_shared::plays::SeatRecords;
 use crate::proved::ent_shared::plays::{Merge, NewSeat, SplitFirst};
 use crate::kit::atomic_table::{Badge, Seat, Table, TableRule};
-use crate::kit::alloc::Global;
 
 /// One atomic word under the rule `P`, opened with a `K`, whose seats know records of type `R`.
-pub type RecordsWord<R, K, P> = Table<(), SeatRecords<R>, K, P, Global>;
+pub type RecordsWord<R, K, P> = Table<(), SeatRecords<R>, K, P>;
 
 /// A seat of such a word, which can make steps.
 pub type RecordsSeat<R> = Seat<(), SeatRecords<R>>;
@@ -18,7 +17,7 @@ pub type RecordsBadge<R> = Badge<SeatRecords<R>>;
 
 /// Takes the first record out of a seat, into a seat of its own.
 #[inline]
-pub fn split_first<R, K, P: TableRule<(), SeatRecords<R>, K>>(
+pub(crate) fn split_first<R, K, P: TableRule<(), SeatRecords<R>, K>>(
     word: &RecordsWord<R, K, P>,
     all: &mut RecordsSeat<R>,
 ) -> RecordsBadge<R>
@@ -35,7 +34,7 @@ pub fn split_first<R, K, P: TableRule<(), SeatRecords<R>, K>>(
 
 /// A seat without records.
 #[inline]
-pub fn new_seat<R, K, P: TableRule<(), SeatRecords<R>, K>>(
+pub(crate) fn new_seat<R, K, P: TableRule<(), SeatRecords<R>, K>>(
     word: &RecordsWord<R, K, P>,
 ) -> RecordsSeat<R>
     // requires rule { GoesByRecords (P.holds word.now.shared.key) }
@@ -47,7 +46,7 @@ pub fn new_seat<R, K, P: TableRule<(), SeatRecords<R>, K>>(
 
 /// Moves all records of one seat to the end of another's.
 #[inline]
-pub fn merge<R, K, P: TableRule<(), SeatRecords<R>, K>>(
+pub(crate) fn merge<R, K, P: TableRule<(), SeatRecords<R>, K>>(
     word: &RecordsWord<R, K, P>,
     all: &mut RecordsSeat<R>,
     badge: RecordsBadge<R>,

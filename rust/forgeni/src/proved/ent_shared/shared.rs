@@ -1,12 +1,11 @@
 // Made of crates/ent_shared/src/shared.rt by rust/erase. It isn't edited by hand.
 
-use crate::kit::vec::Vec;
-use crate::proved::ent_shared::refused::Refused;
+use alloc::vec::Vec;
 use crate::proved::ent_shared::reserver::Reserver;
 use crate::proved::ent_shared::seats::{merge, new_seat};
 use crate::proved::ent_shared::word;
 use crate::proved::ent_shared::word::Word;
-use crate::proved::ent_alloc::{Entities, Reserved, Span};
+use crate::proved::ent_alloc::{Entities, Living, Refused, Reserved, Span};
 use crate::proved::ent_handle::Handle;
 
 /// An allocator that many callers reserve from at once, each with a [`Reserver`] of its own.
@@ -37,29 +36,119 @@ impl Shared {
 
 impl Shared {
     /// How many reservers `share` made for it.
+    ///
+    /// <details><summary>Contract</summary>
+    ///
+    /// In the words of the folder `specs/` of crate `ent_shared`:
+    ///
+    /// ```text
+    /// ensures { result ≡ self.now.count }
+    /// ```
+    ///
+    /// </details>
     #[inline]
-    pub fn count(&self) -> usize
-        // ensures { result ≡ self.now.count }
-    {
+    pub fn count(&self) -> usize {
         self.count
     }
 
     /// Whether the handle was alive when the phase was opened. It takes constant time.
+    ///
+    /// <details><summary>Contract</summary>
+    ///
+    /// In the words of the folder `specs/` of crate `ent_shared`:
+    ///
+    /// ```text
+    /// ensures { result ≡ set.contains self.now.start.live handle }
+    /// ```
+    ///
+    /// </details>
     #[inline]
-    pub fn is_alive(&self, handle: Handle) -> bool
-        // ensures { result ≡ set.contains self.now.start.live handle }
-    {
+    pub fn is_alive(&self, handle: Handle) -> bool {
         self.entities.is_alive(handle)
+    }
+
+    /// How many handles were alive when the phase was opened.
+    ///
+    /// <details><summary>Contract</summary>
+    ///
+    /// In the words of the folder `specs/` of crate `ent_shared`:
+    ///
+    /// ```text
+    /// ensures { result ≡ set.len self.now.start.live }
+    /// ```
+    ///
+    /// </details>
+    #[inline]
+    pub fn len(&self) -> u32 {
+        self.entities.len()
+    }
+
+    /// Whether no handle was alive when the phase was opened.
+    ///
+    /// <details><summary>Contract</summary>
+    ///
+    /// In the words of the folder `specs/` of crate `ent_shared`:
+    ///
+    /// ```text
+    /// ensures { IsTrue result ↔ (set.len self.now.start.live ≡ 0) }
+    /// ```
+    ///
+    /// </details>
+    #[inline]
+    pub fn is_empty(&self) -> bool {
+        self.entities.is_empty()
+    }
+
+    /// The handles that were alive when the phase was opened, by rising slot.
+    ///
+    /// <details><summary>Contract</summary>
+    ///
+    /// In the words of the folder `specs/` of crate `ent_shared`:
+    ///
+    /// ```text
+    /// ensures living { set.from_list result ≡ self.now.start.live }
+    /// ensures rising { AllPairs (λ g h. g.index < h.index) result }
+    /// ensures count { length result ≡ set.len self.now.start.live }
+    /// ```
+    ///
+    /// </details>
+    #[inline]
+    pub fn iter(&self) -> Living<'_> {
+        self.entities.iter()
+    }
+
+    /// How many handles the pool had when the phase was opened. It never has more.
+    ///
+    /// <details><summary>Contract</summary>
+    ///
+    /// In the words of the folder `specs/` of crate `ent_shared`:
+    ///
+    /// ```text
+    /// ensures { result ≡ length self.now.start.pool }
+    /// ```
+    ///
+    /// </details>
+    #[inline]
+    pub fn pool(&self) -> u64 {
+        u64::from(self.entities.top()) + u64::from(self.entities.room())
     }
 
     /// The row that the program kept with the entity when the phase was opened. `None` if the
     /// handle was not alive then, or if no row was set since it came to life. It takes constant
     /// time.
+    ///
+    /// <details><summary>Contract</summary>
+    ///
+    /// In the words of the folder `specs/` of crate `ent_shared`:
+    ///
+    /// ```text
+    /// ensures value { result ≡ map.get self.now.rows handle }
+    /// ensures alive { OnSome result (set.contains self.now.start.live handle ≡ true) }
+    /// ```
+    ///
+    /// </details>
     #[inline]
-    pub fn row(&self, handle: Handle) -> Option<u32>
-        // ensures value { result ≡ map.get self.now.rows handle }
-        // ensures alive { OnSome result (set.contains self.now.start.live handle ≡ true) }
-    {
+    pub fn row(&self, handle: Handle) -> Option<u32> {
         self.entities.row(handle)
     }
 
@@ -73,7 +162,7 @@ impl Shared {
     /// - [`Refused::Space`] if the pool is empty. The request is taken from the credit all the
     ///   same.
     #[inline]
-    pub fn reserve(&self, reserver: &mut Reserver) -> Result<Handle, Refused>
+    pub(crate) fn reserve(&self, reserver: &mut Reserver) -> Result<Handle, Refused>
         // requires { IsOf self.now reserver.old }
         // ensures stays { IsOf self.now reserver.new }
         // ensures quota { reserver.old.own.left ≡ 0
@@ -109,7 +198,7 @@ impl Shared {
     /// - [`Refused::Space`] if the pool has fewer than `n` handles. The request is taken from the
     ///   credit all the same, and the pool gives no more until the next flush.
     #[inline]
-    pub fn reserve_many(&self, reserver: &mut Reserver, n: u32) -> Result<Reserved<'_>, Refused>
+    pub(crate) fn reserve_many(&self, reserver: &mut Reserver, n: u32) -> Result<Reserved<'_>, Refused>
         // requires { IsOf self.now reserver.old }
         // ensures stays { IsOf self.now reserver.new }
         // ensures quota { reserver.old.own.left < n
@@ -118,6 +207,7 @@ impl Shared {
         // ensures gains { 0 < n → n ≤ reserver.old.own.left
         //     → Reserves self.now reserver.old reserver.new n result }
         // ensures length { IfOk result (λ handles. length handles ≡ n) }
+        // ensures enough { OnOk result (n ≤ length self.now.start.pool) }
 
         // What was given is recorded.
         // ensures given { IfOk result (λ handles.
@@ -148,7 +238,7 @@ impl Shared {
     /// reserved or learned of so far. It makes two atomic steps, takes no memory and waits for
     /// nobody.
     #[inline]
-    pub fn meet(&self, a: &mut Reserver, b: &mut Reserver)
+    pub(crate) fn meet(&self, a: &mut Reserver, b: &mut Reserver)
         // requires first { IsOf self.now a.old }
         // requires second { IsOf self.now b.old }
         // ensures meets { a.new ≡ record a.old { own = after_meeting a.old.own b.old.own } }
@@ -166,7 +256,7 @@ impl Shared {
     /// Ends the phase with all its reservers. The allocator is as if their reservations had been
     /// made one by one, in the order of their atomic steps. It takes no memory.
     #[inline]
-    pub fn close(self, reservers: Vec<Reserver>) -> Entities
+    pub(crate) fn close(self, reservers: Vec<Reserver>) -> Entities
         // requires all { length reservers.items ≡ self.count }
         // requires own { All (IsOf self) reservers.items }
         // ensures legal { IsLegal self.start (history_of (records_of reservers.items)) }
@@ -210,7 +300,7 @@ impl Shared {
     /// of the pool counts as reserved, as far as it goes, also those handles that nobody got. It
     /// takes no memory.
     #[inline]
-    pub fn close_lost(self, reservers: Vec<Reserver>) -> Entities
+    pub(crate) fn close_lost(self, reservers: Vec<Reserver>) -> Entities
         // requires own { All (IsOf self) reservers.items }
         // ensures after { result.allocator ≡ after_loss self.start result.allocator.asked }
         // ensures rows { result.rows ≡ self.rows }

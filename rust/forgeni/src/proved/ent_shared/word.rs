@@ -6,7 +6,7 @@ use crate::proved::ent_shared::record::Record;
 use crate::proved::ent_shared::rule::{Cursor, Meet, Opening, Reserve, SplitSecond};
 use crate::proved::ent_shared::seats::{RecordsBadge, RecordsSeat, RecordsWord};
 use crate::kit::atomic_table::{Badge, Table};
-use crate::kit::alloc::{AllocError, Global};
+use crate::kit::alloc::AllocError;
 use core::mem;
 
 /// What is added to the cursor, so that the word is never negative.
@@ -18,7 +18,7 @@ pub(super) type CursorSeat = RecordsSeat<Record>;
 
 /// A word that begins at the cursor of the allocator, and a seat that has all records.
 #[inline]
-pub(super) fn open(alloc: Global, opening: &Opening) -> Result<(Word, CursorSeat), AllocError>
+pub(super) fn open(opening: &Opening) -> Result<(Word, CursorSeat), AllocError>
     // requires start { IsStart opening.now.entities.allocator }
     // requires count { opening.now.count ≤ 1024 }
     // ensures word { IfOk result (λ made.
@@ -28,7 +28,7 @@ pub(super) fn open(alloc: Global, opening: &Opening) -> Result<(Word, CursorSeat
     //     × (made.1.me ≡ (opened_records start 0 opening.now.count, []))) }
 {
     let cursor = opening.entities.cursor();
-    Table::of_words(alloc, &[(cursor + OFFSET) as u64], opening)
+    Table::of_words(&[(cursor + OFFSET) as u64], opening)
 }
 
 /// The reservation step: subtracts `n` from the word. Returns the cursor that it found.

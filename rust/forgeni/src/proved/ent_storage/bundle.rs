@@ -3,74 +3,117 @@
 use crate::proved::ent_storage::pairs::search;
 use crate::proved::ent_handle::{ComponentId, Memory};
 use crate::kit::smallvec::SmallVec;
-use crate::kit::alloc::Global;
 
-/// Components and their values, by strictly rising number. Contracts see the list of them.
+/// Components and their values, by strictly rising number: what an entity is given. Contracts see the
+/// list of them.
 ///
 /// Up to `INLINE` components lie in the bundle itself, and take no memory.
+///
+/// ```
+/// use forgeni::{Bundle, ComponentId};
+///
+/// let [mass, speed] = [ComponentId(0), ComponentId(1)];
+/// let mut bundle = Bundle::of(&[(speed, 1), (mass, 7)])?;
+/// bundle.put(speed, 2)?;
+/// assert_eq!(bundle.items(), [(mass, 7), (speed, 2)]);
+/// # Ok::<(), forgeni::OutOfMemory>(())
+/// ```
 pub struct Bundle<const INLINE: usize> {
     items: SmallVec<(ComponentId, i64), INLINE>,
 }
 
 impl<const INLINE: usize> Bundle<INLINE> {
-    /// A bundle with no components.
+    /// A bundle with no components. It takes no memory.
+    ///
+    /// <details><summary>Contract</summary>
+    ///
+    /// In the words of the folder `specs/` of crate `ent_storage`:
+    ///
+    /// ```text
+    /// ensures { result ≡ [] }
+    /// ```
+    ///
+    /// </details>
+    #[must_use]
     #[inline]
-    pub fn new(alloc: Global) -> Self
-        // ensures { result ≡ [] }
-    {
+    pub fn new() -> Self {
         Bundle {
-            items: SmallVec::new(alloc),
+            items: SmallVec::new(),
         }
     }
 
-    /// A bundle with no components, and room for so many.
+    /// A bundle with no components, and room for that many.
     ///
     /// # Errors
     ///
-    /// `Memory`, which needs a count of more than `INLINE`.
+    /// Out of memory, which needs a count of more than `INLINE`.
+    ///
+    /// <details><summary>Contract</summary>
+    ///
+    /// In the words of the folder `specs/` of crate `ent_storage`:
+    ///
+    /// ```text
+    /// ensures ok { IfOk result (λ bundle. bundle ≡ []) }
+    /// ensures memory { OnErr result (INLINE < count) }
+    /// ```
+    ///
+    /// </details>
     #[inline]
-    pub fn with_capacity(alloc: Global, count: usize) -> Result<Self, Memory>
-        // ensures ok { IfOk result (λ bundle. bundle ≡ []) }
-        // ensures memory { OnErr result (INLINE < count) }
-    {
+    pub fn with_capacity(count: usize) -> Result<Self, Memory> {
         Ok(Bundle {
-            items: SmallVec::with_capacity(alloc, count)?,
+            items: SmallVec::with_capacity(count)?,
         })
     }
 
-    /// A bundle of these components, in any order. Of one that stands there twice the last value
-    /// counts.
+    /// A bundle of these components. The list may be in any order. If a component is in it twice, its
+    /// last value counts.
     ///
     /// # Errors
     ///
-    /// `Memory`, which needs more than `INLINE` different components. Nothing is left behind.
+    /// Out of memory, which needs more than `INLINE` different components.
+    ///
+    /// <details><summary>Contract</summary>
+    ///
+    /// In the words of the folder `specs/` of crate `ent_storage`:
+    ///
+    /// ```text
+    /// ensures ok { IfOk result (λ bundle. bundle ≡ bundle_of items.now) }
+    /// ensures last { IfOk result (λ bundle. (id : Id) →
+    ///     find component_cmp id bundle ≡ find component_cmp id (reverse items.now)) }
+    /// ensures memory { OnErr result (INLINE < length (bundle_of items.now)) }
+    /// ```
+    ///
+    /// </details>
     #[inline]
-    pub fn of(alloc: Global, items: &[(ComponentId, i64)]) -> Result<Self, Memory>
-        // ensures ok { IfOk result (λ bundle. bundle ≡ bundle_of items.now) }
-        // ensures last { IfOk result (λ bundle. (id : Id) →
-        //     find component_cmp id bundle ≡ find component_cmp id (reverse items.now)) }
-        // ensures memory { OnErr result (INLINE < length (bundle_of items.now)) }
-    {
-        let mut bundle = Bundle::new(alloc);
+    pub fn of(items: &[(ComponentId, i64)]) -> Result<Self, Memory> {
+        let mut bundle = Bundle::new();
         for (id, value) in items {
             bundle.put(*id, *value)?;
         }
         Ok(bundle)
     }
 
-    /// Puts the component's value, instead of the one that is there.
+    /// Sets the component's value. If the component is there already, this value replaces its own.
     ///
     /// # Errors
     ///
-    /// `Memory`, which needs a component that is not there and at least `INLINE` that are. Nothing
-    /// has changed.
+    /// Out of memory, which needs a component that is not there and at least `INLINE` that are.
+    /// Nothing has changed.
+    ///
+    /// <details><summary>Contract</summary>
+    ///
+    /// In the words of the folder `specs/` of crate `ent_storage`:
+    ///
+    /// ```text
+    /// ensures ok { OnOk result (self.new ≡ put component_cmp id value self.old) }
+    /// ensures memory { OnErr result
+    ///     ((INLINE ≤ length self.old) × (find component_cmp id self.old ≡ None)) }
+    /// ensures err { OnErr result (self.new ≡ self.old) }
+    /// ```
+    ///
+    /// </details>
     #[inline]
-    pub fn put(&mut self, id: ComponentId, value: i64) -> Result<(), Memory>
-        // ensures ok { OnOk result (self.new ≡ put component_cmp id value self.old) }
-        // ensures memory { OnErr result
-        //     ((INLINE ≤ length self.old) × (find component_cmp id self.old ≡ None)) }
-        // ensures err { OnErr result (self.new ≡ self.old) }
-    {
+    pub fn put(&mut self, id: ComponentId, value: i64) -> Result<(), Memory> {
         match search(self.items.as_slice(), id) {
             Ok(index) => self.items[index].1 = value,
             Err(index) => self.items.insert(index, (id, value))?,
@@ -79,11 +122,20 @@ impl<const INLINE: usize> Bundle<INLINE> {
     }
 
     /// The components and their values, by strictly rising number.
+    ///
+    /// <details><summary>Contract</summary>
+    ///
+    /// In the words of the folder `specs/` of crate `ent_storage`:
+    ///
+    /// ```text
+    /// ensures items { result.now ≡ self.now }
+    /// ensures is { IsBundle self.now }
+    /// ```
+    ///
+    /// </details>
+    #[must_use]
     #[inline]
-    pub fn items(&self) -> &[(ComponentId, i64)]
-        // ensures items { result.now ≡ self.now }
-        // ensures is { IsBundle self.now }
-    {
+    pub fn items(&self) -> &[(ComponentId, i64)] {
         self.items.as_slice()
     }
 }

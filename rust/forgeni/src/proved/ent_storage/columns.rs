@@ -1,24 +1,32 @@
 // Made of crates/ent_storage/src/columns.rt by rust/erase. It isn't edited by hand.
 
-use crate::kit::vec::Vec;
+use alloc::vec::Vec;
+use crate::kit::vec::FallibleVec;
 use super::sparse_set::SparseSet;
 use crate::proved::ent_handle::ComponentId;
-use crate::kit::alloc::{AllocError, Global};
+use crate::kit::alloc::AllocError;
 
 /// The value of the component at the place, if the entity there has it.
+///
+/// <details><summary>Contract</summary>
+///
+/// In the words of the folder `specs/` of crate `ent_storage`:
+///
+/// ```text
+/// ensures { result ≡ value_at columns.now place id }
+/// ```
+///
+/// </details>
 #[inline]
-pub fn value(columns: &[SparseSet], place: usize, id: ComponentId) -> Option<i64>
-    // ensures { result ≡ value_at columns.now place id }
-{
+pub fn value(columns: &[SparseSet], place: usize, id: ComponentId) -> Option<i64> {
     columns.get(id.0 as usize)?.get(place)
 }
 
 /// Makes room for the items at the place. After an `Err` all values are as before.
 #[inline(always)]
-pub fn reserve_all(
+pub(crate) fn reserve_all(
     columns: &mut Vec<SparseSet>,
     used: &mut Vec<u8>,
-    alloc: Global,
     place: usize,
     items: &[(ComponentId, i64)],
 ) -> Result<(), AllocError>
@@ -33,7 +41,7 @@ pub fn reserve_all(
     // ensures numbered { length columns.new.items ≤ 256 }
 {
     for item in items {
-        reserve(columns, used, alloc, place, item.0)?;
+        reserve(columns, used, place, item.0)?;
     }
     Ok(())
 }
@@ -43,7 +51,6 @@ pub fn reserve_all(
 fn reserve(
     columns: &mut Vec<SparseSet>,
     used: &mut Vec<u8>,
-    alloc: Global,
     place: usize,
     id: ComponentId,
 ) -> Result<(), AllocError>
@@ -61,7 +68,7 @@ fn reserve(
     if has_room(columns, place, id) || value(columns, place, id).is_some() {
         return Ok(());
     }
-    put_in_use(columns, used, alloc, id)?;
+    put_in_use(columns, used, id)?;
     columns[id.0 as usize].reserve(place)
 }
 
@@ -82,7 +89,6 @@ fn has_room(columns: &[SparseSet], place: usize, id: ComponentId) -> bool
 fn put_in_use(
     columns: &mut Vec<SparseSet>,
     used: &mut Vec<u8>,
-    alloc: Global,
     id: ComponentId,
 ) -> Result<(), AllocError>
     // requires numbered { length columns.old.items ≤ 256 }
@@ -97,7 +103,7 @@ fn put_in_use(
     if is_in_use(columns, id) {
         return Ok(());
     }
-    grow(columns, alloc, id.0 as usize + 1)?;
+    grow(columns, id.0 as usize + 1)?;
     mark(used, id.0)
 }
 
@@ -121,14 +127,14 @@ fn mark(used: &mut Vec<u8>, number: u8) -> Result<(), AllocError>
     // ensures ok { OnOk result (Contains used.new.items number) }
 {
     if let Err(gap) = used.binary_search(&number) {
-        used.insert(gap, number)?;
+        used.insert_fallibly(gap, number)?;
     }
     Ok(())
 }
 
 /// Adds columns without values until there are that many.
 #[inline(never)]
-fn grow(columns: &mut Vec<SparseSet>, alloc: Global, count: usize) -> Result<(), AllocError>
+fn grow(columns: &mut Vec<SparseSet>, count: usize) -> Result<(), AllocError>
     // requires numbered { length columns.old.items ≤ 256 }
     // requires count { count ≤ 256 }
     // ensures same { (number : ℕ) → column_at columns.new.items number
@@ -138,14 +144,14 @@ fn grow(columns: &mut Vec<SparseSet>, alloc: Global, count: usize) -> Result<(),
     // ensures numbered { length columns.new.items ≤ 256 }
 {
     for _ in columns.len()..count {
-        columns.push(SparseSet::new(alloc))?;
+        columns.push_fallibly(SparseSet::new())?;
     }
     Ok(())
 }
 
 /// Sets each of the items at the place. There has to be room for them.
 #[inline(always)]
-pub fn set_all(columns: &mut [SparseSet], place: usize, items: &[(ComponentId, i64)])
+pub(crate) fn set_all(columns: &mut [SparseSet], place: usize, items: &[(ComponentId, i64)])
     // requires { All (λ item. HasRoomAt (column_at columns.old item.0.0) place) items.now }
     // ensures here { components_at columns.new place
     //     ≡ with_items (components_at columns.old place) items.now }
@@ -174,17 +180,25 @@ fn set(columns: &mut [SparseSet], place: usize, item: (ComponentId, i64))
 }
 
 /// Takes the value of one component at the place out, and returns it.
+///
+/// <details><summary>Contract</summary>
+///
+/// In the words of the folder `specs/` of crate `ent_storage`:
+///
+/// ```text
+/// ensures value { result ≡ value_at columns.old place id }
+/// ensures here { components_at columns.new place
+///     ≡ map.remove (components_at columns.old place) id }
+/// ensures others { (other : ℕ) (id : ComponentId) → other ≢ place
+///     → value_at columns.new other id ≡ value_at columns.old other id }
+/// ensures rest { (number : ℕ) → column_at columns.old number ≡ no_column
+///     → column_at columns.new number ≡ no_column }
+/// ensures len { length columns.new ≡ length columns.old }
+/// ```
+///
+/// </details>
 #[inline(always)]
-pub fn remove(columns: &mut [SparseSet], place: usize, id: ComponentId) -> Option<i64>
-    // ensures value { result ≡ value_at columns.old place id }
-    // ensures here { components_at columns.new place
-    //     ≡ map.remove (components_at columns.old place) id }
-    // ensures others { (other : ℕ) (id : ComponentId) → other ≢ place
-    //     → value_at columns.new other id ≡ value_at columns.old other id }
-    // ensures rest { (number : ℕ) → column_at columns.old number ≡ no_column
-    //     → column_at columns.new number ≡ no_column }
-    // ensures len { length columns.new ≡ length columns.old }
-{
+pub fn remove(columns: &mut [SparseSet], place: usize, id: ComponentId) -> Option<i64> {
     let number = id.0 as usize;
     if number < columns.len() {
         columns[number].remove(place)
@@ -196,7 +210,7 @@ pub fn remove(columns: &mut [SparseSet], place: usize, id: ComponentId) -> Optio
 /// Takes all values at the place out, and moves those at the last place there. Only the columns in
 /// use are looked at.
 #[inline(always)]
-pub fn swap_remove(columns: &mut [SparseSet], used: &[u8], place: usize, last: usize)
+pub(crate) fn swap_remove(columns: &mut [SparseSet], used: &[u8], place: usize, last: usize)
     // requires before { place ≤ last }
     // requires in_use { AreInUse used.now columns.old }
     // ensures in_use { AreInUse used.now columns.new }

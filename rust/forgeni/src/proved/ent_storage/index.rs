@@ -1,12 +1,13 @@
 // Made of crates/ent_storage/src/index.rt by rust/erase. It isn't edited by hand.
 
-use crate::kit::vec::Vec;
+use alloc::vec::Vec;
+use crate::kit::vec::FallibleVec;
 use super::key::Key;
 use super::living::{Living, has_handle_at};
 use super::places::MOST_PLACES;
 use super::slot::{at_slot, is_gap, search_slot};
 use crate::proved::ent_handle::Handle;
-use crate::kit::alloc::{AllocError, Global};
+use crate::kit::alloc::AllocError;
 
 /// The place of each entity, and places of entities that are gone. The pairs are in the order of
 /// handles, so that a look-up is a binary search at most. If each slot has one pair, as with an
@@ -25,20 +26,36 @@ const NOWHERE: u32 = u32::MAX;
 
 impl Index {
     /// An index of no entities, without room.
+    ///
+    /// <details><summary>Contract</summary>
+    ///
+    /// In the words of the folder `specs/` of crate `ent_storage`:
+    ///
+    /// ```text
+    /// ensures { result ≡ record { by_handle = map.empty; room = 0 } }
+    /// ```
+    ///
+    /// </details>
     #[inline]
-    pub fn new(alloc: Global) -> Self
-        // ensures { result ≡ record { by_handle = map.empty; room = 0 } }
-    {
+    pub fn new() -> Self {
         Index {
-            pairs: Vec::new(alloc),
+            pairs: Vec::new(),
         }
     }
 
     /// The place of the entity, if it is among the living.
+    ///
+    /// <details><summary>Contract</summary>
+    ///
+    /// In the words of the folder `specs/` of crate `ent_storage`:
+    ///
+    /// ```text
+    /// ensures { result ≡ map.get (counted living.now.entities self.now.by_handle) handle }
+    /// ```
+    ///
+    /// </details>
     #[inline(always)]
-    pub fn place(&self, living: &Living, handle: Handle) -> Option<usize>
-        // ensures { result ≡ map.get (counted living.now.entities self.now.by_handle) handle }
-    {
+    pub fn place(&self, living: &Living, handle: Handle) -> Option<usize> {
         let found = search_slot(&self.pairs, handle);
         place_found(&self.pairs, living, handle, found)
     }
@@ -49,7 +66,7 @@ impl Index {
     /// An allocator's handles come behind the pair of their slot's last occupant, or behind all. So
     /// these two places are tried first, and only then is the handle looked for.
     #[inline(always)]
-    pub fn put(&mut self, living: &Living, handle: Handle) -> bool
+    pub(crate) fn put(&mut self, living: &Living, handle: Handle) -> bool
         // requires room { length living.now.entities < self.old.room }
         // ensures new { result
         //     ≡ is_none (map.get (counted living.now.entities self.old.by_handle) handle) }
@@ -94,7 +111,7 @@ impl Index {
 
     /// Changes the place of an entity that is there.
     #[inline(always)]
-    pub fn set_place(&mut self, handle: Handle, place: usize)
+    pub(crate) fn set_place(&mut self, handle: Handle, place: usize)
         // requires there { IsSome (map.get self.old.by_handle handle) }
         // requires room { place < self.old.room }
         // ensures { self.new
@@ -106,38 +123,62 @@ impl Index {
     }
 
     /// Forgets the place of an entity that has gone, if its pair stands at its slot's number.
+    ///
+    /// <details><summary>Contract</summary>
+    ///
+    /// In the words of the folder `specs/` of crate `ent_storage`:
+    ///
+    /// ```text
+    /// ensures kept { Keeps handle self.old.by_handle self.new.by_handle }
+    /// ensures room { self.new.room ≡ self.old.room }
+    /// ```
+    ///
+    /// </details>
     #[inline(always)]
-    pub fn forget(&mut self, handle: Handle)
-        // ensures kept { Keeps handle self.old.by_handle self.new.by_handle }
-        // ensures room { self.new.room ≡ self.old.room }
-    {
+    pub fn forget(&mut self, handle: Handle) {
         if let Some(position) = at_slot(&self.pairs, handle) {
             self.pairs[position] = (Key::of(handle), NOWHERE);
         }
     }
 
     /// For how many handles there is room in all.
+    ///
+    /// <details><summary>Contract</summary>
+    ///
+    /// In the words of the folder `specs/` of crate `ent_storage`:
+    ///
+    /// ```text
+    /// ensures { result ≡ self.now.room }
+    /// ```
+    ///
+    /// </details>
     #[inline]
-    pub fn room(&self) -> usize
-        // ensures { result ≡ self.now.room }
-    {
-        self.pairs.capacity().min(MOST_PLACES)
+    pub fn room(&self) -> usize {
+        self.pairs.sized_capacity().min(MOST_PLACES)
     }
 
     /// Makes room for `count` handles in all. After an `Err` nothing is changed.
+    ///
+    /// <details><summary>Contract</summary>
+    ///
+    /// In the words of the folder `specs/` of crate `ent_storage`:
+    ///
+    /// ```text
+    /// ensures by_handle { self.new.by_handle ≡ self.old.by_handle }
+    /// ensures ok { OnOk result (count ≤ self.new.room) }
+    /// ensures err { OnErr result (self.new.room ≡ self.old.room) }
+    /// ensures grows { self.old.room ≤ self.new.room }
+    /// ensures succeeds { count ≤ self.old.room → IsOk result }
+    /// ```
+    ///
+    /// </details>
     #[inline]
-    pub fn reserve(&mut self, count: usize) -> Result<(), AllocError>
-        // ensures by_handle { self.new.by_handle ≡ self.old.by_handle }
-        // ensures ok { OnOk result (count ≤ self.new.room) }
-        // ensures err { OnErr result (self.new.room ≡ self.old.room) }
-        // ensures grows { self.old.room ≤ self.new.room }
-        // ensures succeeds { count ≤ self.old.room → IsOk result }
-    {
+    pub fn reserve(&mut self, count: usize) -> Result<(), AllocError> {
         let additional = count.saturating_sub(self.pairs.len());
         if count > MOST_PLACES {
             return Err(AllocError);
         }
-        self.pairs.reserve(additional)
+        self.pairs.reserve_fallibly(additional)
     }
 }
 
@@ -220,7 +261,7 @@ fn put_behind(pairs: &mut Vec<(Key, u32)>, living: &Living, pair: (Key, u32)) ->
     // ensures capacity { vec_capacity pairs.new ≡ vec_capacity pairs.old }
 {
     let end = pairs.len();
-    if end < pairs.capacity() && is_gap(pairs, end, pair.0.handle()) {
+    if end < pairs.sized_capacity() && is_gap(pairs, end, pair.0.handle()) {
         pairs.push_reserved(pair);
         true
     } else {
@@ -248,7 +289,7 @@ fn put_found(
     //     (map.from_sorted pairs.new.items) }
     // ensures capacity { vec_capacity pairs.new ≡ vec_capacity pairs.old }
 {
-    if pairs.len() < pairs.capacity() {
+    if pairs.len() < pairs.sized_capacity() {
         put_at(pairs, living, found, pair);
     } else {
         sweep(pairs, living);
@@ -300,7 +341,7 @@ fn put_in_gap(pairs: &mut Vec<(Key, u32)>, living: &Living, position: usize, pai
         Some(other) => pairs[other] = pair,
         None if position == pairs.len() => pairs.push_reserved(pair),
         None => {
-            let _ = pairs.insert(position, pair);
+            let _ = pairs.insert_fallibly(position, pair);
         }
     }
 }

@@ -12,10 +12,18 @@ pub struct Key {
 
 impl Key {
     /// The key of a handle.
+    ///
+    /// <details><summary>Contract</summary>
+    ///
+    /// In the words of the folder `specs/` of crate `ent_storage`:
+    ///
+    /// ```text
+    /// ensures { result ≡ handle }
+    /// ```
+    ///
+    /// </details>
     #[inline]
-    pub fn of(handle: Handle) -> Self
-        // ensures { result ≡ handle }
-    {
+    pub fn of(handle: Handle) -> Self {
         Key {
             index: handle.index(),
             generation: handle.generation(),
@@ -23,10 +31,18 @@ impl Key {
     }
 
     /// The handle of a key.
+    ///
+    /// <details><summary>Contract</summary>
+    ///
+    /// In the words of the folder `specs/` of crate `ent_storage`:
+    ///
+    /// ```text
+    /// ensures { result ≡ self }
+    /// ```
+    ///
+    /// </details>
     #[inline]
-    pub fn handle(self) -> Handle
-        // ensures { result ≡ self }
-    {
+    pub fn handle(self) -> Handle {
         Handle::from_parts(self.index, self.generation)
     }
 }

@@ -1,13 +1,14 @@
 // Made of crates/ent_storage/src/living.rt by rust/erase. It isn't edited by hand.
 
+use alloc::vec::Vec;
 use crate::kit::vec::CollectIn;
-use crate::kit::vec::Vec;
+use crate::kit::vec::FallibleVec;
 use super::columns;
 use super::items::Items;
 use super::order::least_of_birth;
 use super::sparse_set::SparseSet;
 use crate::proved::ent_handle::{Birth, ComponentId, Handle};
-use crate::kit::alloc::{AllocError, Global};
+use crate::kit::alloc::AllocError;
 
 /// What an entity has besides its components.
 #[derive(Clone, Copy)]
@@ -26,63 +27,101 @@ pub struct Living {
     residents: Vec<Resident>,
     columns: Vec<SparseSet>,
     used: Vec<u8>,
-    alloc: Global,
 }
 
 impl Living {
     /// No entities, without room.
+    ///
+    /// <details><summary>Contract</summary>
+    ///
+    /// In the words of the folder `specs/` of crate `ent_storage`:
+    ///
+    /// ```text
+    /// ensures { result ≡ record { entities = []; room = 0 } }
+    /// ```
+    ///
+    /// </details>
     #[inline]
-    pub fn new(alloc: Global) -> Self
-        // ensures { result ≡ record { entities = []; room = 0 } }
-    {
+    pub fn new() -> Self {
         Living {
-            residents: Vec::new(alloc),
-            columns: Vec::new(alloc),
-            used: Vec::new(alloc),
-            alloc,
+            residents: Vec::new(),
+            columns: Vec::new(),
+            used: Vec::new(),
         }
     }
 
     /// How many entities there are.
+    ///
+    /// <details><summary>Contract</summary>
+    ///
+    /// In the words of the folder `specs/` of crate `ent_storage`:
+    ///
+    /// ```text
+    /// ensures { result ≡ length self.now.entities }
+    /// ```
+    ///
+    /// </details>
     #[inline]
-    pub fn len(&self) -> usize
-        // ensures { result ≡ length self.now.entities }
-    {
+    pub fn len(&self) -> usize {
         self.residents.len()
     }
 
     /// Whether there are no entities.
+    ///
+    /// <details><summary>Contract</summary>
+    ///
+    /// In the words of the folder `specs/` of crate `ent_storage`:
+    ///
+    /// ```text
+    /// ensures { result ≡ (length self.now.entities == 0) }
+    /// ```
+    ///
+    /// </details>
     #[inline]
-    pub fn is_empty(&self) -> bool
-        // ensures { result ≡ (length self.now.entities == 0) }
-    {
+    pub fn is_empty(&self) -> bool {
         self.residents.is_empty()
     }
 
     /// For how many entities there is room in all.
+    ///
+    /// <details><summary>Contract</summary>
+    ///
+    /// In the words of the folder `specs/` of crate `ent_storage`:
+    ///
+    /// ```text
+    /// ensures { result ≡ self.now.room }
+    /// ```
+    ///
+    /// </details>
     #[inline]
-    pub fn capacity(&self) -> usize
-        // ensures { result ≡ self.now.room }
-    {
-        self.residents.capacity()
+    pub fn capacity(&self) -> usize {
+        self.residents.sized_capacity()
     }
 
     /// Makes room for `additional` more entities. After an `Err` nothing is changed.
+    ///
+    /// <details><summary>Contract</summary>
+    ///
+    /// In the words of the folder `specs/` of crate `ent_storage`:
+    ///
+    /// ```text
+    /// ensures entities { self.new.entities ≡ self.old.entities }
+    /// ensures ok { OnOk result (length self.new.entities + additional ≤ self.new.room) }
+    /// ensures grows { self.old.room ≤ self.new.room }
+    /// ensures succeeds { length self.old.entities + additional ≤ self.old.room → IsOk result }
+    /// ensures full { OnErr result (self.old.room < length self.old.entities + additional) }
+    /// ensures err { OnErr result (self.new.room ≡ self.old.room) }
+    /// ```
+    ///
+    /// </details>
     #[inline]
-    pub fn reserve(&mut self, additional: usize) -> Result<(), AllocError>
-        // ensures entities { self.new.entities ≡ self.old.entities }
-        // ensures ok { OnOk result (length self.new.entities + additional ≤ self.new.room) }
-        // ensures grows { self.old.room ≤ self.new.room }
-        // ensures succeeds { length self.old.entities + additional ≤ self.old.room → IsOk result }
-        // ensures full { OnErr result (self.old.room < length self.old.entities + additional) }
-        // ensures err { OnErr result (self.new.room ≡ self.old.room) }
-    {
-        self.residents.reserve(additional)
+    pub fn reserve(&mut self, additional: usize) -> Result<(), AllocError> {
+        self.residents.reserve_fallibly(additional)
     }
 
     /// The handle of the entity at the place.
     #[inline]
-    pub fn handle(&self, place: usize) -> Handle
+    pub(crate) fn handle(&self, place: usize) -> Handle
         // requires { place < length self.now.entities }
         // ensures { HoldsAt (λ entity. result ≡ entity.handle) self.now.entities place }
     {
@@ -91,7 +130,7 @@ impl Living {
 
     /// The birth of the entity at the place.
     #[inline]
-    pub fn birth(&self, place: usize) -> Birth
+    pub(crate) fn birth(&self, place: usize) -> Birth
         // requires { place < length self.now.entities }
         // ensures { HoldsAt (λ entity. result ≡ entity.birth) self.now.entities place }
     {
@@ -100,7 +139,7 @@ impl Living {
 
     /// Changes the birth of the entity at the place. It takes no memory.
     #[inline]
-    pub fn set_birth(&mut self, place: usize, birth: Birth)
+    pub(crate) fn set_birth(&mut self, place: usize, birth: Birth)
         // requires { place < length self.old.entities }
         // ensures entities { self.new.entities ≡ with_birth_at self.old.entities place birth }
         // ensures room { self.new.room ≡ self.old.room }
@@ -110,7 +149,7 @@ impl Living {
 
     /// The value of a component of the entity at the place, if it has the component.
     #[inline]
-    pub fn value(&self, place: usize, id: ComponentId) -> Option<i64>
+    pub(crate) fn value(&self, place: usize, id: ComponentId) -> Option<i64>
         // requires { place < length self.now.entities }
         // ensures { HoldsAt (λ entity. result ≡ finite.get entity.components id)
         //     self.now.entities place }
@@ -120,7 +159,7 @@ impl Living {
 
     /// The components of the entity at the place and their values, by rising number.
     #[inline]
-    pub fn items(&self, place: usize) -> Items<'_>
+    pub(crate) fn items(&self, place: usize) -> Items<'_>
         // requires { place < length self.now.entities }
         // ensures { HoldsAt (λ entity. result ≡ finite.entries entity.components)
         //     self.now.entities place }
@@ -130,7 +169,7 @@ impl Living {
 
     /// Adds an entity without components. There has to be room for it.
     #[inline]
-    pub fn push(&mut self, handle: Handle, birth: Birth)
+    pub(crate) fn push(&mut self, handle: Handle, birth: Birth)
         // requires { length self.old.entities < self.old.room }
         // ensures entities { self.new.entities ≡ self.old.entities
         //     ++ record { handle = handle; birth = birth; components = finite.empty } ∷ [] }
@@ -141,7 +180,7 @@ impl Living {
 
     /// Takes the entity at the place out, and moves the last one there. It takes no memory.
     #[inline(always)]
-    pub fn swap_remove(&mut self, place: usize)
+    pub(crate) fn swap_remove(&mut self, place: usize)
         // requires { place < length self.old.entities }
         // ensures entities { IsMovedInto self.old.entities place self.new.entities }
         // ensures room { self.new.room ≡ self.old.room }
@@ -154,7 +193,7 @@ impl Living {
     /// Sets each of the items of the entity at the place, the first item first. After an `Err`
     /// nothing is changed.
     #[inline(always)]
-    pub fn insert(&mut self, place: usize, items: &[(ComponentId, i64)]) -> Result<(), AllocError>
+    pub(crate) fn insert(&mut self, place: usize, items: &[(ComponentId, i64)]) -> Result<(), AllocError>
         // requires { place < length self.old.entities }
         // ensures ok { OnOk result (self.new.entities
         //     ≡ change_at self.old.entities place (λ held. with_items held items.now)) }
@@ -163,14 +202,14 @@ impl Living {
         // ensures growing { OnErr result
         //     (HoldsAt (λ entity. 0 < missing entity.components items.now) self.old.entities place) }
     {
-        columns::reserve_all(&mut self.columns, &mut self.used, self.alloc, place, items)?;
+        columns::reserve_all(&mut self.columns, &mut self.used, place, items)?;
         columns::set_all(&mut self.columns, place, items);
         Ok(())
     }
 
     /// Takes a component out of the entity at the place, and returns its value. It takes no memory.
     #[inline]
-    pub fn remove(&mut self, place: usize, id: ComponentId) -> Option<i64>
+    pub(crate) fn remove(&mut self, place: usize, id: ComponentId) -> Option<i64>
         // requires { place < length self.old.entities }
         // ensures value { HoldsAt (λ entity. result ≡ finite.get entity.components id)
         //     self.old.entities place }
@@ -182,30 +221,45 @@ impl Living {
     }
 
     /// The birth and the handle of each entity. It takes no memory if there is none.
+    ///
+    /// <details><summary>Contract</summary>
+    ///
+    /// In the words of the folder `specs/` of crate `ent_storage`:
+    ///
+    /// ```text
+    /// ensures ok { IfOk result (λ births. births.items
+    ///     ≡ map (λ entity. (entity.birth, entity.handle)) self.now.entities) }
+    /// ensures memory { OnErr result (0 < length self.now.entities) }
+    /// ```
+    ///
+    /// </details>
     #[inline]
-    pub fn births(&self, alloc: Global) -> Result<Vec<(Birth, Handle)>, AllocError>
-        // ensures ok { IfOk result (λ births. births.items
-        //     ≡ map (λ entity. (entity.birth, entity.handle)) self.now.entities) }
-        // ensures memory { OnErr result (0 < length self.now.entities) }
-    {
-        births(alloc, &self.residents)
+    pub fn births(&self) -> Result<Vec<(Birth, Handle)>, AllocError> {
+        births(&self.residents)
     }
 
     /// The least handle of an entity with that birth, if there is one. It takes no memory.
+    ///
+    /// <details><summary>Contract</summary>
+    ///
+    /// In the words of the folder `specs/` of crate `ent_storage`:
+    ///
+    /// ```text
+    /// ensures { IsLeastOf birth
+    ///     (map (λ entity. (entity.birth, entity.handle)) self.now.entities) result }
+    /// ```
+    ///
+    /// </details>
     #[inline]
-    pub fn of_birth(&self, birth: Birth) -> Option<Handle>
-        // ensures { IsLeastOf birth
-        //     (map (λ entity. (entity.birth, entity.handle)) self.now.entities) result }
-    {
+    pub fn of_birth(&self, birth: Birth) -> Option<Handle> {
         least_of_birth(&self.residents, birth)
     }
 
     /// The birth and the handle of the entity at the place of each pair. It takes no memory for
     /// none.
     #[inline]
-    pub fn births_at(
+    pub(crate) fn births_at(
         &self,
-        alloc: Global,
         pairs: &[(usize, i64)],
     ) -> Result<Vec<(Birth, Handle)>, AllocError>
         // requires { All (λ pair. pair.0 < length self.now.entities) pairs.now }
@@ -213,23 +267,31 @@ impl Living {
         //     ≡ map (λ pair. born_at self.now.entities pair.0) pairs.now) }
         // ensures memory { OnErr result (0 < length pairs.now) }
     {
-        let mut births = Vec::with_capacity(alloc, pairs.len())?;
+        let mut births = Vec::with_capacity_fallibly(pairs.len())?;
         for pair in pairs {
             let resident = self.residents[pair.0];
-            births.push((resident.birth, resident.handle))?;
+            births.push_fallibly((resident.birth, resident.handle))?;
         }
         Ok(births)
     }
 
     /// The place and the value of each entity that has the component.
+    ///
+    /// <details><summary>Contract</summary>
+    ///
+    /// In the words of the folder `specs/` of crate `ent_storage`:
+    ///
+    /// ```text
+    /// ensures has { (place : ℕ) (v : ℤ) → Contains result.now (place, v)
+    ///     → IsValueAt self.now.entities place id v }
+    /// ensures all { (place : ℕ) (v : ℤ) → IsValueAt self.now.entities place id v
+    ///     → Contains result.now (place, v) }
+    /// ensures once { AllPairs (λ a b. a.0 ≢ b.0) result.now }
+    /// ```
+    ///
+    /// </details>
     #[inline]
-    pub fn pairs(&self, id: ComponentId) -> &[(usize, i64)]
-        // ensures has { (place : ℕ) (v : ℤ) → Contains result.now (place, v)
-        //     → IsValueAt self.now.entities place id v }
-        // ensures all { (place : ℕ) (v : ℤ) → IsValueAt self.now.entities place id v
-        //     → Contains result.now (place, v) }
-        // ensures once { AllPairs (λ a b. a.0 ≢ b.0) result.now }
-    {
+    pub fn pairs(&self, id: ComponentId) -> &[(usize, i64)] {
         match self.columns.get(id.0 as usize) {
             Some(column) => column.pairs(),
             None => &[],
@@ -239,25 +301,33 @@ impl Living {
 
 /// The birth and the handle of each resident.
 #[inline]
-fn births(alloc: Global, residents: &[Resident]) -> Result<Vec<(Birth, Handle)>, AllocError>
+fn births(residents: &[Resident]) -> Result<Vec<(Birth, Handle)>, AllocError>
     // ensures ok { IfOk result (λ births.
     //     births.items ≡ map (λ resident. (resident.birth, resident.handle)) residents.now) }
     // ensures memory { OnErr result (0 < length residents.now) }
 {
     if residents.is_empty() {
-        return Ok(Vec::new(alloc));
+        return Ok(Vec::new());
     }
     residents
         .iter()
         .map(|resident| (resident.birth, resident.handle))
-        .collect_in(alloc)
+        .collect_in()
 }
 
 /// Whether the entity at the place has that handle.
+///
+/// <details><summary>Contract</summary>
+///
+/// In the words of the folder `specs/` of crate `ent_storage`:
+///
+/// ```text
+/// ensures { result ≡ has_handle_at living.now.entities handle (Some place) }
+/// ```
+///
+/// </details>
 #[inline]
-pub fn has_handle_at(living: &Living, handle: Handle, place: usize) -> bool
-    // ensures { result ≡ has_handle_at living.now.entities handle (Some place) }
-{
+pub fn has_handle_at(living: &Living, handle: Handle, place: usize) -> bool {
     match living.residents.get(place) {
         Some(entity) => entity.handle == handle,
         None => false,

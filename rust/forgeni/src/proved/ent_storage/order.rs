@@ -1,26 +1,34 @@
 // Made of crates/ent_storage/src/order.rt by rust/erase. It isn't edited by hand.
 
+use alloc::vec::Vec;
 use crate::kit::vec::CollectIn;
-use crate::kit::vec::Vec;
+use crate::kit::vec::FallibleVec;
 use super::living::Resident;
 use crate::proved::ent_handle::{Birth, Handle};
-use crate::kit::alloc::{AllocError, Global};
+use crate::kit::alloc::AllocError;
 
 /// The handles, by birth and then by handle. It takes no memory for nobody.
+///
+/// <details><summary>Contract</summary>
+///
+/// In the words of the folder `specs/` of crate `ent_storage`:
+///
+/// ```text
+/// ensures ok { IfOk result (λ handles. IsInOrder births.items handles.items) }
+/// ensures memory { OnErr result (0 < length births.items) }
+/// ```
+///
+/// </details>
 #[inline]
 pub fn handles_in_order(
-    alloc: Global,
     mut births: Vec<(Birth, Handle)>,
-) -> Result<Vec<Handle>, AllocError>
-    // ensures ok { IfOk result (λ handles. IsInOrder births.items handles.items) }
-    // ensures memory { OnErr result (0 < length births.items) }
-{
+) -> Result<Vec<Handle>, AllocError> {
     if births.is_empty() {
-        return Ok(Vec::new(alloc));
+        return Ok(Vec::new());
     }
     sort_births(&mut births);
     births.sort_unstable();
-    handles(alloc, &births)
+    handles(&births)
 }
 
 /// Sorts by birth alone. What is left for the sort that follows are entities of one birth, so it
@@ -32,7 +40,7 @@ pub fn handles_in_order(
 fn sort_births(births: &mut Vec<(Birth, Handle)>)
     // ensures { IsPermutation births.old.items births.new.items }
 {
-    let _ = births.sort_by_key(|pair| packed(pair.0));
+    let _ = births.sort_by_key_fallibly(|pair| packed(pair.0));
 }
 
 // One number that has the order of the births: it is compared at once.
@@ -42,18 +50,26 @@ fn packed(birth: Birth) -> u128 {
 }
 
 #[inline]
-fn handles(alloc: Global, births: &[(Birth, Handle)]) -> Result<Vec<Handle>, AllocError>
+fn handles(births: &[(Birth, Handle)]) -> Result<Vec<Handle>, AllocError>
     // ensures ok { IfOk result (λ handles. handles.items ≡ map (λ pair. pair.1) births.now) }
 {
-    births.iter().map(|pair| pair.1).collect_in(alloc)
+    births.iter().map(|pair| pair.1).collect_in()
 }
 
 /// The least handle of a resident with that birth, if there is one.
+///
+/// <details><summary>Contract</summary>
+///
+/// In the words of the folder `specs/` of crate `ent_storage`:
+///
+/// ```text
+/// ensures { IsLeastOf birth (map (λ resident. (resident.birth, resident.handle)) residents.now)
+///     result }
+/// ```
+///
+/// </details>
 #[inline]
-pub fn least_of_birth(residents: &[Resident], birth: Birth) -> Option<Handle>
-    // ensures { IsLeastOf birth (map (λ resident. (resident.birth, resident.handle)) residents.now)
-    //     result }
-{
+pub fn least_of_birth(residents: &[Resident], birth: Birth) -> Option<Handle> {
     let mut least = None;
     for resident in residents {
         if resident.birth == birth {

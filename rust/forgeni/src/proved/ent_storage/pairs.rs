@@ -8,7 +8,7 @@
 ///
 /// The position where the key would go, if no pair has it.
 #[inline]
-pub fn search<K: Ord + Copy, V>(pairs: &[(K, V)], key: K) -> Result<usize, usize>
+pub(crate) fn search<K: Ord + Copy, V>(pairs: &[(K, V)], key: K) -> Result<usize, usize>
     // requires { T (is_sorted K.cmp pairs.now) }
     // ensures found { IfOk result (IsAt K.cmp pairs.now key) }
     // ensures absent { IfErr result (IsGapFor K.cmp pairs.now key) }

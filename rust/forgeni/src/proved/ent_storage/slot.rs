@@ -6,7 +6,7 @@ use crate::proved::ent_handle::Handle;
 /// The position of the handle, or the position where it would go. It is looked for at its slot's
 /// number first, and only then by a binary search.
 #[inline(always)]
-pub fn search_slot(pairs: &[(Key, u32)], handle: Handle) -> Result<usize, usize>
+pub(crate) fn search_slot(pairs: &[(Key, u32)], handle: Handle) -> Result<usize, usize>
     // requires { T (is_sorted handle_cmp pairs.now) }
     // ensures found { IfOk result (IsAt handle_cmp pairs.now handle) }
     // ensures absent { IfErr result (IsGapFor handle_cmp pairs.now handle) }
@@ -38,10 +38,18 @@ fn search(pairs: &[(Key, u32)], handle: Handle) -> Result<usize, usize>
 }
 
 /// The slot's number, if the handle stands there.
+///
+/// <details><summary>Contract</summary>
+///
+/// In the words of the folder `specs/` of crate `ent_storage`:
+///
+/// ```text
+/// ensures { IfSome result (IsAt handle_cmp pairs.now handle) }
+/// ```
+///
+/// </details>
 #[inline(always)]
-pub fn at_slot(pairs: &[(Key, u32)], handle: Handle) -> Option<usize>
-    // ensures { IfSome result (IsAt handle_cmp pairs.now handle) }
-{
+pub fn at_slot(pairs: &[(Key, u32)], handle: Handle) -> Option<usize> {
     let slot = handle.index() as usize;
     if slot < pairs.len() && pairs[slot].0.handle() == handle {
         Some(slot)
@@ -52,7 +60,7 @@ pub fn at_slot(pairs: &[(Key, u32)], handle: Handle) -> Option<usize>
 
 /// Whether the handle would go to that position.
 #[inline(always)]
-pub fn is_gap(pairs: &[(Key, u32)], position: usize, handle: Handle) -> bool
+pub(crate) fn is_gap(pairs: &[(Key, u32)], position: usize, handle: Handle) -> bool
     // requires { T (is_sorted handle_cmp pairs.now) }
     // ensures { IsTrue result → IsGapFor handle_cmp pairs.now handle position }
 {

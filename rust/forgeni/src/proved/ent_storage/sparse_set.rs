@@ -1,8 +1,9 @@
 // Made of crates/ent_storage/src/sparse_set.rt by rust/erase. It isn't edited by hand.
 
-use crate::kit::vec::Vec;
+use alloc::vec::Vec;
+use crate::kit::vec::FallibleVec;
 use super::places::MOST_PLACES;
-use crate::kit::alloc::{AllocError, Global};
+use crate::kit::alloc::AllocError;
 
 /// The values of one component, by the places of the entities that have it.
 ///
@@ -16,41 +17,65 @@ pub struct SparseSet {
 
 impl SparseSet {
     /// A set of no values, without room.
+    ///
+    /// <details><summary>Contract</summary>
+    ///
+    /// In the words of the folder `specs/` of crate `ent_storage`:
+    ///
+    /// ```text
+    /// ensures { result ≡ no_column }
+    /// ```
+    ///
+    /// </details>
     #[inline]
-    pub fn new(alloc: Global) -> Self
-        // ensures { result ≡ no_column }
-    {
+    pub fn new() -> Self {
         SparseSet {
-            dense: Vec::new(alloc),
-            sparse: Vec::new(alloc),
+            dense: Vec::new(),
+            sparse: Vec::new(),
         }
     }
 
     /// The place and the value of each entity that has the component.
+    ///
+    /// <details><summary>Contract</summary>
+    ///
+    /// In the words of the folder `specs/` of crate `ent_storage`:
+    ///
+    /// ```text
+    /// ensures has { (p : ℕ) (v : ℤ) → Contains result.now (p, v)
+    ///     → map.get self.now.values p ≡ Some v }
+    /// ensures all { (p : ℕ) (v : ℤ) → map.get self.now.values p ≡ Some v
+    ///     → Contains result.now (p, v) }
+    /// ensures once { (j k p : ℕ) (v w : ℤ) → slice_get result.now j ≡ Some (p, v)
+    ///     → slice_get result.now k ≡ Some (p, w) → j ≡ k }
+    /// ```
+    ///
+    /// </details>
     #[inline]
-    pub fn pairs(&self) -> &[(usize, i64)]
-        // ensures has { (p : ℕ) (v : ℤ) → Contains result.now (p, v)
-        //     → map.get self.now.values p ≡ Some v }
-        // ensures all { (p : ℕ) (v : ℤ) → map.get self.now.values p ≡ Some v
-        //     → Contains result.now (p, v) }
-        // ensures once { (j k p : ℕ) (v w : ℤ) → slice_get result.now j ≡ Some (p, v)
-        //     → slice_get result.now k ≡ Some (p, w) → j ≡ k }
-    {
+    pub fn pairs(&self) -> &[(usize, i64)] {
         &self.dense
     }
 
     /// The value of the place, if it has one.
+    ///
+    /// <details><summary>Contract</summary>
+    ///
+    /// In the words of the folder `specs/` of crate `ent_storage`:
+    ///
+    /// ```text
+    /// ensures { result ≡ map.get self.now.values place }
+    /// ```
+    ///
+    /// </details>
     #[inline]
-    pub fn get(&self, place: usize) -> Option<i64>
-        // ensures { result ≡ map.get self.now.values place }
-    {
+    pub fn get(&self, place: usize) -> Option<i64> {
         let position = position_of(&self.dense, &self.sparse, place)?;
         Some(self.dense[position as usize].1)
     }
 
     /// Sets the value of the place. There has to be room for it if it has none.
     #[inline(always)]
-    pub fn set(&mut self, place: usize, value: i64)
+    pub(crate) fn set(&mut self, place: usize, value: i64)
         // requires { HasRoomAt self.old place }
         // ensures { self.new.values ≡ map.insert self.old.values place value }
     {
@@ -64,46 +89,78 @@ impl SparseSet {
     }
 
     /// Whether there is room for any place.
+    ///
+    /// <details><summary>Contract</summary>
+    ///
+    /// In the words of the folder `specs/` of crate `ent_storage`:
+    ///
+    /// ```text
+    /// ensures { IsTrue result → 0 < self.now.places }
+    /// ```
+    ///
+    /// </details>
     #[inline]
-    pub fn has_places(&self) -> bool
-        // ensures { IsTrue result → 0 < self.now.places }
-    {
+    pub fn has_places(&self) -> bool {
         !self.sparse.is_empty()
     }
 
     /// Whether there is room for one value more, and for one of the place.
+    ///
+    /// <details><summary>Contract</summary>
+    ///
+    /// In the words of the folder `specs/` of crate `ent_storage`:
+    ///
+    /// ```text
+    /// ensures { IsTrue result → HasRoomAt self.now place }
+    /// ```
+    ///
+    /// </details>
     #[inline]
-    pub fn has_room(&self, place: usize) -> bool
-        // ensures { IsTrue result → HasRoomAt self.now place }
-    {
-        self.dense.len() < self.dense.capacity().min(MOST_PLACES) && place < self.sparse.len()
+    pub fn has_room(&self, place: usize) -> bool {
+        self.dense.len() < self.dense.sized_capacity().min(MOST_PLACES) && place < self.sparse.len()
     }
 
     /// Makes room for a value of the place. After an `Err` the values are as before.
+    ///
+    /// <details><summary>Contract</summary>
+    ///
+    /// In the words of the folder `specs/` of crate `ent_storage`:
+    ///
+    /// ```text
+    /// ensures values { self.new.values ≡ self.old.values }
+    /// ensures ok { OnOk result (HasRoomAt self.new place) }
+    /// ensures kept { HasRoomAt self.old place → HasRoomAt self.new place }
+    /// ```
+    ///
+    /// </details>
     #[inline]
-    pub fn reserve(&mut self, place: usize) -> Result<(), AllocError>
-        // ensures values { self.new.values ≡ self.old.values }
-        // ensures ok { OnOk result (HasRoomAt self.new place) }
-        // ensures kept { HasRoomAt self.old place → HasRoomAt self.new place }
-    {
+    pub fn reserve(&mut self, place: usize) -> Result<(), AllocError> {
         if self.dense.len() >= MOST_PLACES {
             return Err(AllocError);
         }
-        self.dense.reserve(1)?;
+        self.dense.reserve_fallibly(1)?;
         let places = place.checked_add(1).ok_or(AllocError)?;
         self.sparse
-            .reserve(places.saturating_sub(self.sparse.len()))?;
+            .reserve_fallibly(places.saturating_sub(self.sparse.len()))?;
         // All the room is put to use at once, so that the next places are there.
-        self.sparse.resize(self.sparse.capacity(), 0)
+        self.sparse.resize_fallibly(self.sparse.sized_capacity(), 0)
     }
 
     /// Takes the value of the place out, and returns it. It takes no memory.
+    ///
+    /// <details><summary>Contract</summary>
+    ///
+    /// In the words of the folder `specs/` of crate `ent_storage`:
+    ///
+    /// ```text
+    /// ensures value { result ≡ map.get self.old.values place }
+    /// ensures after { self.new.values ≡ map.remove self.old.values place }
+    /// ensures absent { result ≡ None → self.new ≡ self.old }
+    /// ```
+    ///
+    /// </details>
     #[inline(always)]
-    pub fn remove(&mut self, place: usize) -> Option<i64>
-        // ensures value { result ≡ map.get self.old.values place }
-        // ensures after { self.new.values ≡ map.remove self.old.values place }
-        // ensures absent { result ≡ None → self.new ≡ self.old }
-    {
+    pub fn remove(&mut self, place: usize) -> Option<i64> {
         let position = position_of(&self.dense, &self.sparse, place)?;
         let (_, value) = self.dense.swap_remove(position as usize);
         if (position as usize) < self.dense.len() {
@@ -129,7 +186,7 @@ impl SparseSet {
     /// Takes the value of the place out, and moves that of the last place there. It takes no
     /// memory.
     #[inline(always)]
-    pub fn swap_remove(&mut self, place: usize, last: usize)
+    pub(crate) fn swap_remove(&mut self, place: usize, last: usize)
         // requires { place ≤ last }
         // ensures { IsMovedDown place last self.old.values self.new.values }
     {

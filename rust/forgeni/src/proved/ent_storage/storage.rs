@@ -4,56 +4,103 @@ use super::fault::StorageFault;
 use super::index::Index;
 use super::living::Living;
 use crate::proved::ent_handle::{Birth, ComponentId, Handle, Memory};
-use crate::kit::alloc::Global;
 
-/// The living entities: a finite map from handles to births and components.
+/// What living entities are made of: for each handle its birth, and a value for each component that
+/// the entity has.
 ///
-/// It also has the handle at each place, and a number, `spare`: for how many more entities there is
-/// room. It takes constant time to look an entity up by its handle if the handles are those of an
-/// allocator that has retired few slots, and else logarithmic time. Each component's values stand
-/// in a vector of their own.
+/// It does not know which handles an allocator has given: keep it beside an
+/// [`Entities`](crate::Entities). A [`World`](crate::World) has both.
+///
+/// ```
+/// use forgeni::{Birth, ComponentId, Entities, Storage};
+///
+/// const SPEED: ComponentId = ComponentId(0);
+///
+/// let mut entities = Entities::new();
+/// let mut storage = Storage::new();
+/// let cart = entities.alloc()?;
+/// storage.born(cart, Birth { frame: 0, system: 0, ordinal: 0 })?;
+/// storage.insert(cart, &[(SPEED, 40)])?;
+/// assert_eq!(storage.get(cart, SPEED), Some(40));
+/// # Ok::<(), Box<dyn std::error::Error>>(())
+/// ```
+///
+/// It may go to another thread, and many threads may read it at once: it is `Send` and `Sync`.
+///
+/// To look an entity up by its handle takes constant time if the handles are those of an allocator
+/// that has retired few slots, and else logarithmic time. The values of each component lie in a
+/// vector of their own.
+///
+/// Contracts see a finite map from handles to births and components (`entities`), the handle at each
+/// place of the vector of entities (`places`), and for how many more entities there is room
+/// (`spare`).
 pub struct Storage {
     pub(super) living: Living,
     pub(super) index: Index,
-    pub(super) alloc: Global,
 }
 
 impl Storage {
     /// A storage without entities. It takes no memory.
+    ///
+    /// <details><summary>Contract</summary>
+    ///
+    /// In the words of the folder `specs/` of crate `ent_storage`:
+    ///
+    /// ```text
+    /// ensures entities { result.entities ≡ map.empty }
+    /// ensures spare { result.spare ≡ 0 }
+    /// ensures places { result.places ≡ [] }
+    /// ```
+    ///
+    /// </details>
+    #[must_use]
     #[inline]
-    pub fn new(alloc: Global) -> Self
-        // ensures entities { result.entities ≡ map.empty }
-        // ensures spare { result.spare ≡ 0 }
-        // ensures places { result.places ≡ [] }
-    {
+    pub fn new() -> Self {
         Storage {
-            living: Living::new(alloc),
-            index: Index::new(alloc),
-            alloc,
+            living: Living::new(),
+            index: Index::new(),
         }
     }
 
     /// How many entities there are. That is also the place of the next one that is born.
+    ///
+    /// <details><summary>Contract</summary>
+    ///
+    /// In the words of the folder `specs/` of crate `ent_storage`:
+    ///
+    /// ```text
+    /// ensures value { result ≡ map.len self.now.entities }
+    /// ensures places { result ≡ length self.now.places }
+    /// ```
+    ///
+    /// </details>
+    #[must_use]
     #[inline]
-    pub fn len(&self) -> usize
-        // ensures value { result ≡ map.len self.now.entities }
-        // ensures places { result ≡ length self.now.places }
-    {
+    pub fn len(&self) -> usize {
         self.living.len()
     }
 
     /// Whether there are no entities.
+    ///
+    /// <details><summary>Contract</summary>
+    ///
+    /// In the words of the folder `specs/` of crate `ent_storage`:
+    ///
+    /// ```text
+    /// ensures { IsTrue result ↔ (self.now.entities ≡ map.empty) }
+    /// ```
+    ///
+    /// </details>
+    #[must_use]
     #[inline]
-    pub fn is_empty(&self) -> bool
-        // ensures { IsTrue result ↔ (self.now.entities ≡ map.empty) }
-    {
+    pub fn is_empty(&self) -> bool {
         self.living.is_empty()
     }
 
     /// Changes the birth of the entity at this place, which has to be that of the handle, and
     /// leaves the rest. It takes no memory and constant time.
     #[inline]
-    pub fn set_birth_at(&mut self, place: usize, handle: Handle, birth: Birth)
+    pub(crate) fn set_birth_at(&mut self, place: usize, handle: Handle, birth: Birth)
         // requires { slice_get self.old.places place ≡ Some handle }
         // ensures entities { self.new.entities ≡ with_birth self.old.entities handle birth }
         // ensures spare { self.new.spare ≡ self.old.spare }
@@ -66,10 +113,19 @@ impl Storage {
     ///
     /// `born` lowers it by 1, or makes more room if it is 0. `reserve` and `despawn` raise it.
     /// Nothing else changes it.
+    ///
+    /// <details><summary>Contract</summary>
+    ///
+    /// In the words of the folder `specs/` of crate `ent_storage`:
+    ///
+    /// ```text
+    /// ensures { result ≡ self.now.spare }
+    /// ```
+    ///
+    /// </details>
+    #[must_use]
     #[inline]
-    pub fn spare(&self) -> usize
-        // ensures { result ≡ self.now.spare }
-    {
+    pub fn spare(&self) -> usize {
         let room = self.living.capacity().min(self.index.room());
         room - self.living.len()
     }
@@ -86,23 +142,40 @@ impl Storage {
     /// Makes room for `additional` more entities, so that `born` takes no memory for them. If there
     /// is room for that many already, it takes no memory and changes nothing.
     ///
+    /// ```
+    /// use forgeni::Storage;
+    ///
+    /// let mut storage = Storage::new();
+    /// storage.reserve(1000)?;
+    /// assert!(storage.spare() >= 1000);
+    /// # Ok::<(), forgeni::OutOfMemory>(())
+    /// ```
+    ///
     /// # Errors
     ///
-    /// `Memory` if there is no memory for so many, or if they would be more than 4,294,967,296. The
-    /// entities are as before, and `spare` is below `additional`. It may have grown.
+    /// Out of memory, or there would be more than 4,294,967,296 entities. The entities are as before,
+    /// and `spare` is below `additional`. It may have grown.
+    ///
+    /// <details><summary>Contract</summary>
+    ///
+    /// In the words of the folder `specs/` of crate `ent_storage`:
+    ///
+    /// ```text
+    /// ensures entities { self.new.entities ≡ self.old.entities }
+    /// ensures ok { OnOk result (additional ≤ self.new.spare) }
+    /// ensures grows { self.old.spare ≤ self.new.spare }
+    /// ensures places { self.new.places ≡ self.old.places }
+    ///
+    /// // With room for that many, the call succeeds and changes nothing.
+    /// ensures succeeds { additional ≤ self.old.spare → IsOk result }
+    /// ensures in_place { additional ≤ self.old.spare → self.new ≡ self.old }
+    ///
+    /// ensures err { OnErr result (self.new.spare < additional) }
+    /// ```
+    ///
+    /// </details>
     #[inline]
-    pub fn reserve(&mut self, additional: usize) -> Result<(), Memory>
-        // ensures entities { self.new.entities ≡ self.old.entities }
-        // ensures ok { OnOk result (additional ≤ self.new.spare) }
-        // ensures grows { self.old.spare ≤ self.new.spare }
-        // ensures places { self.new.places ≡ self.old.places }
-
-        // With room for that many, the call succeeds and changes nothing.
-        // ensures succeeds { additional ≤ self.old.spare → IsOk result }
-        // ensures in_place { additional ≤ self.old.spare → self.new ≡ self.old }
-
-        // ensures err { OnErr result (self.new.spare < additional) }
-    {
+    pub fn reserve(&mut self, additional: usize) -> Result<(), Memory> {
         if additional <= self.spare() {
             return Ok(());
         }
@@ -118,32 +191,40 @@ impl Storage {
     /// Adds an entity without components. With `spare` above 0 it takes no memory, and `spare` is
     /// then less by 1.
     ///
-    /// The time is that of one look-up, if the handle comes after all others, or if the pair of an
-    /// entity that is gone stands where the new pair goes, or beside it. With an allocator's
-    /// handles that is the pair of the slot's last occupant. Else the later pairs of the index move
-    /// up by one. If the index is full, the pairs of all that are gone are dropped first, in one
-    /// pass.
+    /// The time is that of one look-up, if the handle comes after all others, or if the index still
+    /// has the pair of an entity that is gone where the new pair goes, or beside it. With an
+    /// allocator's handles that is the pair of the slot's last occupant. Else the later pairs of the
+    /// index move up by one. If the index is full, the pairs of all that are gone are dropped first,
+    /// in one pass.
     ///
     /// # Errors
     ///
-    /// After either of them nothing is changed.
+    /// Nothing has changed.
     ///
     /// - `Present`: the entity is there already. This is tested first.
-    /// - `Memory`: `spare` is 0, and there is no memory for more, or there are 4,294,967,296
-    ///   entities, which is the most.
+    /// - `Memory`: `spare` is 0, and memory ran out, or there are 4,294,967,296 entities, which is the
+    ///   most.
+    ///
+    /// <details><summary>Contract</summary>
+    ///
+    /// In the words of the folder `specs/` of crate `ent_storage`:
+    ///
+    /// ```text
+    /// ensures ok { OnOk result
+    ///     (self.new.entities ≡ map.insert self.old.entities handle (newborn birth)) }
+    /// ensures spare { OnOk result (0 < self.old.spare → self.new.spare + 1 ≡ self.old.spare) }
+    /// ensures places { OnOk result (self.new.places ≡ self.old.places ++ handle ∷ []) }
+    ///
+    /// ensures present { IsErrOf result StorageFault.Present
+    ///     ↔ IsTrue (map.contains_key self.old.entities handle) }
+    /// ensures memory_without_room { IsErrOf result StorageFault.Memory → self.old.spare ≡ 0 }
+    /// ensures never_absent { ¬ (IsErrOf result StorageFault.Absent) }
+    /// ensures err { OnErr result (self.new ≡ self.old) }
+    /// ```
+    ///
+    /// </details>
     #[inline(always)]
-    pub fn born(&mut self, handle: Handle, birth: Birth) -> Result<(), StorageFault>
-        // ensures ok { OnOk result
-        //     (self.new.entities ≡ map.insert self.old.entities handle (newborn birth)) }
-        // ensures spare { OnOk result (0 < self.old.spare → self.new.spare + 1 ≡ self.old.spare) }
-        // ensures places { OnOk result (self.new.places ≡ self.old.places ++ handle ∷ []) }
-
-        // ensures present { IsErrOf result StorageFault.Present
-        //     ↔ IsTrue (map.contains_key self.old.entities handle) }
-        // ensures memory_without_room { IsErrOf result StorageFault.Memory → self.old.spare ≡ 0 }
-        // ensures never_absent { ¬ (IsErrOf result StorageFault.Absent) }
-        // ensures err { OnErr result (self.new ≡ self.old) }
-    {
+    pub fn born(&mut self, handle: Handle, birth: Birth) -> Result<(), StorageFault> {
         if !self.has_spare() {
             if self.contains(handle) {
                 return Err(StorageFault::Present);
@@ -153,14 +234,14 @@ impl Storage {
         self.born_within(handle, birth)
     }
 
-    /// Does what [`Storage::born`] does, where there is room: who enters many tests that once for all
-    /// of them. It takes no memory, and `spare` is then less by 1.
+    /// Does what [`Storage::born`] does, where there is room: a caller that adds many tests that once
+    /// for all of them. It takes no memory, and `spare` is then less by 1.
     ///
     /// # Errors
     ///
-    /// `Present`: the entity is there already. Nothing is changed.
+    /// `Present`: the entity is there already. Nothing has changed.
     #[inline(always)]
-    pub fn born_within(&mut self, handle: Handle, birth: Birth) -> Result<(), StorageFault>
+    pub(crate) fn born_within(&mut self, handle: Handle, birth: Birth) -> Result<(), StorageFault>
         // requires room { 0 < self.old.spare }
         // ensures ok { OnOk result
         //     (self.new.entities ≡ map.insert self.old.entities handle (newborn birth)) }
@@ -179,27 +260,36 @@ impl Storage {
         }
     }
 
-    /// Takes the entity out. It takes no memory, and `spare` is then greater by 1.
+    /// Takes the entity out, with all its components. It takes no memory, and `spare` is then greater
+    /// by 1.
     ///
     /// The time is that of two look-ups, and of a look at each component that any entity has ever
     /// had. The index stays as it is, but for the entity that moves.
     ///
     /// # Errors
     ///
-    /// `Absent`: the entity is not there. Nothing is changed.
+    /// `Absent`: the entity is not there. Nothing has changed.
+    ///
+    /// <details><summary>Contract</summary>
+    ///
+    /// In the words of the folder `specs/` of crate `ent_storage`:
+    ///
+    /// ```text
+    /// ensures ok { OnOk result (self.new.entities ≡ map.remove self.old.entities handle) }
+    /// ensures spare { OnOk result (self.new.spare ≡ self.old.spare + 1) }
+    /// ensures places { OnOk result (SomeIndex self.old.places (λ place.
+    ///     (slice_get self.old.places place ≡ Some handle)
+    ///     × AreWithout place self.old.places self.new.places)) }
+    ///
+    /// ensures absent { IsErrOf result StorageFault.Absent
+    ///     ↔ (map.get self.old.entities handle ≡ None) }
+    /// ensures only_absent { IfErr result (λ fault. fault ≡ StorageFault.Absent) }
+    /// ensures err { OnErr result (self.new ≡ self.old) }
+    /// ```
+    ///
+    /// </details>
     #[inline(always)]
-    pub fn despawn(&mut self, handle: Handle) -> Result<(), StorageFault>
-        // ensures ok { OnOk result (self.new.entities ≡ map.remove self.old.entities handle) }
-        // ensures spare { OnOk result (self.new.spare ≡ self.old.spare + 1) }
-        // ensures places { OnOk result (SomeIndex self.old.places (λ place.
-        //     (slice_get self.old.places place ≡ Some handle)
-        //     × AreWithout place self.old.places self.new.places)) }
-
-        // ensures absent { IsErrOf result StorageFault.Absent
-        //     ↔ (map.get self.old.entities handle ≡ None) }
-        // ensures only_absent { IfErr result (λ fault. fault ≡ StorageFault.Absent) }
-        // ensures err { OnErr result (self.new ≡ self.old) }
-    {
+    pub fn despawn(&mut self, handle: Handle) -> Result<(), StorageFault> {
         let Some(place) = self.place(handle) else {
             return Err(StorageFault::Absent);
         };
@@ -225,7 +315,7 @@ impl Storage {
     /// The time is that of a look-up, for the entity that moves, and of a look at each component
     /// that any entity has ever had.
     #[inline(always)]
-    pub fn despawn_at(&mut self, place: usize, handle: Handle) -> Option<Handle>
+    pub(crate) fn despawn_at(&mut self, place: usize, handle: Handle) -> Option<Handle>
         // requires { slice_get self.old.places place ≡ Some handle }
         // ensures entities { self.new.entities ≡ map.remove self.old.entities handle }
         // ensures spare { self.new.spare ≡ self.old.spare + 1 }
@@ -242,36 +332,56 @@ impl Storage {
         }
     }
 
-    /// Sets each of the components, and leaves the entity's others as they are. If a component
-    /// stands twice among the items, its last value counts.
+    /// Sets each of the components, and leaves the entity's others as they are. The list may be in any
+    /// order. If a component is in it twice, its last value counts.
     ///
     /// It takes memory only for components that the entity does not have yet.
     ///
+    /// ```
+    /// use forgeni::{Birth, ComponentId, Handle, Storage};
+    ///
+    /// let [mass, speed] = [ComponentId(0), ComponentId(1)];
+    /// let cart = Handle::new(0, 1).unwrap();
+    /// let mut storage = Storage::new();
+    /// storage.born(cart, Birth { frame: 0, system: 0, ordinal: 0 })?;
+    /// storage.insert(cart, &[(speed, 1), (mass, 7), (speed, 2)])?;
+    /// assert!(storage.items(cart).unwrap().eq([(mass, 7), (speed, 2)]));
+    /// # Ok::<(), Box<dyn std::error::Error>>(())
+    /// ```
+    ///
     /// # Errors
     ///
-    /// After either of them nothing is changed.
+    /// Nothing has changed.
     ///
     /// - `Absent`: the entity is not there.
-    /// - `Memory`: there is no memory for the components that the entity does not have yet.
+    /// - `Memory`: memory ran out for the components that the entity does not have yet.
+    ///
+    /// <details><summary>Contract</summary>
+    ///
+    /// In the words of the folder `specs/` of crate `ent_storage`:
+    ///
+    /// ```text
+    /// ensures ok { OnOk result (self.new.entities
+    ///     ≡ with_components self.old.entities handle (λ held. with_items held items.now)) }
+    /// ensures spare { self.new.spare ≡ self.old.spare }
+    /// ensures places { self.new.places ≡ self.old.places }
+    ///
+    /// ensures absent { IsErrOf result StorageFault.Absent
+    ///     ↔ (map.get self.old.entities handle ≡ None) }
+    /// ensures memory_to_grow { IsErrOf result StorageFault.Memory
+    ///     → IfSome (components_of self.old.entities handle)
+    ///     (λ held. 0 < missing held items.now) }
+    /// ensures never_present { ¬ (IsErrOf result StorageFault.Present) }
+    /// ensures err { OnErr result (self.new ≡ self.old) }
+    /// ```
+    ///
+    /// </details>
     #[inline(always)]
     pub fn insert(
         &mut self,
         handle: Handle,
         items: &[(ComponentId, i64)],
-    ) -> Result<(), StorageFault>
-        // ensures ok { OnOk result (self.new.entities
-        //     ≡ with_components self.old.entities handle (λ held. with_items held items.now)) }
-        // ensures spare { self.new.spare ≡ self.old.spare }
-        // ensures places { self.new.places ≡ self.old.places }
-
-        // ensures absent { IsErrOf result StorageFault.Absent
-        //     ↔ (map.get self.old.entities handle ≡ None) }
-        // ensures memory_to_grow { IsErrOf result StorageFault.Memory
-        //     → IfSome (components_of self.old.entities handle)
-        //     (λ held. 0 < missing held items.now) }
-        // ensures never_present { ¬ (IsErrOf result StorageFault.Present) }
-        // ensures err { OnErr result (self.new ≡ self.old) }
-    {
+    ) -> Result<(), StorageFault> {
         let Some(place) = self.place(handle) else {
             return Err(StorageFault::Absent);
         };
@@ -280,18 +390,17 @@ impl Storage {
     }
 
     /// Sets each of these components of the entity at this place, and leaves its others as they
-    /// are. The place has to be that of the handle. If a component stands twice among the items,
-    /// its last value counts.
+    /// are. The place has to be that of the handle. If a component is in the list twice, its last
+    /// value counts.
     ///
     /// It takes memory only for components that the entity does not have yet. The index is not
     /// searched.
     ///
     /// # Errors
     ///
-    /// `Memory`: there is no memory for the components that the entity does not have yet. Nothing
-    /// is changed.
+    /// Out of memory for the components that the entity does not have yet. Nothing has changed.
     #[inline(always)]
-    pub fn insert_at(
+    pub(crate) fn insert_at(
         &mut self,
         place: usize,
         handle: Handle,
@@ -317,20 +426,28 @@ impl Storage {
     ///
     /// # Errors
     ///
-    /// `Absent`: the entity is not there. Nothing is changed.
+    /// `Absent`: the entity is not there. Nothing has changed.
+    ///
+    /// <details><summary>Contract</summary>
+    ///
+    /// In the words of the folder `specs/` of crate `ent_storage`:
+    ///
+    /// ```text
+    /// ensures value { IfOk result (λ value. value ≡ value_of self.old.entities handle id) }
+    /// ensures ok { OnOk result (self.new.entities
+    ///     ≡ with_components self.old.entities handle (λ held. map.remove held id)) }
+    /// ensures spare { self.new.spare ≡ self.old.spare }
+    /// ensures places { self.new.places ≡ self.old.places }
+    ///
+    /// ensures absent { IsErrOf result StorageFault.Absent
+    ///     ↔ (map.get self.old.entities handle ≡ None) }
+    /// ensures only_absent { IfErr result (λ fault. fault ≡ StorageFault.Absent) }
+    /// ensures err { OnErr result (self.new ≡ self.old) }
+    /// ```
+    ///
+    /// </details>
     #[inline]
-    pub fn remove(&mut self, handle: Handle, id: ComponentId) -> Result<Option<i64>, StorageFault>
-        // ensures value { IfOk result (λ value. value ≡ value_of self.old.entities handle id) }
-        // ensures ok { OnOk result (self.new.entities
-        //     ≡ with_components self.old.entities handle (λ held. map.remove held id)) }
-        // ensures spare { self.new.spare ≡ self.old.spare }
-        // ensures places { self.new.places ≡ self.old.places }
-
-        // ensures absent { IsErrOf result StorageFault.Absent
-        //     ↔ (map.get self.old.entities handle ≡ None) }
-        // ensures only_absent { IfErr result (λ fault. fault ≡ StorageFault.Absent) }
-        // ensures err { OnErr result (self.new ≡ self.old) }
-    {
+    pub fn remove(&mut self, handle: Handle, id: ComponentId) -> Result<Option<i64>, StorageFault> {
         let Some(place) = self.place(handle) else {
             return Err(StorageFault::Absent);
         };
@@ -341,7 +458,7 @@ impl Storage {
     /// Returns the value that it had, or `None` if the entity does not have it. It takes no memory
     /// and constant time.
     #[inline(always)]
-    pub fn remove_at(&mut self, place: usize, handle: Handle, id: ComponentId) -> Option<i64>
+    pub(crate) fn remove_at(&mut self, place: usize, handle: Handle, id: ComponentId) -> Option<i64>
         // requires { slice_get self.old.places place ≡ Some handle }
         // ensures value { result ≡ value_of self.old.entities handle id }
         // ensures entities { self.new.entities

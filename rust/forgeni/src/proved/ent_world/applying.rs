@@ -3,7 +3,8 @@
 //! The commands of a sync point take effect, one by one. Each changes the world whole or not at
 //! all.
 
-use crate::kit::vec::Vec;
+use alloc::vec::Vec;
+use crate::kit::vec::FallibleVec;
 use crate::proved::ent_world::fault::{Fault, FaultKind};
 use crate::proved::ent_world::rows::place_of;
 use crate::proved::ent_world::stop::{At, Stop};
@@ -11,7 +12,6 @@ use crate::proved::ent_world::world::World;
 use crate::proved::ent_handle::{ComponentId, Handle, Memory};
 use crate::proved::ent_queue::{BundleRef, CommandQueue, Entry, HandlesRef};
 use crate::proved::ent_shared::Refused;
-use crate::kit::alloc::Global;
 
 /// What commands are applied with, beside the world.
 pub(super) struct Applying {
@@ -23,12 +23,12 @@ pub(super) struct Applying {
 
 impl Applying {
     #[inline]
-    pub(super) fn new(alloc: Global) -> Self
+    pub(super) fn new() -> Self
         // ensures { result.faults.items ≡ [] }
     {
         Applying {
-            items: Vec::new(alloc),
-            faults: Vec::new(alloc),
+            items: Vec::new(),
+            faults: Vec::new(),
         }
     }
 
@@ -54,7 +54,7 @@ impl Applying {
         // ensures memory { OnErr result (0 < length bundle.now) }
     {
         self.items.clear();
-        self.items.reserve(bundle.len())?;
+        self.items.reserve_fallibly(bundle.len())?;
         for item in bundle.iter() {
             self.items.push_reserved(item);
         }
@@ -69,7 +69,7 @@ impl Applying {
         //     ++ record { system = at.system; command = at.command; kind = kind } ∷ []) }
         // ensures err { OnErr result (self.new.faults.items ≡ self.old.faults.items) }
     {
-        self.faults.push(Fault {
+        self.faults.push_fallibly(Fault {
             system: at.system,
             command: at.command,
             kind,

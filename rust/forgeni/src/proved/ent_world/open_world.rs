@@ -1,23 +1,21 @@
 // Made of crates/ent_world/src/open_world.rt by rust/erase. It isn't edited by hand.
 
-use crate::kit::vec::Vec;
+use alloc::vec::Vec;
 use crate::proved::ent_world::view::View;
 use crate::proved::ent_world::world::World;
 use crate::proved::ent_shared::{Reserver, Shared};
 use crate::proved::ent_storage::Storage;
-use crate::kit::alloc::Global;
 
 /// A world in a phase: many callers reserve from its allocator at once, and read the rest of it.
 pub struct OpenWorld {
     shared: Shared,
     storage: Storage,
     phase: u64,
-    alloc: Global,
 }
 
 impl OpenWorld {
     #[inline]
-    pub(super) fn new(alloc: Global, shared: Shared, storage: Storage, phase: u64) -> Self
+    pub(super) fn new(shared: Shared, storage: Storage, phase: u64) -> Self
         // requires world { IsOpenWorld
         //     (record { shared = shared; phase = phase; entities = storage.entities }) }
         // requires rows { AreRows shared.rows storage.places storage.entities }
@@ -29,31 +27,46 @@ impl OpenWorld {
             shared,
             storage,
             phase,
-            alloc,
         }
     }
 
     /// The allocator from which callers reserve, each with a [`Reserver`] of its own.
+    ///
+    /// <details><summary>Contract</summary>
+    ///
+    /// In the words of the folder `specs/` of crate `ent_world`:
+    ///
+    /// ```text
+    /// ensures { result.now ≡ self.now.shared }
+    /// ```
+    ///
+    /// </details>
     #[inline]
-    pub fn shared(&self) -> &Shared
-        // ensures { result.now ≡ self.now.shared }
-    {
+    pub fn shared(&self) -> &Shared {
         &self.shared
     }
 
     /// The world as it was opened.
+    ///
+    /// <details><summary>Contract</summary>
+    ///
+    /// In the words of the folder `specs/` of crate `ent_world`:
+    ///
+    /// ```text
+    /// ensures phase { result.phase ≡ self.now.phase }
+    /// ensures entities { result.entities ≡ self.now.entities }
+    /// ```
+    ///
+    /// </details>
     #[inline]
-    pub fn view(&self) -> View<'_>
-        // ensures phase { result.phase ≡ self.now.phase }
-        // ensures entities { result.entities ≡ self.now.entities }
-    {
+    pub fn view(&self) -> View<'_> {
         View::new(&self.storage, self.phase)
     }
 
     /// Ends the phase with all its reservers, as [`Shared::close`] does. Nothing of the world but
     /// its allocator changes. It takes no memory.
     #[inline]
-    pub fn close(self, reservers: Vec<Reserver>) -> World
+    pub(crate) fn close(self, reservers: Vec<Reserver>) -> World
         // requires all { length reservers.items ≡ self.shared.count }
         // requires own { All (IsOf self.shared) reservers.items }
         // ensures phase { result.phase ≡ self.phase }
@@ -87,20 +100,18 @@ impl OpenWorld {
             shared,
             storage,
             phase,
-            alloc,
         } = self;
         World {
             entities: shared.close(reservers),
             storage,
             phase,
-            alloc,
         }
     }
 
     /// Ends the phase although some reservers may be lost, as [`Shared::close_lost`] does. Nothing
     /// of the world but its allocator changes. It takes no memory.
     #[inline]
-    pub fn close_lost(self, reservers: Vec<Reserver>) -> World
+    pub(crate) fn close_lost(self, reservers: Vec<Reserver>) -> World
         // requires { All (IsOf self.shared) reservers.items }
         // ensures phase { result.phase ≡ self.phase }
         // ensures entities { result.entities ≡ self.entities }
@@ -129,13 +140,11 @@ impl OpenWorld {
             shared,
             storage,
             phase,
-            alloc,
         } = self;
         World {
             entities: shared.close_lost(reservers),
             storage,
             phase,
-            alloc,
         }
     }
 }

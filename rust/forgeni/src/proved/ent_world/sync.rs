@@ -2,7 +2,7 @@
 
 //! The sync point of a world: what was reserved comes to life, and then the queues take effect.
 
-use crate::kit::vec::Vec;
+use alloc::vec::Vec;
 use crate::proved::ent_world::applying::Applying;
 use crate::proved::ent_world::births::{enter_all, name_listed, number_others};
 use crate::proved::ent_world::fault::{SyncFault, SyncReport};
@@ -28,7 +28,7 @@ impl World {
     ///   That command would there give an entity components, free a handle or list a fault: no
     ///   other takes memory. All births stand, and of the commands just those before.
     #[inline]
-    pub fn apply(&mut self, queues: &[CommandQueue]) -> Result<SyncReport, SyncFault>
+    pub(crate) fn apply(&mut self, queues: &[CommandQueue]) -> Result<SyncReport, SyncFault>
         // requires { length queues.now ≤ 2 ^ 16 }
         // ensures ok { OnOk result (self.new ≡ (sync queues.now self.old).world) }
         // ensures born { IfOk result (λ report. report.born.items ≡ born self.old.allocator) }
@@ -57,7 +57,7 @@ impl World {
         let Ok(born) = self.bring_to_life(queues) else {
             return Err(SyncFault::FlushMemory);
         };
-        let mut applying = Applying::new(self.alloc);
+        let mut applying = Applying::new();
         let applied = self.apply_all(queues, &mut applying);
         let Applying { items: _, faults } = applying;
         match applied {
@@ -78,7 +78,7 @@ impl World {
     /// `Memory`: it stopped again, there or later, and can go on from there. Of the commands just
     /// those before have taken effect.
     #[inline]
-    pub fn apply_from(
+    pub(crate) fn apply_from(
         &mut self,
         queues: &[CommandQueue],
         system: usize,
@@ -130,10 +130,10 @@ impl World {
             at: At { system, command },
             done,
         };
-        let mut applying = Applying::new(self.alloc);
+        let mut applying = Applying::new();
         let applied = self.apply_queues(from, queues, &mut applying);
         let Applying { items: _, faults } = applying;
-        let nobody = Vec::new(self.alloc);
+        let nobody = Vec::new();
         let report = SyncReport {
             born: nobody,
             faults,
@@ -155,7 +155,7 @@ impl World {
         // ensures memory { OnErr result (0 < length self.old.allocator.taken) }
         // ensures world { IsWorld self.new }
     {
-        let mut handles = Vec::new(self.alloc);
+        let mut handles = Vec::new();
         self.storage.reserve(self.entities.reserved() as usize)?;
         let first = self.entities.len();
         self.entities.flush(&mut handles)?;

@@ -1,7 +1,7 @@
 // Made of crates/ent_world/src/world.rt by rust/erase. It isn't edited by hand.
 
+use alloc::vec::Vec;
 use crate::kit::prove_eq;
-use crate::kit::vec::Vec;
 use crate::proved::ent_world::open_world::OpenWorld;
 use crate::proved::ent_world::rows::place_of;
 use crate::proved::ent_world::spawning::{make, next_handle};
@@ -10,7 +10,6 @@ use crate::proved::ent_handle::{Birth, ComponentId, Handle, Memory};
 use crate::proved::ent_queue::Bundle;
 use crate::proved::ent_shared::{Reserver, share};
 use crate::proved::ent_storage::{Items, Storage};
-use crate::kit::alloc::Global;
 
 /// Who is alive, and what each entity is made of.
 ///
@@ -20,59 +19,97 @@ pub struct World {
     pub(super) entities: Entities,
     pub(super) storage: Storage,
     pub(super) phase: u64,
-    pub(super) alloc: Global,
 }
 
 impl World {
     /// A world without entities. It takes no memory, whatever the limits are.
+    ///
+    /// <details><summary>Contract</summary>
+    ///
+    /// In the words of the folder `specs/` of crate `ent_world`:
+    ///
+    /// ```text
+    /// ensures value { result ≡ first_world limits }
+    /// ensures world { IsWorld result }
+    /// ```
+    ///
+    /// </details>
     #[inline]
-    pub fn new(alloc: Global, limits: Limits) -> Self
-        // ensures value { result ≡ first_world limits }
-        // ensures world { IsWorld result }
-    {
-        let entities = Entities::new(alloc, limits);
+    pub fn new(limits: Limits) -> Self {
+        let entities = Entities::with_exact_limits(limits);
         // Whatever the limits are, it begins in a sound state, as `cursor` promises.
         prove_eq!(entities.cursor(), 0);
         World {
             entities,
-            storage: Storage::new(alloc),
+            storage: Storage::new(),
             phase: 0,
-            alloc,
         }
     }
 
     /// How many entities are alive.
+    ///
+    /// <details><summary>Contract</summary>
+    ///
+    /// In the words of the folder `specs/` of crate `ent_world`:
+    ///
+    /// ```text
+    /// ensures value { result ≡ map.len self.now.entities }
+    ///
+    /// // A part of what is true of every world, for who was lent one.
+    /// ensures living { AreLiving self.now.allocator self.now.entities }
+    /// ```
+    ///
+    /// </details>
     #[inline]
-    pub fn len(&self) -> usize
-        // ensures value { result ≡ map.len self.now.entities }
-
-        // A part of what is true of every world, for who was lent one.
-        // ensures living { AreLiving self.now.allocator self.now.entities }
-    {
+    pub fn len(&self) -> usize {
         self.storage.len()
     }
 
     /// Whether no entity is alive.
+    ///
+    /// <details><summary>Contract</summary>
+    ///
+    /// In the words of the folder `specs/` of crate `ent_world`:
+    ///
+    /// ```text
+    /// ensures { IsTrue result ↔ (self.now.entities ≡ map.empty) }
+    /// ```
+    ///
+    /// </details>
     #[inline]
-    pub fn is_empty(&self) -> bool
-        // ensures { IsTrue result ↔ (self.now.entities ≡ map.empty) }
-    {
+    pub fn is_empty(&self) -> bool {
         self.storage.is_empty()
     }
 
     /// How many slots are retired: they give no handle any more. It takes constant time.
+    ///
+    /// <details><summary>Contract</summary>
+    ///
+    /// In the words of the folder `specs/` of crate `ent_world`:
+    ///
+    /// ```text
+    /// ensures { result ≡ retired self.now.allocator }
+    /// ```
+    ///
+    /// </details>
     #[inline]
-    pub fn retired(&self) -> u32
-        // ensures { result ≡ retired self.now.allocator }
-    {
+    pub fn retired(&self) -> u32 {
         self.entities.retired()
     }
 
     /// Whether the entity is alive. It takes constant time.
+    ///
+    /// <details><summary>Contract</summary>
+    ///
+    /// In the words of the folder `specs/` of crate `ent_world`:
+    ///
+    /// ```text
+    /// ensures { result ≡ lives_in self.now handle }
+    /// ```
+    ///
+    /// </details>
     #[inline]
-    pub fn contains(&self, handle: Handle) -> bool
-        // ensures { result ≡ lives_in self.now handle }
-    {
+    pub fn contains(&self, handle: Handle) -> bool {
         match self.entities.state(handle) {
             State::Alive => true,
             State::Reserved | State::Gone => false,
@@ -80,28 +117,52 @@ impl World {
     }
 
     /// The value of the entity's component, if the entity is alive and has it.
+    ///
+    /// <details><summary>Contract</summary>
+    ///
+    /// In the words of the folder `specs/` of crate `ent_world`:
+    ///
+    /// ```text
+    /// ensures { result ≡ value_of self.now.entities handle id }
+    /// ```
+    ///
+    /// </details>
     #[inline]
-    pub fn get(&self, handle: Handle, id: ComponentId) -> Option<i64>
-        // ensures { result ≡ value_of self.now.entities handle id }
-    {
+    pub fn get(&self, handle: Handle, id: ComponentId) -> Option<i64> {
         let place = place_of(&self.entities, handle)?;
         self.storage.get_at(place, handle, id)
     }
 
     /// When and by whom the entity was brought to life, if it is alive.
+    ///
+    /// <details><summary>Contract</summary>
+    ///
+    /// In the words of the folder `specs/` of crate `ent_world`:
+    ///
+    /// ```text
+    /// ensures { result ≡ birth_of self.now.entities handle }
+    /// ```
+    ///
+    /// </details>
     #[inline]
-    pub fn birth(&self, handle: Handle) -> Option<Birth>
-        // ensures { result ≡ birth_of self.now.entities handle }
-    {
+    pub fn birth(&self, handle: Handle) -> Option<Birth> {
         let place = place_of(&self.entities, handle)?;
         Some(self.storage.birth_at(place, handle))
     }
 
     /// The entity's components and their values, by rising number, if it is alive.
+    ///
+    /// <details><summary>Contract</summary>
+    ///
+    /// In the words of the folder `specs/` of crate `ent_world`:
+    ///
+    /// ```text
+    /// ensures { result ≡ option_map map.entries (components_of self.now.entities handle) }
+    /// ```
+    ///
+    /// </details>
     #[inline]
-    pub fn items(&self, handle: Handle) -> Option<Items<'_>>
-        // ensures { result ≡ option_map map.entries (components_of self.now.entities handle) }
-    {
+    pub fn items(&self, handle: Handle) -> Option<Items<'_>> {
         let place = place_of(&self.entities, handle)?;
         Some(self.storage.items_at(place, handle))
     }
@@ -111,27 +172,51 @@ impl World {
     /// # Errors
     ///
     /// `Memory`: there is no memory for the list. It never comes if there are no entities.
+    ///
+    /// <details><summary>Contract</summary>
+    ///
+    /// In the words of the folder `specs/` of crate `ent_world`:
+    ///
+    /// ```text
+    /// ensures ok { IfOk result (λ handles. ListsAll self.now.entities handles.items) }
+    /// ensures memory { OnErr result (self.now.entities ≢ map.empty) }
+    /// ```
+    ///
+    /// </details>
     #[inline]
-    pub fn by_birth(&self) -> Result<Vec<Handle>, Memory>
-        // ensures ok { IfOk result (λ handles. ListsAll self.now.entities handles.items) }
-        // ensures memory { OnErr result (self.now.entities ≢ map.empty) }
-    {
+    pub fn by_birth(&self) -> Result<Vec<Handle>, Memory> {
         self.storage.by_birth()
     }
 
     /// How often the world was flushed. It stays at 2^64 - 1.
+    ///
+    /// <details><summary>Contract</summary>
+    ///
+    /// In the words of the folder `specs/` of crate `ent_world`:
+    ///
+    /// ```text
+    /// ensures { result ≡ self.now.phase }
+    /// ```
+    ///
+    /// </details>
     #[inline]
-    pub fn phase(&self) -> u64
-        // ensures { result ≡ self.now.phase }
-    {
+    pub fn phase(&self) -> u64 {
         self.phase
     }
 
     /// Whether any handle was requested since the last flush.
+    ///
+    /// <details><summary>Contract</summary>
+    ///
+    /// In the words of the folder `specs/` of crate `ent_world`:
+    ///
+    /// ```text
+    /// ensures { IsTrue result ↔ (0 < self.now.allocator.asked) }
+    /// ```
+    ///
+    /// </details>
     #[inline]
-    pub fn needs_flush(&self) -> bool
-        // ensures { IsTrue result ↔ (0 < self.now.allocator.asked) }
-    {
+    pub fn needs_flush(&self) -> bool {
         self.entities.needs_flush()
     }
 
@@ -141,14 +226,22 @@ impl World {
     /// # Errors
     ///
     /// `Memory`, only if something is reserved. Nothing has changed then.
+    ///
+    /// <details><summary>Contract</summary>
+    ///
+    /// In the words of the folder `specs/` of crate `ent_world`:
+    ///
+    /// ```text
+    /// ensures ok { OnOk result (self.new ≡ after_births [] self.old) }
+    /// ensures flushed { OnOk result (self.new.allocator.asked ≡ 0) }
+    /// ensures err { OnErr result (self.new ≡ self.old) }
+    /// ensures memory { OnErr result (0 < length self.old.allocator.taken) }
+    /// ensures world { IsWorld self.new }
+    /// ```
+    ///
+    /// </details>
     #[inline]
-    pub fn flush(&mut self) -> Result<(), Memory>
-        // ensures ok { OnOk result (self.new ≡ after_births [] self.old) }
-        // ensures flushed { OnOk result (self.new.allocator.asked ≡ 0) }
-        // ensures err { OnErr result (self.new ≡ self.old) }
-        // ensures memory { OnErr result (0 < length self.old.allocator.taken) }
-        // ensures world { IsWorld self.new }
-    {
+    pub fn flush(&mut self) -> Result<(), Memory> {
         let _ = self.bring_to_life(&[])?;
         Ok(())
     }
@@ -166,21 +259,29 @@ impl World {
     /// - `Space` if every slot has a living occupant or is retired.
     /// - `Memory` if there is no memory for a component, or for a new slot and its entity. It
     ///   never comes if a slot waits and the bundle is empty.
+    ///
+    /// <details><summary>Contract</summary>
+    ///
+    /// In the words of the folder `specs/` of crate `ent_world`:
+    ///
+    /// ```text
+    /// ensures front { IfOk result (λ handle.
+    ///     slice_get self.old.allocator.pool 0 ≡ Some handle) }
+    /// ensures ok { IfOk result (λ handle.
+    ///     self.new ≡ after_spawn birth bundle.now handle self.old) }
+    /// ensures needs_flush { IsErrOf result AllocFault.NeedsFlush
+    ///     ↔ (0 < self.old.allocator.asked) }
+    /// ensures space { IsErrOf result AllocFault.Space
+    ///     ↔ ((self.old.allocator.asked ≡ 0) × (self.old.allocator.pool ≡ [])) }
+    /// ensures memory { IsErrOf result AllocFault.Memory
+    ///     → (top self.old.allocator ≡ 0) ⊎ (0 < length bundle.now) }
+    /// ensures err { OnErr result (self.new ≡ self.old) }
+    /// ensures world { IsWorld self.new }
+    /// ```
+    ///
+    /// </details>
     #[inline]
-    pub fn spawn(&mut self, birth: Birth, bundle: &Bundle) -> Result<Handle, AllocFault>
-        // ensures front { IfOk result (λ handle.
-        //     slice_get self.old.allocator.pool 0 ≡ Some handle) }
-        // ensures ok { IfOk result (λ handle.
-        //     self.new ≡ after_spawn birth bundle.now handle self.old) }
-        // ensures needs_flush { IsErrOf result AllocFault.NeedsFlush
-        //     ↔ (0 < self.old.allocator.asked) }
-        // ensures space { IsErrOf result AllocFault.Space
-        //     ↔ ((self.old.allocator.asked ≡ 0) × (self.old.allocator.pool ≡ [])) }
-        // ensures memory { IsErrOf result AllocFault.Memory
-        //     → (top self.old.allocator ≡ 0) ⊎ (0 < length bundle.now) }
-        // ensures err { OnErr result (self.new ≡ self.old) }
-        // ensures world { IsWorld self.new }
-    {
+    pub fn spawn(&mut self, birth: Birth, bundle: &Bundle) -> Result<Handle, AllocFault> {
         let handle = next_handle(&self.entities)?;
         let row = self.entities.len();
         let place = row as usize;
@@ -204,19 +305,27 @@ impl World {
     /// - `NotAlive` if the handle names no living entity.
     /// - `Memory` if there is no memory for the slot to wait in. The slot of the last generation
     ///   never waits, so its entity is never refused for that.
+    ///
+    /// <details><summary>Contract</summary>
+    ///
+    /// In the words of the folder `specs/` of crate `ent_world`:
+    ///
+    /// ```text
+    /// ensures ok { OnOk result (self.new ≡ after_despawn handle self.old) }
+    /// ensures next { IfOk result (λ freed. freed.next ≡ next self.old.allocator.limits handle) }
+    /// ensures lived { OnOk result (lives_in self.old handle ≡ true) }
+    /// ensures needs_flush { IsErrOf result FreeFault.NeedsFlush ↔ (0 < self.old.allocator.asked) }
+    /// ensures not_alive { IsErrOf result FreeFault.NotAlive
+    ///     ↔ ((self.old.allocator.asked ≡ 0) × (lives_in self.old handle ≡ false)) }
+    /// ensures memory { IsErrOf result FreeFault.Memory
+    ///     → handle.generation ≢ self.old.allocator.limits.generations }
+    /// ensures err { OnErr result (self.new ≡ self.old) }
+    /// ensures world { IsWorld self.new }
+    /// ```
+    ///
+    /// </details>
     #[inline]
-    pub fn despawn(&mut self, handle: Handle) -> Result<Freed, FreeFault>
-        // ensures ok { OnOk result (self.new ≡ after_despawn handle self.old) }
-        // ensures next { IfOk result (λ freed. freed.next ≡ next self.old.allocator.limits handle) }
-        // ensures lived { OnOk result (lives_in self.old handle ≡ true) }
-        // ensures needs_flush { IsErrOf result FreeFault.NeedsFlush ↔ (0 < self.old.allocator.asked) }
-        // ensures not_alive { IsErrOf result FreeFault.NotAlive
-        //     ↔ ((self.old.allocator.asked ≡ 0) × (lives_in self.old handle ≡ false)) }
-        // ensures memory { IsErrOf result FreeFault.Memory
-        //     → handle.generation ≢ self.old.allocator.limits.generations }
-        // ensures err { OnErr result (self.new ≡ self.old) }
-        // ensures world { IsWorld self.new }
-    {
+    pub fn despawn(&mut self, handle: Handle) -> Result<Freed, FreeFault> {
         let row = self.entities.row(handle);
         let freed = self.entities.free(handle)?;
         let Some(row) = row else { unreachable!() };
@@ -233,7 +342,7 @@ impl World {
     ///
     /// [`Memory`], with the world as it was.
     #[inline]
-    pub fn open(self, n: usize) -> Result<(OpenWorld, Vec<Reserver>), (World, Memory)>
+    pub(crate) fn open(self, n: usize) -> Result<(OpenWorld, Vec<Reserver>), (World, Memory)>
         // requires flushed { self.allocator.asked ≡ 0 }
         // requires some { 0 < n }
         // requires few { n ≤ 1024 }
@@ -255,18 +364,16 @@ impl World {
             entities,
             storage,
             phase,
-            alloc,
         } = self;
-        match share(alloc, entities, n) {
+        match share(entities, n) {
             Ok((shared, reservers)) => {
-                Ok((OpenWorld::new(alloc, shared, storage, phase), reservers))
+                Ok((OpenWorld::new(shared, storage, phase), reservers))
             }
             Err((entities, memory)) => Err((
                 World {
                     entities,
                     storage,
                     phase,
-                    alloc,
                 },
                 memory,
             )),

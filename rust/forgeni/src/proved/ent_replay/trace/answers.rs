@@ -2,14 +2,14 @@
 
 //! What a line says was answered, read from its words.
 
-use crate::kit::vec::Vec;
+use alloc::vec::Vec;
+use crate::kit::vec::FallibleVec;
 use crate::proved::ent_replay::handle_list::HandleList;
 use crate::proved::ent_replay::trace::read_fault::{Cause, ReadFault};
 use crate::proved::ent_replay::trace::reply::{AllocReply, FlushReply, FreeReply, ReserveReply};
 use crate::proved::ent_replay::trace::words::{Few, few_words, first_word};
 use crate::proved::ent_alloc::State;
 use crate::proved::ent_handle::{Handle, read_decimal, split_once};
-use crate::kit::alloc::Global;
 
 #[inline]
 fn read_number(word: &[u8]) -> Result<u32, Cause>
@@ -115,13 +115,13 @@ pub(super) fn read_len(told: &[u8]) -> Result<u32, Cause>
 
 /// All words as handles.
 #[inline]
-fn read_handles(alloc: Global, told: &[u8]) -> Result<HandleList, ReadFault>
+fn read_handles(told: &[u8]) -> Result<HandleList, ReadFault>
     // ensures { ReadsAs result (handles_told (words_in told.now)) }
 {
-    let mut handles = Vec::new(alloc);
+    let mut handles = Vec::new();
     let mut rest = told;
     while let Some((word, others)) = first_word(rest) {
-        handles.push(read_handle(word)?)?;
+        handles.push_fallibly(read_handle(word)?)?;
         rest = others;
     }
     Ok(HandleList::new(handles))
@@ -156,17 +156,17 @@ fn read_closed(text: &[u8]) -> Result<u32, Cause>
 }
 
 #[inline]
-pub(super) fn read_flush(alloc: Global, told: &[u8]) -> Result<FlushReply, ReadFault>
+pub(super) fn read_flush(told: &[u8]) -> Result<FlushReply, ReadFault>
     // ensures { ReadsAs result (flush_told (words_in told.now)) }
 {
     match first_word(told) {
-        Some((word, others)) if word == b"born".as_slice() => read_born(alloc, others),
+        Some((word, others)) if word == b"born".as_slice() => read_born(others),
         _ => Err(ReadFault::Cause(Cause::Reply)),
     }
 }
 
 #[inline]
-fn read_born(alloc: Global, told: &[u8]) -> Result<FlushReply, ReadFault>
+fn read_born(told: &[u8]) -> Result<FlushReply, ReadFault>
     // ensures { ReadsAs result (born_told (words_in told.now)) }
 {
     if let Few::One(word) = few_words(told) {
@@ -174,16 +174,16 @@ fn read_born(alloc: Global, told: &[u8]) -> Result<FlushReply, ReadFault>
             return Ok(FlushReply::Count(count));
         }
     }
-    Ok(FlushReply::Born(read_handles(alloc, told)?))
+    Ok(FlushReply::Born(read_handles(told)?))
 }
 
 #[inline]
-pub(super) fn read_reserved(alloc: Global, told: &[u8]) -> Result<ReserveReply, ReadFault>
+pub(super) fn read_reserved(told: &[u8]) -> Result<ReserveReply, ReadFault>
     // ensures { ReadsAs result (reserve_told (words_in told.now)) }
 {
     match first_word(told) {
         Some((word, others)) if word == b"space".as_slice() => Ok(read_space(others)?),
-        _ => Ok(ReserveReply::Handles(read_handles(alloc, told)?)),
+        _ => Ok(ReserveReply::Handles(read_handles(told)?)),
     }
 }
 

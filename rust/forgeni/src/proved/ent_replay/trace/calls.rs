@@ -2,20 +2,18 @@
 
 //! The calls that nothing overlaps: each is made, and says what the allocator answered.
 
-use crate::kit::vec::Vec;
+use alloc::vec::Vec;
 use crate::proved::ent_replay::handle_list::HandleList;
 use crate::proved::ent_replay::trace::fitting::{fits_born, fits_freed};
 use crate::proved::ent_replay::trace::line::Line;
 use crate::proved::ent_replay::trace::reply::{AllocReply, FlushReply, FreeReply};
 use crate::proved::ent_alloc::{AllocFault, Entities, FreeFault};
 use crate::proved::ent_handle::{Handle, Memory};
-use crate::kit::alloc::Global;
 
 /// Makes the call of a line that is no reservation. If what it says was answered isn't what the
 /// allocator answered, returns the line as it should be.
 #[inline]
 pub(super) fn answered(
-    alloc: Global,
     entities: &mut Entities,
     line: &Line,
 ) -> Result<Option<Line>, Memory>
@@ -47,7 +45,7 @@ pub(super) fn answered(
             })
         }
         Line::Flush(told) => {
-            let given = flushed(alloc, entities)?;
+            let given = flushed(entities)?;
             match told {
                 Some(told) if !fits_born(told, &given) => Ok(Some(Line::Flush(Some(FlushReply::Born(
                     given,
@@ -116,11 +114,11 @@ fn freed_reply(next: Option<Handle>) -> FreeReply
 }
 
 #[inline]
-fn flushed(alloc: Global, entities: &mut Entities) -> Result<HandleList, Memory>
+fn flushed(entities: &mut Entities) -> Result<HandleList, Memory>
     // ensures reply { IfOk result (λ handles. handles ≡ born entities.old.allocator) }
     // ensures after { OnOk result (entities.new.allocator ≡ after_flush entities.old.allocator) }
 {
-    let mut born = Vec::new(alloc);
+    let mut born = Vec::new();
     entities.flush(&mut born)?;
     Ok(HandleList::new(born))
 }

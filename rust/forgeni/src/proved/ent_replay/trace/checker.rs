@@ -2,7 +2,8 @@
 
 //! The checker: one line of a trace after the other.
 
-use crate::kit::vec::Vec;
+use alloc::vec::Vec;
+use crate::kit::vec::FallibleVec;
 use crate::proved::ent_replay::by_caller::ByCaller;
 use crate::proved::ent_replay::trace::calls::answered;
 use crate::proved::ent_replay::trace::difference::{Difference, Stop};
@@ -12,7 +13,6 @@ use crate::proved::ent_replay::trace::line::{Line, Reservation};
 use crate::proved::ent_replay::trace::lineup::{Lineup, make_all};
 use crate::proved::ent_replay::trace::placed::Placed;
 use crate::proved::ent_alloc::{Entities, Limits};
-use crate::kit::alloc::Global;
 
 /// How many handles may be requested between two flushes.
 const MOST: u64 = 1 << 50;
@@ -22,7 +22,6 @@ const MOST: u64 = 1 << 50;
 /// It holds the allocator and the reservations since the last other line, which are compared
 /// together. Contracts see just these two.
 pub struct Checker {
-    alloc: Global,
     entities: Entities,
     run: Vec<Placed>,
     latest: ByCaller<u64>,
@@ -31,15 +30,22 @@ pub struct Checker {
 
 impl Checker {
     /// A checker that has taken no line. It takes no memory.
+    ///
+    /// <details><summary>Contract</summary>
+    ///
+    /// In the words of the folder `specs/` of crate `ent_replay`:
+    ///
+    /// ```text
+    /// ensures { result ≡ record { allocator = opening limits; run = [] } }
+    /// ```
+    ///
+    /// </details>
     #[inline]
-    pub fn new(alloc: Global, limits: Limits) -> Self
-        // ensures { result ≡ record { allocator = opening limits; run = [] } }
-    {
+    pub fn new(limits: Limits) -> Self {
         Checker {
-            alloc,
-            entities: Entities::new(alloc, limits),
-            run: Vec::new(alloc),
-            latest: ByCaller::new(alloc),
+            entities: Entities::with_exact_limits(limits),
+            run: Vec::new(),
+            latest: ByCaller::new(),
             wanted: 0,
         }
     }
@@ -54,16 +60,24 @@ impl Checker {
     /// - `TooMany`: it is a reservation, and with it more than 2^50 handles were requested since
     ///   the last flush.
     /// - `Memory`: memory ran out.
+    ///
+    /// <details><summary>Contract</summary>
+    ///
+    /// In the words of the folder `specs/` of crate `ent_replay`:
+    ///
+    /// ```text
+    /// ensures follows { IfOk result (λ next. Follows self line next) }
+    /// ensures reaches { IfOk result (λ next. Reaches self line next) }
+    /// ensures differs { IfErr result (λ stop.
+    ///     OnDiffers stop (Shows self number (line ∷ []))) }
+    /// ensures none { IfErr result (λ stop. OnDiffers stop (λ d. NoneFollows self line)) }
+    /// ensures too_many { IfErr result (λ stop. OnTooMany stop (IsTooMany self line)) }
+    /// ensures few { OnOk result (¬ (IsTooMany self line)) }
+    /// ```
+    ///
+    /// </details>
     #[inline]
-    pub fn take(self, number: u64, line: Line) -> Result<Self, Stop>
-        // ensures follows { IfOk result (λ next. Follows self line next) }
-        // ensures reaches { IfOk result (λ next. Reaches self line next) }
-        // ensures differs { IfErr result (λ stop.
-        //     OnDiffers stop (Shows self number (line ∷ []))) }
-        // ensures none { IfErr result (λ stop. OnDiffers stop (λ d. NoneFollows self line)) }
-        // ensures too_many { IfErr result (λ stop. OnTooMany stop (IsTooMany self line)) }
-        // ensures few { OnOk result (¬ (IsTooMany self line)) }
-    {
+    pub fn take(self, number: u64, line: Line) -> Result<Self, Stop> {
         if let Line::Reserve(reservation) = line {
             return self.add(reservation);
         }
@@ -75,14 +89,22 @@ impl Checker {
     /// # Errors
     ///
     /// `Differs` or `Memory`, as `take`.
+    ///
+    /// <details><summary>Contract</summary>
+    ///
+    /// In the words of the folder `specs/` of crate `ent_replay`:
+    ///
+    /// ```text
+    /// ensures settled { IfOk result (λ next. IsSettled self next.allocator × (next.run ≡ [])) }
+    /// ensures agrees { OnOk result (AgreesWith self []) }
+    /// ensures differs { IfErr result (λ stop. OnDiffers stop (Shows self 0 [])) }
+    /// ensures none { IfErr result (λ stop. OnDiffers stop (λ d. AgreesWith self [] → ⊥)) }
+    /// ensures counted { IfErr result (λ stop. OnTooMany stop ⊥) }
+    /// ```
+    ///
+    /// </details>
     #[inline]
-    pub fn finish(self) -> Result<Self, Stop>
-        // ensures settled { IfOk result (λ next. IsSettled self next.allocator × (next.run ≡ [])) }
-        // ensures agrees { OnOk result (AgreesWith self []) }
-        // ensures differs { IfErr result (λ stop. OnDiffers stop (Shows self 0 [])) }
-        // ensures none { IfErr result (λ stop. OnDiffers stop (λ d. AgreesWith self [] → ⊥)) }
-        // ensures counted { IfErr result (λ stop. OnTooMany stop ⊥) }
-    {
+    pub fn finish(self) -> Result<Self, Stop> {
         self.settle()
     }
 
@@ -111,16 +133,15 @@ impl Checker {
         // ensures counted { IfErr result (λ stop. OnTooMany stop ⊥) }
     {
         let Checker {
-            alloc,
             mut entities,
             mut run,
             mut latest,
             wanted,
         } = self;
-        run.sort_by_cached_key(|placed| placed.key)?;
-        let lineup = Lineup::new(alloc, run, &entities).settle(alloc, &entities)?;
+        run.sort_by_cached_key_fallibly(|placed| placed.key)?;
+        let lineup = Lineup::new(run, &entities).settle(&entities)?;
         if !lineup.rest.is_empty() {
-            return Err(Stop::Differs(lineup.difference(alloc, &entities)?));
+            return Err(Stop::Differs(lineup.difference(&entities)?));
         }
         let Lineup {
             placed: mut run,
@@ -131,7 +152,6 @@ impl Checker {
         run.clear();
         latest.clear();
         Ok(Checker {
-            alloc,
             entities,
             run,
             latest,
@@ -152,7 +172,6 @@ impl Checker {
         // ensures counted { IfErr result (λ stop. OnTooMany stop ⊥) }
     {
         let Checker {
-            alloc,
             mut entities,
             run,
             latest,
@@ -160,8 +179,8 @@ impl Checker {
         } = self;
         // No call can be undone, so what a difference shows is looked up before it.
         let cursor = entities.cursor();
-        let front = front_at(alloc, &entities, cursor)?;
-        let expected = answered(alloc, &mut entities, &line)?;
+        let front = front_at(&entities, cursor)?;
+        let expected = answered(&mut entities, &line)?;
         if let Some(expected) = expected {
             return Err(Stop::Differs(Difference {
                 number,
@@ -173,7 +192,6 @@ impl Checker {
         }
         let wanted = entities.asked();
         Ok(Checker {
-            alloc,
             entities,
             run,
             latest,
@@ -191,7 +209,6 @@ impl Checker {
         // ensures few { OnOk result (¬ (IsTooManyIn self reservation)) }
     {
         let Checker {
-            alloc,
             entities,
             mut run,
             mut latest,
@@ -204,10 +221,9 @@ impl Checker {
         let caller = reservation.caller;
         let before = latest.get(caller).unwrap_or(0);
         let key = own_key(&entities, reservation.requested, &reservation.reply).max(before);
-        run.push(Placed { reservation, key })?;
+        run.push_fallibly(Placed { reservation, key })?;
         latest.insert(caller, key)?;
         Ok(Checker {
-            alloc,
             entities,
             run,
             latest,

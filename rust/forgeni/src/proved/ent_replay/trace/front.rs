@@ -2,11 +2,11 @@
 
 //! The front of the pool, for a difference to show.
 
-use crate::kit::vec::Vec;
+use alloc::vec::Vec;
+use crate::kit::vec::FallibleVec;
 use crate::proved::ent_replay::handle_list::HandleList;
 use crate::proved::ent_alloc::Entities;
 use crate::proved::ent_handle::{Handle, Memory};
-use crate::kit::alloc::Global;
 
 /// How many handles are shown.
 const SHOWN: usize = 8;
@@ -28,7 +28,6 @@ fn handle_at(entities: &Entities, position: i64) -> Option<Handle>
 /// follow don't change it.
 #[inline]
 pub(super) fn front_at(
-    alloc: Global,
     entities: &Entities,
     position: i64,
 ) -> Result<HandleList, Memory>
@@ -37,13 +36,13 @@ pub(super) fn front_at(
     // ensures { IfOk result (λ front.
     //     front ≡ take 8 (pool_at entities.now.allocator position)) }
 {
-    let mut front = Vec::new(alloc);
+    let mut front = Vec::new();
     let mut next = position;
     while front.len() < SHOWN {
         let Some(handle) = handle_at(entities, next) else {
             break;
         };
-        front.push(handle)?;
+        front.push_fallibly(handle)?;
         next -= 1;
     }
     Ok(HandleList::new(front))

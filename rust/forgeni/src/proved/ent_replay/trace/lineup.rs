@@ -3,7 +3,8 @@
 //! The reservations of a run, lined up: those that agree, in an order in which they may have come, and
 //! the others.
 
-use crate::kit::vec::Vec;
+use alloc::vec::Vec;
+use crate::kit::vec::FallibleVec;
 use crate::proved::ent_replay::by_caller::ByCaller;
 use crate::proved::ent_replay::handle_list::HandleList;
 use crate::proved::ent_replay::trace::difference::Difference;
@@ -15,7 +16,6 @@ use crate::proved::ent_replay::trace::reply::ReserveReply;
 use crate::proved::ent_replay::trace::suspect::suspect;
 use crate::proved::ent_alloc::{Entities, Reserved, Space, Span};
 use crate::proved::ent_handle::Memory;
-use crate::kit::alloc::Global;
 
 /// The reservations of a run in an order in which they may have come.
 pub(super) struct Lineup {
@@ -30,14 +30,14 @@ pub(super) struct Lineup {
 impl Lineup {
     /// The lineup of a run of which nothing is placed yet.
     #[inline]
-    pub(super) fn new(alloc: Global, run: Vec<Placed>, entities: &Entities) -> Self
+    pub(super) fn new(run: Vec<Placed>, entities: &Entities) -> Self
         // requires { entities.now.allocator.asked + requested_in (reservations_of run.items) ≤ 2 ^ 50 }
         // ensures lined { IsLineup entities.now.allocator result }
         // ensures none { result.placed.items ≡ [] }
         // ensures all { result.rest.items ≡ run.items }
     {
         Lineup {
-            placed: Vec::new(alloc),
+            placed: Vec::new(),
             rest: run,
             at: entities.cursor(),
         }
@@ -45,7 +45,7 @@ impl Lineup {
 
     /// Places all that can be, until no caller's next reservation fits.
     #[inline]
-    pub(super) fn settle(self, alloc: Global, entities: &Entities) -> Result<Self, Memory>
+    pub(super) fn settle(self, entities: &Entities) -> Result<Self, Memory>
         // requires { IsLineup entities.now.allocator self }
         // ensures lined { IfOk result (λ next. IsLineup entities.now.allocator next) }
         // ensures keeps { IfOk result (λ next. KeepsCallers (all_of self) (all_of next)) }
@@ -58,7 +58,7 @@ impl Lineup {
         let mut before = lineup.rest.len() + 1;
         while lineup.rest.len() < before {
             before = lineup.rest.len();
-            lineup = lineup.pass(alloc, entities)?;
+            lineup = lineup.pass(entities)?;
         }
         Ok(lineup)
     }
@@ -66,7 +66,7 @@ impl Lineup {
     /// Goes over those that are not placed, in their order, and places each one that fits and is the next
     /// one of its caller.
     #[inline]
-    fn pass(self, alloc: Global, entities: &Entities) -> Result<Self, Memory>
+    fn pass(self, entities: &Entities) -> Result<Self, Memory>
         // requires { IsLineup entities.now.allocator self }
         // ensures lined { IfOk result (λ next. IsLineup entities.now.allocator next) }
         // ensures keeps { IfOk result (λ next. KeepsCallers (all_of self) (all_of next)) }
@@ -83,17 +83,17 @@ impl Lineup {
             rest,
             mut at,
         } = self;
-        let mut left = Vec::new(alloc);
-        let mut blocked = ByCaller::new(alloc);
+        let mut left = Vec::new();
+        let mut blocked = ByCaller::new();
         for one in rest {
             let caller = one.reservation.caller;
             let free = blocked.get(caller).is_none();
-            if free && fits_at(alloc, entities, at, &one.reservation)? {
+            if free && fits_at(entities, at, &one.reservation)? {
                 at -= i64::from(one.reservation.requested);
-                placed.push(one)?;
+                placed.push_fallibly(one)?;
             } else {
                 blocked.insert(caller, one.key)?;
-                left.push(one)?;
+                left.push_fallibly(one)?;
             }
         }
         Ok(Lineup {
@@ -105,13 +105,13 @@ impl Lineup {
 
     /// The difference of a run that has reservations which can't be placed.
     #[inline]
-    pub(super) fn difference(self, alloc: Global, entities: &Entities) -> Result<Difference, Memory>
+    pub(super) fn difference(self, entities: &Entities) -> Result<Difference, Memory>
         // requires lined { IsLineup entities.now.allocator self }
         // requires stuck { NoneFits (reached entities.now.allocator self) self.rest.items }
         // requires some { self.rest.items ≢ [] }
         // ensures { IfOk result (λ d. NamesOne entities.now.allocator self d) }
     {
-        let named = suspect(alloc, entities, self.at, &self.rest)?;
+        let named = suspect(entities, self.at, &self.rest)?;
         let Lineup {
             placed: _,
             mut rest,
@@ -121,12 +121,12 @@ impl Lineup {
             reservation,
             key: _,
         } = rest.remove(named);
-        let given = reply_at(alloc, entities, cursor, reservation.requested)?;
+        let given = reply_at(entities, cursor, reservation.requested)?;
         Ok(Difference {
             number: reservation.number,
             expected: Line::Reserve(with_reply(&reservation, reply_of(given))),
             told: Line::Reserve(reservation),
-            front: front_at(alloc, entities, cursor)?,
+            front: front_at(entities, cursor)?,
             cursor,
         })
     }
@@ -169,10 +169,10 @@ pub(super) fn make_all(entities: &mut Entities, run: &[Placed])
 
 /// Lists the handles of a reply.
 #[inline]
-fn listed(alloc: Global, reserved: Reserved<'_>) -> Result<HandleList, Memory>
+fn listed(reserved: Reserved<'_>) -> Result<HandleList, Memory>
     // ensures { IfOk result (λ handles. handles ≡ reserved.entry) }
 {
-    let mut handles = Vec::with_capacity(alloc, reserved.len())?;
+    let mut handles = Vec::with_capacity_fallibly(reserved.len())?;
     for handle in reserved {
         handles.push_reserved(handle);
     }
@@ -182,7 +182,6 @@ fn listed(alloc: Global, reserved: Reserved<'_>) -> Result<HandleList, Memory>
 /// The reply to a request for `n` handles if the cursor is at this position.
 #[inline]
 pub(super) fn reply_at(
-    alloc: Global,
     entities: &Entities,
     at: i64,
     n: u32,
@@ -197,7 +196,7 @@ pub(super) fn reply_at(
         low: at - i64::from(n),
     };
     match entities.reply(span) {
-        Ok(reserved) => Ok(Ok(listed(alloc, reserved)?)),
+        Ok(reserved) => Ok(Ok(listed(reserved)?)),
         Err(space) => Ok(Err(space)),
     }
 }
@@ -205,7 +204,6 @@ pub(super) fn reply_at(
 /// Whether the reservation's reply is the allocator's if the cursor is at this position.
 #[inline]
 pub(super) fn fits_at(
-    alloc: Global,
     entities: &Entities,
     at: i64,
     reservation: &Reservation,
@@ -216,6 +214,6 @@ pub(super) fn fits_at(
     //     IsTrue fits ↔ FitsReserved reservation.now.reply
     //     (reply_from here.made (pool_at here at) reservation.now.requested)) }
 {
-    let given = reply_at(alloc, entities, at, reservation.requested)?;
+    let given = reply_at(entities, at, reservation.requested)?;
     Ok(fits_reserved(&reservation.reply, &given))
 }

@@ -23,10 +23,18 @@ pub enum Cause {
 
 impl Cause {
     /// The word that names it: `word`, `count`, `number`, `handle` or `reply`.
+    ///
+    /// <details><summary>Contract</summary>
+    ///
+    /// In the words of the folder `specs/` of crate `ent_replay`:
+    ///
+    /// ```text
+    /// ensures { result.now ≡ cause_text self }
+    /// ```
+    ///
+    /// </details>
     #[inline]
-    pub fn text(self) -> &'static str
-        // ensures { result.now ≡ cause_text self }
-    {
+    pub fn text(self) -> &'static str {
         match self {
             Cause::Word => "word",
             Cause::Count => "count",

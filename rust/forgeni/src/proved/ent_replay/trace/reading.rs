@@ -9,7 +9,6 @@ use crate::proved::ent_replay::trace::line::{Line, Reservation};
 use crate::proved::ent_replay::trace::read_fault::{Cause, ReadFault};
 use crate::proved::ent_replay::trace::words::{before_comment, first_word, no_argument, one_argument, two_arguments};
 use crate::proved::ent_handle::{Handle, read_decimal};
-use crate::kit::alloc::Global;
 
 #[inline]
 fn read_number(word: &[u8]) -> Result<u32, Cause>
@@ -48,24 +47,24 @@ fn free_line(text: &[u8]) -> Result<Line, Cause>
 }
 
 #[inline]
-fn flush_line(alloc: Global, text: &[u8]) -> Result<Line, ReadFault>
+fn flush_line(text: &[u8]) -> Result<Line, ReadFault>
     // ensures { ReadsAs result (flush_line (words_in text.now)) }
 {
     match no_argument(text)? {
         None => Ok(Line::Flush(None)),
-        Some(told) => Ok(Line::Flush(Some(read_flush(alloc, told)?))),
+        Some(told) => Ok(Line::Flush(Some(read_flush(told)?))),
     }
 }
 
 #[inline]
-fn reserve_line(alloc: Global, number: u64, text: &[u8]) -> Result<Line, ReadFault>
+fn reserve_line(number: u64, text: &[u8]) -> Result<Line, ReadFault>
     // ensures { ReadsAs result (reserve_line number (words_in text.now)) }
 {
     let (caller, requested, told) = two_arguments(text)?;
     let caller = read_number(caller)?;
     let requested = read_number(requested)?;
     let told = told.ok_or(Cause::Reply)?;
-    let reply = read_reserved(alloc, told)?;
+    let reply = read_reserved(told)?;
     Ok(Line::Reserve(Reservation {
         number,
         caller,
@@ -97,17 +96,17 @@ fn len_line(text: &[u8]) -> Result<Line, Cause>
 }
 
 #[inline]
-fn read_call(alloc: Global, number: u64, word: &[u8], text: &[u8]) -> Result<Line, ReadFault>
+fn read_call(number: u64, word: &[u8], text: &[u8]) -> Result<Line, ReadFault>
     // ensures { ReadsAs result (call_of number word.now (words_in text.now)) }
 {
     if word == b"reserve".as_slice() {
-        reserve_line(alloc, number, text)
+        reserve_line(number, text)
     } else if word == b"alloc".as_slice() {
         Ok(alloc_line(text)?)
     } else if word == b"free".as_slice() {
         Ok(free_line(text)?)
     } else if word == b"flush".as_slice() {
-        flush_line(alloc, text)
+        flush_line(text)
     } else if word == b"state".as_slice() {
         Ok(state_line(text)?)
     } else if word == b"len".as_slice() {
@@ -128,13 +127,21 @@ fn read_call(alloc: Global, number: u64, word: &[u8], text: &[u8]) -> Result<Lin
 ///
 /// `Cause` if the line is no call with its answer, with the first of the causes that it has;
 /// `Memory` if memory ran out.
+///
+/// <details><summary>Contract</summary>
+///
+/// In the words of the folder `specs/` of crate `ent_replay`:
+///
+/// ```text
+/// // All of it, as a function of the words.
+/// ensures exact { ReadsAs result (line_of number (words_of line.now)) }
+/// ```
+///
+/// </details>
 #[inline]
-pub fn read_line(alloc: Global, number: u64, line: &[u8]) -> Result<Option<Line>, ReadFault>
-    // All of it, as a function of the words.
-    // ensures exact { ReadsAs result (line_of number (words_of line.now)) }
-{
+pub fn read_line(number: u64, line: &[u8]) -> Result<Option<Line>, ReadFault> {
     match first_word(before_comment(line)) {
         None => Ok(None),
-        Some((word, others)) => Ok(Some(read_call(alloc, number, word, others)?)),
+        Some((word, others)) => Ok(Some(read_call(number, word, others)?)),
     }
 }

@@ -2,7 +2,8 @@
 
 //! Chooses which of the reservations that can't be placed a difference names.
 
-use crate::kit::vec::Vec;
+use alloc::vec::Vec;
+use crate::kit::vec::FallibleVec;
 use crate::proved::ent_replay::by_caller::ByCaller;
 use crate::proved::ent_replay::trace::key::own_key;
 use crate::proved::ent_replay::trace::lineup::fits_at;
@@ -10,7 +11,6 @@ use crate::proved::ent_replay::trace::placed::Placed;
 use crate::proved::ent_replay::trace::reply::ReserveReply;
 use crate::proved::ent_alloc::Entities;
 use crate::proved::ent_handle::Memory;
-use crate::kit::alloc::Global;
 
 /// How many reservations are tried.
 const TRIES: u32 = 64;
@@ -29,7 +29,6 @@ struct Turn {
 /// a reservation, it is the first of the list.
 #[inline]
 pub(super) fn suspect(
-    alloc: Global,
     entities: &Entities,
     at: i64,
     rest: &[Placed],
@@ -37,8 +36,8 @@ pub(super) fn suspect(
     // requires { rest.now ≢ [] }
     // ensures { IfOk result (λ index. IsFirstAt rest.now index) }
 {
-    let order = turns(alloc, entities, rest)?;
-    let mut seen = ByCaller::new(alloc);
+    let order = turns(entities, rest)?;
+    let mut seen = ByCaller::new();
     let mut tries = 0;
     for (index, one) in rest.iter().enumerate() {
         let caller = one.reservation.caller;
@@ -46,7 +45,7 @@ pub(super) fn suspect(
             continue;
         }
         let next = at.saturating_sub(i64::from(one.reservation.requested));
-        if others_fit(alloc, entities, next, rest, &order, index)? {
+        if others_fit(entities, next, rest, &order, index)? {
             return Ok(index);
         }
         tries += 1;
@@ -60,14 +59,14 @@ pub(super) fn suspect(
 
 /// The reservations in the order of the handles that they were given.
 #[inline]
-fn turns(alloc: Global, entities: &Entities, rest: &[Placed]) -> Result<Vec<Turn>, Memory> {
-    let mut order = Vec::with_capacity(alloc, rest.len())?;
+fn turns(entities: &Entities, rest: &[Placed]) -> Result<Vec<Turn>, Memory> {
+    let mut order = Vec::with_capacity_fallibly(rest.len())?;
     for (index, one) in rest.iter().enumerate() {
         let reservation = &one.reservation;
         let key = own_key(entities, reservation.requested, &reservation.reply);
-        order.push(Turn { key, index })?;
+        order.push_fallibly(Turn { key, index })?;
     }
-    order.sort_by_cached_key(|turn| turn.key)?;
+    order.sort_by_cached_key_fallibly(|turn| turn.key)?;
     Ok(order)
 }
 
@@ -75,14 +74,13 @@ fn turns(alloc: Global, entities: &Entities, rest: &[Placed]) -> Result<Vec<Turn
 /// each caller. A reservation of nothing fits anywhere.
 #[inline]
 fn others_fit(
-    alloc: Global,
     entities: &Entities,
     at: i64,
     rest: &[Placed],
     order: &[Turn],
     named: usize,
 ) -> Result<bool, Memory> {
-    let mut last = ByCaller::new(alloc);
+    let mut last = ByCaller::new();
     let mut next = at;
     for turn in order {
         let Some(one) = rest.get(turn.index) else {
@@ -94,7 +92,7 @@ fn others_fit(
         }
         let caller = one.reservation.caller;
         let place = turn.index as u64;
-        if last.get(caller).unwrap_or(0) > place || !fits_within(alloc, entities, next, one)? {
+        if last.get(caller).unwrap_or(0) > place || !fits_within(entities, next, one)? {
             return Ok(false);
         }
         last.insert(caller, place)?;
@@ -105,12 +103,12 @@ fn others_fit(
 
 /// Whether the reservation fits at a position that an allocator counts.
 #[inline]
-fn fits_within(alloc: Global, entities: &Entities, at: i64, one: &Placed) -> Result<bool, Memory> {
+fn fits_within(entities: &Entities, at: i64, one: &Placed) -> Result<bool, Memory> {
     let cursor = entities.cursor();
     let room = MOST - entities.asked() as i64;
     match at.checked_add(room) {
         Some(reach) if at <= cursor && cursor <= reach => {
-            fits_at(alloc, entities, at, &one.reservation)
+            fits_at(entities, at, &one.reservation)
         }
         _ => Ok(false),
     }

@@ -2,20 +2,20 @@
 
 //! A line of a trace as text.
 
-use crate::kit::vec::Vec;
+use alloc::vec::Vec;
+use crate::kit::vec::FallibleVec;
 use crate::proved::ent_replay::trace::line::{Line, Reservation};
 use crate::proved::ent_replay::trace::reply::{AllocReply, FlushReply, FreeReply, ReserveReply};
 use crate::proved::ent_alloc::State;
 use crate::proved::ent_handle::{Handle, Memory};
 use crate::kit::itoa::Buffer;
-use crate::kit::alloc::Global;
 
 #[inline]
 fn append(out: &mut Vec<u8>, text: &[u8]) -> Result<(), Memory>
     // ensures ok { OnOk result (out.new.items ≡ out.old.items ++ text.now) }
     // ensures err { OnErr result (out.new.items ≡ out.old.items) }
 {
-    Ok(out.extend_from_slice(text)?)
+    Ok(out.extend_from_slice_fallibly(text)?)
 }
 
 #[inline]
@@ -46,13 +46,21 @@ fn append_handle(out: &mut Vec<u8>, handle: Handle) -> Result<(), Memory>
 /// # Errors
 ///
 /// `Memory`: memory ran out. `out` is as it was.
+///
+/// <details><summary>Contract</summary>
+///
+/// In the words of the folder `specs/` of crate `ent_replay`:
+///
+/// ```text
+/// ensures ok { OnOk result (out.new.items
+///     ≡ out.old.items ++ spaced (map handle_text handles.now)) }
+/// ensures err { OnErr result (out.new.items ≡ out.old.items) }
+/// ```
+///
+/// </details>
 #[inline]
-pub fn append_handles(alloc: Global, out: &mut Vec<u8>, handles: &[Handle]) -> Result<(), Memory>
-    // ensures ok { OnOk result (out.new.items
-    //     ≡ out.old.items ++ spaced (map handle_text handles.now)) }
-    // ensures err { OnErr result (out.new.items ≡ out.old.items) }
-{
-    let mut text = Vec::new(alloc);
+pub fn append_handles(out: &mut Vec<u8>, handles: &[Handle]) -> Result<(), Memory> {
+    let mut text = Vec::new();
     put_handles(&mut text, handles)?;
     append(out, &text)
 }
@@ -153,12 +161,20 @@ fn write_reserve(out: &mut Vec<u8>, reservation: &Reservation) -> Result<(), Mem
 /// # Errors
 ///
 /// `Memory`: memory ran out. `out` is as it was.
+///
+/// <details><summary>Contract</summary>
+///
+/// In the words of the folder `specs/` of crate `ent_replay`:
+///
+/// ```text
+/// ensures ok { OnOk result (out.new.items ≡ out.old.items ++ spaced (answer_words line.now)) }
+/// ensures err { OnErr result (out.new.items ≡ out.old.items) }
+/// ```
+///
+/// </details>
 #[inline]
-pub fn append_answer(alloc: Global, out: &mut Vec<u8>, line: &Line) -> Result<(), Memory>
-    // ensures ok { OnOk result (out.new.items ≡ out.old.items ++ spaced (answer_words line.now)) }
-    // ensures err { OnErr result (out.new.items ≡ out.old.items) }
-{
-    let mut text = Vec::new(alloc);
+pub fn append_answer(out: &mut Vec<u8>, line: &Line) -> Result<(), Memory> {
+    let mut text = Vec::new();
     put_answer(&mut text, line)?;
     append(out, &text)
 }
@@ -184,12 +200,20 @@ fn put_answer(out: &mut Vec<u8>, line: &Line) -> Result<(), Memory>
 /// # Errors
 ///
 /// `Memory`: memory ran out. `out` is as it was.
+///
+/// <details><summary>Contract</summary>
+///
+/// In the words of the folder `specs/` of crate `ent_replay`:
+///
+/// ```text
+/// ensures ok { OnOk result (out.new.items ≡ out.old.items ++ line_text line.now) }
+/// ensures err { OnErr result (out.new.items ≡ out.old.items) }
+/// ```
+///
+/// </details>
 #[inline]
-pub fn write_line(alloc: Global, out: &mut Vec<u8>, line: &Line) -> Result<(), Memory>
-    // ensures ok { OnOk result (out.new.items ≡ out.old.items ++ line_text line.now) }
-    // ensures err { OnErr result (out.new.items ≡ out.old.items) }
-{
-    let mut text = Vec::new(alloc);
+pub fn write_line(out: &mut Vec<u8>, line: &Line) -> Result<(), Memory> {
+    let mut text = Vec::new();
     put_line(&mut text, line)?;
     append(out, &text)
 }

@@ -1,0 +1,133 @@
+#!/usr/bin/env python3
+"""Counts what is written by hand in the package: lines of code of rust/forgeni/src outside proved/ and kit/, and functions with a branch.
+
+    .ci/by_hand.py
+
+Comments, blank lines and test modules aren't counted. A branch is `if`, `match`, `while`, `for`, `loop` or `let .. else`, in a closure too.
+Each function with one is a row of the table of docs/BY_HAND.md, which says why it is by hand, and each row is such a function. Missing rows
+are printed as they have to be written there. The script fails if the table isn't right, or if there is more than MOST allows.
+"""
+
+import pathlib
+import re
+import sys
+
+SOURCES, MADE, PAGE = pathlib.Path("rust/forgeni/src"), {"proved", "kit"}, pathlib.Path("docs/BY_HAND.md")
+MOST = {"lines of code": 1500, "functions with a branch": 30}
+BRANCHES, ITEMS = {"if", "else", "match", "while", "for", "loop"}, {"impl", "trait", "mod"}
+ROW = re.compile(r"^\| `([^`]+)` \| `([^`]+)` \|(.*)\|$", re.MULTILINE)
+TOKEN = re.compile(
+    r"""(?P<gap>\s+ | //[^\n]* | /\*.*?\*/) | b?r(?P<marks>\#*)".*?"(?P=marks) | b?"(?:\\.|[^"\\])*" | b?'(?:\\[^']*.|[^'\\])'
+    | '\w+ | \w+ | .""",
+    re.VERBOSE | re.DOTALL,
+)
+
+
+class File:
+    """A file by hand: its functions with a branch, and its lines of code, those of tests apart."""
+
+    def __init__(self, text):
+        self.words, self.places, self.close = [], [], {}
+        line, opened = 1, []
+        for token in TOKEN.finditer(text):
+            if not token["gap"]:
+                if token[0] in "([{":
+                    opened.append(len(self.words))
+                elif token[0] in ")]}":
+                    self.close[opened.pop()] = len(self.words)
+                self.words.append(token[0])
+                self.places.append(line)
+            line += token[0].count("\n")
+        self.branches, self.tests, self.test_modules = [], set(), []
+        self.walk(0, len(self.words), "", None)
+        self.lines = set(self.places) - self.tests
+
+    def walk(self, at, end, owner, function):
+        """Reads what stands there, in an item or in a function."""
+        while at < end:
+            word = self.words[at]
+            before = self.words[at - 1] if at else ""
+            if word == "#" and "[" in self.words[at + 1 : at + 3]:
+                at = self.attribute(at)
+            elif word in ITEMS and before in ("", "{", "}", ";", "]", "pub", ")"):
+                body = self.find(at)
+                kind = f"{owner}{self.name(at, body)}::" if word != "mod" else owner
+                at = self.inside(body, kind, None)
+            elif word == "fn" and re.match(r"\w", self.words[at + 1]):
+                at = self.inside(self.find(at), owner, (owner + self.words[at + 1], at))
+            elif word == "macro_rules":
+                at = self.inside(self.find(at), owner, (self.words[at + 2] + "!", at))
+            else:
+                is_branch = word in BRANCHES and not (word == "for" and self.words[at + 1] == "<")
+                if is_branch and function and function not in self.branches:
+                    self.branches.append(function)
+                at += 1
+
+    def inside(self, body, owner, function):
+        if self.words[body] == "{":
+            self.walk(body + 1, self.close[body], owner, function)
+        return self.close.get(body, body) + 1
+
+    def find(self, at, ends="{;"):
+        """The place where the body of an item begins, or its end if it has none."""
+        while self.words[at] not in ends:
+            at = self.close.get(at, at) + 1
+        return at
+
+    def attribute(self, at):
+        """Goes past an attribute, and past its item if that is a test."""
+        opened = at + 1 + (self.words[at + 1] == "!")
+        end = self.close[opened] + 1
+        if self.words[opened:end] == "[ cfg ( test ) ]".split():
+            begin, end = at, self.find(end)
+            if self.words[end - 2] == "mod":
+                self.test_modules.append(self.words[end - 1])
+            end = self.close.get(end, end) + 1
+            self.tests |= set(self.places[begin:end])
+        return end
+
+    def name(self, at, body):
+        """`Type`, or `<Type as Trait<..>>`: the type without parameters, and both without paths, lifetimes and bounds."""
+        parts, part, depth = {"": "", "for": "", "where": ""}, "", 0
+        for place in range(at + 1, body):
+            word = self.words[place]
+            depth += word == "<"
+            if depth == 0 and part != "where" and word in parts:
+                part = word
+            elif word[0] != "'" and (depth == 0 or parts[part]):
+                parts[part] += word + " " * (word in ("dyn", "mut"))
+            depth -= word == ">" and self.words[place - 1] != "-"
+        first, of = (re.sub(r"\w+::|(?<=<),", "", parts[it]) for it in ("", "for"))
+        of, own = (re.sub("<.*|:.*", "", it) for it in (of, first))
+        return f"<{of} as {first}>" if of else own
+
+
+def files():
+    """Each file by hand, and those that are test modules apart."""
+    paths = sorted(it for it in SOURCES.rglob("*.rs") if it.relative_to(SOURCES).parts[0] not in MADE)
+    found = {it: File(it.read_text()) for it in paths}
+    tests = set()
+    for path, file in found.items():
+        folder = path.parent if path.name in ("lib.rs", "mod.rs") else path.with_suffix("")
+        tests |= {folder / f"{it}.rs" for it in file.test_modules} | {folder / it / "mod.rs" for it in file.test_modules}
+    return {it: found[it] for it in paths if it not in tests}, [found[it] for it in paths if it in tests]
+
+
+def main():
+    by_hand, tests = files()
+    branches = [(name, str(path.relative_to(SOURCES))) for path, file in by_hand.items() for name, _ in file.branches]
+    counts = {"lines of code": sum(len(it.lines) for it in by_hand.values()), "functions with a branch": len(branches)}
+    of_tests = sum(len(it.tests) for it in by_hand.values()) + sum(len(set(it.places)) for it in tests)
+    rows = {(name, path): reason.strip() for name, path, reason in ROW.findall(PAGE.read_text())}
+    print(f"{SOURCES}: {', '.join(f'{count:,} {of}' for of, count in counts.items())}, and {of_tests} lines of tests that aren't counted")
+    faults = [f"{count:,} {of}, and {MOST[of]:,} at most" for of, count in counts.items() if count > MOST[of]]
+    missing = [f"| `{name}` | `{path}` |  |" for name, path in branches if (name, path) not in rows]
+    faults += ["rows that are missing in " + str(PAGE) + ":\n" + "\n".join(missing)] * bool(missing)
+    faults += [f"{PAGE}: no such function with a branch: `{name}` of {path}" for name, path in rows if (name, path) not in branches]
+    faults += [f"{PAGE}: no reason: `{name}` of {path}" for (name, path), reason in rows.items() if not reason]
+    if faults:
+        sys.exit("\n".join(faults))
+
+
+if __name__ == "__main__":
+    main()

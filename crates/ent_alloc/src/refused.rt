@@ -1,0 +1,35 @@
+ghost use Rattle.std.specs.Prelude.{◌≡◌};
+ghost use Rattle.ent_alloc.specs.declared.refused.Refused.TheVariants.{Space as OutOfSpace};
+
+use crate::space::Space;
+use thiserror::Error;
+
+/// Why a request or a reservation gave no handle.
+#[derive(Clone, Copy, Debug, PartialEq, Eq, Hash, Error)]
+pub enum Refused {
+    /// Fewer handles were left than were requested. The request counts all the same, and no handle
+    /// is given until the next flush.
+    #[error("{wanted} wanted and {left} left")]
+    Space {
+        /// How many handles were requested.
+        wanted: u32,
+        /// How many were left.
+        left: u32,
+    },
+    /// More handles were requested than the quota still allows: that of a reserver, or that of an
+    /// allocator, which is 2^50 between two flushes. Nothing has changed.
+    #[error("the credit left is {left}")]
+    Quota {
+        /// How many the quota still allows.
+        left: u64,
+    },
+}
+
+impl From<Space> for Refused {
+    ghost from_gives = { λ space refused. refused ≡ OutOfSpace space.wanted space.left };
+
+    fn from(space: Space) -> Self {
+        let Space { wanted, left } = space;
+        Refused::Space { wanted, left }
+    }
+}

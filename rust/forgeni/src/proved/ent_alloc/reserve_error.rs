@@ -1,0 +1,107 @@
+// Made of crates/ent_alloc/src/reserve_error.rt by rust/erase. It isn't edited by hand.
+
+use crate::proved::ent_alloc::refused::Refused;
+use crate::proved::ent_alloc::space::Space;
+use crate::proved::ent_handle::Memory;
+use crate::kit::alloc::AllocError;
+
+/// Why a call gave no handle that reserves handles and keeps them in a list or a queue.
+#[derive(Clone, Copy, Debug, PartialEq, Eq, Hash)]
+pub enum ReserveError {
+    /// Fewer handles were left than were requested. The request counts all the same, and no handle
+    /// is given until the next flush. A queue of commands keeps the refusal.
+    Space {
+        /// How many handles were requested.
+        wanted: u32,
+        /// How many were left.
+        left: u32,
+    },
+    /// More handles were requested than the quota still allows: that of a reserver, or that of an
+    /// allocator, which is 2^50 between two flushes. No handle was requested. A queue of commands
+    /// keeps the refusal.
+    Quota {
+        /// How many the quota still allows.
+        left: u64,
+    },
+    /// Out of memory. Nothing has changed.
+    Memory,
+}
+
+impl core::fmt::Display for ReserveError {
+    fn fmt(&self, f: &mut core::fmt::Formatter<'_>) -> core::fmt::Result {
+        match self {
+            ReserveError::Space { wanted, left } => write!(f, "{wanted} wanted and {left} left"),
+            ReserveError::Quota { left } => write!(f, "the credit left is {left}"),
+            ReserveError::Memory => write!(f, "out of memory"),
+        }
+    }
+}
+
+impl core::error::Error for ReserveError {}
+
+impl ReserveError {
+    /// What a system makes of the error. The queue keeps a refusal, and the system goes on. Only
+    /// want of memory ends the system:
+    ///
+    /// ```
+    /// use forgeni::{OutOfMemory, ReserveError};
+    ///
+    /// let refused = ReserveError::Space { wanted: 2, left: 1 };
+    /// assert_eq!(refused.or_memory(), Ok(()));
+    /// assert_eq!(ReserveError::Memory.or_memory(), Err(OutOfMemory));
+    /// ```
+    ///
+    /// # Errors
+    ///
+    /// `Memory`, if that is the error.
+    ///
+    /// <details><summary>Contract</summary>
+    ///
+    /// In the words of the folder `specs/` of crate `ent_alloc`:
+    ///
+    /// ```text
+    /// ensures ok { OnOk result (self ≢ ReserveError.Memory) }
+    /// ensures err { OnErr result (self ≡ ReserveError.Memory) }
+    /// ```
+    ///
+    /// </details>
+    #[inline]
+    pub fn or_memory(self) -> Result<(), Memory> {
+        match self {
+            ReserveError::Space { .. } | ReserveError::Quota { .. } => Ok(()),
+            ReserveError::Memory => Err(Memory),
+        }
+    }
+}
+
+impl From<AllocError> for ReserveError {
+    #[inline]
+    fn from(_refused: AllocError) -> Self {
+        ReserveError::Memory
+    }
+}
+
+impl From<Memory> for ReserveError {
+    #[inline]
+    fn from(_refused: Memory) -> Self {
+        ReserveError::Memory
+    }
+}
+
+impl From<Refused> for ReserveError {
+    #[inline]
+    fn from(why: Refused) -> Self {
+        match why {
+            Refused::Space { wanted, left } => ReserveError::Space { wanted, left },
+            Refused::Quota { left } => ReserveError::Quota { left },
+        }
+    }
+}
+
+impl From<Space> for ReserveError {
+    #[inline]
+    fn from(space: Space) -> Self {
+        let Space { wanted, left } = space;
+        ReserveError::Space { wanted, left }
+    }
+}
