@@ -50,7 +50,9 @@ mod bevy {
         }
 
         pub fn flush(&mut self, mut init: impl FnMut(Entity, &mut Location)) {
-            for one in self.0.get_mut().flush().expect("memory") {
+            let mut born = Vec::new();
+            self.0.get_mut().flush(&mut born).expect("memory");
+            for one in born {
                 init(Entity(one), &mut Location);
             }
         }

@@ -1,9 +1,10 @@
 // Made of crates/ent_replay/src/handle_list.rt by rust/erase. It isn't edited by hand.
 
 use alloc::vec::Vec;
-use crate::proved::ent_handle::Handle;
+use crate::kit::vec::FallibleVec;
+use crate::proved::ent_handle::{Handle, Memory};
 
-/// Handles in order.
+/// The handles of an answer, in their order.
 #[derive(Debug)]
 pub struct HandleList {
     handles: Vec<Handle>,
@@ -21,6 +22,7 @@ impl HandleList {
     /// ```
     ///
     /// </details>
+    #[must_use]
     #[inline]
     pub fn new(handles: Vec<Handle>) -> Self {
         HandleList { handles }
@@ -37,6 +39,7 @@ impl HandleList {
     /// ```
     ///
     /// </details>
+    #[must_use]
     #[inline]
     pub fn as_slice(&self) -> &[Handle] {
         &self.handles
@@ -53,6 +56,7 @@ impl HandleList {
     /// ```
     ///
     /// </details>
+    #[must_use]
     #[inline]
     pub fn len(&self) -> usize {
         self.handles.len()
@@ -69,9 +73,20 @@ impl HandleList {
     /// ```
     ///
     /// </details>
+    #[must_use]
     #[inline]
     pub fn is_empty(&self) -> bool {
         self.handles.is_empty()
+    }
+
+    /// A copy.
+    #[inline]
+    pub(super) fn try_copy(&self) -> Result<HandleList, Memory>
+        // ensures { IfOk result (λ copy. copy ≡ self.now) }
+    {
+        let mut handles = Vec::new();
+        handles.extend_from_slice_fallibly(&self.handles)?;
+        Ok(HandleList { handles })
     }
 
     /// Gives the handles back, with their memory.
@@ -85,6 +100,7 @@ impl HandleList {
     /// ```
     ///
     /// </details>
+    #[must_use]
     #[inline]
     pub fn into_vec(self) -> Vec<Handle> {
         let HandleList { handles } = self;
@@ -100,3 +116,10 @@ impl PartialEq for HandleList {
 }
 
 impl Eq for HandleList {}
+
+impl From<Vec<Handle>> for HandleList {
+    #[inline]
+    fn from(handles: Vec<Handle>) -> Self {
+        HandleList::new(handles)
+    }
+}
