@@ -27,6 +27,18 @@ impl<J: Numbering> Shared<J> {
     /// if their reservations had been made one by one, in the order of their atomic steps, and
     /// [`flush`](Entities::flush) brings to life what they were given. It takes no memory.
     ///
+    /// ```
+    /// use forgeni::Entities;
+    ///
+    /// let (shared, mut reservers) = Entities::new().share(2)?;
+    /// let handle = reservers[1].reserve()?;
+    /// let mut entities = shared.close(reservers)?;
+    /// assert!(!entities.is_alive(handle));
+    /// entities.flush(&mut Vec::new())?;
+    /// assert!(entities.is_alive(handle));
+    /// # Ok::<(), Box<dyn std::error::Error + Send + Sync>>(())
+    /// ```
+    ///
     /// ```compile_fail
     /// let (shared, mut reservers) = forgeni::Entities::new().share(1).unwrap();
     /// let entities = shared.close(reservers).unwrap();
@@ -103,6 +115,18 @@ impl<J: Numbering> Shared<J> {
     /// Which of their requests were refused is lost too. So the front of the pool counts as
     /// reserved, as far as requests went, and [`flush`](Entities::flush) also brings to life those
     /// handles that nobody got.
+    ///
+    /// ```
+    /// use forgeni::{CloseError, Entities};
+    ///
+    /// let (shared, mut reservers) = Entities::new().share(2)?;
+    /// let lost = reservers.pop();
+    /// drop(lost);
+    /// let (shared, reservers, error) = shared.close(reservers).unwrap_err().into_parts();
+    /// assert_eq!(error, CloseError::Missing { count: 1 });
+    /// let entities = shared.close_lost(reservers)?;
+    /// # Ok::<(), Box<dyn std::error::Error + Send + Sync>>(())
+    /// ```
     ///
     /// # Errors
     ///

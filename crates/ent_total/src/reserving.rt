@@ -17,6 +17,16 @@ use ent_handle::Handle;
 impl<J: Numbering> Reserver<J> {
     /// Reserves one handle, by one atomic step. It takes no memory.
     ///
+    /// ```
+    /// use forgeni::Entities;
+    ///
+    /// let (shared, mut reservers) = Entities::new().share(2)?;
+    /// let one = reservers[0].reserve()?;
+    /// let other = reservers[1].reserve()?;
+    /// assert_ne!(one, other);
+    /// # Ok::<(), Box<dyn std::error::Error + Send + Sync>>(())
+    /// ```
+    ///
     /// # Errors
     ///
     /// [`Refused::Space`] if the pool is empty; the request is taken from the quota too.

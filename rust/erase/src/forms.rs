@@ -328,6 +328,7 @@ pub const BARE: &[&str] = &[
     "FnMut",
     "FnOnce",
     "From",
+    "Into",
     "Hash",
     "Into",
     "Item",

@@ -7,7 +7,7 @@
 //! 1024 born
 //! ```
 
-use forgeni::{Entities, Handle, ReserveError, Reserver};
+use forgeni::{Entities, Handle, Refused, ReserveError, Reserver};
 use std::collections::HashSet;
 use std::error::Error;
 use std::thread;
@@ -30,7 +30,9 @@ fn main() -> Result<(), Box<dyn Error>> {
         println!("{} handles, none of them twice", given.len());
     }
     let mut entities = shared.close(reservers)?;
-    println!("{} born", entities.flush()?.len());
+    let mut born = Vec::new();
+    entities.flush(&mut born)?;
+    println!("{} born", born.len());
     Ok(())
 }
 
@@ -40,7 +42,7 @@ fn side_by_side(a: &mut Reserver, b: &mut Reserver) -> Result<Vec<Handle>, Reser
         let bulk = scope.spawn(|| b.reserve_many(400));
         let mut given = (0..600)
             .map(|_| a.reserve())
-            .collect::<Result<Vec<Handle>, ReserveError>>()?;
+            .collect::<Result<Vec<Handle>, Refused>>()?;
         given.extend(bulk.join().expect("it doesn't panic")?);
         Ok(given)
     })

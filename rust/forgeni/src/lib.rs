@@ -44,7 +44,7 @@
 //! });
 //! let mut entities = shared.close(reservers)?;
 //! assert_eq!(entities.len(), 0);
-//! entities.flush()?;
+//! entities.flush(&mut Vec::new())?;
 //! assert_eq!(entities.len(), 44);
 //! # Ok::<(), Box<dyn std::error::Error>>(())
 //! ```
@@ -202,8 +202,8 @@ pub use frames::{run_frame, FrameError};
 pub use handle::{Handle, ParseHandleError};
 pub use handle_map::{HandleMap, InsertError, Uninserted};
 pub use lent::Lent;
-pub use proved::ent_alloc::Limits;
 pub use open_world::{FinishError, OpenError, OpenWorld, Unfinished, Unopened};
+pub use proved::ent_alloc::Limits;
 pub use report::{Fault, FaultKind, Report};
 #[cfg(feature = "std")]
 pub use reservers::{Lends, Reservers, Unpooled};

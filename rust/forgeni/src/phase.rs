@@ -1,9 +1,9 @@
 //! A phase on a borrow of the allocator.
 
-use crate::Entities;
 use crate::lending::Lending;
 use crate::lent::Lent;
 use crate::sharing::{Reserver, ShareError, Shared, Unshared};
+use crate::Entities;
 use alloc::vec::Vec;
 
 impl Entities {

@@ -1,9 +1,9 @@
 //! A pool of reservers, for threads that come and go.
 
-use crate::OutOfMemory;
 use crate::lent::Lent;
 use crate::sharing::Reserver;
 use crate::waiting::Waiting;
+use crate::OutOfMemory;
 use alloc::vec::Vec;
 use core::error::Error;
 use core::fmt;

@@ -1,8 +1,8 @@
 //! An allocator that many threads reserve from at once.
 
-use crate::Entities;
 use crate::numbers::next_number;
 use crate::proved::ent_total::share;
+use crate::Entities;
 use alloc::vec::Vec;
 use core::error::Error;
 use core::fmt;

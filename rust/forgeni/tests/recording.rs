@@ -50,11 +50,9 @@ mod bevy {
         }
 
         pub fn flush(&mut self, mut init: impl FnMut(Entity, &mut Location)) {
-            let mut born = Vec::new();
-            self.0.get_mut().flush(&mut born).expect("memory");
-            for one in born {
-                init(Entity(one), &mut Location);
-            }
+            let entities = self.0.get_mut();
+            let flushed = entities.flush_with(|one| init(Entity(one), &mut Location));
+            flushed.expect("memory");
         }
     }
 }

@@ -10,6 +10,16 @@ use crate::proved::ent_handle::Handle;
 impl Reserver {
     /// Reserves one handle, by one atomic step. It takes no memory.
     ///
+    /// ```
+    /// use forgeni::Entities;
+    ///
+    /// let (shared, mut reservers) = Entities::new().share(2)?;
+    /// let one = reservers[0].reserve()?;
+    /// let other = reservers[1].reserve()?;
+    /// assert_ne!(one, other);
+    /// # Ok::<(), Box<dyn std::error::Error + Send + Sync>>(())
+    /// ```
+    ///
     /// # Errors
     ///
     /// [`Refused::Space`] if the pool is empty; the request is taken from the quota too.
