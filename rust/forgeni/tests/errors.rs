@@ -96,12 +96,9 @@ fn not_applied() -> Result<(), Boxed> {
 #[test]
 fn each_is_handed_on() {
     let said = |ran: Result<(), Boxed>| ran.expect_err("refused").to_string();
-    assert_eq!(
-        said(not_shared()),
-        "an allocator is shared among 1 to 1,024 callers"
-    );
+    assert_eq!(said(not_shared()), "a phase has 1 to 1,024 callers");
     assert_eq!(said(not_closed()), "missing reservers: 2");
-    assert_eq!(said(not_opened()), "a phase has 1 to 1,024 systems");
+    assert_eq!(said(not_opened()), "a phase has 1 to 1,024 callers");
     assert_eq!(said(not_finished()), "missing queues: 1");
     assert_eq!(said(not_applied()), "the queues are of another world");
 }

@@ -49,10 +49,7 @@ fn errors_of_an_allocator() {
         (&ReserveError::Quota { left: 7 }, "the quota left is 7"),
         (&ReserveError::Memory, MEMORY),
         (&ShareError::NeedsFlush, NEEDS_FLUSH),
-        (
-            &ShareError::Count,
-            "an allocator is shared among 1 to 1,024 callers",
-        ),
+        (&ShareError::Count, "a phase has 1 to 1,024 callers"),
         (&ShareError::Memory, MEMORY),
         (&OtherPhase, "the reserver is of another phase"),
         (&CloseError::OtherPhase, "a reserver is of another phase"),
@@ -84,10 +81,10 @@ fn errors_of_components_and_worlds() {
         ),
         (&InsertError::Memory, MEMORY),
         (&ReserveError::Space { wanted, left }, WANTED),
-        (&ReserveError::Quota { left: 7 }, "the credit left is 7"),
+        (&ReserveError::Quota { left: 7 }, "the quota left is 7"),
         (&ReserveError::Memory, MEMORY),
         (&ShareError::NeedsFlush, NEEDS_FLUSH),
-        (&ShareError::Count, "a phase has 1 to 1,024 systems"),
+        (&ShareError::Count, "a phase has 1 to 1,024 callers"),
         (&ShareError::Memory, MEMORY),
         (&FinishError::OtherPhase, "a queue is of another phase"),
         (&FinishError::Missing { count: 2 }, "missing queues: 2"),
@@ -120,12 +117,9 @@ fn errors_with_parts() {
     let (open, systems) = World::new().open(1).expect("opened");
     let unfinished = open.close(vec![]).expect_err("missing");
     displays([
-        (
-            &unshared as &dyn Display,
-            "an allocator is shared among 1 to 1,024 callers",
-        ),
+        (&unshared as &dyn Display, "a phase has 1 to 1,024 callers"),
         (&unclosed, "missing reservers: 2"),
-        (&unopened, "a phase has 1 to 1,024 systems"),
+        (&unopened, "a phase has 1 to 1,024 callers"),
         (&unfinished, "missing queues: 1"),
     ]);
     debugs([
@@ -139,7 +133,7 @@ fn errors_with_parts() {
             "Unclosed { shared: Shared { count: 2, at_home: 0, .. }, reservers: [], \
              error: Missing { count: 2 } }",
         ),
-        (&unopened, "Unopened { world: World { len: 0, phase: 0, .. }, error: Count }"),
+        (&unopened, "Unopened { world: World { len: 0, frame: 0, .. }, error: Count }"),
         (
             &unfinished,
             "Unfinished { open: OpenWorld { count: 1, at_home: 0, .. }, queues: [], \
@@ -153,11 +147,14 @@ fn errors_with_parts() {
         &unapplied as &dyn Display,
         "the queues are of another world",
     )]);
-    debugs([(&unapplied as &dyn Debug, "OtherWorld(Queues { .. })")]);
+    debugs([(
+        &unapplied as &dyn Debug,
+        "OtherWorld(Queues { len: 1, .. })",
+    )]);
     let left = unapplied.into_parts();
     let refused = SyncError::Memory(left.expect("nothing was done"));
     displays([(&refused as &dyn Display, MEMORY)]);
-    debugs([(&refused as &dyn Debug, "Memory(Queues { .. })")]);
+    debugs([(&refused as &dyn Debug, "Memory(Queues { len: 1, .. })")]);
 }
 
 #[test]
@@ -229,7 +226,7 @@ fn values_of_worlds() {
             &FaultKind::Space { wanted: 5, left: 3 },
             "Space { wanted: 5, left: 3 }",
         ),
-        (&FaultKind::Quota { left: 7 }, "Credit { left: 7 }"),
+        (&FaultKind::Quota { left: 7 }, "Quota { left: 7 }"),
         (&HandleMap::from_iter([(handle(1, 2), 'a')]), "{1v2: 'a'}"),
     ]);
     displays([(&birth as &dyn Display, "2.0.1")]);
@@ -237,7 +234,7 @@ fn values_of_worlds() {
     let mut world = World::new();
     world.spawn(&[]).expect("a handle");
     world.flush().expect("memory");
-    debugs([(&world as &dyn Debug, "World { len: 1, phase: 1, .. }")]);
+    debugs([(&world as &dyn Debug, "World { len: 1, frame: 1, .. }")]);
     let (open, mut systems) = world.open(2).expect("opened");
     systems[1].spawn(&[]).expect("a handle");
     systems[1].despawn(handle(7, 1)).expect("memory");
@@ -254,7 +251,7 @@ fn values_of_worlds() {
     let report = world.apply(queues).expect("memory");
     debugs([(
         &report as &dyn Debug,
-        "Report { born: [1v1], faults: [Fault { system: 1, command: 1, kind: NotAlive(7v1) }] }",
+        "SyncReport { born: [1v1], faults: [Fault { system: 1, command: 1, kind: NotAlive(7v1) }] }",
     )]);
 }
 

@@ -327,7 +327,7 @@ fn handle_of_the_other() -> forgeni::Handle {
 fn a_world_is_opened_for_some_systems() {
     let refused = World::new().open(0).expect_err("no system");
     assert_eq!(refused.error, ShareError::Count);
-    assert_eq!(refused.to_string(), "a phase has 1 to 1,024 systems");
+    assert_eq!(refused.to_string(), "a phase has 1 to 1,024 callers");
     let refused = refused.world.open(1025).expect_err("too many");
     assert_eq!(refused.error, ShareError::Count);
     let (open, mut systems) = refused.world.open(1024).expect("a phase");
