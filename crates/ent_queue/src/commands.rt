@@ -99,10 +99,7 @@ impl<'a> Commands<'a> {
     ///
     /// As [`Commands::spawn`].
     #[tactic(auto, using(crate::proofs::Extending::extends_nothing))]
-    pub fn spawn_with(
-        &mut self,
-        components: &[(ComponentId, i64)],
-    ) -> Result<Handle, QueueFault>
+    pub fn spawn_with(&mut self, components: &[(ComponentId, i64)]) -> Result<Handle, QueueFault>
         requires { IsReady self.old }
         ensures extends { Extends self.old self.new }
         ensures ok { IfOk result (λ handle. queue_of self.new

@@ -17,7 +17,7 @@ IsUnbegun frame.Workers = Unit {0}
 IsUnbegun frame.Systems = Unit {0}
 IsUnbegun frame.Memory = Unit {0}
 IsUnbegun frame.Lost = ⊥
-IsUnbegun (frame.SyncError queues) = ⊥
+IsUnbegun (frame.Unapplied queues) = ⊥
 IsUnbegun (frame.Stopped stopped) = ⊥
 
 -- each reason why
@@ -40,7 +40,7 @@ IfHeld frame.Workers P = Unit {0}
 IfHeld frame.Systems P = Unit {0}
 IfHeld frame.Memory P = Unit {0}
 IfHeld frame.Lost P = Unit {0}
-IfHeld (frame.SyncError queues) P = P fault.FlushMemory queues
+IfHeld (frame.Unapplied queues) P = P fault.FlushMemory queues
 IfHeld (frame.Stopped stopped) P =
     P (fault.Memory stopped.stop.system stopped.stop.command stopped.stop.done stopped.so_far)
     stopped.queues
@@ -52,7 +52,7 @@ IfStoppedAt frame.Workers P = Unit {0}
 IfStoppedAt frame.Systems P = Unit {0}
 IfStoppedAt frame.Memory P = Unit {0}
 IfStoppedAt frame.Lost P = Unit {0}
-IfStoppedAt (frame.SyncError queues) P = Unit {0}
+IfStoppedAt (frame.Unapplied queues) P = Unit {0}
 IfStoppedAt (frame.Stopped stopped) P = P stopped.stop stopped.queues.queues
 
 -- How many entities were spawned since the last flush, before and after: none if the frame flushed,
@@ -80,7 +80,7 @@ HasStop (fault.Memory system command done so_far) queues = IsStop system command
 
 abbrev pub held : ℕ → SyncFault → List (List Command) → FrameError
 held number fault.FlushMemory queues =
-    frame.SyncError (record { world = number; queues = queues })
+    frame.Unapplied (record { world = number; queues = queues })
 held number (fault.Memory system command done so_far) queues =
     frame.Stopped (record {
       queues = record { world = number; queues = queues };

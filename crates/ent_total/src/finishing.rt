@@ -9,12 +9,12 @@ ghost use Rattle.ent_total.specs.Finishing.{AreMissing, queues_missing};
 ghost use Rattle.ent_total.specs.declared.unfinished.FinishError.TheVariants.{OtherPhase, InUse};
 
 use crate::command_queue::CommandQueue;
-use crate::world::World;
 use crate::numbering::Numbering;
+use crate::open_world::{OpenWorld, Parts};
 use crate::queues::Queues;
 use crate::unfinished::{FinishError, Unfinished};
+use crate::world::World;
 use crate::world_homecoming::are_of;
-use crate::open_world::{Parts, OpenWorld};
 use ent_shared::Reserver;
 
 impl<J: Numbering> OpenWorld<J> {
@@ -133,7 +133,9 @@ impl<J: Numbering> OpenWorld<J> {
 
     /// That it was not closed, and these queues are handed back.
     fn unfinished(self, queues: Vec<CommandQueue<J>>, error: FinishError) -> Unfinished<J>
-        ensures { result ≡ record { open = self; queues = queues; error = error } }
+        ensures phase { result.open ≡ self }
+        ensures queues { result.queues.items ≡ queues.items }
+        ensures error { result.error ≡ error }
     {
         Unfinished {
             open: self,
@@ -144,7 +146,7 @@ impl<J: Numbering> OpenWorld<J> {
 
     /// That somebody else has a part of the phase.
     fn in_use(self) -> Unfinished<J>
-        ensures open { result.open ≡ self }
+        ensures phase { result.open ≡ self }
         ensures queues { result.queues.items ≡ [] }
         ensures error { result.error ≡ InUse }
     {

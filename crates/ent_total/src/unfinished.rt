@@ -40,7 +40,7 @@ impl<J: Numbering> Unfinished<J> {
     /// The phase, the queues that are handed back, and why it was not closed.
     #[must_use]
     pub fn into_parts(self) -> (OpenWorld<J>, Vec<CommandQueue<J>>, FinishError)
-        ensures open { result.0 ≡ self.open }
+        ensures phase { result.0 ≡ self.open }
         ensures queues { result.1 ≡ self.queues }
         ensures error { result.2 ≡ self.error }
     {

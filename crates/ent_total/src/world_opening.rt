@@ -170,7 +170,7 @@ impl<J: Numbering> WorldOpening<J> {
     /// owners than there can be, but no contract of `Arc` says so.
     pub fn numbered(self, number: u64) -> (OpenWorld<J>, Vec<Commands<J>>)
         requires stands_for { J.world_of number ≡ self.world }
-        ensures open { result.0 ≡ record {
+        ensures phase { result.0 ≡ record {
           number = number;
           of_world = self.of_world;
           spawned = self.spawned;

@@ -6,7 +6,9 @@ pub use crate::proved::ent_handle::{Handle, TextFault as ParseHandleError};
 
 impl Handle {
     /// A handle that is never alive, for what has to hold one before there is one. No allocator and
-    /// no world gives it. It is `4294967294v2147483647`, the greatest handle of both orders.
+    /// no world gives it, but for an allocator of
+    /// [`with_exact_limits`](crate::Entities::with_exact_limits). It is `4294967294v2147483647`, the
+    /// greatest handle of both orders.
     ///
     /// An `Option<Handle>` takes no more bytes, and says more.
     ///

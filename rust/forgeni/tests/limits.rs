@@ -197,6 +197,30 @@ fn the_end_of_a_credit() {
 }
 
 /// The placeholder is of no allocator, and no call takes it for one of its own.
+/// Both greatest limits together have a generation less, and no others do. No run of public calls
+/// gets that far.
+#[test]
+fn one_generation_less_for_the_placeholder() {
+    const SLOTS: u32 = u32::MAX;
+    const GENERATIONS: u32 = (1 << 31) - 1;
+    for (slots, generations, kept) in [
+        (SLOTS, GENERATIONS, GENERATIONS - 1),
+        (SLOTS, GENERATIONS - 1, GENERATIONS - 1),
+        (SLOTS, 1, 1),
+        (SLOTS - 1, GENERATIONS, GENERATIONS),
+        (1, GENERATIONS, GENERATIONS),
+        (1, 1, 1),
+    ] {
+        let limits = limits(slots, generations);
+        let keeping = limits.keeping_placeholder();
+        assert_eq!((keeping.slots(), keeping.generations()), (slots, kept));
+        assert_eq!((limits.slots(), limits.generations()), (slots, generations));
+    }
+    for (slots, generations) in [(0, 1), (1, 0), (1, GENERATIONS + 1), (SLOTS, u32::MAX)] {
+        assert_eq!(Limits::new(slots, generations), None);
+    }
+}
+
 #[test]
 fn the_placeholder_is_nobody() {
     let mut entities = Entities::new();

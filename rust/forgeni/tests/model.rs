@@ -55,7 +55,7 @@ fn run_bulks(seed: u64) {
     for step in 0..40 {
         let place = format!("seed {seed}, step {step}");
         let n = numbers.below(5) as u32;
-        match numbers.below(10) {
+        match numbers.below(12) {
             0 | 1 => match entities.alloc_many(n) {
                 Ok(given) => {
                     let wanted: Result<Vec<_>, _> = (0..n).map(|_| model.alloc()).collect();
@@ -81,6 +81,14 @@ fn run_bulks(seed: u64) {
                 assert_eq!(entities.request_many(n), wanted, "{place}: request_many");
             }
             5 => assert_eq!(entities.request(), request(&mut model), "{place}: request"),
+            10 | 11 => {
+                let before = list.clone();
+                let told = entities.request_into(&mut list, n);
+                let wanted = model.reserve(n);
+                assert_eq!(list[..before.len()], before, "{place}: request_into");
+                let listed = list[before.len()..].to_vec();
+                assert_eq!(told.map(|()| listed), wanted, "{place}: request_into");
+            }
             6 => {
                 let before = list.len();
                 entities.flush(&mut list).expect("memory");

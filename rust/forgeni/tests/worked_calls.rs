@@ -175,6 +175,42 @@ fn errors_say_why() {
     assert_eq!(boxed.to_string(), "a flush is needed first");
 }
 
+#[test]
+fn places_in_the_pool() {
+    let mut entities = small(4, 9);
+    let all = entities.alloc_many(3).expect("handles");
+    for one in &all[..2] {
+        entities.free(*one).expect("alive");
+    }
+    assert_eq!((entities.left(), entities.cursor()), (3, 2));
+    let pool = [handle(1, 2), handle(0, 2), handle(3, 1)];
+    // A request moves the cursor. The places stay until the flush.
+    for (given, left) in pool.iter().zip([3, 2, 1]) {
+        assert_eq!(entities.left(), left);
+        assert_eq!(
+            pool.map(|one| entities.place(one)),
+            [Some(0), Some(1), Some(2)]
+        );
+        assert_eq!(entities.request(), Ok(*given));
+    }
+    assert_eq!((entities.left(), entities.cursor()), (0, -1));
+    for other in [all[0], all[2], handle(3, 2)] {
+        assert_eq!(entities.place(other), None);
+    }
+}
+
+#[test]
+fn an_iterator_goes_on_where_its_clone_does() {
+    let mut entities = small(9, 1);
+    let all = entities.alloc_many(3).expect("handles");
+    let mut living = entities.iter();
+    assert_eq!(living.next(), Some(all[0]));
+    let mut other = living.clone();
+    assert!(other.by_ref().eq([all[1], all[2]]));
+    assert_eq!((other.next(), living.len()), (None, 2));
+    assert!(living.eq([all[1], all[2]]));
+}
+
 /// Each allocator has its own state, in whatever order they are dropped.
 #[test]
 fn dropped_in_any_order() {

@@ -88,10 +88,7 @@ impl<'a> Commands<'a> {
     ///
     /// As [`Commands::spawn`].
     #[inline]
-    pub(crate) fn spawn_with(
-        &mut self,
-        components: &[(ComponentId, i64)],
-    ) -> Result<Handle, QueueFault>
+    pub(crate) fn spawn_with(&mut self, components: &[(ComponentId, i64)]) -> Result<Handle, QueueFault>
         // requires { IsReady self.old }
         // ensures extends { Extends self.old self.new }
         // ensures ok { IfOk result (λ handle. queue_of self.new

@@ -4,11 +4,11 @@
 
 use alloc::vec::Vec;
 use crate::proved::ent_total::command_queue::CommandQueue;
-use crate::proved::ent_total::world::World;
+use crate::proved::ent_total::open_world::{OpenWorld, Parts};
 use crate::proved::ent_total::queues::Queues;
 use crate::proved::ent_total::unfinished::{FinishError, Unfinished};
+use crate::proved::ent_total::world::World;
 use crate::proved::ent_total::world_homecoming::are_of;
-use crate::proved::ent_total::open_world::{Parts, OpenWorld};
 use crate::proved::ent_shared::Reserver;
 
 impl OpenWorld {
@@ -147,7 +147,9 @@ impl OpenWorld {
     /// That it was not closed, and these queues are handed back.
     #[inline]
     fn unfinished(self, queues: Vec<CommandQueue>, error: FinishError) -> Unfinished
-        // ensures { result ≡ record { open = self; queues = queues; error = error } }
+        // ensures phase { result.open ≡ self }
+        // ensures queues { result.queues.items ≡ queues.items }
+        // ensures error { result.error ≡ error }
     {
         Unfinished {
             open: self,
@@ -159,7 +161,7 @@ impl OpenWorld {
     /// That somebody else has a part of the phase.
     #[inline]
     fn in_use(self) -> Unfinished
-        // ensures open { result.open ≡ self }
+        // ensures phase { result.open ≡ self }
         // ensures queues { result.queues.items ≡ [] }
         // ensures error { result.error ≡ InUse }
     {

@@ -51,7 +51,7 @@ impl Unfinished {
     /// In the words of the folder `specs/` of crate `ent_total`:
     ///
     /// ```text
-    /// ensures open { result.0 ≡ self.open }
+    /// ensures phase { result.0 ≡ self.open }
     /// ensures queues { result.1 ≡ self.queues }
     /// ensures error { result.2 ≡ self.error }
     /// ```

@@ -140,7 +140,7 @@ impl WorldOpening {
     #[inline]
     pub(crate) fn numbered(self, number: u64) -> (OpenWorld, Vec<Commands>)
         // requires stands_for { J.world_of number ≡ self.world }
-        // ensures open { result.0 ≡ record {
+        // ensures phase { result.0 ≡ record {
         //   number = number;
         //   of_world = self.of_world;
         //   spawned = self.spawned;

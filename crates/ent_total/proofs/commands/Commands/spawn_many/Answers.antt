@@ -6,17 +6,17 @@ pub returns-clause-recorded : goal.returns-clause-recorded
 returns-clause-recorded g c =
     search (
       rules,
-      recorded_many c.spawn_many-spawned.new.self.shared.now
-          c.resume-commands.result.reserver.now c.spawn_many-spawned.new.self.reserver.now
-          c.args.n c.spawn_many-spawned.result c.spawn_many-spawned.ensures.replies,
+      recorded_many c.spawn_many_with-spawned.new.self.shared.now
+          c.resume-commands.result.reserver.now c.spawn_many_with-spawned.new.self.reserver.now
+          c.args.n c.spawn_many_with-spawned.result c.spawn_many_with-spawned.ensures.replies,
     )
 
 pub returns-clause-unrecorded : goal.returns-clause-unrecorded
 returns-clause-unrecorded g c =
     search (
       rules,
-      unrecorded_many c.spawn_many-spawned.new.self.shared.now
-          c.resume-commands.result.reserver.now c.spawn_many-spawned.new.self.reserver.now
-          c.args.n c.spawn_many-spawned.result c.spawn_many-spawned.ensures.replies
-          c.spawn_many-spawned.ensures.memory,
+      unrecorded_many c.spawn_many_with-spawned.new.self.shared.now
+          c.resume-commands.result.reserver.now c.spawn_many_with-spawned.new.self.reserver.now
+          c.args.n c.spawn_many_with-spawned.result c.spawn_many_with-spawned.ensures.replies
+          c.spawn_many_with-spawned.ensures.memory,
     )
