@@ -245,7 +245,9 @@ impl Shared {
     pub(super) fn give_out(&mut self, reservers: &mut Vec<Reserver>)
         // requires room { vec_len reservers.old + length self.old.home ≤ vec_capacity reservers.old }
         // requires of { AreOf self.old.number reservers.old.items }
-        // ensures of { AreOf self.new.number reservers.new.items }
+        // requires same { All (λ r. r.shared ≡ self.old.shared) reservers.old.items }
+        // ensures of { AreOf self.old.number reservers.new.items }
+        // ensures same { All (λ r. r.shared ≡ self.old.shared) reservers.new.items }
         // ensures given { reservers_of reservers.new.items ++ reverse self.new.home
         //     ≡ reservers_of reservers.old.items ++ reverse self.old.home }
         // ensures phase { self.new ≡ record self.old { home = self.new.home } }
