@@ -17,7 +17,8 @@ use std::alloc::Global;
 use std::marker::{Model, PhantomData};
 use std::sync::Arc;
 
-/// An allocator while it is shared: [`Entities::share`] makes it, with its reservers.
+/// An allocator while it is shared. [`Entities::share`](crate::Entities::share) makes it, with its
+/// reservers.
 ///
 /// The allocator is inside, so nothing but reservations happens until [`close`](Self::close) gives
 /// it back. If the `Shared` is dropped, the allocator goes with the last of the reservers.
@@ -119,9 +120,9 @@ impl<J: Numbering> Shared<J> {
         self.shared.is_alive(handle)
     }
 
-    /// The row that was set with the entity ([`Entities::try_set_row`]) when the phase was opened.
-    /// `None` if the entity was not alive then, or had no row. Any thread may ask, and it takes
-    /// constant time.
+    /// The row that was set with the entity ([`try_set_row`](crate::Entities::try_set_row)), when the
+    /// phase was opened. `None` if the entity was not alive then, or had no row. Any thread may ask,
+    /// and it takes constant time.
     #[must_use]
     pub fn row(&self, handle: Handle) -> Option<u32>
         ensures value { result ≡ map.get self.now.shared.rows handle }
