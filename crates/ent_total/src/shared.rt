@@ -17,7 +17,7 @@ use std::alloc::Global;
 use std::marker::{Model, PhantomData};
 use std::sync::Arc;
 
-/// An allocator while it is shared. [`Entities::share`](crate::Entities::share) makes it, with its
+/// An allocator while it is shared. [`Entities::share`](forgeni::Entities::share) makes it, with its
 /// reservers.
 ///
 /// The allocator is inside, so nothing but reservations happens until [`close`](Self::close) gives
@@ -120,7 +120,7 @@ impl<J: Numbering> Shared<J> {
         self.shared.is_alive(handle)
     }
 
-    /// The row that was set with the entity ([`try_set_row`](crate::Entities::try_set_row)), when the
+    /// The row that was set with the entity ([`try_set_row`](forgeni::Entities::try_set_row)), when the
     /// phase was opened. `None` if the entity was not alive then, or had no row. Any thread may ask,
     /// and it takes constant time.
     #[must_use]

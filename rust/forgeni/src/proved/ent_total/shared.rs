@@ -8,7 +8,7 @@ use crate::proved::ent_alloc::Living;
 use crate::proved::ent_handle::{Handle, Memory};
 use crate::kit::sync::Arc;
 
-/// An allocator while it is shared. [`Entities::share`](crate::proved::ent_total::Entities::share) makes it, with its
+/// An allocator while it is shared. [`Entities::share`](crate::Entities::share) makes it, with its
 /// reservers.
 ///
 /// The allocator is inside, so nothing but reservations happens until [`close`](Self::close) gives
@@ -109,7 +109,7 @@ impl Shared {
         self.shared.is_alive(handle)
     }
 
-    /// The row that was set with the entity ([`try_set_row`](crate::proved::ent_total::Entities::try_set_row)), when the
+    /// The row that was set with the entity ([`try_set_row`](crate::Entities::try_set_row)), when the
     /// phase was opened. `None` if the entity was not alive then, or had no row. Any thread may ask,
     /// and it takes constant time.
     ///
