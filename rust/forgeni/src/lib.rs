@@ -228,4 +228,6 @@ pub use storage::{Bundle, Items, Storage, StorageError};
 pub use sync::{Fault, FaultKind, GoOnError, Queues, Report, Stop, Stopped, SyncError};
 #[cfg(feature = "std")]
 pub use system::{system, System, SystemCommands};
-pub use world::{CommandQueue, Commands, FinishError, OpenWorld, Unfinished, Unopened, View, World};
+pub use world::{
+    CommandQueue, Commands, FinishError, OpenWorld, Unfinished, Unopened, View, World,
+};

@@ -268,7 +268,7 @@ mod threads {
     /// Of each system: what guards it, its place, its queue, and a list that grows by each.
     #[test]
     fn frames() {
-        let system = |_: View<'_>, _: &mut SystemCommands<'_, '_>| Ok(());
+        let system = |_: &View<'_>, _: &mut SystemCommands<'_>| Ok(());
         for count in [1 << 8, 1 << 11] {
             let (mut world, systems) = (World::new(), vec![system; count]);
             let most = (3 * 32 + 4 * 40) * count + 1_024;

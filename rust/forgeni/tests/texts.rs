@@ -5,9 +5,9 @@ use forgeni::trace::{AllocReply, Call, CheckError, Checker, Difference, FlushRep
 use forgeni::trace::{Log, Recorder, Reservation, ReserveReply};
 use forgeni::{
     Absent, AllocError, Birth, CloseError, Commands, ComponentId, Entities, Fault, FaultKind,
-    FinishError, FreeError, Freed, Handle, HandleMap, InsertError, Limits, OpenError, OtherPhase,
-    OutOfMemory, ParseHandleError, Refused, ReserveError, ShareError, SpawnError, State, Storage,
-    StorageError, SyncError, SyncErrorKind, World,
+    FinishError, FreeError, Freed, Handle, HandleMap, InsertError, Limits, OtherPhase, OutOfMemory,
+    ParseHandleError, Refused, ReserveError, ShareError, State, Stop, Storage, StorageError,
+    SyncError, World,
 };
 use std::fmt::{Debug, Display};
 
@@ -83,26 +83,20 @@ fn errors_of_components_and_worlds() {
             "a later occupant of the slot has a value",
         ),
         (&InsertError::Memory, MEMORY),
-        (&SpawnError::Space { wanted, left }, WANTED),
-        (&SpawnError::Credit { left: 7 }, "the credit left is 7"),
-        (&SpawnError::Memory, MEMORY),
-        (&OpenError::NeedsFlush, NEEDS_FLUSH),
-        (&OpenError::Count, "a phase has 1 to 1,024 systems"),
-        (&OpenError::Memory, MEMORY),
+        (&ReserveError::Space { wanted, left }, WANTED),
+        (&ReserveError::Quota { left: 7 }, "the credit left is 7"),
+        (&ReserveError::Memory, MEMORY),
+        (&ShareError::NeedsFlush, NEEDS_FLUSH),
+        (&ShareError::Count, "a phase has 1 to 1,024 systems"),
+        (&ShareError::Memory, MEMORY),
         (&FinishError::OtherPhase, "a queue is of another phase"),
         (&FinishError::Missing { count: 2 }, "missing queues: 2"),
         (&FinishError::InUse, "a system is still in use"),
-        (&FinishError::Memory, MEMORY),
         (
-            &SyncErrorKind::OtherWorld,
-            "the queues are of another world",
-        ),
-        (&SyncErrorKind::NeedsFlush, NEEDS_FLUSH),
-        (&SyncErrorKind::Memory, MEMORY),
-        (
-            &SyncErrorKind::Stopped {
+            &Stop {
                 system: 3,
                 command: 4,
+                done: 5,
             },
             "out of memory at command 4 of system 3",
         ),
@@ -160,7 +154,7 @@ fn errors_with_parts() {
         "the queues are of another world",
     )]);
     debugs([(&unapplied as &dyn Debug, "OtherWorld(Queues { .. })")]);
-    let (left, _) = unapplied.into_parts();
+    let left = unapplied.into_parts();
     let refused = SyncError::Memory(left.expect("nothing was done"));
     displays([(&refused as &dyn Display, MEMORY)]);
     debugs([(&refused as &dyn Debug, "Memory(Queues { .. })")]);
@@ -235,7 +229,7 @@ fn values_of_worlds() {
             &FaultKind::Space { wanted: 5, left: 3 },
             "Space { wanted: 5, left: 3 }",
         ),
-        (&FaultKind::Credit { left: 7 }, "Credit { left: 7 }"),
+        (&FaultKind::Quota { left: 7 }, "Credit { left: 7 }"),
         (&HandleMap::from_iter([(handle(1, 2), 'a')]), "{1v2: 'a'}"),
     ]);
     displays([(&birth as &dyn Display, "2.0.1")]);
@@ -279,9 +273,15 @@ fn lines_of_a_trace() {
             "alloc => 3v4",
         ),
         (&Call::Alloc(Some(AllocReply::Space)), "alloc => space"),
-        (&Call::Alloc(Some(AllocReply::NeedsFlush)), "alloc => needs flush"),
+        (
+            &Call::Alloc(Some(AllocReply::NeedsFlush)),
+            "alloc => needs flush",
+        ),
         (&Call::Alloc(None), "alloc"),
-        (&Call::Free(one, Some(FreeReply::Freed)), "free 3v4 => freed"),
+        (
+            &Call::Free(one, Some(FreeReply::Freed)),
+            "free 3v4 => freed",
+        ),
         (
             &Call::Free(one, Some(FreeReply::Next(handle(3, 5)))),
             "free 3v4 => freed next 3v5",
@@ -299,17 +299,14 @@ fn lines_of_a_trace() {
             "free 3v4 => needs flush",
         ),
         (&Call::Free(one, None), "free 3v4"),
-        (
-            &Call::Flush(Some(two().into())),
-            "flush => born 0v1 1v2",
-        ),
+        (&Call::Flush(Some(two().into())), "flush => born 0v1 1v2"),
         (&Call::Flush(Some([].into())), "flush => born"),
-        (&Call::Flush(Some(FlushReply::Count(7))), "flush => born (7)"),
-        (&Call::Flush(None), "flush"),
         (
-            &reserve(two().into()),
-            "reserve 6 2 => 0v1 1v2",
+            &Call::Flush(Some(FlushReply::Count(7))),
+            "flush => born (7)",
         ),
+        (&Call::Flush(None), "flush"),
+        (&reserve(two().into()), "reserve 6 2 => 0v1 1v2"),
         (&reserve([].into()), "reserve 6 2 =>"),
         (&reserve(ReserveReply::Space), "reserve 6 2 => space"),
         (
@@ -317,7 +314,10 @@ fn lines_of_a_trace() {
             "reserve 6 2 => space left 0",
         ),
         (&Call::State(one, Some(State::Alive)), "state 3v4 => alive"),
-        (&Call::State(one, Some(State::Reserved)), "state 3v4 => reserved"),
+        (
+            &Call::State(one, Some(State::Reserved)),
+            "state 3v4 => reserved",
+        ),
         (&Call::State(one, Some(State::Gone)), "state 3v4 => gone"),
         (&Call::Len(Some(5)), "len => 5"),
     ]);
@@ -382,13 +382,13 @@ mod frames {
             (&FrameError::Memory, "out of memory before any system ran"),
             (&FrameError::Lost, "out of memory while the systems ran"),
             (
-                &FrameError::Sync(SyncError::Memory(queues)),
+                &FrameError::Unapplied(queues),
                 "the sync point stopped: out of memory",
             ),
         ]);
         world.spawn(&[]).expect("a handle");
         world.flush().expect("memory");
-        let system = |view: View<'_>, commands: &mut SystemCommands<'_, '_>| {
+        let system = |view: &View<'_>, commands: &mut SystemCommands<'_>| {
             debugs([
                 (&view as &dyn Debug, "View { phase: 1, .. }"),
                 (commands, "SystemCommands { .. }"),
