@@ -279,9 +279,15 @@ fn lines_of_a_trace() {
             "alloc => 3v4",
         ),
         (&Call::Alloc(Some(AllocReply::Space)), "alloc => space"),
-        (&Call::Alloc(Some(AllocReply::NeedsFlush)), "alloc => needs flush"),
+        (
+            &Call::Alloc(Some(AllocReply::NeedsFlush)),
+            "alloc => needs flush",
+        ),
         (&Call::Alloc(None), "alloc"),
-        (&Call::Free(one, Some(FreeReply::Freed)), "free 3v4 => freed"),
+        (
+            &Call::Free(one, Some(FreeReply::Freed)),
+            "free 3v4 => freed",
+        ),
         (
             &Call::Free(one, Some(FreeReply::Next(handle(3, 5)))),
             "free 3v4 => freed next 3v5",
@@ -299,17 +305,14 @@ fn lines_of_a_trace() {
             "free 3v4 => needs flush",
         ),
         (&Call::Free(one, None), "free 3v4"),
-        (
-            &Call::Flush(Some(two().into())),
-            "flush => born 0v1 1v2",
-        ),
+        (&Call::Flush(Some(two().into())), "flush => born 0v1 1v2"),
         (&Call::Flush(Some([].into())), "flush => born"),
-        (&Call::Flush(Some(FlushReply::Count(7))), "flush => born (7)"),
-        (&Call::Flush(None), "flush"),
         (
-            &reserve(two().into()),
-            "reserve 6 2 => 0v1 1v2",
+            &Call::Flush(Some(FlushReply::Count(7))),
+            "flush => born (7)",
         ),
+        (&Call::Flush(None), "flush"),
+        (&reserve(two().into()), "reserve 6 2 => 0v1 1v2"),
         (&reserve([].into()), "reserve 6 2 =>"),
         (&reserve(ReserveReply::Space), "reserve 6 2 => space"),
         (
@@ -317,7 +320,10 @@ fn lines_of_a_trace() {
             "reserve 6 2 => space left 0",
         ),
         (&Call::State(one, Some(State::Alive)), "state 3v4 => alive"),
-        (&Call::State(one, Some(State::Reserved)), "state 3v4 => reserved"),
+        (
+            &Call::State(one, Some(State::Reserved)),
+            "state 3v4 => reserved",
+        ),
         (&Call::State(one, Some(State::Gone)), "state 3v4 => gone"),
         (&Call::Len(Some(5)), "len => 5"),
     ]);

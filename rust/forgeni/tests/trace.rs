@@ -285,7 +285,10 @@ fn a_call_is_written_as_a_line() {
     for (call, line) in [
         (Call::Alloc(Some(one.into())), "alloc => 3v2"),
         (Call::Alloc(Some(AllocReply::Space)), "alloc => space"),
-        (Call::Alloc(Some(AllocReply::NeedsFlush)), "alloc => needs flush"),
+        (
+            Call::Alloc(Some(AllocReply::NeedsFlush)),
+            "alloc => needs flush",
+        ),
         (Call::Alloc(None), "alloc"),
         (Call::Free(one, Some(FreeReply::Freed)), "free 3v2 => freed"),
         (
@@ -310,7 +313,10 @@ fn a_call_is_written_as_a_line() {
             "flush => born 0v1 4294967294v2147483647",
         ),
         (Call::Flush(Some([].into())), "flush => born"),
-        (Call::Flush(Some(FlushReply::Count(12))), "flush => born (12)"),
+        (
+            Call::Flush(Some(FlushReply::Count(12))),
+            "flush => born (12)",
+        ),
         (Call::Flush(None), "flush"),
         (
             reserve(list.into()),
@@ -326,7 +332,10 @@ fn a_call_is_written_as_a_line() {
             "reserve 4294967295 2 => space left 1",
         ),
         (Call::State(one, Some(State::Alive)), "state 3v2 => alive"),
-        (Call::State(one, Some(State::Reserved)), "state 3v2 => reserved"),
+        (
+            Call::State(one, Some(State::Reserved)),
+            "state 3v2 => reserved",
+        ),
         (Call::State(one, Some(State::Gone)), "state 3v2 => gone"),
         (Call::Len(Some(4_294_967_295)), "len => 4294967295"),
     ] {
@@ -397,9 +406,7 @@ fn space_without_a_number() {
     // It is handed back as it was handed in, with its number.
     let mut checker = Checker::new(limits(2, 1));
     let told = Reservation::new(0, 1, ReserveReply::Space);
-    let wrong = checker
-        .run(vec![told])
-        .expect_err("one is left");
+    let wrong = checker.run(vec![told]).expect_err("one is left");
     let difference = wrong.difference().expect("a difference");
     let numbered = |reply: ReserveReply| Reservation {
         number: 1,
