@@ -37,6 +37,7 @@ TABLE = {
     "inline": (634, "a hint to the compiler, on each function with a body and without a hint of its own"),
     "layout": (1, "`Handle` is laid out as its word, so that an `Option` of it is; no source reads a layout"),
     "equality": (2, "`impl PartialEq` and `impl Eq` of `Handle`, which compare its one field, are derived, so that a constant is a pattern"),
+    "data": (6, "calls, replies and errors of traces can be copied and compared: DATA_NAMES lists them; in the kit a clone may fail"),
     "padded": (2, "`padded!` is `write!` with a width, for which nobody can ask in the kit"),
     "allocator": (282, "the right to allocate, `Global`, is handed to nobody in Rust: parameters, arguments, fields, what is bound"),
     "ghost trait": (16, "a trait with ghost members alone, its imports and impls, and a module of nothing else"),
@@ -520,8 +521,15 @@ class Reader:
         if not any(self.left):
             self.out[mark:], self.log[notes:] = [], [it for it in self.log[notes:] if it[1] == "ghost trait"]
             return
-        if not all(self.left):
+        if sum(map(bool, self.left)) == 1 < len(self.left):
             self.out += [it for it in self.cut(mark) if it.text not in ("{", ",", "}")]
+        elif not all(self.left):
+            for it in self.cut(mark):
+                if it.text in (",", "}") and self.out[-1].text in ("{", ","):
+                    it.text == "}" and self.out.pop()
+                    it.text == "," or self.out.append(it)
+                else:
+                    self.out.append(it)
         self.imports_at = mark if self.imports_at is None else self.imports_at
         found = [self.has_condition(it) for it in self.taken]
         if any(found) and self.out[mark].text == "pub":
@@ -566,7 +574,7 @@ class Reader:
             self.insert(len(self.out) - 2, ", PartialEq, Eq")
             self.add("#[repr(transparent)]", "layout")
         if self.look(1).text in ("struct", "enum") and self.look(2).text in DATA_NAMES and self.result in DATA_TYPES:
-            self.insert(len(self.out) - 2, DATA_DERIVES)
+            self.insert(len(self.out) - 2, DATA_DERIVES, "data")
         if self.look(1).text == "struct" and (self.result, self.look(2).text) in APART_TYPES:
             self.add("#[repr(align(128))]", "layout")
         return True
@@ -669,7 +677,7 @@ hint      = '#' '[' ('inline' ('(' ('always' | 'never') ')')? | 'cold') ']'
 lint      = '#' '[' ('must_use' ('=' STR)? | 'non_exhaustive') ']'
 visible   = 'pub' ('(' SCOPE ')')?
 struct    = attribute* ALIGNED visible? 'struct' DECLARED generics ('{' named '}' | ('(' unnamed% ')')? ';')
-enum      = attribute* visible? 'enum' DECLARED generics '{' variant% '}'
+enum      = attribute* ALIGNED visible? 'enum' DECLARED generics '{' variant% '}'
 variant   = attribute* VARIANT ('{' named '}' | '(' unnamed% ')')? ('=' NUM)?
 named     = (ghost | fielded)*
 fielded   = attribute* visible? FIELD ':' type (',' | &'}')

@@ -143,7 +143,8 @@
 //!
 //! - [`Entities::share`], [`Entities::phase`] and [`World::open`] make an `Arc`. They ask for as much memory before, and
 //!   say so if it is refused. So only another thread can take it in between.
-//! - Handles of a slice or an array become an answer of a [`trace::Call`].
+//! - Handles of a slice or an array become an answer of a [`trace::Call`], or a call or an error of a trace is
+//!   cloned.
 //! - A [`trace::Checker`] notes the first reservation of a caller in a run. It asks for as much memory
 //!   before, as for an `Arc`.
 //! - A [`HandleMap`] is cloned, extended, collected, or used up by an iterator. `Reservers::into_inner`

@@ -76,23 +76,41 @@ impl Deref for HandleList {
     }
 }
 
-macro_rules! from_lists {
-    ($($list:ident)*) => {$(
-        impl From<&[Handle]> for $list {
-            fn from(handles: &[Handle]) -> Self {
-                handles.to_vec().into()
-            }
-        }
-
-        impl<const N: usize> From<[Handle; N]> for $list {
-            fn from(handles: [Handle; N]) -> Self {
-                handles.to_vec().into()
-            }
-        }
-    )*};
+impl From<&[Handle]> for HandleList {
+    fn from(handles: &[Handle]) -> Self {
+        handles.to_vec().into()
+    }
 }
 
-from_lists!(HandleList FlushReply ReserveReply);
+impl<const N: usize> From<[Handle; N]> for HandleList {
+    fn from(handles: [Handle; N]) -> Self {
+        handles.to_vec().into()
+    }
+}
+
+impl From<&[Handle]> for FlushReply {
+    fn from(handles: &[Handle]) -> Self {
+        handles.to_vec().into()
+    }
+}
+
+impl<const N: usize> From<[Handle; N]> for FlushReply {
+    fn from(handles: [Handle; N]) -> Self {
+        handles.to_vec().into()
+    }
+}
+
+impl From<&[Handle]> for ReserveReply {
+    fn from(handles: &[Handle]) -> Self {
+        handles.to_vec().into()
+    }
+}
+
+impl<const N: usize> From<[Handle; N]> for ReserveReply {
+    fn from(handles: [Handle; N]) -> Self {
+        handles.to_vec().into()
+    }
+}
 
 impl From<Handle> for ReserveReply {
     fn from(handle: Handle) -> Self {
