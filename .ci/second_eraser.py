@@ -63,7 +63,7 @@ IMPORTS = set(
     "either::Left either::Right itoa::Buffer itoa::Integer smallvec::SmallVec".split()
 )
 PRELUDE = set(
-    "Some None Ok Err Option Result Vec Self self Iterator DoubleEndedIterator ExactSizeIterator From Default Copy Clone Send Sync Fn FnMut FnOnce Ord PartialOrd "
+    "Some None Ok Err Option Result Vec Self self Iterator DoubleEndedIterator ExactSizeIterator From Into Default Copy Clone Send Sync Fn FnMut FnOnce Ord PartialOrd "
     "PartialEq Eq bool char str u8 u16 u32 u64 u128 usize i64".split()
 )
 ASSOCIATED = set(
@@ -72,9 +72,9 @@ ASSOCIATED = set(
     "fmt::Result i64::from mem::replace str::from_utf8 u16::from_le_bytes u32::MAX u32::from_le_bytes u64::from u64::from_le_bytes usize::from".split()
 )
 METHODS = set(
-    "all as_bytes as_chunks as_slice binary_search binary_search_by_key capacity cast_signed cast_unsigned checked_add checked_sub clear "
+    "all as_bytes as_chunks as_mut_slice as_slice binary_search binary_search_by_key capacity cast_signed cast_unsigned checked_add checked_sub clear "
     "close_with cmp collect contains copied count enumerate extend_from_slice fetch_add fetch_sub filter format free get get_mut insert into "
-    "into_badge into_seat is_ascii_digit is_empty is_err is_none is_none_or is_some iter join_seat len load_new_seat map map_err max min next next_back ok "
+    "into_badge into_seat is_ascii_digit is_empty is_err is_none is_none_or is_some iter iter_mut join_seat len load_new_seat map map_err max min next next_back ok "
     "ok_or parse pop position push push_reserved remove reserve resize retain reverse saturating_add saturating_mul saturating_sub size_hint "
     "sort_by_cached_key sort_by_key sort_unstable split_at split_at_mut split_first split_first_chunk split_last split_seat swap_remove take then "
     "to_le_bytes truncate unwrap unwrap_or word write_str write_u64".split()
@@ -86,14 +86,17 @@ SHARED_NAMES = {
 }
 CONSTANT = {(f"ent_alloc/{it}", "new") for it in ("entities", "limits", "slots")}
 CONSTANT |= {("ent_storage/handle_map", it) for it in ("limit", "new", "with_limit")} | {("ent_storage/handle_map/limit", it) for it in ("of", "slots")}
-CONSTANT |= {("ent_alloc/limits", "default_limits"), ("ent_alloc/requests", "none"), ("ent_alloc/entities", "with_limits")}
+CONSTANT |= {("ent_replay/trace/log", "new"), ("ent_alloc/limits", "default_limits"), ("ent_alloc/requests", "none"), ("ent_alloc/entities", "with_limits")}
 CONSTANT |= {("ent_alloc/limits", it) for it in ("generations", "keeping_placeholder", "slots")}
 CONSTANT |= {("ent_handle/handle", it) for it in "from_bits from_parts generation index new to_bits".split()}
 # What `prove_eq!` may call, and whose stand-in is an enum alone (the empty path: what is imported from these crates).
 READS, WITHOUT_METHODS = {"cursor"}, {"", "either::Either"}
 # A file with a type that shares no line of a cache, one with a type of one word and its field, a file whose texts keep a width, and
 # functions with another name.
-APART_TYPE = "ent_total/reserver", "Reserver"
+APART_TYPES = ("ent_total/reserver", "Reserver"), ("ent_total/commands", "Commands"), ("ent_replay/trace/log", "Log")
+# Types of plain data, with the derives that they get more.
+DATA_TYPES = {("ent_replay/trace/" + it) for it in "call check_error difference reply reservation".split()}
+DATA_NAMES, DATA_DERIVES = "Call CheckError Difference FlushReply Reservation ReserveReply".split(), ", Clone, PartialEq, Eq, Hash"
 WORD_TYPE, PADDED, RENAMED = ("ent_handle/handle", "Handle", "bits"), "ent_handle/text", {("Entities", "new"): "with_exact_limits"}
 RENAMED |= {("Vec", it): it + "_fallibly" for it in ("from_slice", "with_capacity")}
 # Calls of the kit's list that Rust's has otherwise, with the receivers that are no lists. A wrong one doesn't compile.
@@ -112,8 +115,8 @@ LEXEME = re.compile(
     % "|".join(re.escape(it) for it in OPERATORS),
     re.VERBOSE | re.DOTALL | re.ASCII,
 )
-# That a closure may be called: any of Rust's may.
-OF_A_CLOSURE = re.compile(r"requires\s+(?:\w+\s+)?\{\s*[A-Z]\w*\.IsAlwaysCallable\s+\w+\s*\}")
+# That a closure may be called: any of Rust's may. And that commands are ready: the package lends none that aren't, and they stay so.
+OF_A_CLOSURE = re.compile(r"requires\s+(?:\w+\s+)?\{\s*(?:[A-Z]\w*\.IsAlwaysCallable\s+\w+|IsReady\s+self\.old)\s*\}")
 ADDED = re.compile(r"""\"[^"]*"|'?\w+|::|->|=>|\.\.|\S""")
 BINARY = set("+ - * / % ^ & | && || << == != < > <= >= = += -= *= /= %= ^= |= &= <<=".split())
 Token = collections.namedtuple("Token", "kind text start end line")
@@ -562,7 +565,9 @@ class Reader:
         if (self.result, self.look(1).text, self.look(2).text) == (WORD_TYPE[0], "struct", WORD_TYPE[1]):
             self.insert(len(self.out) - 2, ", PartialEq, Eq")
             self.add("#[repr(transparent)]", "layout")
-        if (self.result, self.look(1).text, self.look(2).text) == (APART_TYPE[0], "struct", APART_TYPE[1]):
+        if self.look(1).text in ("struct", "enum") and self.look(2).text in DATA_NAMES and self.result in DATA_TYPES:
+            self.insert(len(self.out) - 2, DATA_DERIVES)
+        if self.look(1).text == "struct" and (self.result, self.look(2).text) in APART_TYPES:
             self.add("#[repr(align(128))]", "layout")
         return True
 

@@ -196,7 +196,6 @@ extern crate alloc;
 #[cfg(any(feature = "std", test))]
 extern crate std;
 
-mod commands;
 mod component;
 mod entities;
 mod errors;
@@ -209,11 +208,9 @@ mod kit;
 mod lending;
 mod lent;
 mod numbers;
-mod open_world;
 mod phase;
 #[rustfmt::skip]
 mod proved;
-mod report;
 #[cfg(feature = "std")]
 mod reservers;
 #[cfg(test)]
@@ -223,16 +220,11 @@ mod storage;
 mod sync;
 #[cfg(feature = "std")]
 mod system;
-#[cfg(feature = "std")]
-mod system_commands;
 pub mod trace;
-#[cfg(feature = "std")]
-mod view;
 #[cfg(feature = "std")]
 mod waiting;
 mod world;
 
-pub use commands::{CommandQueue, Commands, SpawnError};
 pub use component::{Birth, ComponentId};
 pub use entities::{Entities, Freed, Living, State};
 pub use errors::{Absent, AllocError, FreeError, OutOfMemory, Refused, ReserveError};
@@ -241,18 +233,12 @@ pub use frames::{run_frame, FrameError};
 pub use handle::{Handle, ParseHandleError};
 pub use handle_map::{HandleMap, InsertError, Uninserted};
 pub use lent::Lent;
-pub use open_world::{FinishError, OpenError, OpenWorld, Unfinished, Unopened};
 pub use proved::ent_alloc::Limits;
-pub use report::{Fault, FaultKind, Report};
 #[cfg(feature = "std")]
 pub use reservers::{Lends, Reservers, Unpooled};
 pub use sharing::{CloseError, OtherPhase, Reserver, ShareError, Shared, Unclosed, Unshared};
 pub use storage::{Bundle, Items, Storage, StorageError};
-pub use sync::{GoOnError, Queues, Stopped, SyncError, SyncErrorKind};
+pub use sync::{Fault, FaultKind, GoOnError, Queues, Report, Stop, Stopped, SyncError};
 #[cfg(feature = "std")]
-pub use system::System;
-#[cfg(feature = "std")]
-pub use system_commands::SystemCommands;
-#[cfg(feature = "std")]
-pub use view::View;
-pub use world::World;
+pub use system::{system, System, SystemCommands};
+pub use world::{CommandQueue, Commands, FinishError, OpenWorld, Unfinished, Unopened, View, World};

@@ -241,17 +241,17 @@ fn storages() {
 fn traces() {
     let all: Vec<Handle> = (0..N).map(|index| handle(index, 1)).collect();
     let mut checker = Checker::new(Limits::GREATEST);
-    let run = [Reservation::new(0, N, all.clone())];
-    // Two copies of the handles, and what the allocator answers, which is built one by one.
+    let run = vec![Reservation::new(0, N, all.clone())];
+    // What the allocator answers, which is compared with what was told.
     at_most((2 * HANDLE) * BYTES + grown(HANDLE), || {
-        checker.run(&run).expect("it agrees");
+        checker.run(run).expect("it agrees");
     });
     at_most((2 * HANDLE + SLOT) * BYTES + grown(HANDLE), || {
         checker.flush(&all[..]).expect("it agrees");
     });
 
     let mut log = Log::new(0);
-    at_most(grown(32), || {
+    at_most(grown(40), || {
         for left in 0..N {
             log.push(1, ReserveReply::SpaceLeft(left)).expect("memory");
         }

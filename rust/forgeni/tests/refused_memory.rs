@@ -397,9 +397,9 @@ fn calls_of_a_map() {
 /// Two entities lived, and one of them still does. Then three callers reserved.
 fn traced() -> Vec<Call> {
     let mut calls = vec![
-        Call::Alloc(handle(0, 1).into()),
-        Call::Alloc(handle(1, 1).into()),
-        Call::Free(handle(0, 1), FreeReply::Freed),
+        Call::Alloc(Some(handle(0, 1).into())),
+        Call::Alloc(Some(handle(1, 1).into())),
+        Call::Free(handle(0, 1), Some(FreeReply::Freed)),
         Call::Reserve(Reservation::new(2, 1, handle(0, 2))),
     ];
     for index in 2..32 {
@@ -408,8 +408,8 @@ fn traced() -> Vec<Call> {
         calls.push(Call::Reserve(one));
     }
     let born = (2..32).map(|index| handle(index, 1)).chain([handle(0, 2)]);
-    calls.push(Call::Flush(born.collect::<Vec<Handle>>().into()));
-    calls.push(Call::Len(32));
+    calls.push(Call::Flush(Some(born.collect::<Vec<Handle>>().into())));
+    calls.push(Call::Len(Some(32)));
     calls
 }
 
@@ -419,14 +419,15 @@ fn calls_of_a_checker() {
     each_block_in_turn(|refusal| {
         let (mut checker, calls) = (Checker::new(Limits::GREATEST), traced());
         let run = [0, 1].map(|caller| Reservation::new(caller, 1, handle(33 - caller, 1)));
+        let run = Vec::from(run);
         let (checked, refused) = refusing(refusal, || {
             calls.into_iter().try_for_each(|call| checker.call(call))?;
-            checker.run(&run)
+            checker.run(run)
         });
         if checked == Err(CheckError::Memory) {
             assert!(refused > 0, "nothing was refused");
             assert_eq!(checker.len(32), checked);
-            assert_eq!(checker.run(&run), checked);
+            assert_eq!(checker.run(vec![]), checked);
         } else {
             assert_eq!((checked, refused), (Ok(()), 0));
             checker.finish().expect("it agrees");
@@ -435,19 +436,19 @@ fn calls_of_a_checker() {
     });
 }
 
-/// A run that can't be copied is the last one, wherever the memory ran out.
+/// A run for which memory ran out is the last one.
 #[test]
 fn a_run_that_is_refused() {
     each_block_in_turn(|refusal| {
         let mut checker = Checker::new(Limits::GREATEST);
         let run = [0, 1, 2].map(|caller| Reservation::new(caller, 1, handle(caller, 1)));
-        let (checked, refused) = refusing(refusal, || checker.run(&run));
+        let run = Vec::from(run);
+        let (checked, refused) = refusing(refusal, || checker.run(run));
         if checked == Err(CheckError::Memory) {
             assert!(refused > 0, "nothing was refused");
             let calls = checker.calls();
             assert_eq!(checker.len(0), checked);
-            assert_eq!(checker.run(&[]), checked);
-            assert_eq!(checker.run(&run), checked);
+            assert_eq!(checker.run(vec![]), checked);
             assert_eq!(checker.calls(), calls);
             assert_eq!(checker.finish(), checked);
         } else {

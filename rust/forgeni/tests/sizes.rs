@@ -123,7 +123,7 @@ fn runs_of_a_trace() {
         .collect();
     let all: Vec<Handle> = (0..MANY).map(|index| handle(index, 1)).collect();
     let mut checker = Checker::new(Limits::GREATEST);
-    checker.run(&run).expect("memory is ample");
+    checker.run(run).expect("memory is ample");
     checker.flush(&all[..]).expect("memory is ample");
     checker.len(MANY).expect("it agrees");
     // One reservation of that many.
@@ -165,10 +165,10 @@ fn lines_of_a_trace() {
     // The slot that was freed first, so given last, comes to life first.
     let wrong = checker.flush(&told[..]).expect_err("the other order");
     let difference = wrong.difference().expect("a difference");
-    assert_eq!(difference.line, u64::from(5 * MANY + 1));
-    assert_eq!(difference.told, Call::Flush(told.clone().into()));
+    assert_eq!(difference.number, u64::from(5 * MANY + 1));
+    assert_eq!(difference.told, Call::Flush(Some(told.clone().into())));
     told.reverse();
-    assert_eq!(difference.expected, Call::Flush(told.into()));
+    assert_eq!(difference.expected, Call::Flush(Some(told.into())));
     let text = wrong.to_string();
     assert!(
         text.ends_with(&format!(" {}v2", MANY - 1)),

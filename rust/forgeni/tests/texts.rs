@@ -275,66 +275,66 @@ fn lines_of_a_trace() {
     let reserve = |reply: ReserveReply| Call::Reserve(Reservation::new(6, 2, reply));
     displays([
         (
-            &Call::Alloc(AllocReply::Handle(one)) as &dyn Display,
+            &Call::Alloc(Some(AllocReply::Handle(one))) as &dyn Display,
             "alloc => 3v4",
         ),
-        (&Call::Alloc(AllocReply::Space), "alloc => space"),
-        (&Call::Alloc(AllocReply::NeedsFlush), "alloc => needs flush"),
-        (&Call::Alloc(AllocReply::Untold), "alloc"),
-        (&Call::Free(one, FreeReply::Freed), "free 3v4 => freed"),
+        (&Call::Alloc(Some(AllocReply::Space)), "alloc => space"),
+        (&Call::Alloc(Some(AllocReply::NeedsFlush)), "alloc => needs flush"),
+        (&Call::Alloc(None), "alloc"),
+        (&Call::Free(one, Some(FreeReply::Freed)), "free 3v4 => freed"),
         (
-            &Call::Free(one, FreeReply::Next(handle(3, 5))),
+            &Call::Free(one, Some(FreeReply::Next(handle(3, 5)))),
             "free 3v4 => freed next 3v5",
         ),
         (
-            &Call::Free(one, FreeReply::Retired),
+            &Call::Free(one, Some(FreeReply::Retired)),
             "free 3v4 => freed retired",
         ),
         (
-            &Call::Free(one, FreeReply::NotAlive),
+            &Call::Free(one, Some(FreeReply::NotAlive)),
             "free 3v4 => not alive",
         ),
         (
-            &Call::Free(one, FreeReply::NeedsFlush),
+            &Call::Free(one, Some(FreeReply::NeedsFlush)),
             "free 3v4 => needs flush",
         ),
-        (&Call::Free(one, FreeReply::Untold), "free 3v4"),
+        (&Call::Free(one, None), "free 3v4"),
         (
-            &Call::Flush(FlushReply::Born(two())),
+            &Call::Flush(Some(two().into())),
             "flush => born 0v1 1v2",
         ),
-        (&Call::Flush(FlushReply::Born(vec![])), "flush => born"),
-        (&Call::Flush(FlushReply::Count(7)), "flush => born (7)"),
-        (&Call::Flush(FlushReply::Untold), "flush"),
+        (&Call::Flush(Some([].into())), "flush => born"),
+        (&Call::Flush(Some(FlushReply::Count(7))), "flush => born (7)"),
+        (&Call::Flush(None), "flush"),
         (
-            &reserve(ReserveReply::Handles(two())),
+            &reserve(two().into()),
             "reserve 6 2 => 0v1 1v2",
         ),
-        (&reserve(ReserveReply::Handles(vec![])), "reserve 6 2 =>"),
+        (&reserve([].into()), "reserve 6 2 =>"),
         (&reserve(ReserveReply::Space), "reserve 6 2 => space"),
         (
             &reserve(ReserveReply::SpaceLeft(0)),
             "reserve 6 2 => space left 0",
         ),
-        (&Call::State(one, State::Alive), "state 3v4 => alive"),
-        (&Call::State(one, State::Reserved), "state 3v4 => reserved"),
-        (&Call::State(one, State::Gone), "state 3v4 => gone"),
-        (&Call::Len(5), "len => 5"),
+        (&Call::State(one, Some(State::Alive)), "state 3v4 => alive"),
+        (&Call::State(one, Some(State::Reserved)), "state 3v4 => reserved"),
+        (&Call::State(one, Some(State::Gone)), "state 3v4 => gone"),
+        (&Call::Len(Some(5)), "len => 5"),
     ]);
 }
 
 #[test]
 fn values_of_traces() {
     let difference = Difference {
-        line: 4,
-        told: Call::Len(2),
-        expected: Call::Len(3),
-        front: two(),
+        number: 4,
+        told: Call::Len(Some(2)),
+        expected: Call::Len(Some(3)),
+        front: two().into(),
         cursor: -1,
     };
     let text = "differs line 4: len => 2, expected 3";
     let debug =
-        "Difference { line: 4, told: Len(2), expected: Len(3), front: [0v1, 1v2], cursor: -1 }";
+        "Difference { number: 4, told: Len(Some(2)), expected: Len(Some(3)), front: HandleList { handles: [0v1, 1v2] }, cursor: -1 }";
     let error = CheckError::Differs(difference.clone());
     displays([
         (&difference as &dyn Display, text),
@@ -354,11 +354,11 @@ fn values_of_traces() {
     debugs([
         (&difference as &dyn Debug, debug),
         (&error, &format!("Differs({debug})")),
-        (&checker, "Checker { calls: 1, .. }"),
-        (&recorder, "Recorder { calls: 1, logs: 3 }"),
+        (&checker, "Checker { calls: 1, error: None, .. }"),
+        (&recorder, "Recorder { calls: 1, .. }"),
         (
             &log,
-            "Log { caller: 6, reservations: [Reservation { caller: 6, requested: 1, reply: Handles([0v1]) }] }",
+            "Log { caller: 6, reservations: [Reservation { number: 0, caller: 6, requested: 1, reply: Handles(HandleList { handles: [0v1] }) }] }",
         ),
     ]);
 }
