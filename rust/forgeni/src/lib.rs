@@ -6,7 +6,7 @@
 //! the contract of each proved call is below its docs.
 //!
 //! ```
-//! use forgeni::Entities;
+//! use forgeni::{Entities, State};
 //!
 //! let mut entities = Entities::new();
 //! let first = entities.alloc()?;
@@ -15,7 +15,7 @@
 //! assert_eq!(entities.len(), 2);
 //!
 //! entities.free(first)?;
-//! assert!(!entities.is_alive(first));
+//! assert_eq!(entities.state(first), State::Gone);
 //! assert!(entities.is_alive(second));
 //!
 //! // The slot is used again, by a handle of the next generation.
@@ -42,6 +42,11 @@
 //!         });
 //!     }
 //! });
+//!
+//! // From now on the first one reserves after all that the second one has reserved.
+//! let (first, others) = reservers.split_at_mut(1);
+//! first[0].meet(&mut others[0])?;
+//!
 //! let mut entities = shared.close(reservers)?;
 //! assert_eq!(entities.len(), 0);
 //! entities.flush(&mut Vec::new())?;
@@ -70,7 +75,15 @@
 //! let mut names = HandleMap::new();
 //! let cart = entities.alloc()?;
 //! names.insert(cart, String::from("cart"))?;
-//! assert_eq!(names[cart], "cart");
+//! names[cart].push('s');
+//! for (one, name) in &names {
+//!     assert!(entities.is_alive(one) && name == "carts");
+//! }
+//!
+//! // A map knows no allocator, so take out the values of what you free.
+//! entities.free(cart)?;
+//! assert_eq!(names.remove(cart).as_deref(), Some("carts"));
+//! assert_eq!(names.get(cart), None);
 //! # Ok::<(), Box<dyn std::error::Error + Send + Sync>>(())
 //! ```
 //!
