@@ -3,6 +3,7 @@
 use alloc::alloc::handle_alloc_error;
 use core::alloc::Layout;
 use core::fmt;
+use core::iter::FusedIterator;
 
 pub use crate::proved::ent_queue::Bundle;
 pub use crate::proved::ent_storage::{Items, Storage, StorageFault as StorageError};
@@ -18,6 +19,14 @@ impl fmt::Debug for Storage {
         out.debug_struct("Storage")
             .field("len", &self.len())
             .finish_non_exhaustive()
+    }
+}
+
+impl FusedIterator for Items<'_> {}
+
+impl fmt::Debug for Items<'_> {
+    fn fmt(&self, out: &mut fmt::Formatter<'_>) -> fmt::Result {
+        out.debug_map().entries(self.clone()).finish()
     }
 }
 

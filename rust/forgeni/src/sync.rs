@@ -6,6 +6,24 @@ use core::fmt;
 pub use crate::proved::ent_total::{GoOnError, Queues, Stop, Stopped, SyncError};
 pub use crate::proved::ent_world::{Fault, FaultKind, SyncReport as Report};
 
+/// If memory runs out, the process ends, as when a `Vec` is cloned.
+impl Clone for Report {
+    fn clone(&self) -> Self {
+        Self {
+            born: self.born.clone(),
+            faults: self.faults.clone(),
+        }
+    }
+}
+
+impl PartialEq for Report {
+    fn eq(&self, other: &Self) -> bool {
+        self.born == other.born && self.faults == other.faults
+    }
+}
+
+impl Eq for Report {}
+
 impl fmt::Debug for Queues {
     fn fmt(&self, out: &mut fmt::Formatter<'_>) -> fmt::Result {
         out.debug_struct("Queues")

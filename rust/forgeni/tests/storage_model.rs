@@ -134,7 +134,12 @@ fn all_components_of_one_entity() {
         .collect();
     assert_eq!(storage.insert(one, &all), Ok(()));
     let items = storage.items(one).expect("there");
-    let last = items.clone().skip(254);
+    let mut last = items.clone();
+    assert_eq!(last.nth(253), Some((ComponentId(253), -253)));
+    assert_eq!(
+        format!("{last:?}"),
+        "{ComponentId(254): -254, ComponentId(255): -255}"
+    );
     assert!(last.eq([(ComponentId(254), -254), (ComponentId(255), -255)]));
     assert_eq!(items.collect::<Vec<_>>(), all);
 }

@@ -110,6 +110,7 @@ fn queues_take_effect_in_their_order() {
         kind,
     };
     assert_eq!(report.faults, [fault]);
+    assert_eq!(report.clone(), report);
     assert_eq!(world.get(old, HP), Some(2));
     assert_eq!(world.items(early).map(Vec::from_iter), Some(vec![]));
     let birth = Birth {
