@@ -160,7 +160,7 @@
 //!   cloned.
 //! - A [`trace::Checker`] notes the first reservation of a caller in a run. It asks for as much memory
 //!   before, as for an `Arc`.
-//! - A [`HandleMap`] is cloned, extended, collected, or used up by an iterator. `Reservers::into_inner`
+//! - A [`Bundle`] is cloned. A [`HandleMap`] is cloned, extended, collected, or used up by an iterator. `Reservers::into_inner`
 //!   makes a list.
 //! - `run_frame` with more than one worker starts threads.
 //!
