@@ -37,7 +37,6 @@ TABLE = {
     "inline": (634, "a hint to the compiler, on each function with a body and without a hint of its own"),
     "layout": (1, "`Handle` is laid out as its word, so that an `Option` of it is; no source reads a layout"),
     "equality": (2, "`impl PartialEq` and `impl Eq` of `Handle`, which compare its one field, are derived, so that a constant is a pattern"),
-    "data": (6, "calls, replies and errors of traces can be copied and compared: DATA_NAMES lists them; in the kit a clone may fail"),
     "padded": (2, "`padded!` is `write!` with a width, for which nobody can ask in the kit"),
     "allocator": (282, "the right to allocate, `Global`, is handed to nobody in Rust: parameters, arguments, fields, what is bound"),
     "ghost trait": (16, "a trait with ghost members alone, its imports and impls, and a module of nothing else"),
@@ -87,23 +86,20 @@ SHARED_NAMES = {
 }
 CONSTANT = {(f"ent_alloc/{it}", "new") for it in ("entities", "limits", "slots")}
 CONSTANT |= {("ent_storage/handle_map", it) for it in ("limit", "new", "with_limit")} | {("ent_storage/handle_map/limit", it) for it in ("of", "slots")}
-CONSTANT |= {("ent_replay/trace/log", "new"), ("ent_alloc/limits", "default_limits"), ("ent_alloc/requests", "none"), ("ent_alloc/entities", "with_limits")}
+CONSTANT |= {("ent_alloc/limits", "default_limits"), ("ent_alloc/requests", "none"), ("ent_alloc/entities", "with_limits")}
 CONSTANT |= {("ent_alloc/limits", it) for it in ("generations", "keeping_placeholder", "slots")}
 CONSTANT |= {("ent_handle/handle", it) for it in "from_bits from_parts generation index new to_bits".split()}
 # What `prove_eq!` may call, and whose stand-in is an enum alone (the empty path: what is imported from these crates).
 READS, WITHOUT_METHODS = {"cursor"}, {"", "either::Either"}
 # A file with a type that shares no line of a cache, one with a type of one word and its field, a file whose texts keep a width, and
 # functions with another name.
-APART_TYPES = ("ent_total/reserver", "Reserver"), ("ent_replay/trace/log", "Log")
-# Types of plain data, with the derives that they get more.
-DATA_TYPES = {("ent_replay/trace/" + it) for it in "call check_error difference reply reservation".split()}
-DATA_NAMES, DATA_DERIVES = "Call CheckError Difference FlushReply Reservation ReserveReply".split(), ", Clone, PartialEq, Eq, Hash"
+APART_TYPE = "ent_total/reserver", "Reserver"
 WORD_TYPE, PADDED, RENAMED = ("ent_handle/handle", "Handle", "bits"), "ent_handle/text", {("Entities", "new"): "with_exact_limits"}
 RENAMED |= {("Vec", it): it + "_fallibly" for it in ("from_slice", "with_capacity")}
 # Calls of the kit's list that Rust's has otherwise, with the receivers that are no lists. A wrong one doesn't compile.
 LISTS = {"capacity": "living", "extend_from_slice": "", "push": "living", "push_reserved": "", "resize": "", "sort_by_cached_key": ""}
 LISTS |= {"sort_by_key": "", "reserve": "] index living self shared storage"}
-LISTS |= {"insert": "blocked calls commands items last latest living queue seen spent values"}
+LISTS |= {"insert": "blocked calls commands items last latest living queue seen self spent values"}
 DERIVES = set("Clone Copy Debug Default PartialEq Eq Hash".split())
 KEYWORDS = set(
     "as async await break const continue crate dyn else enum extern false fn for if impl in let loop match mod move mut pub ref return "
@@ -521,15 +517,8 @@ class Reader:
         if not any(self.left):
             self.out[mark:], self.log[notes:] = [], [it for it in self.log[notes:] if it[1] == "ghost trait"]
             return
-        if sum(map(bool, self.left)) == 1 < len(self.left):
+        if sum(self.left) == 1 < len(self.left):
             self.out += [it for it in self.cut(mark) if it.text not in ("{", ",", "}")]
-        elif not all(self.left):
-            for it in self.cut(mark):
-                if it.text in (",", "}") and self.out[-1].text in ("{", ","):
-                    it.text == "}" and self.out.pop()
-                    it.text == "," or self.out.append(it)
-                else:
-                    self.out.append(it)
         self.imports_at = mark if self.imports_at is None else self.imports_at
         found = [self.has_condition(it) for it in self.taken]
         if any(found) and self.out[mark].text == "pub":
@@ -573,9 +562,7 @@ class Reader:
         if (self.result, self.look(1).text, self.look(2).text) == (WORD_TYPE[0], "struct", WORD_TYPE[1]):
             self.insert(len(self.out) - 2, ", PartialEq, Eq")
             self.add("#[repr(transparent)]", "layout")
-        if self.look(1).text in ("struct", "enum") and self.look(2).text in DATA_NAMES and self.result in DATA_TYPES:
-            self.insert(len(self.out) - 2, DATA_DERIVES, "data")
-        if self.look(1).text == "struct" and (self.result, self.look(2).text) in APART_TYPES:
+        if (self.result, self.look(1).text, self.look(2).text) == (APART_TYPE[0], "struct", APART_TYPE[1]):
             self.add("#[repr(align(128))]", "layout")
         return True
 
@@ -677,7 +664,7 @@ hint      = '#' '[' ('inline' ('(' ('always' | 'never') ')')? | 'cold') ']'
 lint      = '#' '[' ('must_use' ('=' STR)? | 'non_exhaustive') ']'
 visible   = 'pub' ('(' SCOPE ')')?
 struct    = attribute* ALIGNED visible? 'struct' DECLARED generics ('{' named '}' | ('(' unnamed% ')')? ';')
-enum      = attribute* ALIGNED visible? 'enum' DECLARED generics '{' variant% '}'
+enum      = attribute* visible? 'enum' DECLARED generics '{' variant% '}'
 variant   = attribute* VARIANT ('{' named '}' | '(' unnamed% ')')? ('=' NUM)?
 named     = (ghost | fielded)*
 fielded   = attribute* visible? FIELD ':' type (',' | &'}')

@@ -427,6 +427,12 @@ pub const LAYOUTS: &[Layout] = &[
         name: "Reserver",
         attribute: "#[repr(align(128))]",
     },
+    // A command writes the queue, so two systems in a list share none either.
+    Layout {
+        krate: "ent_total",
+        name: "Commands",
+        attribute: "#[repr(align(128))]",
+    },
     // Each thread writes to a log of its own.
     Layout {
         krate: "ent_replay",

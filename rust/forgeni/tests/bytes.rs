@@ -190,12 +190,12 @@ fn finished(systems: Vec<Commands>) -> Vec<CommandQueue> {
 fn worlds() {
     let mut world = World::new();
     for count in [1, 10, 1_000] {
-        let most = (APART + 32) * count + 1_024;
+        // The systems, their reservers, and the list that a sync point reads.
+        let most = (APART + 32 + 32) * count + 1_024;
         let (open, systems) = at_most(most, || world.open(count).expect("memory"));
         let queues = finished(systems);
-        // The list that a sync point reads. A list has room for four.
-        let close = || open.close(queues).expect("memory");
-        let (closed, queues) = at_most(32 * count.max(4), close);
+        // The opening has made room for the list that a sync point reads.
+        let (closed, queues) = exactly(0, || open.close(queues).expect("closed"));
         world = closed;
         exactly(0, || world.apply(queues).expect("memory"));
     }
@@ -268,7 +268,7 @@ mod threads {
     /// Of each system: what guards it, its place, its queue, and a list that grows by each.
     #[test]
     fn frames() {
-        let system = |_: View<'_>, _: &mut SystemCommands<'_, '_>| Ok(());
+        let system = |_: &View<'_>, _: &mut SystemCommands<'_>| Ok(());
         for count in [1 << 8, 1 << 11] {
             let (mut world, systems) = (World::new(), vec![system; count]);
             let most = (3 * 32 + 4 * 40) * count + 1_024;

@@ -5,9 +5,9 @@ use forgeni::trace::{AllocReply, Call, CheckError, Checker, Difference, FlushRep
 use forgeni::trace::{Log, Recorder, Reservation, ReserveReply};
 use forgeni::{
     Absent, AllocError, Birth, CloseError, Commands, ComponentId, Entities, Fault, FaultKind,
-    FinishError, FreeError, Freed, Handle, HandleMap, InsertError, Limits, OpenError, OtherPhase,
-    OutOfMemory, ParseHandleError, Refused, ReserveError, ShareError, SpawnError, State, Storage,
-    StorageError, SyncError, SyncErrorKind, World,
+    FinishError, FreeError, Freed, Handle, HandleMap, InsertError, Limits, OtherPhase, OutOfMemory,
+    ParseHandleError, Refused, ReserveError, ShareError, State, Stop, Storage, StorageError,
+    SyncError, World,
 };
 use std::fmt::{Debug, Display};
 
@@ -49,10 +49,7 @@ fn errors_of_an_allocator() {
         (&ReserveError::Quota { left: 7 }, "the quota left is 7"),
         (&ReserveError::Memory, MEMORY),
         (&ShareError::NeedsFlush, NEEDS_FLUSH),
-        (
-            &ShareError::Count,
-            "an allocator is shared among 1 to 1,024 callers",
-        ),
+        (&ShareError::Count, "a phase has 1 to 1,024 callers"),
         (&ShareError::Memory, MEMORY),
         (&OtherPhase, "the reserver is of another phase"),
         (&CloseError::OtherPhase, "a reserver is of another phase"),
@@ -83,26 +80,20 @@ fn errors_of_components_and_worlds() {
             "a later occupant of the slot has a value",
         ),
         (&InsertError::Memory, MEMORY),
-        (&SpawnError::Space { wanted, left }, WANTED),
-        (&SpawnError::Credit { left: 7 }, "the credit left is 7"),
-        (&SpawnError::Memory, MEMORY),
-        (&OpenError::NeedsFlush, NEEDS_FLUSH),
-        (&OpenError::Count, "a phase has 1 to 1,024 systems"),
-        (&OpenError::Memory, MEMORY),
+        (&ReserveError::Space { wanted, left }, WANTED),
+        (&ReserveError::Quota { left: 7 }, "the quota left is 7"),
+        (&ReserveError::Memory, MEMORY),
+        (&ShareError::NeedsFlush, NEEDS_FLUSH),
+        (&ShareError::Count, "a phase has 1 to 1,024 callers"),
+        (&ShareError::Memory, MEMORY),
         (&FinishError::OtherPhase, "a queue is of another phase"),
         (&FinishError::Missing { count: 2 }, "missing queues: 2"),
         (&FinishError::InUse, "a system is still in use"),
-        (&FinishError::Memory, MEMORY),
         (
-            &SyncErrorKind::OtherWorld,
-            "the queues are of another world",
-        ),
-        (&SyncErrorKind::NeedsFlush, NEEDS_FLUSH),
-        (&SyncErrorKind::Memory, MEMORY),
-        (
-            &SyncErrorKind::Stopped {
+            &Stop {
                 system: 3,
                 command: 4,
+                done: 5,
             },
             "out of memory at command 4 of system 3",
         ),
@@ -126,12 +117,9 @@ fn errors_with_parts() {
     let (open, systems) = World::new().open(1).expect("opened");
     let unfinished = open.close(vec![]).expect_err("missing");
     displays([
-        (
-            &unshared as &dyn Display,
-            "an allocator is shared among 1 to 1,024 callers",
-        ),
+        (&unshared as &dyn Display, "a phase has 1 to 1,024 callers"),
         (&unclosed, "missing reservers: 2"),
-        (&unopened, "a phase has 1 to 1,024 systems"),
+        (&unopened, "a phase has 1 to 1,024 callers"),
         (&unfinished, "missing queues: 1"),
     ]);
     debugs([
@@ -145,7 +133,7 @@ fn errors_with_parts() {
             "Unclosed { shared: Shared { count: 2, at_home: 0, .. }, reservers: [], \
              error: Missing { count: 2 } }",
         ),
-        (&unopened, "Unopened { world: World { len: 0, phase: 0, .. }, error: Count }"),
+        (&unopened, "Unopened { world: World { len: 0, frame: 0, .. }, error: Count }"),
         (
             &unfinished,
             "Unfinished { open: OpenWorld { count: 1, at_home: 0, .. }, queues: [], \
@@ -159,11 +147,14 @@ fn errors_with_parts() {
         &unapplied as &dyn Display,
         "the queues are of another world",
     )]);
-    debugs([(&unapplied as &dyn Debug, "OtherWorld(Queues { .. })")]);
-    let (left, _) = unapplied.into_parts();
+    debugs([(
+        &unapplied as &dyn Debug,
+        "OtherWorld(Queues { len: 1, .. })",
+    )]);
+    let left = unapplied.into_parts();
     let refused = SyncError::Memory(left.expect("nothing was done"));
     displays([(&refused as &dyn Display, MEMORY)]);
-    debugs([(&refused as &dyn Debug, "Memory(Queues { .. })")]);
+    debugs([(&refused as &dyn Debug, "Memory(Queues { len: 1, .. })")]);
 }
 
 #[test]
@@ -235,7 +226,7 @@ fn values_of_worlds() {
             &FaultKind::Space { wanted: 5, left: 3 },
             "Space { wanted: 5, left: 3 }",
         ),
-        (&FaultKind::Credit { left: 7 }, "Credit { left: 7 }"),
+        (&FaultKind::Quota { left: 7 }, "Quota { left: 7 }"),
         (&HandleMap::from_iter([(handle(1, 2), 'a')]), "{1v2: 'a'}"),
     ]);
     displays([(&birth as &dyn Display, "2.0.1")]);
@@ -243,7 +234,7 @@ fn values_of_worlds() {
     let mut world = World::new();
     world.spawn(&[]).expect("a handle");
     world.flush().expect("memory");
-    debugs([(&world as &dyn Debug, "World { len: 1, phase: 1, .. }")]);
+    debugs([(&world as &dyn Debug, "World { len: 1, frame: 1, .. }")]);
     let (open, mut systems) = world.open(2).expect("opened");
     systems[1].spawn(&[]).expect("a handle");
     systems[1].despawn(handle(7, 1)).expect("memory");
@@ -260,7 +251,7 @@ fn values_of_worlds() {
     let report = world.apply(queues).expect("memory");
     debugs([(
         &report as &dyn Debug,
-        "Report { born: [1v1], faults: [Fault { system: 1, command: 1, kind: NotAlive(7v1) }] }",
+        "SyncReport { born: [1v1], faults: [Fault { system: 1, command: 1, kind: NotAlive(7v1) }] }",
     )]);
 }
 
@@ -388,13 +379,13 @@ mod frames {
             (&FrameError::Memory, "out of memory before any system ran"),
             (&FrameError::Lost, "out of memory while the systems ran"),
             (
-                &FrameError::Sync(SyncError::Memory(queues)),
+                &FrameError::Unapplied(queues),
                 "the sync point stopped: out of memory",
             ),
         ]);
         world.spawn(&[]).expect("a handle");
         world.flush().expect("memory");
-        let system = |view: View<'_>, commands: &mut SystemCommands<'_, '_>| {
+        let system = |view: &View<'_>, commands: &mut SystemCommands<'_>| {
             debugs([
                 (&view as &dyn Debug, "View { phase: 1, .. }"),
                 (commands, "SystemCommands { .. }"),
