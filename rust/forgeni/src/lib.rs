@@ -154,7 +154,7 @@
 //! handle without a value. A panic of the caller's own code is handed on. Where Rust has no form that
 //! returns an error if memory runs out, the process ends, as with `Vec` and `Arc`:
 //!
-//! - [`Entities::share`], [`Entities::phase`] and [`World::open`] make an `Arc`. They ask for as much memory before, and
+//! - [`Entities::share`], [`Entities::phase`], [`World::open`] and [`World::phase`] make an `Arc`. They ask for as much memory before, and
 //!   say so if it is refused. So only another thread can take it in between.
 //! - Handles of a slice or an array become an answer of a [`trace::Call`], or a call or an error of a trace is
 //!   cloned.
