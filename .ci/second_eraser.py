@@ -95,7 +95,7 @@ LEXEME = re.compile(
 )
 # That a closure may be called: any of Rust's may.
 OF_A_CLOSURE = re.compile(r"requires\s+(?:\w+\s+)?\{\s*[A-Z]\w*\.IsAlwaysCallable\s+\w+\s*\}")
-ADDED = re.compile(r"""\"[^"]*"|'?\w+|::|->|=>|\.\.|\S""")
+IN_A_CLAUSE = re.compile(r'--.*|"(?:\\.|[^"\\])*"?|\{-|//|[{}]')
 BINARY = set("+ - * / % ^ & | && || << == != < > <= >= = += -= *= /= %= ^= |= &= <<=".split())
 Token = collections.namedtuple("Token", "kind text start end line")
 
@@ -133,60 +133,50 @@ class Text:
 
     def after_clause(self, at):
         """Where the braces end that begin at `at`. Their words are antt's: its comments are `--` and `{- -}`, its texts stand in `"`."""
-        depth, begin = 0, at
-        while at < len(self.text):
-            if self.text.startswith(("{-", "//"), at):
-                self.fail("a comment of several lines or of Rust in a clause", at)
-            if self.text.startswith("--", at):
-                if self.text[at - 1] not in " \n({[)}]":
-                    self.fail("a comment or a name", at)
-                at = self.text.index("\n", at)
-            if self.text[at] == '"':
-                at = re.compile(r'"(?:\\.|[^"\\])*').match(self.text, at).end()
-            depth += {"{": 1, "}": -1}.get(self.text[at], 0)
-            at += 1
+        depth = 0
+        for part in IN_A_CLAUSE.finditer(self.text, at):
+            if part[0] in ("{-", "//"):
+                self.fail("a comment of several lines or of Rust in a clause", part.start())
+            if part[0].startswith("--") and self.text[part.start() - 1] not in " \n({[)}]":
+                self.fail("a comment or a name", part.start())
+            depth += {"{": 1, "}": -1}.get(part[0], 0)
             if depth == 0:
-                return at
-        self.fail("a clause without an end", begin)
+                return part.end()
+        self.fail("a clause without an end", at)
 
 
 class Unit:
-    """What is erased together: the crates, what they declare and name, and how often each class of difference was made."""
+    """What is erased together: the crates, and what each of their files has to know of all others."""
 
     def __init__(self, crates, packages):
-        self.crates, self.packages, self.others, self.uses, self.conditions, self.facts = crates, packages, set(), [], set(), set()
-        self.counts, self.functions = collections.Counter(), collections.defaultdict(set)
+        self.crates, self.packages, self.conditions, self.facts = crates, packages, set(), set()
 
     def learn(self, notes):
-        """What each file has to know of all others."""
         self.facts |= {(name, of) for kind, name, of in notes if kind == "fact"}
         self.facts |= {(GHOST, of[1]) for name, of in self.facts if name == "phantom" and ("ghost", of[0]) in self.facts}
         twice = {of for name, of in self.facts if name in CLASSES} & {of for name, of in self.facts if name == "field"}
         if twice:
             raise Refused(f"a field `{min(twice)}` that goes, since its type does, and one that stays")
 
-    def collect(self, notes):
-        self.counts.update(name for kind, name, _ in notes if kind == "count")
-        self.others |= {name for kind, name, _ in notes if kind == "other"}
-        self.uses += [it for it in notes if it[0] not in ("count", "other", "function", "add", "fact")]
-        for _, name, of in (it for it in notes if it[0] == "function"):
-            self.functions[name].add(of)
 
-    def check(self):
-        """Each name that was used has to be known, and to mean one thing."""
-        own, methods = self.functions.keys() | self.others, METHODS | self.functions.keys()
-        reads = {it for it in READS if {receiver for _, receiver in self.functions[it]} == {"&self"}}
-        lists = {"import": IMPORTS, "path": ASSOCIATED, "own path": own, "method": methods, "read": reads}
-        for kind, name, place in self.uses:
-            if (name.split("::")[-1] if kind == "own path" else name) not in lists.get(kind, ()):
-                raise Refused(f"{place}: {name if kind == 'refused' else f'the {kind} `{name}` is in no list'}")
-        for name, all_of in self.functions.items():
-            owners = {owner for owner, _ in all_of if owner}
-            for trait in (it for it in owners if it.startswith("trait ")):
-                if name not in SHARED_NAMES and (owners - {trait, f"impl {trait}"} or name in METHODS):
-                    raise Refused(f"`{name}` of {trait} is also a method of another trait or type: which is meant depends on the language")
-            if name == "collect" and owners:
-                raise Refused("a method `collect`: `collect_in` would take its place")
+def check(notes):
+    """Each name that was used has to be known, and to mean one thing."""
+    functions = collections.defaultdict(set)
+    for _, name, of in (it for it in notes if it[0] == "function"):
+        functions[name].add(of)
+    own = functions.keys() | {name for kind, name, _ in notes if kind == "other"}
+    reads = {it for it in READS if {receiver for _, receiver in functions[it]} == {"&self"}}
+    lists = {"import": IMPORTS, "path": ASSOCIATED, "own path": own, "method": METHODS | functions.keys(), "read": reads}
+    for (kind, name), place in ((name, place) for what, name, place in notes if what == "use"):
+        if (name.split("::")[-1] if kind == "own path" else name) not in lists.get(kind, ()):
+            raise Refused(f"{place}: {name if kind == 'refused' else f'the {kind} `{name}` is in no list'}")
+    for name, all_of in functions.items():
+        owners = {owner for owner, _ in all_of if owner}
+        for trait in (it for it in owners if it.startswith("trait ")):
+            if name not in SHARED_NAMES and (owners - {trait, f"impl {trait}"} or name in METHODS):
+                raise Refused(f"`{name}` of {trait} is also a method of another trait or type: which is meant depends on the language")
+        if name == "collect" and owners:
+            raise Refused("a method `collect`: `collect_in` would take its place")
 
 
 class Reader:
@@ -306,7 +296,7 @@ class Reader:
         """Writes what only the results have."""
         self.note("count", kind) if kind else None
         self.note("add", NEEDS[kind]) if kind in NEEDS else None
-        self.out += [Token("added", it, 0, 0, self.look().line) for it in ADDED.findall(words)]
+        self.out += [it._replace(line=self.look().line) for it in Text(words, "").tokens()]
         return True
 
     def instead(self, words, kind):
@@ -332,7 +322,7 @@ class Reader:
         return True
 
     def use(self, kind, name):
-        return self.note(kind, name, f"{self.text.name}:{self.look().line}")
+        return self.note("use", (kind, name), f"{self.text.name}:{self.look().line}")
 
     def texts(self, mark):
         return [it.text for it in self.out[mark:]]
@@ -530,22 +520,12 @@ class Reader:
         found = self.sees(*BINARY) and self.take()
         return found and (found.text != ">" or not self.sees(">", ">=") or self.take())
 
-    def is_derives(self):
-        """The derives that Rust has."""
-        kept = []
-        while self.drop().text != ")":
-            if self.sees("Drop") or self.sees("Error") and self.imports.get("Error") == ERROR:
-                self.errs |= self.sees("Error")
-                self.note("count", f"derive({self.look().text})")
-            elif self.sees(*DERIVES):
-                kept.append(self.look().text)
-            else:
-                return False
-            self.drop()
-        return self.add("(" * bool(kept) + ", ".join(kept) + ")" * bool(kept))
+    def is_error(self):
+        self.errs |= self.sees("Error") and self.imports.get("Error") == ERROR
+        return self.errs and self.sees("Error")
 
     def after_attribute(self, mark, _):
-        self.cut(mark) if self.out[mark:] and self.out[-2].text == "derive" else None
+        self.cut(mark) if self.texts(mark)[-4:] == ["derive", "(", ")", "]"] else None
 
     def after_bounds(self, mark, _):
         """A word to the prover among bounds goes with its sign, and the colon with the last one."""
@@ -614,8 +594,7 @@ class Reader:
 # The grammar: `-` reads and writes nothing, `&` and `!` look ahead, `%` is a list with commas, a word in capitals is one of WORDS or `is_..`.
 # After a rule its `after_..` is called. A range without an end is an index alone: elsewhere the kit ends it where Rust doesn't.
 GRAMMAR = r"""
-file      = -head* item* END
-head      = '#' '!' '[' 'tactic' group ']'
+file      = -('#' '!' '[' 'tactic' group ']')* item* END
 group     = '(' (group | !')' ANY)* ')'
 item      = ghost | use | module | constant | alias | function | struct | enum | impl | trait
 ghost     = -('pub'? 'ghost' ('use' UNTIL_SEMICOLON | NAME (':' CLAUSE)? ('=' CLAUSE)?) (';' | ','))
@@ -623,7 +602,8 @@ use       = visible? 'use' PREFIX ('{' leaf% '}' | leaf) ';'
 leaf      = NAME ('as' NAME)?
 module    = visible? 'mod' DECLARED ';'
 constant  = visible? 'const' CONSTANT ':' type ('=' expression)? ';'
-attribute = -('#' '[' (('tactic' | 'cycle') group | 'error' '(' ERROR ')') ']') | '#' '[' ('derive' DERIVES | lint) ']'
+attribute = -('#' '[' (('tactic' | 'cycle') group | 'error' '(' ERROR ')') ']') | '#' '[' ('derive' '(' derived% ')' | lint) ']'
+derived   = DERIVE | -NO_DERIVE
 lint      = 'inline' ('(' ('always' | 'never') ')')? | 'cold' | 'must_use' ('=' STR)? | 'non_exhaustive'
 visible   = 'pub' ('(' SCOPE ')')?
 struct    = attribute* visible? 'struct' DECLARED generics ('{' named '}' | ('(' unnamed% ')')? ';')
@@ -666,7 +646,7 @@ literal   = '-'? NUM | STR | CHAR | 'true' | 'false'
 block     = '{' statement* '}'
 statement = ';' | attribute* local | &('fn' | 'const') item | compound ';'? | expression (';' | &'}')
 local     = 'let' pattern (':' type)? ('=' expression ('else' block)?)? ';'
-compound  = compound_of (&('.' | '?') rest+)?
+compound  = (if | match | loop | block) (&('.' | '?') rest+)?
 if        = 'if' condition block ('else' (if | block))?
 loop      = 'while' condition block | 'for' pattern 'in' condition block | 'loop' block
 match     = 'match' condition '{' arm* '}'
@@ -681,14 +661,12 @@ turbofish = '::' arguments
 passed    = inner
 inner     = expression
 index     = '..' &']' | inner ('..' &']')?
-primary   = literal | '(' inner% ')' | '[' (inner ';' inner | inner%) ']' | compound_of | closure | let | leave | macro | value
-compound_of = if | match | loop | block
+primary   = literal | '(' inner% ')' | '[' (inner ';' inner | inner%) ']' | compound | closure | let | leave | macro | struct_of | path
 let       = 'let' pattern '=' operand rest_of_let*
 rest_of_let = '?' | '.' (NUM | method | NAME) | '(' passed% ')' | '[' index ']'
 leave     = ('return' | 'break') expression? | 'continue'
 closure   = 'move'? ('||' | '|' closed% '|') (arrow clause* block | clause clause* block | expression)
 closed    = one (':' type)?
-value     = struct_of | path
 struct_of = STRUCT path '{' part% '}'
 part      = '..' NAME &'}' | (NAME | NUM) ':' passed | path
 path      = HEAD ('::' STEP)* turbofish?
@@ -723,6 +701,8 @@ WORDS = {it.upper(): lambda r, it=it: r.look().kind == it and r.take() for it in
     "TRAIT_OWNER": lambda r: r.set("owner", f"trait {r.declared}"),
     "STRUCT": lambda r: not r.no_struct and r.words()[1] == "{" and r.words()[0][-1][:1].isupper(),
     "TAG": lambda r: r.look().kind == "id" and (r.look(1).text in ("::", "(", "{") or r.look().text[0].isupper()),
+    "DERIVE": lambda r: r.sees(*DERIVES) and r.take(),
+    "NO_DERIVE": lambda r: (r.sees("Drop") or r.is_error()) and r.note("count", f"derive({r.look().text})") and r.drop(),
     "DROP": lambda r: r.sees("Drop") and r.is_provers("Drop") and r.drop() and r.note("count", "bound Drop"),
 }
 # The rules whose names are their own, those that are read in another state, and what is noted of a form.
@@ -785,12 +765,12 @@ def erase(top, crates):
     empty = [it for it in firsts if not it.out and any(note[:2] == ("fact", "ghost") for note in it.log)]
     unit.learn([note for it in firsts for note in it.log] + [("fact", "empty", it.result) for it in empty])
     readers = [Reader(text, result, unit, first).file() for (text, result), first in zip(files, firsts)]
-    for reader in readers:
-        unit.collect(reader.log)
-    unit.check()
+    notes = [note for it in readers for note in it.log]
+    check(notes)
     made = {result: (text.name, it.out) for (text, result), it in zip(files, readers) if not it.knows("empty", it.result)}
     modules = LINTS + "".join(f" pub mod {it};" for it in crates)
-    return made | {"mod.rs": ("crates.txt", Text(modules, "").tokens())}, unit
+    counts = collections.Counter(name for kind, name, _ in notes if kind == "count")
+    return made | {"mod.rs": ("crates.txt", Text(modules, "").tokens())}, counts
 
 
 def difference(made, result, text):
@@ -811,10 +791,10 @@ def difference(made, result, text):
 def compare(top):
     """All differences of a repository, and what there was to compare."""
     results = {str(it.relative_to(top / RESULTS)): Text(it.read_text(), str(it.relative_to(top))) for it in (top / RESULTS).rglob("*.rs")}
-    made, unit = erase(top, sorted({it.split("/")[0] for it in results if "/" in it}))
+    made, counts = erase(top, sorted({it.split("/")[0] for it in results if "/" in it}))
     found = [f"{it}: no result" for it in sorted(made.keys() - results.keys())]
     found += [it for it in (difference(made, result, text) for result, text in sorted(results.items())) if it]
-    return found, made, results, unit.counts
+    return found, made, results, counts
 
 
 def mutated(text, tokens, random):
