@@ -61,8 +61,8 @@ METHODS = set(
     "saturating_add saturating_mul saturating_sub size_hint sort_by_cached_key sort_by_key sort_unstable split_at split_at_mut split_first "
     "split_first_chunk split_last split_seat swap_remove take then to_le_bytes truncate unwrap unwrap_or word write_str write_u64".split()
 )
-# Methods of a trait of these crates that another type or trait has too. Each call of one can mean no other method: of `System`, and of
-# `Worker` of the same crate, which is none; and of `Sink`, called on a parameter `S: Sink`, of which `Machine`, `Checker`, iterators are none.
+# Methods of a trait of these crates that another type or trait has too. Each call of one can mean no other method: `System` has `run`, and
+# `Worker` of the same crate, which is no `System`; `take` is called on a parameter `S: Sink`, and `Machine`, `Checker` and iterators are none.
 SHARED_NAMES = {"run", "take"}
 # Functions that may be called in a constant, by their files.
 CONSTANT = named(
@@ -81,7 +81,6 @@ RENAMED |= {f"Vec::{it}": it + "_fallibly" for it in ("from_slice", "with_capaci
 LISTS = dict.fromkeys("extend_from_slice push_reserved resize sort_by_cached_key sort_by_key".split(), "")
 LISTS |= {"capacity": "living", "push": "living", "reserve": "] index living self shared storage"}
 LISTS |= {"insert": "blocked calls commands items last latest living queue seen self spent values"}
-DERIVES = set("Clone Copy Debug Default PartialEq Eq Hash".split())
 KEYWORDS = set(
     "as async await break const continue crate dyn else enum extern false fn for if impl in let loop match mod move mut pub ref return "
     "static struct super trait true type unsafe use where while ghost requires ensures".split()
@@ -207,17 +206,11 @@ class Reader:
 
     def match(self, part):
         kind, of = part
-        if kind == "text":
-            return self.seen(self.sees(of) and self.take())
-        if kind == "word":
-            return self.word(of)
-        if kind == "rule":
-            return self.rule(of)
-        if kind == "%":
-            return self.list(of)
+        if kind in ("token", "word", "rule", "list", "sum"):
+            return getattr(self, kind)(of)
         mark = (self.at, len(self.out), len(self.log))
         if kind == "or":
-            return any(self.all(it, mark) for it in of)
+            return any(all(self.match(it) for it in parts) or self.reset(mark) for parts in of)
         found = self.match(of)
         if kind == "-":
             self.cut(mark[1])
@@ -229,24 +222,20 @@ class Reader:
                 pass
         return found or kind in "*?"
 
-    def list(self, of):
-        """Parts with commas. A part of which nothing is left takes a comma with it."""
+    def list(self, of, sign=","):
+        """Parts with signs between them. A part of which nothing is left takes a sign with it."""
         while True:
             begin = len(self.out)
             if not self.match(of):
                 return True
             is_gone = len(self.out) == begin
-            if not self.sees(","):
-                self.out.pop() if is_gone and self.out[-1].text == "," else None
+            if not self.sees(sign):
+                self.out.pop() if is_gone and self.out[-1].text == sign else None
                 return True
             self.drop() if is_gone else self.take()
 
-    def all(self, parts, mark):
-        for part in parts:
-            if not self.match(part):
-                self.reset(mark)
-                return False
-        return True
+    def sum(self, of):
+        return self.list(of, "+")
 
     def rule(self, name):
         """Reads a rule in the state and the scope that it has. What a scope binds is known in it alone."""
@@ -261,6 +250,9 @@ class Reader:
         del self.names[len(self.names) - (name in SCOPES) :]
         vars(self).update(before)
         return found and (name not in NOTES or self.note(*NOTES[name]))
+
+    def token(self, text):
+        return self.seen(self.sees(text) and self.take())
 
     def word(self, name):
         return self.seen(WORDS[name](self) if name in WORDS else getattr(self, "is_" + name.lower())())
@@ -340,11 +332,6 @@ class Reader:
         """What was written since isn't in the results."""
         self.note("count", CLASSES.get(kind, kind))
         self.cut(mark)
-
-    def kind_of(self, name):
-        """Whether the innermost binding of a name is the right to allocate or a ghost type."""
-        bound = [it[name] for it in self.names if name in it]
-        return bound[-1] if bound else RIGHT if self.imports.get(name) == GLOBAL else None
 
     def after_parameter(self, mark, _):
         name, *of = self.texts(mark)
@@ -436,14 +423,16 @@ class Reader:
         words, _ = self.words()
         first, whole, is_alone = words[0], "::".join(words), len(words) == 1
         kit = next((it for it in PATHS if whole.startswith(it + "::")), None)
-        known = first in PRELUDE | {"crate", "super"} | self.imports.keys() or any(first in it for it in self.names)
+        bound = [it[first] for it in self.names if first in it]
+        known = bound or first in PRELUDE | {"crate", "super"} | self.imports.keys()
         self.note("add", "alloc::vec::Vec") if first == "Vec" else None
         if not known and kit is None and (is_alone or first not in self.unit.crates):
             self.use("name", first)
         elif not is_alone:
             self.use("path" if first in PRELUDE - {"Self"} or self.imports.get(first) or kit else "own path", whole)
-        kind = self.kind_of(first) if is_alone else None
-        return self.out.append(self.drop()._replace(text=kind)) or True if kind else self.head(words, kit)
+        if is_alone and bound and bound[-1] in CLASSES:
+            return self.out.append(self.drop()._replace(text=bound[-1])) or True
+        return self.head(words, kit)
 
     def head(self, words, kit):
         if kit is not None:
@@ -478,6 +467,7 @@ class Reader:
         if new in self.unit.packages | PRELUDE:
             self.use("refused", f"an import named `{new}`")
         self.imports[new] = whole if foreign else ""
+        self.names[0] |= {new: RIGHT} if foreign and whole == GLOBAL else {}
         is_ghost = not foreign and self.knows("ghost", old)
         self.note("count", "ghost trait") if is_ghost else None
         self.left.append(not (foreign and whole in (MODEL, GLOBAL, ERROR) or is_ghost))
@@ -516,30 +506,18 @@ class Reader:
             return self.instead({"capacity": "sized_capacity", "push_reserved": name}.get(name, name + "_fallibly"), "list call")
         return self.instead("collect_in", "collect_in") if name == "collect" else self.word("NAME")
 
-    def is_binary(self):
-        found = self.sees(*BINARY) and self.take()
-        return found and (found.text != ">" or not self.sees(">", ">=") or self.take())
-
-    def is_error(self):
-        self.errs |= self.sees("Error") and self.imports.get("Error") == ERROR
-        return self.errs and self.sees("Error")
-
     def after_attribute(self, mark, _):
         self.cut(mark) if self.texts(mark)[-4:] == ["derive", "(", ")", "]"] else None
 
     def after_bounds(self, mark, _):
-        """A word to the prover among bounds goes with its sign, and the colon with the last one."""
-        bounds = self.cut(mark)
-        while bounds and bounds[-1].text in ("+", ":"):
-            bounds.pop()
-        self.out += [it for at, it in enumerate(bounds) if it.text != "+" or bounds[at - 1].text not in ("+", ":")]
+        self.cut(mark) if self.texts(mark) == [":"] else None
 
     def after_predicate(self, mark, _):
         self.cut(mark) if ":" not in self.texts(mark) else None
 
     def after_variant_of(self, mark, _):
         if "[" in self.texts(mark):
-            self.use("refused", "the elements of an array in a variant, which are dropped in another order where a later part doesn't match")
+            self.use("refused", "elements of an array in a variant, which are dropped in another order where a later part doesn't match")
 
     def after_variant(self, *_):
         used = re.findall(r"\{(\w+)", self.error)
@@ -591,7 +569,7 @@ class Reader:
     after_cloner = after_function
 
 
-# The grammar: `-` reads and writes nothing, `&` and `!` look ahead, `%` is a list with commas, a word in capitals is one of WORDS or `is_..`.
+# The grammar: `-` reads and writes nothing, `&` and `!` look ahead, `%` and `~` are lists with `,` and `+`, a word in capitals is one of WORDS or `is_..`.
 # After a rule its `after_..` is called. A range without an end is an index alone: elsewhere the kit ends it where Rust doesn't.
 GRAMMAR = r"""
 file      = -('#' '!' '[' 'tactic' group ']')* item* END
@@ -602,9 +580,9 @@ use       = visible? 'use' PREFIX ('{' leaf% '}' | leaf) ';'
 leaf      = NAME ('as' NAME)?
 module    = visible? 'mod' DECLARED ';'
 constant  = visible? 'const' CONSTANT ':' type ('=' expression)? ';'
-attribute = -('#' '[' (('tactic' | 'cycle') group | 'error' '(' ERROR ')') ']') | '#' '[' ('derive' '(' derived% ')' | lint) ']'
-derived   = DERIVE | -NO_DERIVE
-lint      = 'inline' ('(' ('always' | 'never') ')')? | 'cold' | 'must_use' ('=' STR)? | 'non_exhaustive'
+attribute = -('#' '[' (('tactic' | 'cycle') group | 'error' '(' ERROR ')') ']') | '#' '[' kept ']'
+kept      = 'derive' '(' derived% ')' | 'inline' ('(' ('always' | 'never') ')')? | 'cold' | 'must_use' ('=' STR)? | 'non_exhaustive'
+derived   = 'Clone' | 'Copy' | 'Debug' | 'Default' | 'Eq' | 'Hash' | 'PartialEq' | -NO_DERIVE
 visible   = 'pub' ('(' SCOPE ')')?
 struct    = attribute* visible? 'struct' DECLARED generics ('{' named '}' | ('(' unnamed% ')')? ';')
 enum      = attribute* visible? 'enum' DECLARED generics '{' variant% '}'
@@ -612,13 +590,12 @@ variant   = attribute* VARIANT ('{' named '}' | '(' unnamed% ')')? ('=' NUM)?
 named     = (ghost | fielded)*
 fielded   = attribute* visible? FIELD ':' type (',' | &'}')
 unnamed   = attribute* visible? type
-impl      = attribute* 'impl' generics (TRAIT type 'for' OF)? TARGET type where OWNER members
-trait     = attribute* visible? 'trait' DECLARED generics bounds where TRAIT_OWNER members
-members   = '{' member* '}'
+impl      = attribute* 'impl' generics (TRAIT type 'for' OF)? TARGET type where OWNER '{' member* '}'
+trait     = attribute* visible? 'trait' DECLARED generics bounds where TRAIT_OWNER '{' member* '}'
 alias     = visible? 'type' CONSTANT generics ('=' type)? ';'
 member    = ghost | alias | constant | cloner | function
-cloner    = 'fn' &'clone' FUNCTION '(' &('&' 'self' ')') receiver ')' '->' -('Result' '<') 'Self' -(',' 'std' '::' 'alloc' '::' 'AllocError' '>') cloning
-cloning   = '{' -('Ok' '(') 'self' '.' &'again' METHOD '(' ')' -')' '}'
+cloner    = 'fn' &'clone' FUNCTION '(' &('&' 'self' ')') receiver ')' '->' -('Result' '<') 'Self' cloned
+cloned    = -(',' 'std' '::' 'alloc' '::' 'AllocError' '>') '{' -('Ok' '(') 'self' '.' &'again' METHOD '(' ')' -')' '}'
 function  = attribute* visible? CONST? 'fn' FUNCTION (writer | generics) '(' receiver? parameter% ')' arrow? where clause* (block | ';')
 writer    = -('<' 'W' ':' 'fmt' '::' 'Write' '>')
 receiver  = '&'? LIFE? 'mut'? 'self' (',' | &')')
@@ -629,7 +606,7 @@ predicate = !(CLAUSE_WORD | '{' | ';') type bounds (',' | &'{' | &CLAUSE_WORD)
 clause    = -(CALLABLE | CLAUSE_WORD '*'? NAME? CLAUSE)
 generics  = ('<' generic% '>')?
 generic   = 'const' BIND ':' type | (LIFE | BIND) bounds ('=' type)?
-bounds    = (':' (bound '+'?)*)?
+bounds    = (':' bound~)?
 bound     = DROP | LIFE | ('Fn' | 'FnMut' | 'FnOnce') '(' type% ')' arrow? | type_path
 type      = ('&' | '&&') LIFE? 'mut'? type | '(' type% ')' | '[' type (';' expression)? ']' | '_' | 'impl' bound | formatter | type_path
 formatter = 'fmt' '::' 'Formatter' '<' -'W' FORMATTER '>'
@@ -660,10 +637,9 @@ method    = METHOD turbofish? '(' passed% ')'
 turbofish = '::' arguments
 passed    = inner
 inner     = expression
-index     = '..' &']' | inner ('..' &']')?
 primary   = literal | '(' inner% ')' | '[' (inner ';' inner | inner%) ']' | compound | closure | let | leave | macro | struct_of | path
 let       = 'let' pattern '=' operand rest_of_let*
-rest_of_let = '?' | '.' (NUM | method | NAME) | '(' passed% ')' | '[' index ']'
+rest_of_let = '?' | '.' (NUM | method | NAME) | '(' passed% ')' | '[' ('..' &']' | inner ('..' &']')?) ']'
 leave     = ('return' | 'break') expression? | 'continue'
 closure   = 'move'? ('||' | '|' closed% '|') (arrow clause* block | clause clause* block | expression)
 closed    = one (':' type)?
@@ -699,10 +675,11 @@ WORDS = {it.upper(): lambda r, it=it: r.look().kind == it and r.take() for it in
     "TARGET": lambda r: r.set("target", r.look().text),
     "OWNER": lambda r: r.set("owner", f"impl trait {r.of.split('::')[-1]}" if r.of else "impl"),
     "TRAIT_OWNER": lambda r: r.set("owner", f"trait {r.declared}"),
+    "BINARY": lambda r: r.sees(*BINARY) and (r.take().text != ">" or not r.sees(">", ">=") or r.take()),
     "STRUCT": lambda r: not r.no_struct and r.words()[1] == "{" and r.words()[0][-1][:1].isupper(),
     "TAG": lambda r: r.look().kind == "id" and (r.look(1).text in ("::", "(", "{") or r.look().text[0].isupper()),
-    "DERIVE": lambda r: r.sees(*DERIVES) and r.take(),
-    "NO_DERIVE": lambda r: (r.sees("Drop") or r.is_error()) and r.note("count", f"derive({r.look().text})") and r.drop(),
+    "ERRS": lambda r: r.sees("Error") and r.imports.get("Error") == ERROR and r.set("errs", True),
+    "NO_DERIVE": lambda r: (r.sees("Drop") or r.word("ERRS")) and r.note("count", f"derive({r.look().text})") and r.drop(),
     "DROP": lambda r: r.sees("Drop") and r.is_provers("Drop") and r.drop() and r.note("count", "bound Drop"),
 }
 # The rules whose names are their own, those that are read in another state, and what is noted of a form.
@@ -719,10 +696,7 @@ def parsed(words):
     """A rule's right side, up to its end or a closing parenthesis, as what `Reader.match` reads."""
     choices = [[]]
     while words and words[0] != ")":
-        if words[0] == "|":
-            choices.append(words.pop(0) and [])
-        else:
-            choices[-1].append(step(words))
+        choices.append(words.pop(0) and []) if words[0] == "|" else choices[-1].append(step(words))
     return ("or", choices)
 
 
@@ -734,9 +708,10 @@ def step(words):
         part = parsed(words)
         words.pop(0)
     else:
-        part = ("text", word[1:-1]) if word[0] == "'" else ("word" if word.isupper() else "rule", word)
-    while words and words[0] in "*+?%":
-        part = (words.pop(0), part)
+        part = ("token", word[1:-1]) if word[0] == "'" else ("word" if word.isupper() else "rule", word)
+    while words and words[0] in "*+?%~":
+        part = ({"%": "list", "~": "sum"}.get(words[0], words[0]), part)
+        words.pop(0)
     return part
 
 
@@ -748,8 +723,7 @@ RULES = {line.split()[0]: parsed(re.findall(r"'[^']+'|\w+|\S", line.partition(" 
 
 def erase(top, crates):
     """Each file of these crates as plain Rust: its tokens, by the path of its result; and what there was in all."""
-    manifest = (top / PACKAGE).read_text()
-    if f'edition = "{EDITION}"' not in manifest:
+    if f'edition = "{EDITION}"' not in (top / PACKAGE).read_text():
         raise Refused(f"{PACKAGE}: no edition {EDITION}: an earlier one drops the values of a condition later than the kit does")
     lines = [it.partition("#")[0].replace(":", " ").split() for it in (top / "crates.txt").read_text().splitlines()]
     unit = Unit(set(crates), {it for line in lines for it in line} | {it.split("::")[0] for it in PATHS} | {"core", "alloc"})
@@ -821,10 +795,8 @@ def mutate(made, results, count, seed):
 
 def report(made, counts, reasons):
     """What differs: how often each class occurs, and the reason why it keeps the meaning."""
-    ghost = ", ".join(f"{counts[it]} {it.strip('()')}" for it in sorted(counts) if it[0] == "(")
-    tokens = sum(len(it) for _, it in made.values())
-    classes = [it for it in [*reasons, *sorted(counts.keys() - reasons.keys())] if counts[it] and it[0] != "("]
-    lines = [f"{counts[it]:5} {it}: {reasons.get(it, 'no reason is given')}\n" for it in classes]
+    ghost, tokens = ", ".join(f"{counts[it]} {it[1:-1]}" for it in sorted(counts) if it[0] == "("), sum(len(it) for _, it in made.values())
+    lines = [f"{counts[it]:5} {it}: {why}\n" for it, why in reasons.items() if counts[it]]
     return f"two erasers agree on {len(made)} files, {tokens} tokens, without {ghost}; what differs:\n{''.join(lines)}"
 
 
@@ -838,11 +810,13 @@ def main():
         found, made, results, counts = compare(top)
     except Refused as refused:
         sys.exit(f"the second eraser refuses {refused}")
-    if found:
-        sys.exit("\n".join(found))
     page = (top / PAGE).read_text()
     block = re.search(r"(?<=second_eraser.py -->\n```text\n).*?(?=```)", page, re.DOTALL)[0]
-    now = report(made, counts, dict(re.findall(r"^ *\d+ (.+?): (.+)$", block, re.MULTILINE)))
+    reasons = dict(re.findall(r"^ *\d+ (.+?): (.+)$", block, re.MULTILINE))
+    found += [f"{PAGE}: no reason for the class {it}" for it in counts.keys() - reasons.keys() if it[0] != "("]
+    if found:
+        sys.exit("\n".join(found))
+    now = report(made, counts, reasons)
     (top / PAGE).write_text(page.replace(block, now)) if given.fit else None
     if now != block and not given.fit:
         sys.exit(f"{PAGE} has other counts or classes than\n{now}")
