@@ -61,21 +61,24 @@ METHODS = set(
     "saturating_add saturating_mul saturating_sub size_hint sort_by_cached_key sort_by_key sort_unstable split_at split_at_mut split_first "
     "split_first_chunk split_last split_seat swap_remove take then to_le_bytes truncate unwrap unwrap_or word write_str write_u64".split()
 )
-# Methods of a trait of these crates that another type or trait has too. Each call of one can mean no other method: `System` has `run`, and
-# `Worker` of the same crate, which is no `System`; `take` is called on a parameter `S: Sink`, and `Machine`, `Checker` and iterators are none.
+# Methods of a trait of these crates that another type or trait has too. Each call can mean no other method. `run` is that of `System`, and
+# `Worker` is none. `take` is called on a parameter `S: Sink`, and `Machine`, `Checker` and iterators are none.
 SHARED_NAMES = {"run", "take"}
 # Functions that may be called in a constant, by their files.
 CONSTANT = named(
     "ent_alloc/entities: new with_limits; ent_alloc/limits: default_limits generations keeping_placeholder new slots; ent_alloc/slots: new;"
-    "ent_alloc/requests: none; ent_handle/handle: from_bits from_parts generation index new to_bits;"
+    "ent_alloc/requests: none; ent_handle/handle: from_bits from_parts generation index new to_bits; ent_replay/trace/log: new;"
     "ent_storage/handle_map: limit new with_limit; ent_storage/handle_map/limit: of slots"
 )
 # What `prove_eq!` may call, and whose stand-in is an enum alone (the empty path: what is imported from these crates).
 READS, WITHOUT_METHODS = {"cursor"}, {"", "either::Either"}
-# Types with a layout of their own, the one of a word with its equality, the file whose texts keep a width, functions with another name.
-LAYOUTS = {"ent_handle/handle::Handle": "#[repr(transparent)]", "ent_total/reserver::Reserver": "#[repr(align(128))]"}
-WORD_TYPE, PADDED, RENAMED = "ent_handle/handle::Handle", "ent_handle/text", {"Entities::new": "with_exact_limits"}
+# Types with a layout of their own, the one of which the results derive the equality, and those of data, whose clones may fail in the kit.
+LAYOUTS = dict.fromkeys(named("ent_replay: Log; ent_total: Commands Reserver"), "#[repr(align(128))]")
+LAYOUTS |= {"ent_handle::Handle": "#[repr(transparent)]"}
+WORD_TYPE, DATA = "ent_handle::Handle", named("ent_replay: Call CheckError Difference FlushReply Reservation ReserveReply")
 EQUALITY = {"PartialEq": "#[inline]fneq(&self,other:&Self)->bool{self.bits==other.bits}", "Eq": ""}
+# The file whose texts keep a width, and functions with another name.
+PADDED, RENAMED = "ent_handle/text", {"Entities::new": "with_exact_limits"}
 RENAMED |= {f"Vec::{it}": it + "_fallibly" for it in ("from_slice", "with_capacity")}
 # Calls of the kit's list that Rust's has otherwise, with the receivers that are no lists. A wrong one doesn't compile.
 LISTS = dict.fromkeys("extend_from_slice push_reserved resize sort_by_cached_key sort_by_key".split(), "")
@@ -92,8 +95,9 @@ LEXEME = re.compile(
     % "|".join(re.escape(it) for it in OPERATORS),
     re.VERBOSE | re.DOTALL | re.ASCII,
 )
-# That a closure may be called: any of Rust's may.
-OF_A_CLOSURE = re.compile(r"requires\s+(?:\w+\s+)?\{\s*[A-Z]\w*\.IsAlwaysCallable\s+\w+\s*\}")
+# Conditions that each caller meets: that a closure may be called, as any of Rust's may, and that commands are ready. Only proved code makes
+# commands. It lends those that are ready, and each call leaves them so.
+MET = re.compile(r"requires\s+(?:\w+\s+)?\{\s*(?:[A-Z]\w*\.IsAlwaysCallable\s+\w+|IsReady\s+self\.old)\s*\}")
 IN_A_CLAUSE = re.compile(r'--.*|"(?:\\.|[^"\\])*"?|\{-|//|[{}]')
 BINARY = set("+ - * / % ^ & | && || << == != < > <= >= = += -= *= /= %= ^= |= &= <<=".split())
 Token = collections.namedtuple("Token", "kind text start end line")
@@ -519,23 +523,26 @@ class Reader:
         if "[" in self.texts(mark):
             self.use("refused", "elements of an array in a variant, which are dropped in another order where a later part doesn't match")
 
-    def after_variant(self, *_):
+    def pattern(self):
+        """A pattern of the fields that the message has."""
         used = re.findall(r"\{(\w+)", self.error)
         rest = [".."] * (not set(self.fields) <= set(used))
-        fields = {"}": "{" + ", ".join(used + rest) + "}", ")": "(..)"}.get(self.out[-1].text, "")
-        self.arms += f"{self.declared}::{self.variant}{fields} => write!(f, {self.error}), "
+        return {"}": "{" + ", ".join(used + rest) + "}", ")": "(..)"}.get(self.out[-1].text, "")
 
-    def after_struct(self, mark, _):
-        """What only the results say of a type: its layout, and what the derive `Error` stands for."""
-        at, whole = self.first(mark, "pub", "struct", "enum"), f"{self.result}::{self.declared}"
+    def after_variant(self, *_):
+        self.arms += f"{self.declared}::{self.variant}{self.pattern()} => write!(f, {self.error}), "
+
+    def after_data(self, mark, _):
+        """What only the results say of a type: its layout, more derives, and what the derive `Error` stands for."""
+        at, whole = self.first(mark, "pub", "struct", "enum"), f"{self.crate}::{self.declared}"
         self.insert(at, LAYOUTS[whole], "layout") if whole in LAYOUTS else None
         self.insert(at - 2, ", PartialEq, Eq") if whole == WORD_TYPE else None
-        body = f"match self {{ {self.arms} }}" if self.arms else f"write!(f, {self.error})"
+        self.insert(at - 2, ", Clone, PartialEq, Eq, Hash", "data") if whole in DATA else None
+        bound = f"let {self.declared}{self.pattern()} = self;" if "{" in self.error else ""
+        body = f"match self {{ {self.arms} }}" if self.arms else f"{bound} write!(f, {self.error})"
         head = f"impl core::fmt::Display for {self.declared} {{ fn fmt(&self, f: &mut core::fmt::Formatter<'_>) -> core::fmt::Result"
         tail = f"{{ {body} }} }} impl core::error::Error for {self.declared} {{ }}"
         self.add(head + tail, "messages") if self.errs else None
-
-    after_enum = after_struct
 
     def after_impl(self, mark, notes):
         own, kind = self.names[0].keys() | {it for it, whole in self.imports.items() if whole in WITHOUT_METHODS}, None
@@ -545,7 +552,7 @@ class Reader:
             kind = "(models)" if self.of == MODEL else "ghost trait" if self.knows("ghost", self.of) else None
         elif self.of == MODEL or self.of == "Drop" and self.is_provers("Drop"):
             self.use("refused", "a model with code, or a destructor")
-        if f"{self.result}::{self.target}" == WORD_TYPE and self.of in EQUALITY:
+        if f"{self.crate}::{self.target}" == WORD_TYPE and self.of in EQUALITY:
             kind = "equality"
             if "".join(self.texts(mark)).split("{", 1)[1] != EQUALITY[self.of] + "}":
                 self.use("refused", f"an `{self.of}` of `{self.target}` that isn't that of the derive")
@@ -569,31 +576,30 @@ class Reader:
     after_cloner = after_function
 
 
-# The grammar: `-` reads and writes nothing, `&` and `!` look ahead, `%` and `~` are lists with `,` and `+`, a word in capitals is one of WORDS or `is_..`.
-# After a rule its `after_..` is called. A range without an end is an index alone: elsewhere the kit ends it where Rust doesn't.
+# The grammar: `-` reads and writes nothing, `&` and `!` look ahead, `%` and `~` are lists with `,` and `+`, a word in capitals is in WORDS or
+# an `is_..`. After a rule its `after_..` is called. A range without an end is an index alone: elsewhere the kit ends it where Rust doesn't.
 GRAMMAR = r"""
 file      = -('#' '!' '[' 'tactic' group ']')* item* END
 group     = '(' (group | !')' ANY)* ')'
-item      = ghost | use | module | constant | alias | function | struct | enum | impl | trait
+item      = ghost | use | module | constant | function | data | impl | trait
 ghost     = -('pub'? 'ghost' ('use' UNTIL_SEMICOLON | NAME (':' CLAUSE)? ('=' CLAUSE)?) (';' | ','))
 use       = visible? 'use' PREFIX ('{' leaf% '}' | leaf) ';'
 leaf      = NAME ('as' NAME)?
 module    = visible? 'mod' DECLARED ';'
-constant  = visible? 'const' CONSTANT ':' type ('=' expression)? ';'
+constant  = visible? ('const' CONSTANT ':' type ('=' expression)? | 'type' CONSTANT generics ('=' type)?) ';'
 attribute = -('#' '[' (('tactic' | 'cycle') group | 'error' '(' ERROR ')') ']') | '#' '[' kept ']'
 kept      = 'derive' '(' derived% ')' | 'inline' ('(' ('always' | 'never') ')')? | 'cold' | 'must_use' ('=' STR)? | 'non_exhaustive'
 derived   = 'Clone' | 'Copy' | 'Debug' | 'Default' | 'Eq' | 'Hash' | 'PartialEq' | -NO_DERIVE
 visible   = 'pub' ('(' SCOPE ')')?
-struct    = attribute* visible? 'struct' DECLARED generics ('{' named '}' | ('(' unnamed% ')')? ';')
-enum      = attribute* visible? 'enum' DECLARED generics '{' variant% '}'
+data      = attribute* visible? ('struct' DECLARED generics ('{' named '}' | ('(' unnamed% ')')? ';') | enum)
+enum      = 'enum' DECLARED generics '{' variant% '}'
 variant   = attribute* VARIANT ('{' named '}' | '(' unnamed% ')')? ('=' NUM)?
 named     = (ghost | fielded)*
 fielded   = attribute* visible? FIELD ':' type (',' | &'}')
 unnamed   = attribute* visible? type
 impl      = attribute* 'impl' generics (TRAIT type 'for' OF)? TARGET type where OWNER '{' member* '}'
 trait     = attribute* visible? 'trait' DECLARED generics bounds where TRAIT_OWNER '{' member* '}'
-alias     = visible? 'type' CONSTANT generics ('=' type)? ';'
-member    = ghost | alias | constant | cloner | function
+member    = ghost | constant | cloner | function
 cloner    = 'fn' &'clone' FUNCTION '(' &('&' 'self' ')') receiver ')' '->' -('Result' '<') 'Self' cloned
 cloned    = -(',' 'std' '::' 'alloc' '::' 'AllocError' '>') '{' -('Ok' '(') 'self' '.' &'again' METHOD '(' ')' -')' '}'
 function  = attribute* visible? CONST? 'fn' FUNCTION (writer | generics) '(' receiver? parameter% ')' arrow? where clause* (block | ';')
@@ -603,7 +609,7 @@ parameter = pattern ':' type
 arrow     = '->' type
 where     = ('where' predicate*)?
 predicate = !(CLAUSE_WORD | '{' | ';') type bounds (',' | &'{' | &CLAUSE_WORD)
-clause    = -(CALLABLE | CLAUSE_WORD '*'? NAME? CLAUSE)
+clause    = -(MET | CLAUSE_WORD '*'? NAME? CLAUSE)
 generics  = ('<' generic% '>')?
 generic   = 'const' BIND ':' type | (LIFE | BIND) bounds ('=' type)?
 bounds    = (':' bound~)?
@@ -623,10 +629,9 @@ literal   = '-'? NUM | STR | CHAR | 'true' | 'false'
 block     = '{' statement* '}'
 statement = ';' | attribute* local | &('fn' | 'const') item | compound ';'? | expression (';' | &'}')
 local     = 'let' pattern (':' type)? ('=' expression ('else' block)?)? ';'
-compound  = (if | match | loop | block) (&('.' | '?') rest+)?
+compound  = (if | loop | 'match' condition '{' arm* '}' | block) (&('.' | '?') rest+)?
 if        = 'if' condition block ('else' (if | block))?
 loop      = 'while' condition block | 'for' pattern 'in' condition block | 'loop' block
-match     = 'match' condition '{' arm* '}'
 arm       = pattern ('if' expression)? '=>' (block !('.' | '?') ','? | expression (',' | &'}'))
 condition = expression
 expression = (range | operand) rest*
@@ -658,7 +663,7 @@ WORDS = {it.upper(): lambda r, it=it: r.look().kind == it and r.take() for it in
     "UNTIL_SEMICOLON": lambda r: r.set("at", r.text.text.index(";", r.at)),
     "CLAUSE": lambda r: r.sees("{") and r.set("at", r.text.after_clause(r.look().start)),
     "CLAUSE_WORD": lambda r: r.sees("requires", "ensures") and r.set("requires", r.requires or r.sees("requires")) and r.take(),
-    "CALLABLE": lambda r: (found := OF_A_CLOSURE.match(r.text.text, r.look().start)) and r.set("at", found.end()),
+    "MET": lambda r: (found := MET.match(r.text.text, r.look().start)) and r.set("at", found.end()),
     "SCOPE": lambda r: r.sees("crate", "super") and r.add("super", "visibility" if r.drop().text == "crate" else None),
     "FORMATTER": lambda r: r.imports.get("fmt") == "std::fmt" and r.add("'_"),
     "BIND": lambda r: r.word("NAME") and (r.names[-1].update({r.out[-1].text: None}) or True),
@@ -683,11 +688,10 @@ WORDS = {it.upper(): lambda r, it=it: r.look().kind == it and r.take() for it in
     "DROP": lambda r: r.sees("Drop") and r.is_provers("Drop") and r.drop() and r.note("count", "bound Drop"),
 }
 # The rules whose names are their own, those that are read in another state, and what is noted of a form.
-SCOPES = set("module struct enum impl trait function closure arm block".split())
+SCOPES = set("module data impl trait function closure arm block".split())
 STATES = {"condition": {"no_struct": True}, "inner": {"no_struct": False}, "block": {"no_struct": False, "owner": ""}}
-STATES |= {it: {"requires": False} for it in ("function", "closure")}
 STATES |= {"impl": {"owner": "", "of": "", "target": ""}, "trait": {"owner": ""}, "variant": {"error": "", "fields": []}}
-STATES |= {it: {"arms": "", "error": "", "errs": False} for it in ("struct", "enum")}
+STATES |= {"data": {"arms": "", "error": "", "errs": False, "fields": []}, "function": {"requires": False}, "closure": {"requires": False}}
 NOTES = {"cloner": ("count", "clone"), "writer": ("count", "formatter"), "ghost": ("count", "(ghost members and imports)")}
 NOTES |= {"clause": ("count", "(clauses)"), "proves": ("add", "crate::kit::prove_eq")}
 
@@ -795,7 +799,8 @@ def mutate(made, results, count, seed):
 
 def report(made, counts, reasons):
     """What differs: how often each class occurs, and the reason why it keeps the meaning."""
-    ghost, tokens = ", ".join(f"{counts[it]} {it[1:-1]}" for it in sorted(counts) if it[0] == "("), sum(len(it) for _, it in made.values())
+    ghost = ", ".join(f"{counts[it]} {it[1:-1]}" for it in sorted(counts) if it[0] == "(")
+    tokens = sum(len(it) for _, it in made.values())
     lines = [f"{counts[it]:5} {it}: {why}\n" for it, why in reasons.items() if counts[it]]
     return f"two erasers agree on {len(made)} files, {tokens} tokens, without {ghost}; what differs:\n{''.join(lines)}"
 
