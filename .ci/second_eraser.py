@@ -37,7 +37,7 @@ RIGHT, GHOST = "@right", "@ghost"
 CLASSES = {RIGHT: "allocator", GHOST: "ghost type"}
 # What each difference of a class needs as an import.
 NEEDS = {"collect_in": "crate::kit::vec::CollectIn", "list call": "crate::kit::vec::FallibleVec", "padded": "crate::kit::padded"}
-# What may be imported or called from there, and what of it is for the prover, for `messages` or goes.
+# What goes of what is imported from there, and what stays, or may be called.
 MODEL, GLOBAL, ERROR = "std::marker::Model", "std::alloc::Global", "thiserror::Error"
 IMPORTS = named(
     "std: fmt mem; std::alloc: AllocError AllocFailed; std::cmp: Ordering; std::collections: BTreeMap LinkedList; std::error: Error;"
