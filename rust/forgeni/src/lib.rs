@@ -225,6 +225,7 @@ pub mod trace;
 #[cfg(feature = "std")]
 mod waiting;
 mod world;
+mod world_phase;
 
 pub use component::{Birth, ComponentId};
 pub use entities::{Entities, Freed, Living, State};
@@ -245,3 +246,4 @@ pub use system::{system, System, SystemCommands};
 pub use world::{
     CommandQueue, Commands, FinishError, OpenWorld, Unfinished, Unopened, View, World,
 };
+pub use world_phase::LentCommands;

@@ -61,7 +61,7 @@ type Boxed = Box<dyn Error + Send + Sync>;
 
 /// A share without callers.
 fn not_shared() -> Result<(), Boxed> {
-    Entities::new().share(0)?;
+    let _ = Entities::new().share(0)?;
     Ok(())
 }
 
@@ -74,13 +74,13 @@ fn not_closed() -> Result<(), Boxed> {
 
 /// A world without systems, and one whose queues are lost.
 fn not_opened() -> Result<(), Boxed> {
-    World::new().open(0)?;
+    let _ = World::new().open(0)?;
     Ok(())
 }
 
 fn not_finished() -> Result<(), Boxed> {
     let (open, _systems) = World::new().open(1)?;
-    open.close(vec![])?;
+    let _ = open.close(vec![])?;
     Ok(())
 }
 

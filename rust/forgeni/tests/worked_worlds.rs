@@ -189,7 +189,8 @@ fn a_phase_wants_all_its_queues() {
     );
     let (open, mut queues) = (left.open, left.queues);
     let foreign = queues.pop().expect("a queue");
-    other.close(vec![foreign]).expect("its own queue");
+    let closed = other.close(vec![foreign]);
+    assert!(closed.is_ok(), "its own queue");
     queues.push(second);
     let (world, _) = open.close(queues).expect("all queues");
     assert!(world.is_empty());
