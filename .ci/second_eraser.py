@@ -61,8 +61,8 @@ METHODS = set(
     "saturating_add saturating_mul saturating_sub size_hint sort_by_cached_key sort_by_key sort_unstable split_at split_at_mut split_first "
     "split_first_chunk split_last split_seat swap_remove take then to_le_bytes truncate unwrap unwrap_or word write_str write_u64".split()
 )
-# Methods of a trait of these crates that another type or trait has too. Each call can mean no other method. `run` is that of `System`, and
-# `Worker` is none. `take` is called on a parameter `S: Sink`, and `Machine`, `Checker` and iterators are none.
+# Methods of a trait of these crates that another type or trait has too. Each call can mean no other method: `run` is that of `System`,
+# which `Worker` isn't, and `take` is called on a parameter `S: Sink`, which `Machine`, `Checker` and iterators aren't.
 SHARED_NAMES = {"run", "take"}
 # Functions that may be called in a constant, by their files.
 CONSTANT = named(
@@ -72,11 +72,11 @@ CONSTANT = named(
 )
 # What `prove_eq!` may call, and whose stand-in is an enum alone (the empty path: what is imported from these crates).
 READS, WITHOUT_METHODS = {"cursor"}, {"", "either::Either"}
-# Types with a layout of their own, the one of which the results derive the equality, and those of data, whose clones may fail in the kit.
+# Types with a layout of their own, the one of which the results derive the equality, and those of data, which derives more in the results.
 LAYOUTS = dict.fromkeys(named("ent_replay: Log; ent_total: Commands Reserver"), "#[repr(align(128))]")
 LAYOUTS |= {"ent_handle::Handle": "#[repr(transparent)]"}
 WORD_TYPE, DATA = "ent_handle::Handle", named("ent_replay: Call CheckError Difference FlushReply Reservation ReserveReply")
-EQUALITY = {"PartialEq": "#[inline]fneq(&self,other:&Self)->bool{self.bits==other.bits}", "Eq": ""}
+EQUALITY = {"PartialEq": "#[inline]fneq(&self,other:&Self)->bool{self.bits==other.bits}}", "Eq": "}"}
 # The file whose texts keep a width, and functions with another name.
 PADDED, RENAMED = "ent_handle/text", {"Entities::new": "with_exact_limits"}
 RENAMED |= {f"Vec::{it}": it + "_fallibly" for it in ("from_slice", "with_capacity")}
@@ -97,7 +97,7 @@ LEXEME = re.compile(
 )
 # Conditions that each caller meets: that a closure may be called, as any of Rust's may, and that commands are ready. Only proved code makes
 # commands. It lends those that are ready, and each call leaves them so.
-MET = re.compile(r"requires\s+(?:\w+\s+)?\{\s*(?:[A-Z]\w*\.IsAlwaysCallable\s+\w+|IsReady\s+self\.old)\s*\}")
+MET = re.compile(r"requires\s+(?:\w+\s+)?\{\s*(?:[A-Z]\w*\.IsAlwaysCallable\s+\w+|(IsReady)\s+self\.old)\s*\}")
 IN_A_CLAUSE = re.compile(r'--.*|"(?:\\.|[^"\\])*"?|\{-|//|[{}]')
 BINARY = set("+ - * / % ^ & | && || << == != < > <= >= = += -= *= /= %= ^= |= &= <<=".split())
 Token = collections.namedtuple("Token", "kind text start end line")
@@ -548,14 +548,12 @@ class Reader:
         own, kind = self.names[0].keys() | {it for it, whole in self.imports.items() if whole in WITHOUT_METHODS}, None
         if self.of and self.of.split("::")[0] in own - PRELUDE and self.target not in own - self.names[-1].keys():
             self.use("refused", f"an impl of `{self.of}` for a type of the kit: a method of Rust's may have its name")
-        if self.out[-2].text == "{":
-            kind = "(models)" if self.of == MODEL else "ghost trait" if self.knows("ghost", self.of) else None
-        elif self.of == MODEL or self.of == "Drop" and self.is_provers("Drop"):
+        if self.of == MODEL and self.out[-2].text != "{" or self.of == "Drop" and self.is_provers("Drop"):
             self.use("refused", "a model with code, or a destructor")
-        if f"{self.crate}::{self.target}" == WORD_TYPE and self.of in EQUALITY:
+        elif self.out[-2].text == "{":
+            kind = "(models)" if self.of == MODEL else "ghost trait" if self.knows("ghost", self.of) else None
+        if f"{self.crate}::{self.target}" == WORD_TYPE and "".join(self.texts(mark)).split("{", 1)[1] == EQUALITY.get(self.of):
             kind = "equality"
-            if "".join(self.texts(mark)).split("{", 1)[1] != EQUALITY[self.of] + "}":
-                self.use("refused", f"an `{self.of}` of `{self.target}` that isn't that of the derive")
         if kind:
             self.out[mark:], self.log[notes:] = [], [("count", kind, None)]
 
@@ -576,8 +574,9 @@ class Reader:
     after_cloner = after_function
 
 
-# The grammar: `-` reads and writes nothing, `&` and `!` look ahead, `%` and `~` are lists with `,` and `+`, a word in capitals is in WORDS or
-# an `is_..`. After a rule its `after_..` is called. A range without an end is an index alone: elsewhere the kit ends it where Rust doesn't.
+# The grammar: `-` reads and writes nothing, `&` and `!` look ahead, `%` and `~` are lists with `,` and `+`, a word in capitals is in WORDS
+# or an `is_..`. After a rule its `after_..` is called. A range without an end is an index alone: elsewhere the kit ends it where Rust
+# doesn't.
 GRAMMAR = r"""
 file      = -('#' '!' '[' 'tactic' group ']')* item* END
 group     = '(' (group | !')' ANY)* ')'
@@ -663,7 +662,7 @@ WORDS = {it.upper(): lambda r, it=it: r.look().kind == it and r.take() for it in
     "UNTIL_SEMICOLON": lambda r: r.set("at", r.text.text.index(";", r.at)),
     "CLAUSE": lambda r: r.sees("{") and r.set("at", r.text.after_clause(r.look().start)),
     "CLAUSE_WORD": lambda r: r.sees("requires", "ensures") and r.set("requires", r.requires or r.sees("requires")) and r.take(),
-    "MET": lambda r: (found := MET.match(r.text.text, r.look().start)) and r.set("at", found.end()),
+    "MET": lambda r: (it := MET.match(r.text.text, r.look().start)) and (not it[1] or r.crate == "ent_queue") and r.set("at", it.end()),
     "SCOPE": lambda r: r.sees("crate", "super") and r.add("super", "visibility" if r.drop().text == "crate" else None),
     "FORMATTER": lambda r: r.imports.get("fmt") == "std::fmt" and r.add("'_"),
     "BIND": lambda r: r.word("NAME") and (r.names[-1].update({r.out[-1].text: None}) or True),
