@@ -210,7 +210,7 @@ class Reader:
 
     def match(self, part):
         kind, of = part
-        if kind in ("token", "word", "rule", "list", "sum"):
+        if kind in ("token", "word", "rule", "commas", "pluses"):
             return getattr(self, kind)(of)
         mark = (self.at, len(self.out), len(self.log))
         if kind == "or":
@@ -226,7 +226,7 @@ class Reader:
                 pass
         return found or kind in "*?"
 
-    def list(self, of, sign=","):
+    def commas(self, of, sign=","):
         """Parts with signs between them. A part of which nothing is left takes a sign with it."""
         while True:
             begin = len(self.out)
@@ -238,8 +238,8 @@ class Reader:
                 return True
             self.drop() if is_gone else self.take()
 
-    def sum(self, of):
-        return self.list(of, "+")
+    def pluses(self, of):
+        return self.commas(of, "+")
 
     def rule(self, name):
         """Reads a rule in the state and the scope that it has. What a scope binds is known in it alone."""
@@ -713,7 +713,7 @@ def step(words):
     else:
         part = ("token", word[1:-1]) if word[0] == "'" else ("word" if word.isupper() else "rule", word)
     while words and words[0] in "*+?%~":
-        part = ({"%": "list", "~": "sum"}.get(words[0], words[0]), part)
+        part = ({"%": "commas", "~": "pluses"}.get(words[0], words[0]), part)
         words.pop(0)
     return part
 
