@@ -23,6 +23,25 @@ impl<J: Numbering> OpenWorld<J> {
     /// has changed, except that handles are reserved. It takes no memory, and the time of a look at
     /// each queue, however many commands a queue has.
     ///
+    /// ```
+    /// use forgeni::{FinishError, World};
+    ///
+    /// let (open, mut systems) = World::new().open(2)?;
+    /// systems[1].spawn(&[])?;
+    /// let mut queues: Vec<_> = systems.into_iter().map(|one| one.finish()).collect();
+    ///
+    /// // A queue is missing: the phase goes on, and the other queue comes back.
+    /// let last = queues.pop();
+    /// let refused = open.close(queues).unwrap_err();
+    /// assert_eq!(refused.error, FinishError::Missing { count: 1 });
+    /// let (open, mut queues) = (refused.open, refused.queues);
+    /// queues.extend(last);
+    ///
+    /// let (mut world, queues) = open.close(queues)?;
+    /// assert_eq!(world.apply(queues)?.born.len(), 1);
+    /// # Ok::<(), Box<dyn std::error::Error>>(())
+    /// ```
+    ///
     /// # Errors
     ///
     /// [`Unfinished`] has the phase. It is the first of these that holds:

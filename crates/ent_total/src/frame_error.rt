@@ -1,7 +1,7 @@
 use crate::queues::Queues;
 use crate::stopped::Stopped;
 
-/// Why a frame didn't do all.
+/// Why a frame wasn't completed.
 #[non_exhaustive]
 #[derive(Drop)]
 pub enum FrameError {

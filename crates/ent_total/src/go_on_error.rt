@@ -3,7 +3,7 @@ ghost use Rattle.ent_total.specs.Applying.{stopped_in};
 
 use crate::stopped::Stopped;
 
-/// Why a sync point that went on didn't do all.
+/// Why a sync point that went on wasn't completed.
 #[non_exhaustive]
 #[derive(Drop)]
 pub enum GoOnError {

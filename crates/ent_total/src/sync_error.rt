@@ -4,7 +4,7 @@ ghost use Rattle.ent_total.specs.Applying.{parts_of};
 use crate::queues::Queues;
 use crate::stopped::Stopped;
 
-/// Why a sync point didn't do all.
+/// Why a sync point wasn't completed.
 #[non_exhaustive]
 #[derive(Drop)]
 pub enum SyncError {

@@ -46,7 +46,7 @@ impl Commands {
     }
 
     /// Reserves a handle at once, by one atomic step. It is to have these components, in any order.
-    /// Of a component that stands there twice the last value counts.
+    /// If a component is listed twice, its last value counts.
     ///
     /// # Errors
     ///
@@ -151,7 +151,27 @@ impl Commands {
         spawned
     }
 
-    /// Gives the entity these components, instead of those that it has under the same numbers.
+    /// Gives the entity these components, instead of those that it has under the same numbers. If a
+    /// component is listed twice, its last value counts.
+    ///
+    /// ```
+    /// use forgeni::{ComponentId, World};
+    ///
+    /// const AGE: ComponentId = ComponentId(0);
+    ///
+    /// let mut world = World::new();
+    /// let oak = world.spawn(&[(AGE, 80)])?;
+    /// let (open, mut systems) = world.open(1)?;
+    /// systems[0].insert(oak, &[(AGE, 81)])?;
+    ///
+    /// // It takes effect when the queue is applied.
+    /// assert_eq!(systems[0].get(oak, AGE), Some(80));
+    /// let queues = systems.into_iter().map(|one| one.finish()).collect();
+    /// let (mut world, queues) = open.close(queues)?;
+    /// world.apply(queues)?;
+    /// assert_eq!(world.get(oak, AGE), Some(81));
+    /// # Ok::<(), Box<dyn std::error::Error>>(())
+    /// ```
     ///
     /// # Errors
     ///
@@ -211,7 +231,25 @@ impl Commands {
         issued
     }
 
-    /// Takes the entity out of the world.
+    /// Takes the entity out of the world. If it isn't alive when the command takes effect, that is a
+    /// fault of the sync point's report.
+    ///
+    /// ```
+    /// use forgeni::{FaultKind, World};
+    ///
+    /// let mut world = World::new();
+    /// let oak = world.spawn(&[])?;
+    /// let (open, mut systems) = world.open(2)?;
+    /// for commands in &mut systems {
+    ///     commands.despawn(oak)?;
+    /// }
+    /// let queues = systems.into_iter().map(|one| one.finish()).collect();
+    /// let (mut world, queues) = open.close(queues)?;
+    /// let report = world.apply(queues)?;
+    /// assert_eq!(report.faults.len(), 1);
+    /// assert_eq!((report.faults[0].system, report.faults[0].kind), (1, FaultKind::NotAlive(oak)));
+    /// # Ok::<(), Box<dyn std::error::Error>>(())
+    /// ```
     ///
     /// # Errors
     ///

@@ -3,7 +3,7 @@
 use crate::proved::ent_total::queues::Queues;
 use crate::proved::ent_total::stopped::Stopped;
 
-/// Why a frame didn't do all.
+/// Why a frame wasn't completed.
 #[non_exhaustive]
 pub enum FrameError {
     /// Handles were requested since the last flush. No system ran, and the world is as it was.

@@ -2,7 +2,7 @@
 
 use crate::proved::ent_total::stopped::Stopped;
 
-/// Why a sync point that went on didn't do all.
+/// Why a sync point that went on wasn't completed.
 #[non_exhaustive]
 pub enum GoOnError {
     /// It stopped in another world. Nothing has changed.

@@ -34,6 +34,19 @@ impl Reserver {
     /// learned of so far. Without a meeting nothing is promised on the order of two reservers. It
     /// takes no memory and waits for nobody.
     ///
+    /// ```
+    /// use forgeni::Entities;
+    ///
+    /// let (shared, mut reservers) = Entities::new().share(2)?;
+    /// let [one, other] = &mut reservers[..] else { unreachable!() };
+    /// let first = other.reserve()?;
+    /// one.meet(other)?;
+    /// let second = one.reserve()?;
+    /// assert_eq!((first.index(), second.index()), (0, 1));
+    /// let _entities = shared.close(reservers)?;
+    /// # Ok::<(), Box<dyn std::error::Error + Send + Sync>>(())
+    /// ```
+    ///
     /// # Errors
     ///
     /// [`OtherPhase`] if they are not of one phase. Nothing has changed then.

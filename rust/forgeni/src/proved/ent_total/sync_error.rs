@@ -3,7 +3,7 @@
 use crate::proved::ent_total::queues::Queues;
 use crate::proved::ent_total::stopped::Stopped;
 
-/// Why a sync point didn't do all.
+/// Why a sync point wasn't completed.
 #[non_exhaustive]
 pub enum SyncError {
     /// The queues are of a phase of another world. Nothing was done, and these are the queues.

@@ -75,8 +75,8 @@ pub fn new_world(limits: Limits, number: u64) -> World {
 }
 
 impl World {
-    /// Brings an entity to life at once, with these components, in any order. Of a component that
-    /// stands there twice the last value counts.
+    /// Brings an entity to life at once, with these components, in any order. If a component is listed
+    /// twice, its last value counts.
     ///
     /// The entity's birth names the phase and no system. Its ordinal is how many entities `spawn`
     /// made before it since the last flush, and at most 2^32 - 1.
@@ -196,6 +196,17 @@ impl World {
 
     /// Takes a living entity out, with all its components.
     ///
+    /// ```
+    /// use forgeni::{FreeError, World};
+    ///
+    /// let mut world = World::new();
+    /// let cart = world.spawn(&[])?;
+    /// world.despawn(cart)?;
+    /// assert!(!world.contains(cart));
+    /// assert_eq!(world.despawn(cart), Err(FreeError::NotAlive));
+    /// # Ok::<(), Box<dyn std::error::Error>>(())
+    /// ```
+    ///
     /// # Errors
     ///
     /// `NeedsFlush` if handles were requested since the last flush, `NotAlive` if the handle names
@@ -228,6 +239,18 @@ impl World {
     }
 
     /// The value of the entity's component, if the entity is alive and has it.
+    ///
+    /// ```
+    /// use forgeni::{ComponentId, World};
+    ///
+    /// const AGE: ComponentId = ComponentId(0);
+    /// const SIZE: ComponentId = ComponentId(1);
+    ///
+    /// let mut world = World::new();
+    /// let oak = world.spawn(&[(AGE, 80)])?;
+    /// assert_eq!((world.get(oak, AGE), world.get(oak, SIZE)), (Some(80), None));
+    /// # Ok::<(), forgeni::AllocError>(())
+    /// ```
     ///
     /// <details><summary>Contract</summary>
     ///
@@ -306,6 +329,15 @@ impl World {
     }
 
     /// The handles of all entities, by birth and then by handle. The time is that of a sort.
+    ///
+    /// ```
+    /// use forgeni::World;
+    ///
+    /// let mut world = World::new();
+    /// let (cart, horse) = (world.spawn(&[])?, world.spawn(&[])?);
+    /// assert_eq!(world.by_birth()?, [cart, horse]);
+    /// # Ok::<(), Box<dyn std::error::Error>>(())
+    /// ```
     ///
     /// # Errors
     ///

@@ -4,7 +4,7 @@ use alloc::vec::Vec;
 use crate::proved::ent_handle::Handle;
 
 /// Why a command had no effect.
-#[derive(Clone, Copy, Debug, PartialEq, Eq)]
+#[derive(Clone, Copy, Debug, PartialEq, Eq, Hash)]
 pub enum FaultKind {
     /// The entity was not alive when the command's turn came.
     NotAlive(Handle),
@@ -15,15 +15,15 @@ pub enum FaultKind {
         /// How many the pool still had.
         left: u32,
     },
-    /// More handles were requested than the reserver had credit.
+    /// More handles were requested than the reserver's quota still allowed.
     Quota {
-        /// The credit that was left.
+        /// How many the quota still allowed.
         left: u64,
     },
 }
 
 /// A command that had no effect, or one handle of it.
-#[derive(Clone, Copy, Debug, PartialEq, Eq)]
+#[derive(Clone, Copy, Debug, PartialEq, Eq, Hash)]
 pub struct Fault {
     /// The number of the system's queue among those that were applied, from 0.
     pub system: usize,
