@@ -27,6 +27,7 @@ mod messages;
 mod names;
 mod paths;
 pub mod plan;
+pub mod programs;
 mod scope;
 pub mod source;
 mod walk;
