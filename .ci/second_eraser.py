@@ -25,30 +25,36 @@ TABLE = {
     "derive(Error)": (15, "written out as the next class"),
     "messages": (15, "`impl Display` writes the texts of `#[error(..)]`, and `impl Error` is empty, as the kit's derive has it"),
     "bound Drop": (8, "as derive(Drop), for a type parameter"),
-    "crate path": (225, "a crate is a module of the package: `crate::x` is `crate::proved::NAME::x`"),
-    "sister path": (170, "as crate path, for the crates that a crate uses"),
-    "stand-in path": (74, "the kit's own `Vec`, words, maps and threads are the package's `kit`, by PATHS"),
-    "core path": (20, "the kit's std and Rust's have the same there, by PATHS"),
-    "import": (58, "`Vec`, `prove_eq!` and the trait of `collect_in` need no import in the kit"),
+    "crate path": (212, "a crate is a module of the package: `crate::x` is `crate::proved::NAME::x`"),
+    "sister path": (172, "as crate path, for the crates that a crate uses"),
+    "stand-in path": (39, "the kit's own `Vec`, words, maps and threads are the package's `kit`, by PATHS"),
+    "core path": (18, "the kit's std and Rust's have the same there, by PATHS"),
+    "import": (59, "`Vec`, `prove_eq!` and the trait of `collect_in` need no import in the kit"),
     "collect_in": (2, "Rust's `Iterator` has a `collect` without an allocator"),
-    "formatter": (5, "the kit's `Formatter<W>` writes to a `W`, Rust's to a `dyn Write`; each use is `write_str` or `write!`"),
+    "formatter": (6, "the kit's `Formatter<W>` writes to a `W`, Rust's to a `dyn Write`; each use is `write_str` or `write!`"),
     "visibility": (217, "`pub(crate)` would open a module to the whole package; too narrow a word fails to compile"),
     "condition": (69, "a function with a `requires` may be called by proved code alone, which the package's own is; so it isn't `pub`"),
-    "inline": (601, "a hint to the compiler, on each function with a body and without a hint of its own"),
-    "alignment": (1, "`Handle` is aligned as the word that the package turns it into; no source reads a layout"),
-    "const": (6, "what makes an allocator without memory may be called in a constant: CONSTANT lists them"),
+    "inline": (605, "a hint to the compiler, on each function with a body and without a hint of its own"),
+    "layout": (1, "`Handle` is laid out as its word, so that an `Option` of it is; no source reads a layout"),
+    "equality": (2, "`impl PartialEq` and `impl Eq` of `Handle`, which compare its one field, are derived, so that a constant is a pattern"),
+    "padded": (2, "`padded!` is `write!` with a width, for which nobody can ask in the kit"),
+    "allocator": (280, "the right to allocate, `Global`, is handed to nobody in Rust: parameters, arguments, fields, what is bound"),
+    "ghost trait": (16, "a trait with ghost members alone, its imports and impls, and a module of nothing else"),
+    "ghost type": (79, "a type parameter that such a trait bounds, as an argument, and in a `PhantomData`"),
+    "with_limits": (4, "the allocator's `new(limits)`: in Rust `new()` has no parameter"),
+    "const": (12, "what makes an allocator without memory may be called in a constant: CONSTANT lists them"),
 }
 
 # The paths of the kit, and what stands for them.
 PATHS = {f"std::{it}": f"crate::kit::{it}" for it in "alloc collections sync thread".split()}
-PATHS |= {f"std::{it}": f"core::{it}" for it in "cmp error fmt marker mem num".split()}
+PATHS |= {f"std::{it}": f"core::{it}" for it in "cmp error fmt hash marker mem num".split()}
 PATHS |= {it: f"crate::kit::{it}" for it in "atomic_table either itoa smallvec".split()} | {"thiserror": ""}
 # What may be imported or called from there. `Model` and the derive `Error` are for the prover and for `messages`.
-GHOST_IMPORTS = {"std::marker::Model", "thiserror::Error"}
+GHOST_IMPORTS = {"std::marker::Model", "thiserror::Error", "std::alloc::Global"}
 IMPORTS = set(
     "std::alloc::Global std::alloc::AllocError std::alloc::AllocFailed std::collections::BTreeMap std::collections::LinkedList std::sync::Arc "
     "std::thread::Threads std::thread::join_mut std::cmp::Ordering std::error::Error std::fmt std::marker::PhantomData std::mem "
-    "std::num::NonZeroU32 atomic_table::Badge atomic_table::Join atomic_table::Play atomic_table::Seat atomic_table::Split "
+    "std::num::NonZeroU32 std::num::NonZeroU64 std::hash::Hash std::hash::Hasher atomic_table::Badge atomic_table::Join atomic_table::Play atomic_table::Seat atomic_table::Split "
     "atomic_table::Table atomic_table::TableRule either::Either either::Left either::Right itoa::Buffer itoa::Integer "
     "smallvec::SmallVec".split()
 )
@@ -57,7 +63,7 @@ PRELUDE = set(
     "PartialEq Eq bool char str u8 u16 u32 u64 u128 usize i64".split()
 )
 ASSOCIATED = set(
-    "Arc::new Arc::try_clone Arc::try_unwrap BTreeMap::new Badge::blank Buffer::new NonZeroU32::new SmallVec::new SmallVec::with_capacity "
+    "Arc::new Arc::try_clone Arc::try_unwrap BTreeMap::new Badge::blank Buffer::new NonZeroU32::new NonZeroU64::MIN NonZeroU64::new fmt::Debug SmallVec::new SmallVec::with_capacity "
     "Table::of_words Vec::new Vec::with_capacity fmt::Display fmt::Formatter fmt::Result i64::from mem::replace str::from_utf8 "
     "u16::from_le_bytes u32::MAX u32::from_le_bytes u64::from u64::from_le_bytes usize::from".split()
 )
@@ -67,7 +73,7 @@ METHODS = set(
     "into_badge into_seat is_ascii_digit is_empty is_err is_none is_none_or is_some iter join_seat len load_new_seat map map_err max min next ok "
     "ok_or parse pop position push push_reserved remove reserve resize retain saturating_add saturating_mul saturating_sub size_hint "
     "sort_by_cached_key sort_by_key sort_unstable split_at split_at_mut split_first split_first_chunk split_seat swap_remove take then "
-    "to_le_bytes truncate unwrap unwrap_or word write_str".split()
+    "to_le_bytes truncate unwrap unwrap_or word write_str write_u64".split()
 )
 # Methods of a trait of these crates that another type or trait has too. Each call of one can mean no other method.
 SHARED_NAMES = {
@@ -76,9 +82,11 @@ SHARED_NAMES = {
 }
 CONSTANT = {(f"ent_alloc/{it}", "new") for it in ("entities", "limits", "slots")} | {("ent_storage/handle_map", "new")}
 CONSTANT |= {("ent_alloc/limits", "default_limits"), ("ent_alloc/requests", "none")}
+CONSTANT |= {("ent_handle/handle", it) for it in "from_bits from_parts generation index new to_bits".split()}
 # What `prove_eq!` may call, and whose stand-in is an enum alone (the empty path: what is imported from these crates).
 READS, WITHOUT_METHODS = {"cursor"}, {"", "either::Either"}
-ALIGNED = ("ent_handle/handle", "Handle")
+# A file with a type of one word and its field, a file whose texts keep a width, and a function with another name.
+WORD_TYPE, PADDED, RENAMED = ("ent_handle/handle", "Handle", "bits"), "ent_handle/text", ("ent_alloc", "Entities", "new", "with_limits")
 DERIVES = set("Clone Copy Debug Default PartialEq Eq Hash".split())
 KEYWORDS = set(
     "as async await break const continue crate dyn else enum extern false fn for if impl in let loop match mod move mut pub ref return "
@@ -152,12 +160,19 @@ class Unit:
     def __init__(self, crates, packages):
         self.crates, self.packages, self.others, self.uses = crates, packages, set(), []
         self.conditions = set()
-        self.counts, self.functions = collections.Counter(), collections.defaultdict(set)
+        self.counts, self.functions, self.facts = collections.Counter(), collections.defaultdict(set), set()
+
+    def learn(self, notes):
+        """What another file has to know of this one."""
+        self.facts |= {(name, of) for kind, name, of in notes if kind == "fact"}
+        twice = {of for name, of in self.facts if name == "right"} & {of for name, of in self.facts if name == "field"}
+        if twice:
+            raise Refused(f"a field `{min(twice)}` that has the right to allocate, and one that hasn't")
 
     def collect(self, notes):
         self.counts.update(name for kind, name, _ in notes if kind == "count")
         self.others |= {name for kind, name, _ in notes if kind == "other"}
-        self.uses += [it for it in notes if it[0] not in ("count", "other", "function", "add")]
+        self.uses += [it for it in notes if it[0] not in ("count", "other", "function", "add", "fact")]
         for _, name, of in (it for it in notes if it[0] == "function"):
             self.functions[name].add(of)
 
@@ -185,6 +200,7 @@ class Reader:
         self.text, self.unit, self.result, self.crate = text, unit, result.removesuffix(".rs"), result.split("/")[0]
         self.at, self.far, self.out, self.log, self.imports_at, self.owner, self.no_struct = 0, 0, [], [], None, "", False
         self.error, self.errs, self.fields, self.arms, self.declared, self.of, self.requires = "", False, [], "", "", "", False
+        self.tag, self.target, self.variant, self.bounds = "", "", "", {}
         self.names, self.imports = ([first.names[0]], first.imports) if first else ([set()], {})
 
     def file(self):
@@ -195,6 +211,11 @@ class Reader:
         for name in sorted({name for kind, name, _ in self.log if kind == "add"}):
             self.add(f"use crate::kit::{name};", "import")
         self.out[self.imports_at or 0 : 0] = self.cut(head)
+        words = [it.text for it in self.out]
+        if words.count("PhantomData") == 1 and any(it[:2] == ("count", "ghost type") for it in self.log):
+            at = words.index("PhantomData")
+            self.out[at - 5 : at + 2] = []
+            self.log.remove(("count", "core path", None))
         return self
 
     # The signs of the grammar.
@@ -207,6 +228,8 @@ class Reader:
             return self.word(of)
         if kind == "rule":
             return self.rule(of)
+        if kind == "%":
+            return self.list(of)
         mark = (self.at, len(self.out), len(self.log))
         if kind == "or":
             return any(self.all(it, mark) for it in of)
@@ -216,10 +239,22 @@ class Reader:
         elif kind in "!&":
             self.reset(mark)
             return bool(found) == (kind == "&")
-        elif kind in "*+%":
-            while found and (kind != "%" or self.sees(",") and self.take()) and self.match(of):
+        elif kind in "*+":
+            while found and self.match(of):
                 pass
-        return found or kind in "*?%"
+        return found or kind in "*?"
+
+    def list(self, of):
+        """Parts with commas. A part of which nothing is left takes a comma with it."""
+        while True:
+            begin = len(self.out)
+            if not self.match(of):
+                return True
+            is_gone = len(self.out) == begin
+            if not self.sees(","):
+                self.out.pop() if is_gone and self.out[-1].text == "," else None
+                return True
+            self.drop() if is_gone else self.take()
 
     def all(self, parts, mark):
         for part in parts:
@@ -294,6 +329,115 @@ class Reader:
     def use(self, kind, name):
         return self.note(kind, name, f"{self.text.name}:{self.look().line}")
 
+    # What is for the prover alone, or for the kit's allocator.
+
+    def texts(self, mark):
+        return [it.text for it in self.out[mark:]]
+
+    def knows(self, name, of):
+        return (name, of) in self.unit.facts
+
+    def is_phantom(self, name):
+        """Whether this field of the type of the literal or pattern is a `PhantomData` of a ghost type."""
+        bounds = {of[0] for kind, of in self.unit.facts if kind == "phantom" and of[1:] == (self.tag, name)}
+        return any(self.knows("ghost", it) for it in bounds)
+
+    def fact(self, name, of):
+        return self.note("fact", name, of)
+
+    def gone(self, mark, kind):
+        """What was written since isn't in the results."""
+        return self.note("count", kind) and self.cut(mark)
+
+    def is_of(self, name, kind):
+        """Whether the innermost binding of a name is of this kind."""
+        found = next((it for it in reversed(self.names) if {name, f"{name}: {kind}"} & it), ())
+        return f"{name}: {kind}" in found
+
+    def is_right(self, words):
+        """Whether these words are a value that has the right to allocate."""
+        if len(words) == 3:
+            return words[1] == "." and self.knows("right", words[2])
+        return len(words) == 1 and (self.is_of(words[0], "Global") or words == ["Global"] and self.is_kits("Global"))
+
+    def is_kits(self, name):
+        return self.imports.get(name) == "std::alloc::" + name
+
+    def after_parameter(self, mark, _):
+        words = self.texts(mark)
+        if words[1:] == [":", "Global"] and self.is_kits("Global"):
+            self.names[-1].add(f"{words[0]}: Global")
+            self.gone(mark, "allocator")
+
+    def after_passed(self, mark, _):
+        self.gone(mark, "allocator") if self.is_right(self.texts(mark)) else None
+
+    def after_fielded(self, mark, _):
+        words = self.texts(mark)
+        at = words.index(":")
+        name, of = words[at - 1], [it for it in words[at + 1 :] if it != ","]
+        if of == ["Global"] and self.is_kits("Global"):
+            self.fact("right", name) and self.gone(mark, "allocator")
+        elif of == ["PhantomData"]:
+            self.gone(mark, "ghost type")
+        else:
+            self.fact("field", name)
+            bound = self.bounds.get(of[2]) if of[0] == "PhantomData" and len(of) == 4 else None
+            self.fact("phantom", (bound, self.declared, name)) if bound else None
+
+    def after_part(self, mark, _):
+        """A field in a literal."""
+        name, *of = self.texts(mark)
+        if self.knows("right", name) and self.is_right(of[1:] if of else [name]):
+            self.gone(mark, "allocator")
+        elif of == [":", "PhantomData"] and self.is_phantom(name):
+            self.gone(mark, "ghost type")
+
+    def after_named_part(self, mark, _):
+        """A field in a pattern."""
+        name, *of = self.texts(mark)
+        if self.knows("right", name) and of in ([], [":", "_"]):
+            self.names[-1].add(f"{name}: Global") if not of else None
+            self.gone(mark, "allocator")
+        elif of in ([":", "_"], [":", "PhantomData"]) and self.is_phantom(name):
+            self.gone(mark, "ghost type")
+
+    def after_generic(self, mark, _):
+        words = self.texts(mark)
+        if len(words) == 3:
+            self.bounds[words[0]] = words[2]
+        if len(words) == 3 and self.knows("ghost", words[2]):
+            self.names[-1].add(f"{words[0]}: ghost")
+            self.gone(mark, "ghost type")
+
+    def after_argument(self, mark, _):
+        words = self.texts(mark)
+        if words == ["Global"] and self.is_kits("Global"):
+            self.gone(mark, "allocator")
+        elif len(words) == 1 and self.is_of(words[0], "ghost"):
+            self.gone(mark, "ghost type")
+
+    def after_generics(self, mark, _):
+        self.cut(mark) if self.texts(mark) in (["<", ">"], ["::"]) else None
+
+    after_closed, after_arguments, after_turbofish = after_parameter, after_generics, after_generics
+
+    def after_trait(self, mark, notes):
+        has_ghosts = any(it[1] == "(ghost members and imports)" for it in self.log[notes:])
+        if has_ghosts and self.texts(mark)[-2:] == ["{", "}"]:
+            self.fact("ghost", self.declared) and self.gone(mark, "ghost trait")
+
+    def after_module(self, mark, _):
+        inside = self.result.removesuffix("/mod") + "/" + self.declared
+        self.gone(mark, "ghost trait") if self.knows("empty", inside) else None
+
+    def after_path(self, mark, _):
+        words = self.texts(mark)
+        own = self.target == RENAMED[1] and self.crate == RENAMED[0] and words[-3:-2] == ["Self"]
+        if words[-3:] == list(RENAMED[1:2]) + ["::", RENAMED[2]] or own and words[-1] == RENAMED[2]:
+            self.out.pop()
+            self.add(RENAMED[3], RENAMED[3])
+
     # Names.
 
     def is_provers(self, name):
@@ -364,12 +508,14 @@ class Reader:
         if new in self.unit.packages | PRELUDE:
             self.use("refused", f"an import named `{new}`")
         self.imports[new] = whole if foreign else ""
-        self.left.append(not (foreign and whole in GHOST_IMPORTS))
+        is_ghost = not foreign and self.knows("ghost", old)
+        self.note("count", "ghost trait") if is_ghost else None
+        self.left.append(not (foreign and whole in GHOST_IMPORTS or is_ghost))
         self.cut(mark) if not self.left[-1] else foreign and self.use("import", whole)
 
     def after_use(self, mark, notes):
         if not any(self.left):
-            self.out[mark:], self.log[notes:] = [], []
+            self.out[mark:], self.log[notes:] = [], [it for it in self.log[notes:] if it[1] == "ghost trait"]
             return
         if not all(self.left):
             self.out += [it for it in self.cut(mark) if it.text not in ("{", ",", "}")]
@@ -412,9 +558,17 @@ class Reader:
         return (self.result, self.look(1).text) in CONSTANT and self.add("const", "const")
 
     def is_aligned(self):
-        if (self.result, self.look(1).text, self.look(2).text) == (ALIGNED[0], "struct", ALIGNED[1]):
-            self.add("#[repr(align(8))]", "alignment")
+        if (self.result, self.look(1).text, self.look(2).text) == (WORD_TYPE[0], "struct", WORD_TYPE[1]):
+            end = self.cut(len(self.out) - 2)
+            self.add(", PartialEq, Eq")
+            self.out += end
+            self.add("#[repr(transparent)]", "layout")
         return True
+
+    def is_write(self):
+        if not self.sees("write") or self.result != PADDED:
+            return self.sees("write") and self.take()
+        return self.drop() and self.note("add", "padded") and self.add("padded", "padded")
 
     def is_derives(self):
         """The derives that Rust has."""
@@ -468,6 +622,14 @@ class Reader:
             self.use("refused", f"an impl of `{self.of}` for a type of the kit: a method of Rust's may have its name")
         if self.of == "std::marker::Model" and self.out[-2].text == "{":
             self.out[mark:], self.log[notes:] = [], [("count", "(models)", None)]
+        elif self.knows("ghost", self.of) and self.out[-2].text == "{":
+            self.gone(mark, "ghost trait")
+        elif (self.result, self.target) == WORD_TYPE[:2] and self.of in ("PartialEq", "Eq"):
+            field, words = WORD_TYPE[2], self.texts(mark)
+            eq = ADDED.findall(f"#[inline] fn eq(&self, other: &Self) -> bool {{ self.{field} == other.{field} }}".replace("==", "= ="))
+            if "".join(words[words.index("{") + 1 : -1]) != "".join(eq if self.of == "PartialEq" else []):
+                self.use("refused", f"an `{self.of}` of `{self.target}` that isn't that of the derive")
+            self.out[mark:], self.log[notes:] = [], [("count", "equality", None)]
         elif self.of == "std::marker::Model" or self.of == "Drop" and self.is_provers("Drop"):
             self.use("refused", "a model with code, or a destructor")
 
@@ -477,8 +639,13 @@ class Reader:
         self.log[at] = ("function", self.log[at][1], (self.owner, receiver))
 
     def after_function(self, mark, notes):
+        name = next(name for kind, name, _ in self.log[notes:] if kind == "function")
+        if (self.crate, self.target, name, self.owner) == (*RENAMED[:3], "impl"):
+            at = self.texts(mark).index("fn") + mark + 1
+            rest = self.cut(at)
+            self.add(RENAMED[3], RENAMED[3])
+            self.out += rest[1:]
         if self.requires:
-            name = next(name for kind, name, _ in self.log[notes:] if kind == "function")
             self.unit.conditions |= set() if self.owner else {(self.result, name)}
             self.narrow(mark)
         at = next(at for at in range(mark, len(self.out)) if self.out[at].text in ("pub", "const", "fn"))
@@ -506,9 +673,10 @@ visible   = 'pub' ('(' SCOPE ')')?
 struct    = attribute* ALIGNED visible? 'struct' DECLARED generics ('{' named '}' | ('(' unnamed% ')')? ';')
 enum      = attribute* visible? 'enum' DECLARED generics '{' variant% '}'
 variant   = attribute* VARIANT ('{' named '}' | '(' unnamed% ')')? ('=' NUM)?
-named     = (ghost | attribute* visible? FIELD ':' type (',' | &'}'))*
+named     = (ghost | fielded)*
+fielded   = attribute* visible? FIELD ':' type (',' | &'}')
 unnamed   = attribute* visible? type
-impl      = attribute* 'impl' generics (TRAIT type 'for' OF)? type where OWNER members
+impl      = attribute* 'impl' generics (TRAIT type 'for' OF)? TARGET type where OWNER members
 trait     = attribute* visible? 'trait' DECLARED generics bounds where TRAIT_OWNER members
 members   = '{' member* '}'
 alias     = visible? 'type' CONSTANT generics ('=' type)? ';'
@@ -533,7 +701,7 @@ argument  = LIFE | NUM | NAME '=' type | type
 pattern   = one ('|' one)*
 one       = ('&' | '&&') 'mut'? one | '_' | '..' | '(' pattern% ')' | '[' pattern% ']' | literal ('..=' literal)? | tagged | bind
 bind      = 'mut'? BIND ('@' one)?
-tagged    = TAG path (variant_of)?
+tagged    = TAG path OF_TYPE (variant_of)?
 variant_of = '(' pattern% ')' | '{' named_part% '}'
 named_part = '..' | NAME ':' pattern | 'mut'? BIND
 literal   = '-'? NUM | STR | CHAR | 'true' | 'false'
@@ -549,21 +717,24 @@ condition = expression
 expression = (range | operand) rest*
 range     = ('..=' | '..') operand
 operand   = ('-' | '!' | '*' | ('&' | '&&') 'mut'?)* primary
-rest      = '?' | '.' (NUM | method | NAME) | '(' inner% ')' | '[' index ']' | 'as' type | range | BINARY operand
-method    = METHOD ('::' arguments)? '(' inner% ')'
+rest      = '?' | '.' (NUM | method | NAME) | '(' passed% ')' | '[' index ']' | 'as' type | range | BINARY operand
+method    = METHOD turbofish? '(' passed% ')'
+turbofish = '::' arguments
+passed    = inner
 inner     = expression
 index     = '..' &']' | inner ('..' &']')?
 primary   = literal | '(' inner% ')' | '[' (inner ';' inner | inner%) ']' | compound_of | closure | let | leave | macro | value
 compound_of = if | match | loop | block
 let       = 'let' pattern '=' operand rest_of_let*
-rest_of_let = '?' | '.' (NUM | method | NAME) | '(' inner% ')' | '[' index ']'
+rest_of_let = '?' | '.' (NUM | method | NAME) | '(' passed% ')' | '[' index ']'
 leave     = ('return' | 'break') expression? | 'continue'
-closure   = 'move'? ('||' | '|' (one (':' type)?)% '|') (arrow clause* block | clause clause* block | expression)
+closure   = 'move'? ('||' | '|' closed% '|') (arrow clause* block | clause clause* block | expression)
+closed    = one (':' type)?
 value     = struct_of | path
-struct_of = STRUCT path '{' part% '}'
+struct_of = STRUCT path OF_TYPE '{' part% '}'
 part      = '..' NAME &'}' | (NAME | NUM) ':' inner | path
-path      = HEAD ('::' NAME)* ('::' arguments)?
-macro     = 'matches' '!' '(' inner ',' pattern ')' | 'unreachable' '!' '(' ')' | 'write' '!' '(' 'f' ',' STR ')' | proves
+path      = HEAD ('::' NAME)* turbofish?
+macro     = 'matches' '!' '(' inner ',' pattern ')' | 'unreachable' '!' '(' ')' | WRITE '!' '(' 'f' ',' STR ')' | proves
 proves    = 'prove_eq' '!' '(' read ',' read ')'
 read      = NUM | path ('.' (READER '(' ')' | NAME))*
 """
@@ -585,7 +756,9 @@ WORDS = {it.upper(): lambda r, it=it: r.look().kind == it and r.take() for it in
     "READER": lambda r: r.look(1).text == "(" and r.use("read", r.look().text) and r.word("NAME"),
     "ERROR": lambda r: r.set("error", r.look().text) and r.word("STR"),
     "TRAIT": lambda r: r.set("trait", "::".join(r.imports.get(it) or it for it in r.words()[0])),
-    "OF": lambda r: r.set("of", r.trait) and r.set("target", r.look().text),
+    "OF": lambda r: r.set("of", r.trait),
+    "TARGET": lambda r: r.set("target", r.look().text),
+    "OF_TYPE": lambda r: r.set("tag", r.target if r.out[-1].text == "Self" else r.out[-1].text),
     "OWNER": lambda r: r.set("owner", f"impl trait {r.of.split('::')[-1]}" if r.of else "impl"),
     "TRAIT_OWNER": lambda r: r.set("owner", f"trait {r.declared}"),
     "STRUCT": lambda r: not r.no_struct and r.words()[1] == "{" and r.words()[0][-1][:1].isupper(),
@@ -595,8 +768,8 @@ WORDS = {it.upper(): lambda r, it=it: r.look().kind == it and r.take() for it in
 # The rules whose names are their own, those that are read in another state, and what is noted of a form.
 SCOPES = set("module struct enum impl trait function closure arm block".split())
 STATES = {"condition": {"no_struct": True}, "inner": {"no_struct": False}, "block": {"no_struct": False, "owner": ""}}
-STATES |= {it: {"requires": False} for it in ("function", "closure")}
-STATES |= {"impl": {"owner": "", "of": ""}, "trait": {"owner": ""}, "variant": {"error": "", "fields": []}}
+STATES |= {it: {"requires": False} for it in ("function", "closure")} | {it: {"tag": ""} for it in ("tagged", "struct_of")}
+STATES |= {"impl": {"owner": "", "of": "", "target": ""}, "trait": {"owner": ""}, "variant": {"error": "", "fields": []}}
 STATES |= {it: {"arms": "", "error": "", "errs": False} for it in ("struct", "enum")}
 NOTES = {"writer": ("count", "formatter"), "ghost": ("count", "(ghost members and imports)")}
 NOTES |= {"clause": ("count", "(clauses)"), "proves": ("add", "prove_eq")}
@@ -649,11 +822,14 @@ def erase(top, crates):
             result = f"{folder.parent.name}/{'mod' if inside == 'lib' else inside}.rs"
             files.append((Text(path.read_text(), str(path.relative_to(top))), result))
     firsts = [Reader(text, result, unit).file() for text, result in files]
+    for reader, (_, result) in zip(firsts, files):
+        is_empty = not reader.out and any(it[:2] == ("fact", "ghost") for it in reader.log)
+        unit.learn(reader.log + [("fact", "empty", result.removesuffix(".rs"))] * is_empty)
     readers = [Reader(text, result, unit, first).file() for (text, result), first in zip(files, firsts)]
     for reader in readers:
         unit.collect(reader.log)
     unit.check()
-    made = {result: (text.name, reader.out) for (text, result), reader in zip(files, readers)}
+    made = {result: (text.name, it.out) for (text, result), it in zip(files, readers) if not it.knows("empty", it.result)}
     modules = LINTS + "".join(f" pub mod {it};" for it in crates)
     return made | {"mod.rs": ("crates.txt", Text(modules, "").tokens())}, unit
 

@@ -88,7 +88,8 @@ pub fn package(repository: &Path) -> Result<Files, Box<dyn Error>> {
     let crates = crates_below(repository, TOPS)?;
     let mut names = Names::new(&[&PACKAGE]);
     add_names(&mut names, &crates, PROVED.path)?;
-    let is_missing = |it: &&Layout| !names.has_type(it.krate, it.name);
+    let is_missing =
+        |it: &&Layout| names.crates.contains_key(it.krate) && !names.has_type(it.krate, it.name);
     if let Some(Layout { krate, name, .. }) = LAYOUTS.iter().find(is_missing) {
         let what = format!("the table LAYOUTS has `{name}` of {krate}, which isn't there");
         return Err(what.into());
