@@ -15,7 +15,7 @@ pub static PROGRAMS: Forms = Forms {
     renamed: RENAMED,
     methods: METHODS,
     associated: ASSOCIATED,
-    runtime: None,
+    runtime: Some("HostRuntime"),
     hands_out_right: &["AllocGlobal", "HostRuntime"],
     bare: &["drop", "f64"],
     statics: true,

@@ -173,6 +173,11 @@ mod limits;
 mod numbers;
 mod open_world;
 mod phase;
+#[cfg(feature = "programs")]
+#[doc(hidden)]
+pub mod programs;
+// The sources have labels where a proof names a loop, and values for the case that a call fails.
+#[allow(unused_assignments, unused_labels)]
 #[rustfmt::skip]
 mod proved;
 mod report;

@@ -177,7 +177,6 @@ impl<T> Vec<T> {
 }
 
 /// What the repository's own tests call, and the package doesn't.
-#[cfg(test)]
 impl<T> Vec<T> {
     /// The contract: the items of the array.
     pub fn from_array<const N: usize>(items: [T; N]) -> Result<Self, AllocError> {

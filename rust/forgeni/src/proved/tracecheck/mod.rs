@@ -18,7 +18,7 @@ use std::io::IsTerminal;
 use std::process::ExitCode;
 
 #[inline]
-fn main(rt: HostRuntime) -> ExitCode {
+pub fn main(rt: HostRuntime) -> ExitCode {
     let terminal = rt.stderr();
     let tells = terminal.is_terminal();
     let errors = rt.stderr();
