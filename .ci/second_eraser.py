@@ -41,7 +41,7 @@ TABLE = {
     "allocator": (280, "the right to allocate, `Global`, is handed to nobody in Rust: parameters, arguments, fields, what is bound"),
     "ghost trait": (16, "a trait with ghost members alone, its imports and impls, and a module of nothing else"),
     "ghost type": (79, "a type parameter that such a trait bounds, as an argument, and in a `PhantomData`"),
-    "with_limits": (4, "the allocator's `new(limits)`: in Rust `new()` has no parameter"),
+    "with_exact_limits": (5, "the allocator's `new(limits)`: in Rust `new()` has no parameter"),
     "const": (12, "what makes an allocator without memory may be called in a constant: CONSTANT lists them"),
 }
 
@@ -49,29 +49,31 @@ TABLE = {
 PATHS = {f"std::{it}": f"crate::kit::{it}" for it in "alloc collections sync thread".split()}
 PATHS |= {f"std::{it}": f"core::{it}" for it in "cmp error fmt hash marker mem num".split()}
 PATHS |= {it: f"crate::kit::{it}" for it in "atomic_table either itoa smallvec".split()} | {"thiserror": ""}
+# The type of the right to allocate is written so until it goes.
+RIGHT = "@Global"
 # What may be imported or called from there. `Model` and the derive `Error` are for the prover and for `messages`.
 GHOST_IMPORTS = {"std::marker::Model", "thiserror::Error", "std::alloc::Global"}
 IMPORTS = set(
     "std::alloc::Global std::alloc::AllocError std::alloc::AllocFailed std::collections::BTreeMap std::collections::LinkedList std::sync::Arc "
     "std::thread::Threads std::thread::join_mut std::cmp::Ordering std::error::Error std::fmt std::marker::PhantomData std::mem "
-    "std::num::NonZeroU32 std::num::NonZeroU64 std::hash::Hash std::hash::Hasher atomic_table::Badge atomic_table::Join atomic_table::Play atomic_table::Seat atomic_table::Split "
-    "atomic_table::Table atomic_table::TableRule either::Either either::Left either::Right itoa::Buffer itoa::Integer "
-    "smallvec::SmallVec".split()
+    "std::num::NonZeroU32 std::num::NonZeroU64 std::hash::Hash std::hash::Hasher atomic_table::Badge atomic_table::Join "
+    "atomic_table::Play atomic_table::Seat atomic_table::Split atomic_table::Table atomic_table::TableRule either::Either "
+    "either::Left either::Right itoa::Buffer itoa::Integer smallvec::SmallVec".split()
 )
 PRELUDE = set(
     "Some None Ok Err Option Result Vec Self self Iterator ExactSizeIterator From Default Copy Clone Send Sync Fn FnMut FnOnce Ord PartialOrd "
     "PartialEq Eq bool char str u8 u16 u32 u64 u128 usize i64".split()
 )
 ASSOCIATED = set(
-    "Arc::new Arc::try_clone Arc::try_unwrap BTreeMap::new Badge::blank Buffer::new NonZeroU32::new NonZeroU64::MIN NonZeroU64::new fmt::Debug SmallVec::new SmallVec::with_capacity "
-    "Table::of_words Vec::new Vec::with_capacity fmt::Display fmt::Formatter fmt::Result i64::from mem::replace str::from_utf8 "
+    "Arc::new Arc::try_clone Arc::try_unwrap BTreeMap::new Badge::blank Buffer::new NonZeroU32::new NonZeroU64::MIN NonZeroU64::new "
+    "SmallVec::new SmallVec::with_capacity Table::of_words Vec::new Vec::with_capacity fmt::Debug fmt::Display fmt::Formatter fmt::Result i64::from mem::replace str::from_utf8 "
     "u16::from_le_bytes u32::MAX u32::from_le_bytes u64::from u64::from_le_bytes usize::from".split()
 )
 METHODS = set(
     "all as_bytes as_chunks as_slice binary_search binary_search_by_key capacity cast_signed cast_unsigned checked_add checked_sub clear "
     "close_with cmp collect contains copied count enumerate extend_from_slice fetch_add fetch_sub filter format free get get_mut insert into "
     "into_badge into_seat is_ascii_digit is_empty is_err is_none is_none_or is_some iter join_seat len load_new_seat map map_err max min next ok "
-    "ok_or parse pop position push push_reserved remove reserve resize retain saturating_add saturating_mul saturating_sub size_hint "
+    "ok_or parse pop position push push_reserved remove reserve resize retain reverse saturating_add saturating_mul saturating_sub size_hint "
     "sort_by_cached_key sort_by_key sort_unstable split_at split_at_mut split_first split_first_chunk split_seat swap_remove take then "
     "to_le_bytes truncate unwrap unwrap_or word write_str write_u64".split()
 )
@@ -81,12 +83,13 @@ SHARED_NAMES = {
     "take": "`Sink` has it, called on a parameter `S: Sink`; `Machine` and `Checker` are no `Sink`, and iterators are none",
 }
 CONSTANT = {(f"ent_alloc/{it}", "new") for it in ("entities", "limits", "slots")} | {("ent_storage/handle_map", "new")}
-CONSTANT |= {("ent_alloc/limits", "default_limits"), ("ent_alloc/requests", "none")}
+CONSTANT |= {("ent_alloc/limits", "default_limits"), ("ent_alloc/requests", "none"), ("ent_alloc/entities", "with_limits")}
+CONSTANT |= {("ent_alloc/limits", it) for it in ("generations", "keeping_placeholder", "slots")}
 CONSTANT |= {("ent_handle/handle", it) for it in "from_bits from_parts generation index new to_bits".split()}
 # What `prove_eq!` may call, and whose stand-in is an enum alone (the empty path: what is imported from these crates).
 READS, WITHOUT_METHODS = {"cursor"}, {"", "either::Either"}
 # A file with a type of one word and its field, a file whose texts keep a width, and a function with another name.
-WORD_TYPE, PADDED, RENAMED = ("ent_handle/handle", "Handle", "bits"), "ent_handle/text", ("ent_alloc", "Entities", "new", "with_limits")
+WORD_TYPE, PADDED, RENAMED = ("ent_handle/handle", "Handle", "bits"), "ent_handle/text", ("Entities", "new", "with_exact_limits")
 DERIVES = set("Clone Copy Debug Default PartialEq Eq Hash".split())
 KEYWORDS = set(
     "as async await break const continue crate dyn else enum extern false fn for if impl in let loop match mod move mut pub ref return "
@@ -158,9 +161,8 @@ class Unit:
     """What is erased together: the crates, what they declare and name, and how often each class of difference was made."""
 
     def __init__(self, crates, packages):
-        self.crates, self.packages, self.others, self.uses = crates, packages, set(), []
-        self.conditions = set()
-        self.counts, self.functions, self.facts = collections.Counter(), collections.defaultdict(set), set()
+        self.crates, self.packages, self.others, self.uses, self.conditions, self.facts = crates, packages, set(), [], set(), set()
+        self.counts, self.functions = collections.Counter(), collections.defaultdict(set)
 
     def learn(self, notes):
         """What another file has to know of this one."""
@@ -211,9 +213,8 @@ class Reader:
         for name in sorted({name for kind, name, _ in self.log if kind == "add"}):
             self.add(f"use crate::kit::{name};", "import")
         self.out[self.imports_at or 0 : 0] = self.cut(head)
-        words = [it.text for it in self.out]
-        if words.count("PhantomData") == 1 and any(it[:2] == ("count", "ghost type") for it in self.log):
-            at = words.index("PhantomData")
+        if self.texts(0).count("PhantomData") == 1 and ("count", "ghost type", None) in self.log:
+            at = self.texts(0).index("PhantomData")
             self.out[at - 5 : at + 2] = []
             self.log.remove(("count", "core path", None))
         return self
@@ -318,6 +319,11 @@ class Reader:
         found, self.out[mark:] = self.out[mark:], []
         return found
 
+    def insert(self, mark, words, kind=None):
+        rest = self.cut(mark)
+        self.add(words, kind)
+        self.out += rest
+
     def set(self, name, value):
         setattr(self, name, value)
         return True
@@ -339,11 +345,7 @@ class Reader:
 
     def is_phantom(self, name):
         """Whether this field of the type of the literal or pattern is a `PhantomData` of a ghost type."""
-        bounds = {of[0] for kind, of in self.unit.facts if kind == "phantom" and of[1:] == (self.tag, name)}
-        return any(self.knows("ghost", it) for it in bounds)
-
-    def fact(self, name, of):
-        return self.note("fact", name, of)
+        return any(self.knows("phantom", (of, self.tag, name)) for kind, of in self.unit.facts if kind == "ghost")
 
     def gone(self, mark, kind):
         """What was written since isn't in the results."""
@@ -358,85 +360,67 @@ class Reader:
         """Whether these words are a value that has the right to allocate."""
         if len(words) == 3:
             return words[1] == "." and self.knows("right", words[2])
-        return len(words) == 1 and (self.is_of(words[0], "Global") or words == ["Global"] and self.is_kits("Global"))
-
-    def is_kits(self, name):
-        return self.imports.get(name) == "std::alloc::" + name
+        return words == [RIGHT] or len(words) == 1 and self.is_of(words[0], RIGHT)
 
     def after_parameter(self, mark, _):
-        words = self.texts(mark)
-        if words[1:] == [":", "Global"] and self.is_kits("Global"):
-            self.names[-1].add(f"{words[0]}: Global")
+        name, *of = self.texts(mark)
+        if of == [":", RIGHT]:
+            self.names[-1].add(f"{name}: {RIGHT}")
             self.gone(mark, "allocator")
 
     def after_passed(self, mark, _):
         self.gone(mark, "allocator") if self.is_right(self.texts(mark)) else None
 
     def after_fielded(self, mark, _):
-        words = self.texts(mark)
-        at = words.index(":")
-        name, of = words[at - 1], [it for it in words[at + 1 :] if it != ","]
-        if of == ["Global"] and self.is_kits("Global"):
-            self.fact("right", name) and self.gone(mark, "allocator")
-        elif of == ["PhantomData"]:
-            self.gone(mark, "ghost type")
-        else:
-            self.fact("field", name)
-            bound = self.bounds.get(of[2]) if of[0] == "PhantomData" and len(of) == 4 else None
-            self.fact("phantom", (bound, self.declared, name)) if bound else None
+        name, *of = self.texts(mark)[self.texts(mark).index(":") - 1 :]
+        of = [it for it in of[1:] if it != ","]
+        self.note("fact", "right" if of == [RIGHT] else "field", name)
+        if of in ([RIGHT], ["PhantomData"]):
+            self.gone(mark, "allocator" if of == [RIGHT] else "ghost type")
+        elif of[0] == "PhantomData":
+            self.note("fact", "phantom", (self.bounds.get(of[2]), self.declared, name))
 
     def after_part(self, mark, _):
-        """A field in a literal."""
+        """A field in a literal or a pattern."""
         name, *of = self.texts(mark)
-        if self.knows("right", name) and self.is_right(of[1:] if of else [name]):
-            self.gone(mark, "allocator")
-        elif of == [":", "PhantomData"] and self.is_phantom(name):
-            self.gone(mark, "ghost type")
-
-    def after_named_part(self, mark, _):
-        """A field in a pattern."""
-        name, *of = self.texts(mark)
-        if self.knows("right", name) and of in ([], [":", "_"]):
-            self.names[-1].add(f"{name}: Global") if not of else None
+        if self.knows("right", name) and (of in ([], [":", "_"]) or self.is_right(of[1:])):
+            self.names[-1] |= set() if of else {f"{name}: {RIGHT}"}
             self.gone(mark, "allocator")
         elif of in ([":", "_"], [":", "PhantomData"]) and self.is_phantom(name):
             self.gone(mark, "ghost type")
 
     def after_generic(self, mark, _):
-        words = self.texts(mark)
-        if len(words) == 3:
-            self.bounds[words[0]] = words[2]
-        if len(words) == 3 and self.knows("ghost", words[2]):
-            self.names[-1].add(f"{words[0]}: ghost")
+        name, *bound = self.texts(mark)
+        self.bounds[name] = "".join(bound[1:])
+        if self.knows("ghost", self.bounds[name]):
+            self.names[-1].add(f"{name}: ghost")
             self.gone(mark, "ghost type")
 
     def after_argument(self, mark, _):
         words = self.texts(mark)
-        if words == ["Global"] and self.is_kits("Global"):
-            self.gone(mark, "allocator")
-        elif len(words) == 1 and self.is_of(words[0], "ghost"):
-            self.gone(mark, "ghost type")
+        if words == [RIGHT] or len(words) == 1 and self.is_of(words[0], "ghost"):
+            self.gone(mark, "allocator" if words == [RIGHT] else "ghost type")
 
     def after_generics(self, mark, _):
         self.cut(mark) if self.texts(mark) in (["<", ">"], ["::"]) else None
 
-    after_closed, after_arguments, after_turbofish = after_parameter, after_generics, after_generics
+    after_closed, after_arguments, after_turbofish, after_named_part = after_parameter, after_generics, after_generics, after_part
 
     def after_trait(self, mark, notes):
         has_ghosts = any(it[1] == "(ghost members and imports)" for it in self.log[notes:])
         if has_ghosts and self.texts(mark)[-2:] == ["{", "}"]:
-            self.fact("ghost", self.declared) and self.gone(mark, "ghost trait")
+            self.note("fact", "ghost", self.declared) and self.gone(mark, "ghost trait")
 
     def after_module(self, mark, _):
         inside = self.result.removesuffix("/mod") + "/" + self.declared
         self.gone(mark, "ghost trait") if self.knows("empty", inside) else None
 
-    def after_path(self, mark, _):
-        words = self.texts(mark)
-        own = self.target == RENAMED[1] and self.crate == RENAMED[0] and words[-3:-2] == ["Self"]
-        if words[-3:] == list(RENAMED[1:2]) + ["::", RENAMED[2]] or own and words[-1] == RENAMED[2]:
-            self.out.pop()
-            self.add(RENAMED[3], RENAMED[3])
+    def is_step(self):
+        """A name after a `::`, or of a member. One function has another name."""
+        before = self.out[-1 - (self.out[-1].text == "::")].text
+        if (self.target if before in ("Self", "fn") else before, self.look().text) != RENAMED[:2]:
+            return self.word("NAME")
+        return self.drop() and self.add(*RENAMED[2:] * 2)
 
     # Names.
 
@@ -483,6 +467,8 @@ class Reader:
             self.add("crate::proved::", "sister path")
         elif len(words) > 1 and words[0] in self.unit.packages:
             self.use("path", "::".join(words))
+        if words == ["Global"] and self.imports.get("Global") == "std::alloc::Global":
+            return self.out.append(self.drop()._replace(text=RIGHT)) or True
         return self.take() and (words[0] != "crate" or self.add(f"::proved::{self.crate}", "crate path"))
 
     def is_prefix(self):
@@ -535,8 +521,7 @@ class Reader:
         """`pub` becomes `pub(crate)`, where nothing else says more."""
         at = next(at for at in range(mark, len(self.out)) if self.out[at].text in ("pub", "fn"))
         if self.out[at].text == "pub" and self.out[at + 1].text != "(":
-            rest = self.cut(at + 1)
-            self.out += rest if self.add("(crate)", "condition") else []
+            self.insert(at + 1, "(crate)", "condition")
 
     def is_method(self):
         name = self.look().text
@@ -552,23 +537,11 @@ class Reader:
         found = self.sees(*BINARY) and self.take()
         return found and (found.text != ">" or not self.sees(">", ">=") or self.take())
 
-    def is_const(self):
-        if self.sees("const"):
-            return self.take()
-        return (self.result, self.look(1).text) in CONSTANT and self.add("const", "const")
-
     def is_aligned(self):
         if (self.result, self.look(1).text, self.look(2).text) == (WORD_TYPE[0], "struct", WORD_TYPE[1]):
-            end = self.cut(len(self.out) - 2)
-            self.add(", PartialEq, Eq")
-            self.out += end
+            self.insert(len(self.out) - 2, ", PartialEq, Eq")
             self.add("#[repr(transparent)]", "layout")
         return True
-
-    def is_write(self):
-        if not self.sees("write") or self.result != PADDED:
-            return self.sees("write") and self.take()
-        return self.drop() and self.note("add", "padded") and self.add("padded", "padded")
 
     def is_derives(self):
         """The derives that Rust has."""
@@ -595,10 +568,10 @@ class Reader:
         self.out += [it for at, it in enumerate(bounds) if it.text != "+" or bounds[at - 1].text not in ("+", ":")]
 
     def after_predicate(self, mark, _):
-        self.cut(mark) if ":" not in [it.text for it in self.out[mark:]] else None
+        self.cut(mark) if ":" not in self.texts(mark) else None
 
     def after_variant_of(self, mark, _):
-        if "[" in [it.text for it in self.out[mark:]]:
+        if "[" in self.texts(mark):
             self.use("refused", "the elements of an array in a variant, which are dropped in another order where a later part doesn't match")
 
     def after_variant(self, *_):
@@ -625,9 +598,8 @@ class Reader:
         elif self.knows("ghost", self.of) and self.out[-2].text == "{":
             self.gone(mark, "ghost trait")
         elif (self.result, self.target) == WORD_TYPE[:2] and self.of in ("PartialEq", "Eq"):
-            field, words = WORD_TYPE[2], self.texts(mark)
-            eq = ADDED.findall(f"#[inline] fn eq(&self, other: &Self) -> bool {{ self.{field} == other.{field} }}".replace("==", "= ="))
-            if "".join(words[words.index("{") + 1 : -1]) != "".join(eq if self.of == "PartialEq" else []):
+            eq = f"#[inline]fneq(&self,other:&Self)->bool{{self.{WORD_TYPE[2]}==other.{WORD_TYPE[2]}}}"
+            if "".join(self.texts(mark)).split("{", 1)[1] != eq * (self.of == "PartialEq") + "}":
                 self.use("refused", f"an `{self.of}` of `{self.target}` that isn't that of the derive")
             self.out[mark:], self.log[notes:] = [], [("count", "equality", None)]
         elif self.of == "std::marker::Model" or self.of == "Drop" and self.is_provers("Drop"):
@@ -639,19 +611,13 @@ class Reader:
         self.log[at] = ("function", self.log[at][1], (self.owner, receiver))
 
     def after_function(self, mark, notes):
-        name = next(name for kind, name, _ in self.log[notes:] if kind == "function")
-        if (self.crate, self.target, name, self.owner) == (*RENAMED[:3], "impl"):
-            at = self.texts(mark).index("fn") + mark + 1
-            rest = self.cut(at)
-            self.add(RENAMED[3], RENAMED[3])
-            self.out += rest[1:]
         if self.requires:
+            name = next(name for kind, name, _ in self.log[notes:] if kind == "function")
             self.unit.conditions |= set() if self.owner else {(self.result, name)}
             self.narrow(mark)
         at = next(at for at in range(mark, len(self.out)) if self.out[at].text in ("pub", "const", "fn"))
         if self.out[-1].text == "}" and not {"inline", "cold"} & {it.text for it in self.out[mark:at]}:
-            rest = self.cut(at)
-            self.out += rest if self.add("#[inline]", "inline") else []
+            self.insert(at, "#[inline]", "inline")
 
 
 # The grammar: `-` reads and writes nothing, `&` and `!` look ahead, `%` is a list with commas, a word in capitals is one of WORDS or `is_..`.
@@ -733,7 +699,7 @@ closed    = one (':' type)?
 value     = struct_of | path
 struct_of = STRUCT path OF_TYPE '{' part% '}'
 part      = '..' NAME &'}' | (NAME | NUM) ':' inner | path
-path      = HEAD ('::' NAME)* turbofish?
+path      = HEAD ('::' STEP)* turbofish?
 macro     = 'matches' '!' '(' inner ',' pattern ')' | 'unreachable' '!' '(' ')' | WRITE '!' '(' 'f' ',' STR ')' | proves
 proves    = 'prove_eq' '!' '(' read ',' read ')'
 read      = NUM | path ('.' (READER '(' ')' | NAME))*
@@ -752,11 +718,13 @@ WORDS = {it.upper(): lambda r, it=it: r.look().kind == it and r.take() for it in
     "FIELD": lambda r: r.word("NAME") and r.set("fields", [*r.fields, r.out[-1].text]),
     "CONSTANT": lambda r: r.note("other", r.look().text) and r.word("BIND"),
     "VARIANT": lambda r: r.note("other", r.look().text) and r.set("variant", r.look().text) and r.word("NAME"),
-    "FUNCTION": lambda r: r.note("function", r.look().text, (r.owner, "")) and (r.word("NAME") if r.owner else r.is_declared()),
+    "FUNCTION": lambda r: r.note("function", r.look().text, (r.owner, "")) and (r.is_step() if r.owner else r.is_declared()),
     "READER": lambda r: r.look(1).text == "(" and r.use("read", r.look().text) and r.word("NAME"),
     "ERROR": lambda r: r.set("error", r.look().text) and r.word("STR"),
     "TRAIT": lambda r: r.set("trait", "::".join(r.imports.get(it) or it for it in r.words()[0])),
     "OF": lambda r: r.set("of", r.trait),
+    "CONST": lambda r: r.sees("const") and r.take() or (r.result, r.look(1).text) in CONSTANT and r.add("const", "const"),
+    "WRITE": lambda r: r.sees("write") and (r.take() if r.result != PADDED else r.drop() and r.note("add", "padded") and r.add("padded", "padded")),
     "TARGET": lambda r: r.set("target", r.look().text),
     "OF_TYPE": lambda r: r.set("tag", r.target if r.out[-1].text == "Self" else r.out[-1].text),
     "OWNER": lambda r: r.set("owner", f"impl trait {r.of.split('::')[-1]}" if r.of else "impl"),

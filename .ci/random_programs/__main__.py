@@ -50,8 +50,7 @@ mod proved;
 use proved::ent_replay::programs;
 
 fn main() {
-    let alloc = kit::alloc::Global;
-    let mut trace = programs::Trace::new(alloc).expect("memory");
+    let mut trace = programs::Trace::new().expect("memory");
 %s
     for (is_negative, size) in trace.notes() {
         println!("{is_negative} {size}");
@@ -92,7 +91,7 @@ def outputs(folder, numbers, text):
     failed = run(["cargo", "run", "--offline", "--quiet", "--manifest-path", str(TOP / "rust/erase/Cargo.toml")], erased)
     shutil.copytree(TOP / "rust/forgeni/src/kit", built / "kit")
     shutil.copytree(erased / "rust/forgeni/src/proved", built / "proved")
-    write(built / "main.rs", RUST_MAIN % calls)
+    write(built / "main.rs", RUST_MAIN % calls.replace("(alloc, ", "("))
     for name, flags in (("debug", []), ("release", ["-O"])):
         said = run(["rustc", "--edition", "2024", "--cap-lints", "allow", *flags, "main.rs", "-o", name], built)
         found[name] = run([str(built / name)], built) if not said else f"{failed}\n{said}"

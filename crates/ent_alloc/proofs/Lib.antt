@@ -27,6 +27,9 @@ pub mod MeaningOfFlush
 pub mod MeaningOfRequests
 pub mod MeaningOfReplies
 pub mod OneReply
+pub mod Asked
+pub mod GivenMany
+pub mod OneByOne
 pub mod Looked
 pub mod InOrder
 pub mod Histories

@@ -82,7 +82,7 @@ pub record IsGiven (requests : Requests) (s : Allocator) (h : Handle) (new : Ros
   pub no_row : maps.get new.rows h ≡ None
 
 module _ (r : Roster) (requests : Requests) (s : Allocator) (rest : IsAtRest r requests s) where
-  pool_is : idle r ≡ s.pool
+  pub pool_is : idle r ≡ s.pool
   pool_is = ap (λ (t : Allocator). t.pool) rest.view
 
   pub length_pool : length s.pool ≡ length r.pending + (r.limits.slots - r.made)

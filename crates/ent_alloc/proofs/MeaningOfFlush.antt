@@ -46,7 +46,7 @@ module _ (r : Roster) (asked given : ℕ) (within : given ≤ asked) (enough : g
   waits_below : All (λ h. h.index < r.made) (reverse r.pending)
   waits_below = pending_below r asked given within sound
 
-  taken_is : take given (idle r) ≡ reverse (drop kept r.pending) ++ fresh r.made news
+  pub taken_is : take given (idle r) ≡ reverse (drop kept r.pending) ++ fresh r.made news
   taken_is = search (rules, take_joined, waits_below, length-reverse, take-reverse)
 
   taken_below : All (λ h. h.index < r.made) (reverse (drop kept r.pending))

@@ -1,5 +1,5 @@
 -- How far an allocator may go.
-use Rattle.std.specs.Prelude.{ℕ, ◌^◌, ◌<◌, ◌≤◌, refl}
+use Rattle.std.specs.Prelude.{ℕ, ◌-◌, ◌^◌, ◌<◌, ◌≤◌, ◌==◌, ◌&&◌, if◌then◌else◌, refl}
 use Rattle.std.specs.Coded.{Coded, code_by, coded×, coded_ℕ}
 
 -- how many slots there are, and the last generation of a slot
@@ -13,6 +13,17 @@ pub record AreLimits (l : Limits) : Type 0 where
   pub slots : l.slots < 2 ^ 32
   pub some_generation : 1 ≤ l.generations
   pub generations : l.generations < 2 ^ 31
+
+-- the greatest of both
+abbrev pub greatest_limits : Limits
+greatest_limits = record { slots = 2 ^ 32 - 1; generations = 2 ^ 31 - 1 }
+
+-- the same limits, but the greatest ones with a generation less
+abbrev pub without_placeholder : Limits → Limits
+without_placeholder l =
+    if l.slots == 2 ^ 32 - 1 && l.generations == 2 ^ 31 - 1
+    then record l { generations = 2 ^ 31 - 2 }
+    else l
 
 -- how many handles one caller may request between two flushes
 unfoldable pub credit : ℕ

@@ -116,6 +116,11 @@ after_alloc s h = record s {
   made = if is_old s.made h then s.made else s.made + 1;
 }
 
+-- after these handles have come to life one by one
+abbrev pub after_allocs : Allocator → List Handle → Allocator
+after_allocs s [] = s
+after_allocs s (h ∷ handles) = after_allocs (after_alloc s h) handles
+
 -- the handle of the same slot with the next generation
 abbrev pub following : Handle → Handle
 following h = record { index = h.index; generation = h.generation + 1 }

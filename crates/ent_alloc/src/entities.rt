@@ -1,4 +1,4 @@
-ghost use Rattle.std.specs.Prelude.{◌≡◌, ◌≢◌, ◌+◌, ◌-◌, ◌^◌, ◌<◌, ◌≤◌, ◌↔◌, ◌⊎◌};
+ghost use Rattle.std.specs.Prelude.{◌≡◌, ◌≢◌, ◌+◌, ◌-◌, ◌^◌, ◌<◌, ◌≤◌, ◌↔◌, ◌⊎◌, ◌||◌};
 ghost use Rattle.std.specs.Prelude.{IsTrue, IfOk, OnOk, OnSome, OnErr, IsErrOf, IfSome, IfNone, Some, None};
 ghost use Rattle.std.specs.Prelude.{true, false};
 ghost use Rattle.std.specs.Prelude.{[], ◌++◌, All, AllPairs, length, slice_get, vec_len, vec_capacity};
@@ -8,12 +8,14 @@ ghost use Rattle.ent_alloc.specs.Sequential.{opening, top, cursor, available, st
 ghost use Rattle.ent_alloc.specs.Sequential.{born, made_at_flush, next};
 ghost use Rattle.ent_alloc.specs.Sequential.{state_of, retired, after_flush};
 ghost use Rattle.ent_alloc.specs.Sequential.{after_alloc, after_free};
-ghost use Rattle.ent_alloc.specs.Sound.{IsSound};
+ghost use Rattle.ent_alloc.specs.Limits.{without_placeholder};
+ghost use Rattle.ent_alloc.specs.Sound.{IsSound, IsWithin};
 ghost use Rattle.ent_alloc.specs.Entities.{HasRowsOfLiving};
 
+use crate::absent::Absent;
 use crate::fault::{AllocFault, FreeFault, Freed};
 use crate::limits::Limits;
-use crate::living_handles::LivingHandles;
+use crate::living::Living;
 use crate::requests::Requests;
 use crate::slot_record::Occupancy;
 use crate::slots::Slots;
@@ -23,6 +25,19 @@ use std::alloc::Global;
 use std::marker::Model;
 
 /// Gives out the handles of entities and knows which are alive, as Bevy's `Entities` does.
+///
+/// It is `Send` and `Sync`: it may go to another thread, and many threads may read it at once. While
+/// it is shared, many threads reserve handles from it.
+///
+/// ```
+/// use forgeni::Entities;
+/// use std::sync::RwLock;
+///
+/// static ENTITIES: RwLock<Entities> = RwLock::new(Entities::new());
+/// let first = ENTITIES.write().unwrap().alloc()?;
+/// assert!(ENTITIES.read().unwrap().is_alive(first));
+/// # Ok::<(), forgeni::AllocError>(())
+/// ```
 ///
 /// Contracts see it as a state of the sequential allocator (`specs/Sequential`): the living
 /// handles, the pool of those that can be given, those that are reserved, and those that a refused
@@ -49,7 +64,8 @@ impl Model for Entities {
 }
 
 impl Entities {
-    /// An allocator with no entities. It takes no memory, whatever the limits are.
+    /// An allocator with no entities, which gives all handles within its limits. It takes no memory,
+    /// whatever the limits are.
     pub fn new(alloc: Global, limits: Limits) -> Self
         ensures allocator { result.allocator ≡ opening limits }
         ensures rows { result.rows ≡ map.empty }
@@ -61,7 +77,30 @@ impl Entities {
         }
     }
 
+    /// An allocator with no entities and these limits. It takes no memory, whatever the limits are.
+    ///
+    /// It never gives the greatest handle, 4294967294v2147483647: where both limits are the
+    /// greatest, each slot has one generation less.
+    ///
+    /// ```
+    /// use forgeni::{AllocError, Entities, Limits};
+    ///
+    /// let mut entities = Entities::with_limits(Limits::new(2, 1).unwrap());
+    /// entities.alloc_many(2)?;
+    /// assert_eq!(entities.alloc(), Err(AllocError::Space));
+    /// # Ok::<(), AllocError>(())
+    /// ```
+    #[must_use]
+    pub fn with_limits(alloc: Global, limits: Limits) -> Self
+        ensures allocator { result.allocator ≡ opening (without_placeholder limits) }
+        ensures rows { result.rows ≡ map.empty }
+        ensures rows_of_living { HasRowsOfLiving result }
+    {
+        Entities::new(alloc, limits.keeping_placeholder())
+    }
+
     /// How many entities are alive.
+    #[must_use]
     pub fn len(&self) -> u32
         ensures { result ≡ set.len self.now.allocator.live }
     {
@@ -69,13 +108,15 @@ impl Entities {
     }
 
     /// Whether no entity is alive.
+    #[must_use]
     pub fn is_empty(&self) -> bool
         ensures { IsTrue result ↔ (set.len self.now.allocator.live ≡ 0) }
     {
         self.len() == 0
     }
 
-    /// How many slots were made: each has or had an occupant. A retired slot counts for good.
+    /// How many slots were made: each has or had an entity. A retired slot counts for good.
+    #[must_use]
     pub fn total(&self) -> u32
         ensures { result ≡ self.now.allocator.made }
     {
@@ -83,22 +124,25 @@ impl Entities {
     }
 
     /// How many slots can still be made.
+    #[must_use]
     pub fn room(&self) -> u32
         ensures { result ≡ self.now.allocator.limits.slots - self.now.allocator.made }
     {
         self.slots.limits().slots() - self.slots.made()
     }
 
-    /// How many old slots waited for their next occupant at the last `flush`, `alloc` or `free`.
+    /// How many old slots waited for their next entity at the last `flush`, `alloc` or `free`.
     /// Requests don't change it.
+    #[must_use]
     pub fn top(&self) -> u32
         ensures { result ≡ top self.now.allocator }
     {
         self.slots.waiting()
     }
 
-    /// How many slots are retired: they were made, and give no handle any more. It takes constant
-    /// time.
+    /// How many slots are retired: the entity of their last generation was freed, and they give no
+    /// handle any more. It takes constant time.
+    #[must_use]
     pub fn retired(&self) -> u32
         ensures value { result ≡ retired self.now.allocator }
 
@@ -111,6 +155,7 @@ impl Entities {
 
     /// The number that each request lowers by its count. It is `top` if nothing was requested since
     /// the last flush; below 0 it counts fresh slots.
+    #[must_use]
     pub fn cursor(&self) -> i64
         ensures value { result ≡ cursor self.now.allocator }
 
@@ -122,7 +167,8 @@ impl Entities {
         self.slots.top() - self.asked() as i64
     }
 
-    /// How many handles were requested since the last flush, at most 2^50.
+    /// How many handles were requested since the last flush, served or refused. It is at most 2^50.
+    #[must_use]
     pub fn asked(&self) -> u64
         ensures value { result ≡ self.now.allocator.asked }
         ensures within { result ≤ 2 ^ 50 }
@@ -131,6 +177,7 @@ impl Entities {
     }
 
     /// Whether any handle was requested since the last flush.
+    #[must_use]
     pub fn needs_flush(&self) -> bool
         ensures { IsTrue result ↔ (0 < self.now.allocator.asked) }
     {
@@ -138,6 +185,7 @@ impl Entities {
     }
 
     /// How many handles the next flush brings to life.
+    #[must_use]
     pub fn reserved(&self) -> u32
         ensures { result ≡ length self.now.allocator.taken }
     {
@@ -145,15 +193,29 @@ impl Entities {
     }
 
     /// Gives a handle that is alive at once: the next one of the slot that was freed last, or the
-    /// first one of a new slot if none waits.
+    /// first one of a new slot if none waits. It takes constant time.
+    ///
+    /// ```
+    /// use forgeni::Entities;
+    ///
+    /// let mut entities = Entities::new();
+    /// let player = entities.alloc()?;
+    /// assert_eq!((player.to_string(), entities.len()), ("0v1".to_owned(), 1));
+    /// # Ok::<(), forgeni::AllocError>(())
+    /// ```
     ///
     /// # Errors
     ///
-    /// Nothing changes. `NeedsFlush` if handles were requested since the last flush, even if the
-    /// request was refused. `Space` if every slot has a living occupant or is retired. `Memory`
-    /// only if no old slot waits.
+    /// In each case nothing has changed.
+    ///
+    /// - [`AllocError::NeedsFlush`](AllocFault::NeedsFlush) if handles were requested since the last flush, even if the
+    ///   request was refused.
+    /// - [`AllocError::Space`](AllocFault::Space) if every slot has a living entity or is retired.
+    /// - [`AllocError::Memory`](AllocFault::Memory) if there is no memory for a new slot. It never comes if an old slot
+    ///   waits.
     pub fn alloc(&mut self) -> Result<Handle, AllocFault>
         ensures front { IfOk result (λ h. slice_get self.old.allocator.pool 0 ≡ Some h) }
+        ensures within { IfOk result (IsWithin self.old.allocator.limits) }
         ensures ok { IfOk result (λ h. self.new.allocator ≡ after_alloc self.old.allocator h) }
         ensures rows { self.new.rows ≡ self.old.rows }
         ensures no_row { IfOk result (λ h. map.get self.new.rows h ≡ None) }
@@ -177,16 +239,35 @@ impl Entities {
     }
 
     /// Takes a living entity out. Its slot is the first to be given again, with the next
-    /// generation.
+    /// generation. It takes constant time.
     ///
-    /// After the last generation the slot is retired: it is never given again, and `Freed::next` is
-    /// `None`. So no handle is ever given twice. Bevy begins anew there and warns of it.
+    /// After the last generation the slot is retired: it is never given again, and [`Freed::next`]
+    /// is `None`. So no handle is ever given twice. Bevy begins anew there and warns of it.
+    ///
+    /// ```
+    /// use forgeni::Entities;
+    ///
+    /// let mut entities = Entities::new();
+    /// let old = entities.alloc()?;
+    /// let freed = entities.free(old)?;
+    /// let new = entities.alloc()?;
+    /// assert_eq!(freed.next, Some(new));
+    /// assert!(new.index() == old.index() && new.generation() == old.generation() + 1);
+    /// assert!(entities.is_alive(new) && !entities.is_alive(old));
+    /// # Ok::<(), Box<dyn std::error::Error>>(())
+    /// ```
     ///
     /// # Errors
     ///
-    /// Nothing changes. `NeedsFlush` if handles were requested since the last flush, even if the
-    /// request was refused; then `NotAlive`; then `Memory`, which never comes if the slot is
-    /// retired.
+    /// In each case nothing has changed.
+    ///
+    /// - [`FreeError::NeedsFlush`](FreeFault::NeedsFlush) if handles were requested since the last flush, even if the
+    ///   request was refused.
+    /// - [`FreeError::NotAlive`](FreeFault::NotAlive) if the entity isn't alive.
+    /// - [`FreeError::Memory`](FreeFault::Memory) if there is no memory for one more slot that waits. It never comes if
+    ///   the slot is retired.
+    // Not inlined, its result goes through memory.
+    #[inline(always)]
     pub fn free(&mut self, handle: Handle) -> Result<Freed, FreeFault>
         ensures ok { OnOk result (self.new.allocator ≡ after_free self.old.allocator handle) }
         ensures row { OnOk result (self.new.rows ≡ map.remove self.old.rows handle) }
@@ -218,15 +299,35 @@ impl Entities {
         Ok(Freed { next: Some(next) })
     }
 
-    /// Brings to life what is reserved, and appends it to `out`: first the fresh handles, then the
-    /// old ones. What a refused request passed over can be given again. If nothing is reserved
-    /// it appends nothing.
+    /// Brings to life what is reserved, and appends it to `out`: first the handles of new slots, then
+    /// those of old ones. What a refused request passed over can be given again. If nothing is
+    /// reserved, it appends nothing. It takes time for each handle that it appends, however long the
+    /// list is.
+    ///
+    /// If the list has room for the handles and no slot is new, the call takes no memory. So a list
+    /// that is cleared and used again takes none in the end.
+    ///
+    /// ```
+    /// use forgeni::Entities;
+    ///
+    /// let mut entities = Entities::new();
+    /// let mut born = Vec::new();
+    /// for _ in 0..10 {
+    ///     entities.request_many(100)?;
+    ///     born.clear();
+    ///     entities.flush(&mut born)?;
+    ///     for &handle in &born {
+    ///         entities.free(handle)?;
+    ///     }
+    /// }
+    /// assert_eq!((born.len(), entities.total()), (100, 100));
+    /// # Ok::<(), Box<dyn std::error::Error>>(())
+    /// ```
     ///
     /// # Errors
     ///
-    /// `Memory`, and then nothing has changed, neither here nor in `out`. All room is asked for
-    /// before the first handle is listed. It never comes if `out` has room for `reserved` more
-    /// handles and all of them are of old slots.
+    /// [`OutOfMemory`](Memory) if there is no memory for new slots or for the list. Nothing has changed then,
+    /// neither here nor in `out`: all room is asked for before the first handle is listed.
     pub fn flush(&mut self, out: &mut Vec<Handle>) -> Result<(), Memory>
         ensures ok { OnOk result (self.new.allocator ≡ after_flush self.old.allocator) }
         ensures rows { self.new.rows ≡ self.old.rows }
@@ -250,7 +351,8 @@ impl Entities {
         Ok(())
     }
 
-    /// What became of a handle. It takes constant time.
+    /// What became of a handle: whether it is alive, reserved, or neither. It takes constant time.
+    #[must_use]
     pub fn state(&self, handle: Handle) -> State
         ensures { result ≡ state_of self.now.allocator handle }
     {
@@ -272,14 +374,50 @@ impl Entities {
     }
 
     /// Whether the handle is alive. It takes constant time.
+    #[must_use]
     pub fn is_alive(&self, handle: Handle) -> bool
         ensures { result ≡ set.contains self.now.allocator.live handle }
     {
         self.slots.is_alive(handle)
     }
 
-    /// The living handles, by rising slot. It takes no memory.
-    pub fn iter(&self) -> LivingHandles<'_>
+    /// Whether the entity is alive or reserved, as `contains` of Bevy and of hecs says it. It takes
+    /// constant time.
+    ///
+    /// ```
+    /// use forgeni::Entities;
+    ///
+    /// let mut entities = Entities::new();
+    /// let soon = entities.request()?;
+    /// assert!(entities.contains(soon) && !entities.is_alive(soon));
+    /// entities.flush(&mut Vec::new())?;
+    /// assert!(entities.contains(soon) && entities.is_alive(soon));
+    /// # Ok::<(), Box<dyn std::error::Error>>(())
+    /// ```
+    #[must_use]
+    pub fn contains(&self, handle: Handle) -> bool
+        ensures { result ≡ (set.contains self.now.allocator.live handle
+            || stands_in self.now.allocator.taken handle) }
+    {
+        match self.state(handle) {
+            State::Alive | State::Reserved => true,
+            State::Gone => false,
+        }
+    }
+
+    /// The handles of the living entities, by rising slot. It takes no memory. The time is that of a
+    /// look at each slot.
+    ///
+    /// ```
+    /// use forgeni::Entities;
+    ///
+    /// let mut entities = Entities::new();
+    /// let all = entities.alloc_many(3)?;
+    /// entities.free(all[1])?;
+    /// assert!(entities.iter().eq([all[0], all[2]]));
+    /// # Ok::<(), Box<dyn std::error::Error>>(())
+    /// ```
+    pub fn iter(&self) -> Living<'_>
         ensures living { set.from_list result ≡ self.now.allocator.live }
         ensures rising { AllPairs (λ g h. g.index < h.index) result }
         ensures count { length result ≡ set.len self.now.allocator.live }
@@ -287,9 +425,10 @@ impl Entities {
         self.slots.occupants()
     }
 
-    /// Where a handle stands among those that there were to give at the last flush, counted from 0
+    /// The place of a handle among those that there were to give at the last flush, counted from 0
     /// in the order in which they are given. Requests don't change it. `None` if it isn't among
     /// them. It takes constant time.
+    #[must_use]
     pub fn place(&self, handle: Handle) -> Option<u32>
         ensures found { IfSome result (λ place.
             slice_get (available self.now.allocator) place ≡ Some handle) }
@@ -309,8 +448,10 @@ impl Entities {
         }
     }
 
-    /// The row that a program keeps with a living entity. `None` if the handle isn't alive, or if
-    /// no row was set since it came to life.
+    /// The row of a living entity: a number that a program keeps with it, as where its components
+    /// are. `None` if the handle isn't alive, or if no row was set since it came to life. It takes
+    /// constant time.
+    #[must_use]
     pub fn row(&self, handle: Handle) -> Option<u32>
         ensures value { result ≡ map.get self.now.rows handle }
         ensures alive { OnSome result (set.contains self.now.allocator.live handle ≡ true) }
@@ -327,5 +468,40 @@ impl Entities {
         ensures allocator { self.new.allocator ≡ self.old.allocator }
     {
         self.slots.set_row(handle, row);
+    }
+
+    /// Keeps a row with a living entity until the entity is freed, in place of the row that was set
+    /// before. It takes constant time, and no memory.
+    ///
+    /// ```
+    /// use forgeni::{Absent, Entities};
+    ///
+    /// let mut entities = Entities::new();
+    /// let one = entities.alloc()?;
+    /// entities.try_set_row(one, 7)?;
+    /// assert_eq!(entities.row(one), Some(7));
+    /// entities.free(one)?;
+    /// assert_eq!(entities.row(one), None);
+    /// assert_eq!(entities.try_set_row(one, 8), Err(Absent));
+    /// # Ok::<(), Box<dyn std::error::Error>>(())
+    /// ```
+    ///
+    /// # Errors
+    ///
+    /// [`Absent`] if the handle isn't alive. Nothing has changed then.
+    pub fn try_set_row(&mut self, handle: Handle, row: u32) -> Result<(), Absent>
+        ensures row { OnOk result (self.new.rows ≡ map.insert self.old.rows handle row) }
+        ensures lives { OnOk result (set.contains self.old.allocator.live handle ≡ true) }
+        ensures absent { OnErr result (set.contains self.old.allocator.live handle ≡ false) }
+        ensures unchanged { OnErr result (self.new ≡ self.old) }
+        ensures allocator { self.new.allocator ≡ self.old.allocator }
+        ensures rows_of_living { HasRowsOfLiving self.new }
+    {
+        if self.slots.is_alive(handle) {
+            self.set_row(handle, row);
+            Ok(())
+        } else {
+            Err(Absent)
+        }
     }
 }

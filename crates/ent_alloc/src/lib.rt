@@ -2,10 +2,13 @@
 //! callers reserve.
 #![tactic(auto)]
 
+mod absent;
+mod asking;
 mod entities;
 mod fault;
+mod giving;
 mod limits;
-mod living_handles;
+mod living;
 mod refused;
 mod requesting;
 mod requests;
@@ -17,10 +20,11 @@ mod space;
 mod span;
 mod state;
 
+pub use absent::Absent;
 pub use entities::Entities;
 pub use fault::{AllocFault, FreeFault, Freed};
 pub use limits::{CREDIT, Limits};
-pub use living_handles::LivingHandles;
+pub use living::Living;
 pub use refused::Refused;
 pub use reserve_error::ReserveError;
 pub use reserved::Reserved;

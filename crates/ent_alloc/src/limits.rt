@@ -1,5 +1,7 @@
-ghost use Rattle.std.specs.Prelude.{◌≡◌, ◌-◌, ◌^◌, ◌<◌, ◌≤◌, ◌↔◌, IsSome, IfSome};
-ghost use Rattle.ent_alloc.specs.Limits.{AreLimits};
+ghost use Rattle.std.specs.Prelude.{◌≡◌, ◌-◌, ◌^◌, ◌<◌, ◌≤◌, ◌↔◌, ◌≢◌, IsSome, IfSome};
+ghost use Rattle.ent_alloc.specs.Limits.{AreLimits, greatest_limits, without_placeholder};
+ghost use Rattle.ent_alloc.specs.Sound.{IsWithin};
+ghost use Rattle.ent_handle.specs.Handle.{placeholder};
 
 use std::marker::Model;
 
@@ -10,7 +12,16 @@ pub const CREDIT: u64 = 1 << 40;
 /// How many slots an allocator may make, and the last generation of a slot.
 ///
 /// Limits are this project's own: Bevy always has the greatest ones, which are the default.
-#[derive(Clone, Copy, Debug, PartialEq, Eq)]
+///
+/// ```
+/// use forgeni::Limits;
+///
+/// let limits = Limits::new(1000, 4).unwrap();
+/// assert_eq!((limits.slots(), limits.generations()), (1000, 4));
+/// assert_eq!(Limits::new(0, 1), None);
+/// assert_eq!(Limits::default(), Limits::GREATEST);
+/// ```
+#[derive(Clone, Copy, Debug, PartialEq, Eq, Hash)]
 pub struct Limits {
     slots: u32,
     generations: u32,
@@ -29,8 +40,15 @@ impl Model for Limits {
 }
 
 impl Limits {
+    /// The greatest limits, which are Bevy's: 4,294,967,295 slots of 2,147,483,647 generations.
+    pub const GREATEST: Limits = Limits {
+        slots: u32::MAX,
+        generations: (1 << 31) - 1,
+    };
+
     /// The limits of these numbers: slots from 1 to 4,294,967,295, generations from 1 to
     /// 2,147,483,647. `None` if one of them is out of its range.
+    #[must_use]
     pub fn new(slots: u32, generations: u32) -> Option<Self>
         ensures in_range { IsSome result
             ↔ AreLimits (record { slots = slots; generations = generations }) }
@@ -45,16 +63,40 @@ impl Limits {
     }
 
     /// The greatest limits, which are Bevy's.
+    #[must_use]
     pub fn default_limits() -> Self
         ensures { result ≡ record { slots = 2 ^ 32 - 1; generations = 2 ^ 31 - 1 } }
     {
-        Limits {
-            slots: u32::MAX,
-            generations: (1 << 31) - 1,
+        Limits::GREATEST
+    }
+
+    /// The limits of an allocator that never gives the greatest handle, 4294967294v2147483647: one
+    /// generation less if both limits are the greatest, and else the same ones.
+    ///
+    /// The greatest handle is the last one of the last slot that can be.
+    #[must_use]
+    pub fn keeping_placeholder(self) -> Self
+        ensures value { result ≡ without_placeholder self }
+        ensures both { self ≡ greatest_limits → result ≡ record greatest_limits {
+          generations = 2 ^ 31 - 2;
+        } }
+        ensures others { self ≢ greatest_limits → result ≡ self }
+
+        // An allocator gives handles within its limits alone.
+        ensures kept_back { ¬ (IsWithin result placeholder) }
+    {
+        if self.slots == u32::MAX && self.generations == (1 << 31) - 1 {
+            Limits {
+                slots: self.slots,
+                generations: self.generations - 1,
+            }
+        } else {
+            self
         }
     }
 
     /// How many slots may be made. Every index is below it.
+    #[must_use]
     pub fn slots(self) -> u32
         ensures { result ≡ self.slots }
     {
@@ -62,6 +104,7 @@ impl Limits {
     }
 
     /// The last generation of a slot.
+    #[must_use]
     pub fn generations(self) -> u32
         ensures { result ≡ self.generations }
     {

@@ -139,6 +139,23 @@ impl Entities {
         }
     }
 
+    /// How many handles can still be requested before a flush: 0 once a request was refused.
+    ///
+    /// ```
+    /// use forgeni::{Entities, Limits};
+    ///
+    /// let mut entities = Entities::with_limits(Limits::new(10, 1).unwrap());
+    /// entities.request_many(4)?;
+    /// assert_eq!(entities.left(), 6);
+    /// # Ok::<(), Box<dyn std::error::Error>>(())
+    /// ```
+    #[must_use]
+    pub fn left(&self) -> u32
+        ensures { result ≡ length self.now.allocator.pool }
+    {
+        self.available().saturating_sub(self.requests.asked) as u32
+    }
+
     /// How many handles a request finds that finds the cursor at `high`.
     fn left_below(&self, high: i64) -> u32
         requires least { neg_ℤ (pos (2 ^ 61)) ≤ℤ high }

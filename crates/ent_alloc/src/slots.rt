@@ -9,7 +9,7 @@ ghost use Rattle.ent_alloc.specs.Sequential.{fresh as fresh_handles, following, 
 ghost use Rattle.ent_alloc.specs.Slots.{lives, row_kept, waits_from};
 
 use crate::limits::Limits;
-use crate::living_handles::LivingHandles;
+use crate::living::Living;
 use crate::slot_record;
 use crate::slot_record::{Occupancy, SlotRecord, first_occupant, make_all, reuse_all};
 use ent_handle::{Handle, Memory};
@@ -103,12 +103,12 @@ impl Slots {
     }
 
     /// The living occupants, by rising slot.
-    pub(crate) fn occupants(&self) -> LivingHandles<'_>
+    pub(crate) fn occupants(&self) -> Living<'_>
         ensures living { set.from_list result ≡ self.now.live }
         ensures rising { AllPairs (λ g h. g.index < h.index) result }
         ensures count { length result ≡ set.len self.now.live }
     {
-        LivingHandles::new(&self.records, self.live)
+        Living::new(&self.records, self.live)
     }
 
     /// Who has the handle's slot; `None` if the slot wasn't made or is at another generation.

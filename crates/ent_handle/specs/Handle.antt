@@ -19,6 +19,10 @@ pub record IsHandle (h : Handle) : Type 0 where
   pub least : 1 ≤ h.generation
   pub greatest : h.generation < 2 ^ 31
 
+-- the greatest handle
+abbrev pub placeholder : Handle
+placeholder = record { index = 2 ^ 32 - 2; generation = 2 ^ 31 - 1 }
+
 -- the two numbers in one: the generation above the index
 abbrev pub bits : Handle → ℕ
 bits h = h.generation * 2 ^ 32 + h.index

@@ -3,7 +3,7 @@ ghost use Rattle.std.specs.Prelude.{IfNone};
 ghost use Rattle.std.proofs.Common.{rules};
 ghost use Rattle.std.specs.Cmp.{partial_order_from_own_ties};
 ghost use Rattle.std.specs.Cmp.Rules.{comparing};
-ghost use Rattle.std.specs.Ordering.{as_partial_cmp};
+ghost use Rattle.std.specs.Ordering.{as_partial_cmp, nat_cmp, ordering_then};
 ghost use Rattle.ent_handle.specs.Handle.{Handle, IsHandle, bits, handle_cmp, handle_cmp_total};
 ghost use Rattle.ent_handle.specs.Handle.{handle_eq};
 ghost use Rattle.std.specs.Hash as fed;
@@ -14,51 +14,77 @@ use std::hash::{Hash, Hasher};
 use std::marker::Model;
 use std::num::NonZeroU64;
 
-/// Names one occupant of one slot: the slot's index, and a generation that tells the slot's
-/// occupants apart.
+/// The name of an entity: the index of a slot, and a generation that tells the slot's entities
+/// apart. It is ordered by index and then by generation.
+///
+/// It takes 8 bytes, and so does an `Option<Handle>`. It is written `0v1`, by `Display` and by
+/// `Debug`, and parsed from that text.
+///
+/// A handle is only a name. One that was made by hand, or by another allocator, is the name of an
+/// entity here if one of that index and generation lives.
+///
+/// ```
+/// use forgeni::Handle;
+///
+/// let mut handles: Vec<Handle> = ["2v1", "0v7", "1v3"]
+///     .iter()
+///     .map(|text| text.parse())
+///     .collect::<Result<_, _>>()?;
+/// handles.sort();
+/// assert_eq!(format!("{handles:?}"), "[0v7, 1v3, 2v1]");
+/// handles.sort_by(Handle::by_bits);
+/// assert_eq!(format!("{handles:?}"), "[2v1, 1v3, 0v7]");
+/// # Ok::<(), forgeni::ParseHandleError>(())
+/// ```
 ///
 /// An index is 0 to 4,294,967,294, and a generation 1 to 2,147,483,647: Bevy's ranges without the
-/// index that its placeholder has. As in Bevy, each occupant of a slot has the generation after
-/// that of the one before it, so that an earlier handle does not name a later occupant. After the
-/// last generation a slot has no more occupants, where in Bevy the first one comes again. The order
-/// is this project's own: by index, then by generation. Bevy's is by generation first.
+/// index that its placeholder has. As in Bevy, each entity of a slot has the generation after that
+/// of the one before it, so that an earlier handle does not name a later entity. After the last
+/// generation a slot has no more entities, where in Bevy the first one comes again. The order is
+/// this project's own: that of Bevy and hecs is [`by_bits`](Self::by_bits).
 #[derive(Clone, Copy)]
 pub struct Handle {
     bits: NonZeroU64,
 }
 
 impl Model for Handle {
-    ghost use Rattle.ent_handle.specs.Handle.{Handle, IsHandle, bits as bits_of, handle_of_bits};
-    ghost use Rattle.std.proofs.Common.{arith};
-    ghost use Rattle.ent_handle.specs.Handle.{bits-handle_of_bits};
+    ghost use Rattle.std.specs.Int.NonZero.{non_zero_u64_get};
+    ghost use Rattle.ent_handle.specs.Handle.{Handle, IsHandle, handle_of_bits};
+    ghost use Rattle.ent_handle.specs.NonZero.{word_of, word_of-positive};
+    ghost use Rattle.ent_handle.specs.NonZero.{word_of-handle_of_bits, same_proof};
 
     ghost Value = { Handle };
-
-    ghost use Rattle.std.specs.Prelude.{◌+◌, ◌-◌, ◌≡◌};
-    ghost use Rattle.std.specs.Int.NonZero.{non_zero_u64_get};
-    ghost use Rattle.ent_handle.specs.NonZero.{positive, same_number, same_proof};
 
     ghost view = { λ h. handle_of_bits (non_zero_u64_get h.bits) };
 
     ghost invariant = { λ h. IsHandle (handle_of_bits (non_zero_u64_get h.bits)) };
 
     ghost inverse = { λ h. record {
-      bits = record {
-        value = bits_of h + (1 - bits_of h);
-        ok = positive (bits_of h);
-      };
+      bits = record { value = word_of h; ok = word_of-positive h };
     } };
 
-    ghost inverse_ok = { λ h is i. record {
-      bits = record {
-        value = same_number h.bits.value h.bits.ok i;
-        ok = same_proof (same_number h.bits.value h.bits.ok) (positive (bits_of (handle_of_bits h.bits.value))) h.bits.ok i;
-      };
-    } };
+    ghost inverse_ok = { λ h is i.
+        let same = word_of-handle_of_bits h.bits.value h.bits.ok in
+        record {
+          bits = record {
+            value = same i;
+            ok = same_proof same (word_of-positive (handle_of_bits h.bits.value)) h.bits.ok i;
+          };
+        } };
 }
 
 impl Handle {
-    /// The handle of these numbers, or `None` if one of them is out of range.
+    /// The handle of these numbers: an index below 4,294,967,295, a generation from 1 to
+    /// 2,147,483,647. `None` if one of them is out of its range.
+    ///
+    /// ```
+    /// use forgeni::Handle;
+    ///
+    /// const FIRST: Handle = Handle::new(0, 1).unwrap();
+    /// assert_eq!(FIRST.to_string(), "0v1");
+    /// assert_eq!(Handle::new(0, 0), None);
+    /// ```
+    #[must_use]
     pub fn new(index: u32, generation: u32) -> Option<Self>
         ensures in_range { IsSome result
             ↔ IsHandle (record { index = index; generation = generation }) }
@@ -87,21 +113,31 @@ impl Handle {
         Handle { bits }
     }
 
-    /// Which slot it is: 0 to 4,294,967,294.
+    /// The index of its slot: 0 to 4,294,967,294.
+    #[must_use]
     pub fn index(self) -> u32
         ensures { result ≡ self.index }
     {
         (self.bits.get() & 0xffff_ffff) as u32
     }
 
-    /// Which occupant of the slot it is: 1 to 2,147,483,647.
+    /// Its generation: 1 for the first entity of a slot, and at most 2,147,483,647.
+    #[must_use]
     pub fn generation(self) -> u32
         ensures { result ≡ self.generation }
     {
         (self.bits.get() >> 32) as u32
     }
 
-    /// The handle as one number: the generation times 2^32, plus the index.
+    /// Both numbers in one: the generation times 2^32, plus the index.
+    ///
+    /// ```
+    /// use forgeni::Handle;
+    ///
+    /// let handle = Handle::new(7, 2).unwrap();
+    /// assert_eq!(Handle::from_bits(handle.to_bits()), Some(handle));
+    /// ```
+    #[must_use]
     pub fn to_bits(self) -> u64
         ensures bits { result ≡ bits self }
         ensures in_range { IsHandle self }
@@ -109,7 +145,27 @@ impl Handle {
         self.bits.get()
     }
 
-    /// The handle that has these bits, or `None` if no handle has them.
+    /// The order by bits, which is that of Bevy and hecs: by generation, then by index.
+    ///
+    /// ```
+    /// use forgeni::Handle;
+    ///
+    /// let [new, old] = [Handle::new(9, 1).unwrap(), Handle::new(0, 2).unwrap()];
+    /// assert!(new.by_bits(&old).is_lt() && new > old);
+    /// ```
+    #[must_use]
+    pub fn by_bits(&self, other: &Self) -> Ordering
+        ensures bits { result ≡ nat_cmp (bits self.now) (bits other.now) }
+        ensures parts { result ≡ ordering_then
+            (nat_cmp self.now.generation other.now.generation)
+            (nat_cmp self.now.index other.now.index) }
+    {
+        self.to_bits().cmp(&other.to_bits())
+    }
+
+    /// The handle that [`to_bits`](Self::to_bits) packed into these bits. `None` if they are the
+    /// bits of no handle.
+    #[must_use]
     pub fn from_bits(of: u64) -> Option<Self>
         ensures found { IfSome result (λ h. bits h ≡ of) }
         ensures in_range { IfSome result IsHandle }

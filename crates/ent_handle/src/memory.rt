@@ -1,9 +1,9 @@
 use std::alloc::{AllocError, AllocFailed};
 use thiserror::Error;
 
-/// Memory ran out: a growth was really refused, or a call says what else counts as such. It is the
+/// Out of memory: a growth was really refused, or a call says what else counts as such. It is the
 /// only error of a call that has no other.
-#[derive(Clone, Copy, Debug, PartialEq, Eq, Error)]
+#[derive(Clone, Copy, Debug, PartialEq, Eq, Hash, Error)]
 #[error("out of memory")]
 pub struct Memory;
 

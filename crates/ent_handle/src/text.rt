@@ -14,11 +14,11 @@ use thiserror::Error;
 /// Why a text is not a number, or not a handle.
 #[derive(Clone, Copy, Debug, PartialEq, Eq, Hash, Error)]
 pub enum TextFault {
-    /// The text does not have the form.
-    #[error("not of the form")]
+    /// It doesn't have the form, which is that of `0v1` for a handle.
+    #[error("not of the form of a handle, as 0v1")]
     Shape,
-    /// The text has the form, but a number in it is out of range.
-    #[error("a number out of range")]
+    /// It has the form, and a number in it is out of range.
+    #[error("no handle has these numbers")]
     Range,
 }
 
@@ -115,8 +115,8 @@ impl fmt::Display for Handle {
 /// As `Display` writes it.
 impl fmt::Debug for Handle {
     fn fmt<W: fmt::Write>(&self, f: &mut fmt::Formatter<W>) -> fmt::Result {
-        let index = self.index();
-        let generation = self.generation();
-        write!(f, "{index}v{generation}")
+        let slot = self.index();
+        let occupant = self.generation();
+        write!(f, "{slot}v{occupant}")
     }
 }

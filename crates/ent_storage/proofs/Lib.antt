@@ -28,3 +28,4 @@ pub mod WithComponent
 pub mod Entries
 pub mod Found
 pub mod Kept
+pub mod Backwards

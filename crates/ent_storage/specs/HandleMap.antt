@@ -1,26 +1,43 @@
 -- What contracts see of a map from handles.
-use Rattle.std.specs.Prelude.{ℕ, ◌<◌, ◌==◌, not, refl, Option, None, Some, Result, Ok, Err}
+use Rattle.std.specs.Prelude.{◌≡◌, ℕ, ◌-◌, ◌^◌, ◌<◌, ◌≤◌, ◌==◌, ◌⊎◌, not, refl, Option, None, Some}
+use Rattle.std.specs.Prelude.{Result, Ok, Err}
 use Rattle.std.specs.Option.{IsSome}
 use Rattle.std.specs.Coded.{Coded, code_by, coded×, coded_ℕ}
 use Rattle.std.specs.FinMap as map
 use Rattle.ent_handle.specs.Handle.{Handle, handle_cmp, handle_code}
-use Rattle.ent_storage.specs.declared.handle_map.fault.InsertFault.{InsertFault}
-use Rattle.ent_storage.specs.declared.handle_map.fault.Uninserted.{Uninserted}
+use Rattle.ent_storage.specs.declared.handle_map.error.InsertError.{InsertError}
+use Rattle.ent_storage.specs.declared.handle_map.error.Uninserted.{Uninserted}
 
 -- a value for each of some handles
 abbrev pub HandleValues : Type 0 → Type 0
 HandleValues T = map.FinMap handle_cmp T
 
--- the values, and how many slots there is room for
+-- the values, how many slots there are, for how many there is room, and how many may have values
 pub record HandleMap (T : Type 0) : Type 0 where
   pub values : HandleValues T
+  pub slots : ℕ
   pub room : ℕ
+  pub limit : ℕ
 
--- a map is stored as the pair of these two
+-- a map is stored as the tuple of its parts
 abbrev pub handle_map_code : {T : Type 0} → Coded T → Coded (HandleMap T)
 handle_map_code {T} code =
-    code_by (HandleValues T × ℕ) (coded× (map.code handle_code code) coded_ℕ)
-    (λ m. (m.values, m.room)) (λ p. record { values = p.0; room = p.1 }) (λ _. refl)
+    code_by (HandleValues T × (ℕ × (ℕ × ℕ)))
+    (coded× (map.code handle_code code) (coded× coded_ℕ (coded× coded_ℕ coded_ℕ)))
+    (λ m. (m.values, (m.slots, (m.room, m.limit))))
+    (λ p. record { values = p.0; slots = p.1.0; room = p.1.1.0; limit = p.1.1.1 }) (λ _. refl)
+
+-- the limit of a map that has none: as many as there are slots
+abbrev pub no_limit : ℕ
+no_limit = 2 ^ 32 - 1
+
+-- the last handle, which no map takes
+abbrev pub placeholder : Handle
+placeholder = record { index = 2 ^ 32 - 2; generation = 2 ^ 31 - 1 }
+
+-- a map with the limit takes no value for the handle
+abbrev pub IsBeyond : ℕ → Handle → Type 0
+IsBeyond limit h = (limit ≤ h.index) ⊎ (h ≡ placeholder)
 
 module _ {T : Type 0} where
   -- the values without that of the slot
@@ -37,6 +54,6 @@ module _ {T : Type 0} where
   with_written m h value = record m { values = map.insert m.values h value }
 
   -- why a value was not inserted
-  abbrev pub fault_of : Result (Option T) (Uninserted T) → Option InsertFault
-  fault_of (Ok _) = None
-  fault_of (Err refused) = Some refused.why
+  abbrev pub error_of : Result (Option T) (Uninserted T) → Option InsertError
+  error_of (Ok _) = None
+  error_of (Err refused) = Some refused.error

@@ -9,6 +9,7 @@ pub mod SparseSet
 pub mod Living
 pub mod Fault
 pub mod HandleMap
+pub mod Limit
 pub mod Slots
 pub mod Lends
 pub mod Retained

@@ -11,9 +11,20 @@ use smallvec::SmallVec;
 use std::alloc::Global;
 use std::marker::Model;
 
-/// Components and their values, by strictly rising number. Contracts see the list of them.
+/// Components and their values, by strictly rising number: what an entity is given. Contracts see the
+/// list of them.
 ///
 /// Up to `INLINE` components lie in the bundle itself, and take no memory.
+///
+/// ```
+/// use forgeni::{Bundle, ComponentId};
+///
+/// let [mass, speed] = [ComponentId(0), ComponentId(1)];
+/// let mut bundle = Bundle::of(&[(speed, 1), (mass, 7)])?;
+/// bundle.put(speed, 2)?;
+/// assert_eq!(bundle.items(), [(mass, 7), (speed, 2)]);
+/// # Ok::<(), forgeni::OutOfMemory>(())
+/// ```
 #[derive(Drop)]
 pub struct Bundle<const INLINE: usize> {
     items: SmallVec<(ComponentId, i64), INLINE>,
@@ -34,7 +45,8 @@ impl<const INLINE: usize> Model for Bundle<INLINE> {
 }
 
 impl<const INLINE: usize> Bundle<INLINE> {
-    /// A bundle with no components.
+    /// A bundle with no components. It takes no memory.
+    #[must_use]
     pub fn new(alloc: Global) -> Self
         ensures { result ≡ [] }
     {
@@ -43,11 +55,11 @@ impl<const INLINE: usize> Bundle<INLINE> {
         }
     }
 
-    /// A bundle with no components, and room for so many.
+    /// A bundle with no components, and room for that many.
     ///
     /// # Errors
     ///
-    /// `Memory`, which needs a count of more than `INLINE`.
+    /// Out of memory, which needs a count of more than `INLINE`.
     pub fn with_capacity(alloc: Global, count: usize) -> Result<Self, Memory>
         ensures ok { IfOk result (λ bundle. bundle ≡ []) }
         ensures memory { OnErr result (INLINE < count) }
@@ -57,12 +69,12 @@ impl<const INLINE: usize> Bundle<INLINE> {
         })
     }
 
-    /// A bundle of these components, in any order. Of one that stands there twice the last value
-    /// counts.
+    /// A bundle of these components. The list may be in any order. If a component is in it twice, its
+    /// last value counts.
     ///
     /// # Errors
     ///
-    /// `Memory`, which needs more than `INLINE` different components. Nothing is left behind.
+    /// Out of memory, which needs more than `INLINE` different components.
     pub fn of(alloc: Global, items: &[(ComponentId, i64)]) -> Result<Self, Memory>
         ensures ok { IfOk result (λ bundle. bundle ≡ bundle_of items.now) }
         ensures last { IfOk result (λ bundle. (id : Id) →
@@ -76,12 +88,12 @@ impl<const INLINE: usize> Bundle<INLINE> {
         Ok(bundle)
     }
 
-    /// Puts the component's value, instead of the one that is there.
+    /// Sets the component's value. If the component is there already, this value replaces its own.
     ///
     /// # Errors
     ///
-    /// `Memory`, which needs a component that is not there and at least `INLINE` that are. Nothing
-    /// has changed.
+    /// Out of memory, which needs a component that is not there and at least `INLINE` that are.
+    /// Nothing has changed.
     pub fn put(&mut self, id: ComponentId, value: i64) -> Result<(), Memory>
         ensures ok { OnOk result (self.new ≡ put component_cmp id value self.old) }
         ensures memory { OnErr result
@@ -96,6 +108,7 @@ impl<const INLINE: usize> Bundle<INLINE> {
     }
 
     /// The components and their values, by strictly rising number.
+    #[must_use]
     pub fn items(&self) -> &[(ComponentId, i64)]
         ensures items { result.now ≡ self.now }
         ensures is { IsBundle self.now }

@@ -1,40 +1,105 @@
 //! A map from handles to values of any type, at most one for each slot.
-ghost use Rattle.std.specs.Prelude.{◌≡◌, ◌↔◌, ◌-◌, ◌^◌, ◌<◌, ◌≤◌, IsTrue, OnOk, OnErr, IfOk, IfErr, Some};
-ghost use Rattle.std.specs.Prelude.{IsSome, AllPairs, length, option_copied};
+ghost use Rattle.std.specs.Prelude.{◌≡◌, ◌↔◌, ◌+◌, ◌-◌, ◌^◌, ◌<◌, ◌≤◌, IsTrue, OnOk, OnErr, IfOk, IfErr};
+ghost use Rattle.std.specs.Prelude.{Some, IsSome, AllPairs, length, option_copied, max};
 ghost use Rattle.std.specs.Option.{option_copied_mut};
 ghost use Rattle.std.specs.Borrow.{sem};
 ghost use Rattle.std.specs.FinMap as map;
-ghost use Rattle.ent_storage.specs.HandleMap.{without_slot, HasLater, fault_of};
+ghost use Rattle.ent_handle.specs.Handle.{Handle};
+ghost use Rattle.ent_storage.specs.HandleMap.{no_limit, IsBeyond, without_slot, HasLater, error_of};
 ghost use Rattle.ent_storage.specs.Retained.{Retains};
 ghost use Rattle.ent_storage.specs.Slots.{generation_of, slot_at, value_in};
 
-mod fault;
+mod error;
 mod generation;
 mod iter;
+mod keys;
+mod limit;
 mod retaining;
 mod slot;
+mod values;
 
-pub use crate::handle_map::fault::{InsertFault, Uninserted};
+pub use crate::handle_map::error::{InsertError, Uninserted};
 pub use crate::handle_map::iter::Iter;
+pub use crate::handle_map::keys::Keys;
+use crate::handle_map::limit::Limit;
 use crate::handle_map::retaining::retain_slots;
 use crate::handle_map::slot::{Slot, make_slot};
+pub use crate::handle_map::values::Values;
 use ent_handle::{Handle, Memory};
 use std::alloc::Global;
 use std::marker::Model;
 use std::mem;
 
-/// A value for each of some handles, at most one for each slot.
+/// A value of any type for each of some handles: a component. At most one handle of a slot has a
+/// value.
 ///
-/// Contracts see a finite map from handles to values. A look-up is that of one slot in a vector. So
-/// a map has room for as many slots as the greatest index of its handles tells.
+/// It is what this package recommends for components: one map for each type, beside an
+/// [`Entities`](forgeni::Entities) or in what a program calls its world. A look-up is one access to a
+/// vector by the handle's index, and a comparison of the generation. So a map has room for as many
+/// slots as the greatest index of its handles tells, and nothing moves when a value goes.
+///
+/// It does not know which handles an allocator has given or freed. A value that nobody removes stays
+/// until a later occupant of its slot gets one, and can't be found by that one's handle.
+///
+/// ```
+/// use forgeni::{Entities, HandleMap};
+///
+/// struct Body {
+///     place: [f32; 2],
+///     speed: [f32; 2],
+/// }
+///
+/// let mut entities = Entities::new();
+/// let mut bodies = HandleMap::new();
+/// let mut names = HandleMap::new();
+/// let ball = entities.alloc()?;
+/// bodies.insert(ball, Body { place: [0.0; 2], speed: [1.0, 2.0] })?;
+/// names.insert(ball, "ball")?;
+///
+/// bodies.for_each_mut(|_, body| {
+///     body.place[0] += body.speed[0];
+///     body.place[1] += body.speed[1];
+/// });
+/// assert_eq!(bodies[ball].place, [1.0, 2.0]);
+///
+/// entities.free(ball)?;
+/// assert_eq!(names.remove(ball), Some("ball"));
+/// assert!(!names.contains(ball));
+/// # Ok::<(), Box<dyn std::error::Error + Send + Sync>>(())
+/// ```
+///
+/// **A handle from a save or a network may make the map take much memory.** The handle's index says
+/// for how many slots the map takes room, and `200000000v1` is a well-formed handle. So give a map
+/// for such handles a [limit](Self::with_limit). It refuses each handle whose slot is at or above
+/// it:
+///
+/// ```
+/// use forgeni::{Entities, Handle, HandleMap, InsertError};
+///
+/// let mut entities = Entities::new();
+/// let cart = entities.alloc()?;
+/// let mut names = HandleMap::with_limit(entities.total());
+/// names.insert(cart, "cart")?;
+/// let saved: Handle = "200000000v1".parse()?;
+/// let refused = names.insert(saved, "ship").unwrap_err();
+/// assert_eq!(refused.into_parts(), ("ship", InsertError::Limit));
+/// # Ok::<(), Box<dyn std::error::Error + Send + Sync>>(())
+/// ```
+///
+/// A value takes 4 bytes more than its own, for its generation, and what alignment adds. A slot of
+/// values of up to 4 bytes has 8 bytes, and one of values of 8 bytes has 16.
+///
+/// Contracts see a finite map from handles to values (`values`), how many slots there are (`slots`),
+/// for how many slots there is room (`room`), and for how many slots there may be values (`limit`).
 #[derive(Drop)]
 pub struct HandleMap<T> {
     slots: Vec<Slot<T>>,
     len: usize,
+    limit: Limit,
 }
 
 impl<T> Model for HandleMap<T> {
-    ghost use Rattle.std.specs.Prelude.{vec_capacity};
+    ghost use Rattle.std.specs.Prelude.{vec_capacity, vec_len};
     ghost use Rattle.ent_storage.specs.HandleMap.{HandleMap as Map, handle_map_code};
 
     ghost Value = { Map T };
@@ -45,7 +110,9 @@ impl<T> Model for HandleMap<T> {
 
     ghost view = { λ m. record {
       values = map_of_slots m.slots.items;
+      slots = vec_len m.slots;
       room = vec_capacity m.slots;
+      limit = m.limit;
     } };
 
     ghost invariant = { λ m. AreCounted 0 m.slots.items m.len };
@@ -54,33 +121,81 @@ impl<T> Model for HandleMap<T> {
 impl<T> HandleMap<T> {
     ghost use Rattle.ent_storage.specs.Lends.{lends_get, lends_value};
 
-    /// A map without values. It takes no memory.
+    /// A map without values, and without a limit. It takes no memory.
+    #[must_use]
     pub fn new(alloc: Global) -> Self
-        ensures { result ≡ record { values = map.empty; room = 0 } }
+        ensures { result ≡ record { values = map.empty; slots = 0; room = 0; limit = no_limit } }
+    {
+        HandleMap::with_limit(alloc, u32::MAX)
+    }
+
+    /// A map without values, which refuses each handle whose slot is at or above this limit. It
+    /// takes no memory.
+    ///
+    /// [`Entities::total`](forgeni::Entities::total) is a limit that fits an allocator as long as it
+    /// makes no new slots. [`set_limit`](Self::set_limit) changes the limit.
+    #[must_use]
+    pub fn with_limit(alloc: Global, limit: u32) -> Self
+        ensures { result ≡ record { values = map.empty; slots = 0; room = 0; limit = limit } }
     {
         HandleMap {
             slots: Vec::new(alloc),
             len: 0,
+            limit: Limit::of(limit),
         }
     }
 
-    /// A map without values, with room for just that many slots. It takes no memory for none.
+    /// A map without values and without a limit, with room for just that many slots. It takes no
+    /// memory for none.
     ///
     /// # Errors
     ///
-    /// `Memory` if there is not that much.
+    /// Out of memory.
     pub fn with_capacity(alloc: Global, slots: usize) -> Result<Self, Memory>
         ensures empty { IfOk result (λ m. m.values ≡ map.empty) }
+        ensures slots { IfOk result (λ m. m.slots ≡ 0) }
         ensures room { IfOk result (λ m. m.room ≡ slots) }
+        ensures limit { IfOk result (λ m. m.limit ≡ no_limit) }
         ensures memory { OnErr result (0 < slots) }
     {
         Ok(HandleMap {
             slots: Vec::with_capacity(alloc, slots)?,
             len: 0,
+            limit: Limit::of(u32::MAX),
         })
     }
 
+    /// For how many slots the map may have values, from slot 0 on: 4,294,967,295, which is no limit,
+    /// or the limit that was set.
+    #[must_use]
+    pub fn limit(&self) -> u32
+        ensures { result ≡ self.now.limit }
+    {
+        self.limit.slots()
+    }
+
+    /// Sets the limit. The map keeps the values that it has, even those of slots at or above the
+    /// limit.
+    ///
+    /// ```
+    /// use forgeni::{Handle, HandleMap, InsertError};
+    ///
+    /// let [third, fourth] = [Handle::new(3, 1).unwrap(), Handle::new(4, 1).unwrap()];
+    /// let mut map = HandleMap::new();
+    /// map.insert(third, "c")?;
+    /// map.set_limit(3);
+    /// assert_eq!((map.limit(), map.get(third)), (3, Some(&"c")));
+    /// assert_eq!(map.insert(fourth, "d").unwrap_err().error, InsertError::Limit);
+    /// # Ok::<(), Box<dyn std::error::Error + Send + Sync>>(())
+    /// ```
+    pub fn set_limit(&mut self, limit: u32)
+        ensures { self.new ≡ record self.old { limit = limit } }
+    {
+        self.limit = Limit::of(limit);
+    }
+
     /// How many values there are. It takes constant time.
+    #[must_use]
     pub fn len(&self) -> usize
         ensures { result ≡ map.len self.now.values }
     {
@@ -88,6 +203,7 @@ impl<T> HandleMap<T> {
     }
 
     /// Whether there is no value.
+    #[must_use]
     pub fn is_empty(&self) -> bool
         ensures { IsTrue result ↔ (map.len self.now.values ≡ 0) }
     {
@@ -96,27 +212,43 @@ impl<T> HandleMap<T> {
 
     /// How many slots there is room for. A handle whose index is below it is inserted without
     /// memory.
+    #[must_use]
     pub fn capacity(&self) -> usize
         ensures { result ≡ self.now.room }
     {
         self.slots.capacity()
     }
 
-    /// Whether the handle has a value.
+    /// How many slots there are. They reach up to the slot with the greatest index of those that
+    /// were given a value since the map was made or cleared.
+    #[must_use]
+    pub fn slots(&self) -> usize
+        ensures value { result ≡ self.now.slots }
+        ensures room { self.now.slots ≤ self.now.room }
+        ensures values { (handle : Handle) → IsSome (map.get self.now.values handle)
+            → handle.index < self.now.slots }
+    {
+        self.slots.len()
+    }
+
+    /// Whether the handle has a value. It takes constant time.
+    #[must_use]
     pub fn contains(&self, handle: Handle) -> bool
         ensures { result ≡ map.contains_key self.now.values handle }
     {
         self.get(handle).is_some()
     }
 
-    /// The value of the handle, if it has one. It is one look-up.
+    /// The value of the handle, if it has one. It takes constant time.
+    #[must_use]
     pub fn get(&self, handle: Handle) -> Option<&T>
         ensures { option_copied result ≡ map.get self.now.values handle }
     {
         find(&self.slots, handle)
     }
 
-    /// The value of the handle for writing, if it has one.
+    /// The value of the handle, if it has one, to be changed. It takes constant time.
+    #[must_use]
     pub fn get_mut(&mut self, handle: Handle) -> Option<&mut T>
         ensures* writes_back { sem 𝓛 (lends_get T.row self.entry handle result) }
         ensures value { option_copied_mut result ≡ map.get self.old.values handle }
@@ -137,26 +269,37 @@ impl<T> HandleMap<T> {
         self.slots[handle.index() as usize].value_mut()
     }
 
-    /// Makes room for the slots below that number. It takes no memory if there is room.
+    /// Makes room for that many slots more than there [are](Self::slots), as `Vec::reserve` does.
+    /// It takes no memory if there is room.
+    ///
+    /// ```
+    /// use forgeni::{Handle, HandleMap};
+    ///
+    /// let mut map = HandleMap::new();
+    /// map.insert(Handle::new(9, 1).unwrap(), "last")?;
+    /// map.reserve(90)?;
+    /// assert!(map.slots() == 10 && map.capacity() >= 100);
+    /// # Ok::<(), Box<dyn std::error::Error + Send + Sync>>(())
+    /// ```
     ///
     /// # Errors
     ///
-    /// `Memory`. Nothing has changed.
-    pub fn reserve(&mut self, slots: usize) -> Result<(), Memory>
-        ensures room { OnOk result (slots ≤ self.new.room) }
-        ensures values { self.new.values ≡ self.old.values }
+    /// Out of memory. Nothing has changed.
+    pub fn reserve(&mut self, additional: usize) -> Result<(), Memory>
+        ensures room { OnOk result (self.old.slots + additional ≤ self.new.room) }
+        ensures kept { self.new ≡ record self.old { room = self.new.room } }
         ensures grows { self.old.room ≤ self.new.room }
-        ensures memory { OnErr result (self.old.room < slots) }
+        ensures in_place { self.old.slots + additional ≤ self.old.room → self.new ≡ self.old }
+        ensures memory { OnErr result (self.old.room < self.old.slots + additional) }
         ensures err { OnErr result (self.new ≡ self.old) }
     {
-        let made = self.slots.len();
-        if made < slots {
-            self.slots.reserve(slots - made)?;
+        if self.slots.capacity() - self.slots.len() < additional {
+            self.slots.reserve(additional)?;
         }
         Ok(())
     }
 
-    /// The handles and values, by rising slot.
+    /// The handles and their values, by rising slot. The time is that of a look at each slot.
     pub fn iter(&self) -> Iter<'_, T>
         ensures entries { result ≡ map.entries self.now.values }
         ensures rising { AllPairs (λ a b. a.0.index < b.0.index) result }
@@ -164,40 +307,86 @@ impl<T> HandleMap<T> {
     {
         Iter::new(&self.slots, self.len)
     }
+
+    /// The handles that have a value, by rising slot.
+    pub fn keys(&self) -> Keys<'_, T>
+        ensures { result ≡ map.keys self.now.values }
+    {
+        Keys::new(self.iter())
+    }
+
+    /// The values, by rising slot.
+    pub fn values(&self) -> Values<'_, T>
+        ensures { result ≡ map.values self.now.values }
+    {
+        Values::new(self.iter())
+    }
 }
 
 impl<T: Drop> HandleMap<T> {
-    /// Gives the handle a value, and returns the one that it had.
+    /// Gives the handle a value, and returns the one that it had. If an earlier occupant of the slot
+    /// has one, that is dropped.
     ///
-    /// An earlier occupant of the slot loses its value: it is dropped. So a slot never has two. It
-    /// takes memory only for a slot at or after `capacity`.
+    /// If there is room for the slot ([`capacity`](Self::capacity)), it takes no memory, and
+    /// constant time. If not, it takes memory and time for all slots up to that of the handle.
+    ///
+    /// ```
+    /// use forgeni::{Handle, HandleMap, InsertError};
+    ///
+    /// let [first, second] = [Handle::new(7, 1).unwrap(), Handle::new(7, 2).unwrap()];
+    /// let mut map = HandleMap::new();
+    /// assert_eq!(map.insert(first, "a")?, None);
+    /// assert_eq!(map.insert(first, "b")?, Some("a"));
+    /// assert_eq!(map.insert(second, "c")?, None);
+    /// assert_eq!((map.get(first), map.get(second)), (None, Some(&"c")));
+    ///
+    /// let refused = map.insert(first, "d").unwrap_err();
+    /// assert_eq!(refused.into_parts(), ("d", InsertError::Later));
+    /// # Ok::<(), Box<dyn std::error::Error + Send + Sync>>(())
+    /// ```
     ///
     /// # Errors
     ///
-    /// The value is handed back, and nothing has changed. `Later` if a later occupant of the slot
-    /// has a value; then `Memory`.
+    /// [`Uninserted`] has the value, and nothing has changed. The first that holds is the reason:
+    ///
+    /// - `Limit`: the handle's slot is at or above the [`limit`](Self::limit), or the handle is
+    ///   [`Handle::PLACEHOLDER`], which no map takes.
+    /// - `Later`: a later occupant of the slot has a value.
+    /// - `Memory`: memory ran out.
     pub fn insert(&mut self, handle: Handle, value: T) -> Result<Option<T>, Uninserted<T>>
         ensures ok { OnOk result (self.new.values
             ≡ map.insert (without_slot self.old.values handle.index) handle value) }
         ensures before { IfOk result (λ before. before ≡ map.get self.old.values handle) }
+        ensures slots { OnOk result (self.new.slots ≡ max self.old.slots (handle.index + 1)) }
         ensures room { self.old.room ≤ self.new.room }
-        ensures later { (fault_of result ≡ Some InsertFault.Later) ↔ HasLater self.old.values handle }
-        ensures memory { fault_of result ≡ Some InsertFault.Memory → self.old.room ≤ handle.index }
+        ensures kept { self.new.limit ≡ self.old.limit }
+
+        ensures limit { (error_of result ≡ Some InsertError.Limit)
+            ↔ IsBeyond self.old.limit handle }
+        ensures later { (error_of result ≡ Some InsertError.Later)
+            ↔ (¬ (IsBeyond self.old.limit handle) × HasLater self.old.values handle) }
+        ensures memory { error_of result ≡ Some InsertError.Memory → self.old.room ≤ handle.index }
         ensures back { IfErr result (λ refused. refused.value ≡ value) }
         ensures err { OnErr result (self.new ≡ self.old) }
     {
+        if self.limit.refuses(handle) {
+            return Err(Uninserted {
+                value,
+                error: InsertError::Limit,
+            });
+        }
         let index = index_of(handle);
         let standing = generation_in(&self.slots, index);
         if handle.generation() < standing {
             return Err(Uninserted {
                 value,
-                why: InsertFault::Later,
+                error: InsertError::Later,
             });
         }
         let Ok(()) = make_slot(&mut self.slots, index) else {
             return Err(Uninserted {
                 value,
-                why: InsertFault::Memory,
+                error: InsertError::Memory,
             });
         };
         let before = mem::replace(&mut self.slots[index], Slot::of(handle, value));
@@ -205,7 +394,8 @@ impl<T: Drop> HandleMap<T> {
         Ok(before.into_value(handle.generation()))
     }
 
-    /// Takes the value of the handle out, and returns it, if it has one.
+    /// Takes the value of the handle out, and returns it, if it has one. It takes constant time and
+    /// no memory.
     pub fn remove(&mut self, handle: Handle) -> Option<T>
         ensures value { result ≡ map.get self.old.values handle }
         ensures map { self.new
@@ -219,20 +409,42 @@ impl<T: Drop> HandleMap<T> {
         slot.into_value(handle.generation())
     }
 
-    /// Calls `keep` at each value, by rising slot, and drops the values at which it returns `false`.
-    /// It may write to those that stay. The room stays.
+    /// Calls `keep` on each value once, by rising slot, and drops the values of which it returns
+    /// `false`. It may change those that stay. The room stays.
+    ///
+    /// ```
+    /// use forgeni::{Entities, HandleMap};
+    ///
+    /// let mut entities = Entities::new();
+    /// let mut frames_left: HandleMap<u32> = HandleMap::new();
+    /// for (frames, one) in (1..).zip(entities.alloc_many(3)?) {
+    ///     frames_left.insert(one, frames)?;
+    /// }
+    /// frames_left.retain(|one, frames| {
+    ///     *frames -= 1;
+    ///     *frames > 0 || entities.free(one).is_err()
+    /// });
+    /// assert!(frames_left.keys().eq(&entities));
+    /// assert!(frames_left.values().eq(&[1, 2]));
+    /// # Ok::<(), Box<dyn std::error::Error + Send + Sync>>(())
+    /// ```
+    ///
+    /// # Panics
+    ///
+    /// A panic of `keep` is handed on. The map then has the values that were kept, those that `keep`
+    /// wasn't called on, and the one on which it panicked, as far as `keep` had changed it.
     pub fn retain<F: FnMut(Handle, &mut T) -> bool>(&mut self, keep: F)
         requires { F.IsAlwaysCallable keep }
         ensures retained { Retains F.step keep (map.entries self.old.values)
             (map.entries self.new.values) }
-        ensures room { self.new.room ≡ self.old.room }
+        ensures kept { self.new ≡ record self.old { values = self.new.values } }
     {
         retain_slots(&mut self.slots, &mut self.len, keep);
     }
 
     /// Drops all values. The room stays.
     pub fn clear(&mut self)
-        ensures { self.new ≡ record self.old { values = map.empty } }
+        ensures { self.new ≡ record self.old { values = map.empty; slots = 0 } }
     {
         self.len = 0;
         self.slots.clear();

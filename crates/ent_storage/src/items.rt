@@ -1,4 +1,4 @@
-ghost use Rattle.std.specs.Prelude.{◌≡◌, IfSome, None, Some, ◌∷◌, [], length, is_some};
+ghost use Rattle.std.specs.Prelude.{◌≡◌, ⊤, IfSome, None, Some, ◌∷◌, [], length, is_some};
 ghost use Rattle.std.specs.List.{count_by};
 ghost use Rattle.std.specs.Iterator.{YieldsFirst, UpTo, item_count};
 ghost use Rattle.std.specs.Iterator.SizeHint.{IsWithinCount};
@@ -12,9 +12,10 @@ use std::marker::Model;
 
 /// The components of one entity and their values, by rising number.
 ///
-/// `Storage::items` makes it. It borrows the storage and copies nothing. It looks at the components
-/// that any entity has ever had, at most 256 of them.
+/// [`Storage::items`](super::Storage::items) makes it. It borrows the storage and copies nothing. It
+/// looks at the components that any entity has ever had, at most 256 of them.
 #[derive(Drop)]
+#[must_use]
 pub struct Items<'a> {
     columns: &'a [SparseSet],
     used: &'a [u8],
@@ -46,6 +47,28 @@ impl<'a> Items<'a> {
             place,
             left: count_of(columns, used, place),
         }
+    }
+
+    /// The same items once more. It takes no memory.
+    fn again(&self) -> Self
+        ensures { result ≡ self.now }
+    {
+        Items {
+            columns: self.columns,
+            used: self.used,
+            place: self.place,
+            left: self.left,
+        }
+    }
+}
+
+impl Clone for Items<'_> {
+    ghost is_clone = { λ items copy. copy ≡ items };
+
+    ghost is_infallible = { λ _. ⊤ };
+
+    fn clone(&self) -> Result<Self, std::alloc::AllocError> {
+        Ok(self.again())
     }
 }
 

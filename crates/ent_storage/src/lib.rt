@@ -1,11 +1,11 @@
 //! Birth and components of living entities: a finite map from handles.
 //!
-//! `Storage` keeps the entities in one vector. An entity's *place* is where it stands there. Beside
-//! the vector an index has the place of each handle, and for each component number a sparse set has
-//! the values, by places.
+//! `Storage` keeps the entities in one vector. An entity's *place* is its position there. Beside the
+//! vector an index has the place of each handle, and for each component number a sparse set has the
+//! values, by places.
 //!
 //! [`Bundle`] has components and their values by themselves, as commands carry them. And [`search`]
-//! finds where a key stands among pairs of a key and a value, by strictly rising key.
+//! finds the position of a key among pairs of a key and a value, by strictly rising key.
 //!
 //! `handle_map` has a map from handles to values of any type, at most one for each slot.
 #![tactic(auto)]

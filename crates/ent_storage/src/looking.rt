@@ -19,6 +19,7 @@ use ent_handle::{Birth, ComponentId, Handle, Memory};
 
 impl Storage {
     /// Whether the entity is there.
+    #[must_use]
     pub fn contains(&self, handle: Handle) -> bool
         ensures { result ≡ map.contains_key self.now.entities handle }
     {
@@ -26,6 +27,7 @@ impl Storage {
     }
 
     /// When and by whom the entity was brought to life, if it is there.
+    #[must_use]
     pub fn birth(&self, handle: Handle) -> Option<Birth>
         ensures { result ≡ birth_of self.now.entities handle }
     {
@@ -34,6 +36,7 @@ impl Storage {
     }
 
     /// The value of the entity's component, if the entity is there and has it.
+    #[must_use]
     pub fn get(&self, handle: Handle, id: ComponentId) -> Option<i64>
         ensures { result ≡ value_of self.now.entities handle id }
     {
@@ -42,6 +45,7 @@ impl Storage {
     }
 
     /// The entity's components and their values, by rising number, if the entity is there.
+    #[must_use]
     pub fn items(&self, handle: Handle) -> Option<Items<'_>>
         ensures { result ≡ option_map map.entries (components_of self.now.entities handle) }
     {
@@ -49,7 +53,9 @@ impl Storage {
         Some(self.items_at(place, handle))
     }
 
-    /// The place of the entity, if it is there. It stays until an entity is taken out.
+    /// The place of the entity in the vector of entities, if it is there. It stays the same until an
+    /// entity is taken out.
+    #[must_use]
     #[inline(always)]
     pub fn place(&self, handle: Handle) -> Option<usize>
         ensures at { (i : ℕ) → (result ≡ Some i) ↔ (slice_get self.now.places i ≡ Some handle) }
@@ -90,7 +96,7 @@ impl Storage {
     ///
     /// # Errors
     ///
-    /// `Memory`: there is no memory for the list. It never comes if there are no entities.
+    /// Out of memory for the list. It never comes if there are no entities.
     pub fn by_birth(&self) -> Result<Vec<Handle>, Memory>
         ensures ok { IfOk result (λ handles. ListsAll self.now.entities handles.items) }
         ensures memory { OnErr result (self.now.entities ≢ map.empty) }
@@ -103,6 +109,7 @@ impl Storage {
     /// several entities have the birth, it is the least of their handles.
     ///
     /// It takes no memory. The time is that of a look at each entity.
+    #[must_use]
     pub fn of_birth(&self, birth: Birth) -> Option<Handle>
         ensures found { IfSome result (λ handle.
             birth_of self.now.entities handle ≡ Some birth) }
@@ -117,6 +124,7 @@ impl Storage {
 
     /// The place and the value of each entity that has the component, in no stated order. It takes
     /// no memory, and a walk over it is a walk over one slice.
+    #[must_use]
     pub fn dense(&self, id: ComponentId) -> &[(usize, i64)]
         ensures has { (place : ℕ) (value : ℤ) → Contains result.now (place, value)
             ↔ (value_at_place self.now place id ≡ Some value) }
@@ -130,7 +138,7 @@ impl Storage {
     ///
     /// # Errors
     ///
-    /// `Memory`: there is no memory for the list. It never comes if no entity has the component.
+    /// Out of memory for the list. It never comes if no entity has the component.
     pub fn with(&self, id: ComponentId) -> Result<Vec<Handle>, Memory>
         ensures ok { IfOk result (λ handles. ListsWith id self.now.entities handles.items) }
         ensures memory { OnErr result

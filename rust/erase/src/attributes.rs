@@ -100,7 +100,7 @@ impl Walk<'_> {
                     .fault(at, format!("an unknown derive: `{name}`")));
             }
         }
-        if names.contains(&"Clone") && !names.contains(&"Copy") {
+        if names.contains(&"Clone") && !names.contains(&"Copy") && !self.is_of_copies(end) {
             let what = "`Clone` without `Copy`, which may fail in the kit and not in Rust";
             return Err(self.source.fault(at, what));
         }
@@ -114,6 +114,17 @@ impl Walk<'_> {
             self.replace(at, end, format!("#[derive({})]", kept.join(", ")));
         }
         Ok(names.contains(&forms::ERROR_DERIVE))
+    }
+
+    /// Whether each field of the type that comes after this place can be copied.
+    fn is_of_copies(&self, at: usize) -> bool {
+        let mut words = (at..).take_while(|at| self.source.at(*at) != "{");
+        let of = words
+            .find(|at| self.source.at(*at) == "struct")
+            .map(|at| self.source.at(at + 1));
+        forms::OF_COPIES
+            .iter()
+            .any(|it| it.0 == self.krate && Some(it.1) == of)
     }
 
     /// The place after the visibility that begins here.

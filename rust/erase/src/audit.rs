@@ -98,6 +98,13 @@ impl Audit<'_> {
             return Ok(());
         }
         let (from, to) = (self.source.at(self.at), self.result.at(self.out));
+        if from == to && self.keeps_call_of_list() {
+            let what = format!(
+                "a call of a list that stays: `{}`",
+                self.source.at(self.at + 1)
+            );
+            return Err(self.source.fault(self.at, what));
+        }
         if from == to {
             self.at += 1;
             self.out += 1;
@@ -260,6 +267,9 @@ impl Audit<'_> {
         let (source, at) = (self.source, self.at);
         let mut all = forms::RENAMED_FUNCTIONS.iter();
         let is_renamed = |it: &&forms::RenamedFunction| {
+            if ![source.at(at + 1), source.at(at + 2)].contains(&it.from) {
+                return false;
+            }
             let of = (0..at).rev().find(|at| source.at(*at) == "impl");
             let is_own = it.krate == self.krate && of.is_some_and(|of| source.at(of + 1) == it.of);
             let owner = source.at(at);
@@ -309,6 +319,7 @@ impl Audit<'_> {
         let padding = forms::is_padded(self.krate, self.source.path).then_some(forms::PADDING);
         imports
             .chain(padding)
+            .chain([forms::LIST_TRAIT])
             .map(|path| pieces(&format!("use {path};")))
             .find(|line| has(self.result, self.out, line))
             .map(|line| line.len())

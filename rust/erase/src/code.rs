@@ -361,7 +361,9 @@ impl Walk<'_> {
             self.import(at, renamed.import)?;
             return Ok(at + 1);
         }
-        self.check_sorting(at, open)?;
+        if let Some(end) = self.list_call(at, open)? {
+            return Ok(end);
+        }
         let is_known = |forms: &&Forms| forms.methods.contains(&name);
         if self.names.forms.iter().any(is_known) {
             return Ok(at + 1);
@@ -379,25 +381,8 @@ impl Walk<'_> {
             .fault(at, format!("an unknown method, or form of it: `{name}`")))
     }
 
-    /// A slice's own `sort_by_key` ends the program if memory runs out, and returns nothing. So the result of a call
-    /// of that name must be used, or its list must be declared as one.
-    fn check_sorting(&self, at: usize, open: usize) -> Result<(), Fault> {
-        let name = self.source.at(at);
-        let is_used = ["?", "."].contains(&self.source.at(self.source.partner(open) + 1));
-        if !forms::SORTING.contains(&name) || is_used {
-            return Ok(());
-        }
-        let list = self.source.before(at - 1);
-        let declared = [list, ":", "&", "mut", "Vec", "<"];
-        if (0..self.source.len()).any(|at| self.source.has(at, &declared)) {
-            return Ok(());
-        }
-        let what = format!("a `{name}` that may be a slice's own");
-        Err(self.source.fault(at, what))
-    }
-
     /// An import from the kit goes to the top of the file, so a module within the file must have none.
-    fn import(&mut self, at: usize, path: &'static str) -> Result<(), Fault> {
+    pub(crate) fn import(&mut self, at: usize, path: &'static str) -> Result<(), Fault> {
         if self.is_module {
             let what = format!(
                 "a name of the kit in a module within a file: `{}`",

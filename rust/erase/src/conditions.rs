@@ -11,18 +11,27 @@ use crate::walk::Walk;
 /// What `pub` of a function with a condition becomes.
 const PACKAGE_ONLY: &str = "(crate)";
 
+/// What a `requires` clause says of a closure `F` that each closure of Rust meets: it may be called.
+const CALLABLE: [&str; 2] = [".", "IsAlwaysCallable"];
+
+/// Whether the clause whose braces open at `open` says only that a closure may be called.
+pub(crate) fn is_of_a_closure(source: &Source<'_>, open: usize) -> bool {
+    source.has(open + 2, &CALLABLE) && source.partner(open) == open + 5
+}
+
 /// Whether the contract of the function whose `fn` stands at `at` has a condition.
 pub(crate) fn has_condition(source: &Source<'_>, at: usize) -> bool {
     let mut next = at;
     while let Some(found) = source.find(next, source.len(), &["{", ";", "requires", "ensures"]) {
-        if source.at(found) == "requires" {
-            return true;
-        }
         if !forms::CLAUSES.contains(&source.at(found)) {
             return false;
         }
         let open = source.find(found, source.len(), &["{"]);
-        next = open.map_or(source.len(), |open| source.partner(open) + 1);
+        let open = open.unwrap_or(source.len());
+        if source.at(found) == "requires" && !is_of_a_closure(source, open) {
+            return true;
+        }
+        next = source.partner(open) + 1;
     }
     false
 }

@@ -49,7 +49,8 @@ fn imports(walk: &Walk<'_>) -> Option<Edit> {
     })
 }
 
-/// Links in doc comments lead where the paths of the code lead.
+/// Links in doc comments lead where the paths of the code lead, and those to `forgeni` to what the package
+/// itself shows.
 fn led_links(text: &str, krate: &str, names: &Names) -> String {
     let lead = |line: &str| {
         let begin = line.trim_start();
@@ -58,9 +59,10 @@ fn led_links(text: &str, krate: &str, names: &Names) -> String {
         }
         let own = line.replace("](crate::", &format!("]({}::", names.crates[krate]));
         let others = names.crates.iter();
-        others.fold(own, |line, (name, path)| {
+        let led = others.fold(own, |line, (name, path)| {
             line.replace(&format!("]({name}::"), &format!("]({path}::"))
-        })
+        });
+        led.replace("](forgeni::", "](crate::")
     };
     text.split_inclusive('\n').map(lead).collect()
 }

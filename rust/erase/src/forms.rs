@@ -16,11 +16,14 @@ pub const GHOST_MEMBERS: &[&str] = &[
     "invariant",
     "inverse",
     "inverse_ok",
+    "is_clone",
     "is_default",
+    "is_infallible",
     "laws",
     "left",
     "matches_eq",
     "matches_partial_cmp",
+    "next_back_gives",
     "next_gives",
     "output",
     "partial_cmp",
@@ -101,8 +104,10 @@ const fn kept(name: &'static str, members: &'static [&'static str]) -> KeptTrait
 /// Those traits. The traits of the sources are known too.
 const KEPT_TRAITS: &[KeptTrait] = &[
     kept("Debug", &["fmt"]),
+    kept("Clone", &["clone"]),
     kept("Default", &["default"]),
     kept("Display", &["fmt"]),
+    kept("DoubleEndedIterator", &["next_back"]),
     kept("Eq", &[]),
     kept("Error", &[]),
     kept("ExactSizeIterator", &["len"]),
@@ -197,8 +202,55 @@ pub const OWN_CALLS: &[(&str, &[&str])] = &[
     ("write", &["self"]),
 ];
 
-/// Methods of the kit's list that a slice of Rust has too. Those of the kit return a `Result`.
-pub const SORTING: &[&str] = &["sort", "sort_by_cached_key", "sort_by_key"];
+/// The kit's list, which is Rust's own in the package.
+pub const LIST: &str = "Vec";
+
+/// A call of the kit's list that Rust's own has otherwise, or not at all.
+pub struct ListCall {
+    /// Its name in the sources.
+    pub from: &'static str,
+    /// How many arguments it has.
+    pub arguments: usize,
+    /// Its name in the results. The trait that has it has no name that a list of Rust has.
+    pub to: &'static str,
+}
+
+const fn list_call(from: &'static str, arguments: usize, to: &'static str) -> ListCall {
+    ListCall {
+        from,
+        arguments,
+        to,
+    }
+}
+
+/// Those calls.
+pub const LIST_CALLS: &[ListCall] = &[
+    list_call("capacity", 0, "sized_capacity"),
+    list_call("extend_from_slice", 1, "extend_from_slice_fallibly"),
+    list_call("insert", 2, "insert_fallibly"),
+    list_call("push", 1, "push_fallibly"),
+    list_call("push_reserved", 1, "push_reserved"),
+    list_call("reserve", 1, "reserve_fallibly"),
+    list_call("resize", 2, "resize_fallibly"),
+    list_call("sort", 0, "sort_fallibly"),
+    list_call("sort_by_cached_key", 1, "sort_by_cached_key_fallibly"),
+    list_call("sort_by_key", 1, "sort_by_key_fallibly"),
+];
+
+/// The same of what is called by a path.
+pub const LIST_PATHS: &[(&str, &str)] = &[
+    ("from_slice", "from_slice_fallibly"),
+    ("with_capacity", "with_capacity_fallibly"),
+];
+
+/// The path of that trait.
+pub const LIST_TRAIT: &str = "crate::kit::vec::FallibleVec";
+
+/// Names of values of which no declaration tells whether they are lists, and whether they are.
+pub const RECEIVERS: &[(&str, bool)] = &[
+    // A queue of commands, or what lends one.
+    ("queue", false),
+];
 
 /// Methods that only look at a value, so that nothing changes if they aren't called.
 pub const LOOKING: &[&str] = &["cursor"];
@@ -271,6 +323,7 @@ pub const BARE: &[&str] = &[
     "Clone",
     "Copy",
     "Default",
+    "DoubleEndedIterator",
     "Eq",
     "Err",
     "ExactSizeIterator",
@@ -438,20 +491,28 @@ pub struct RenamedFunction {
 }
 
 /// Those functions. The allocator's `new` has a parameter, the limits. In Rust `new()` has none, so the package adds
-/// it, and has the sources' own by the name that such a function usually has.
+/// it, and has the sources' own by another name. It isn't `with_limits`, which keeps a handle back.
 pub const RENAMED_FUNCTIONS: &[RenamedFunction] = &[RenamedFunction {
     krate: "ent_alloc",
     of: "Entities",
     from: "new",
-    to: "with_limits",
+    to: "with_exact_limits",
 }];
+
+/// Types that derive `Clone` and aren't `Copy`, though each of their fields is: the crate and the type. So `clone` can't
+/// fail in the kit either. They are iterators.
+pub const OF_COPIES: &[(&str, &str)] = &[("ent_alloc", "Living")];
 
 /// Functions that are `const` in the package, so that a `const` or a `static` can have what they make: the crate,
 /// the file and the function. In the kit what they call isn't `const`.
 pub const CONSTANTS: &[(&str, &str, &str)] = &[
     ("ent_alloc", "entities.rt", "new"),
+    ("ent_alloc", "entities.rt", "with_limits"),
     ("ent_alloc", "limits.rt", "default_limits"),
+    ("ent_alloc", "limits.rt", "generations"),
+    ("ent_alloc", "limits.rt", "keeping_placeholder"),
     ("ent_alloc", "limits.rt", "new"),
+    ("ent_alloc", "limits.rt", "slots"),
     ("ent_alloc", "requests.rt", "none"),
     ("ent_alloc", "slots.rt", "new"),
     ("ent_handle", "handle.rt", "from_bits"),
@@ -460,7 +521,11 @@ pub const CONSTANTS: &[(&str, &str, &str)] = &[
     ("ent_handle", "handle.rt", "index"),
     ("ent_handle", "handle.rt", "new"),
     ("ent_handle", "handle.rt", "to_bits"),
+    ("ent_storage", "handle_map.rt", "limit"),
     ("ent_storage", "handle_map.rt", "new"),
+    ("ent_storage", "handle_map.rt", "with_limit"),
+    ("ent_storage", "limit.rt", "of"),
+    ("ent_storage", "limit.rt", "slots"),
 ];
 
 /// Whether this function of a file of this crate is one of them.
@@ -520,7 +585,7 @@ pub static PACKAGE: Forms = Forms {
     modules: MODULES,
     prelude: &[Import {
         name: "Vec",
-        path: "crate::kit::vec::Vec",
+        path: "alloc::vec::Vec",
     }],
     macros: &[Import {
         name: "prove_eq",
@@ -652,6 +717,7 @@ const METHODS: &[&str] = &[
     "max",
     "min",
     "next",
+    "next_back",
     "ok",
     "ok_or",
     "parse",
@@ -664,6 +730,7 @@ const METHODS: &[&str] = &[
     "resize",
     "retain",
     "rev",
+    "reverse",
     "saturating_add",
     "saturating_mul",
     "saturating_sub",

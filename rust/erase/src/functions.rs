@@ -1,7 +1,7 @@
 //! Functions: their signatures, their contracts and their bodies.
 
 use crate::edit::{Change, Edit};
-use crate::forms;
+use crate::forms::{self, RenamedFunction};
 use crate::items::Scope;
 use crate::memory::owners;
 use crate::source::Fault;
@@ -36,6 +36,36 @@ const KIT_FMT: &[&str] = &[
     ")",
 ];
 
+/// `clone` in the kit, from its parameters to the end of its body. It may be refused memory, and this one
+/// isn't.
+const KIT_CLONE: &[&str] = &[
+    "(",
+    "&",
+    "self",
+    ")",
+    "->",
+    "Result",
+    "<",
+    "Self",
+    ",",
+    "std",
+    "::",
+    "alloc",
+    "::",
+    "AllocError",
+    ">",
+    "{",
+    "Ok",
+    "(",
+    "self",
+    ".",
+    "again",
+    "(",
+    ")",
+    ")",
+    "}",
+];
+
 impl Walk<'_> {
     /// The function whose `fn` stands at `at`. Its attributes begin at `start`, and what makes it
     /// visible at `visible`.
@@ -49,6 +79,9 @@ impl Walk<'_> {
         let mut next = at + 2;
         if self.source.at(at + 1) == "fmt" {
             self.fmt_signature(next)?;
+        }
+        if self.source.at(at + 1) == "clone" {
+            return self.clone_of_itself(start, visible, next);
         }
         if self.source.at(next) == "<" {
             let end = self.source.after_angles(next)?;
@@ -90,14 +123,14 @@ impl Walk<'_> {
 
     /// Puts the package's name in the place of the name here, if it is the last one of the path of such a function.
     pub(crate) fn rename_call(&mut self, at: usize) {
-        let of = match at.checked_sub(2).map(|of| self.source.at(of)) {
-            Some("Self") => self.own_type(at),
-            Some(name) if self.source.before(at) == "::" => name,
-            _ => return,
-        };
         let mut all = forms::RENAMED_FUNCTIONS.iter();
+        let is_of = |it: &&RenamedFunction| match self.source.before(at - 1) {
+            "Self" => self.own_type(at) == it.of,
+            name => name == it.of,
+        };
         let name = self.source.at(at);
-        if let Some(renamed) = all.find(|it| it.of == of && it.from == name) {
+        let is_last = at > 1 && self.source.before(at) == "::";
+        if let Some(renamed) = all.find(|it| is_last && it.from == name && is_of(it)) {
             self.replace(at, at + 1, renamed.to);
         }
     }
@@ -141,6 +174,23 @@ impl Walk<'_> {
     /// Whether one of these attributes says what is to be inlined, or the function is a test.
     fn has_inline(&self, start: usize, visible: usize) -> bool {
         (start..visible).any(|at| ["inline", "cold", "test"].contains(&self.source.at(at)))
+    }
+
+    /// The `clone` of an `impl Clone`, from its parameters on: it calls `again` of the type, which takes no
+    /// memory.
+    fn clone_of_itself(&mut self, start: usize, visible: usize, at: usize) -> Next {
+        if !self.source.has(at, KIT_CLONE) {
+            return Err(self.source.fault(at, "another `clone` than by `again`"));
+        }
+        if !self.has_inline(start, visible) {
+            let indent = self.indent(visible)?;
+            self.insert(visible, format!("#[inline]\n{indent}"));
+        }
+        self.take_out(at + 5, at + 7);
+        self.take_out_after(at + 8, at + 15);
+        self.take_out(at + 16, at + 18);
+        self.take_out_after(at + 23, at + 24);
+        Ok(at + KIT_CLONE.len())
     }
 
     /// The signature of `fmt` from its generics on.

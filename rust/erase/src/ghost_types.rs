@@ -161,16 +161,21 @@ impl<'a> GhostTypes<'a> {
         open: usize,
         phantoms: &mut BTreeSet<usize>,
     ) {
-        let own = owners(source).into_iter().find(|it| it.0.contains(&open));
-        let owner = match source.before(open) {
-            "Self" => own.map_or("", |it| it.1),
-            name => name,
+        let owner = |name: &str| match name {
+            "Self" => {
+                let own = owners(source).into_iter().find(|it| it.0.contains(&open));
+                own.map_or(String::new(), |it| it.1.to_owned())
+            }
+            name => name.to_owned(),
         };
         for (begin, end) in elements(source, open) {
-            let key = (owner.to_owned(), source.at(begin).to_owned());
             let is_value = [PHANTOM, "_"].contains(&source.at(begin + 2));
             let is_whole = end == begin + 3 && source.at(begin + 1) == ":";
-            if names.phantoms.contains(&key) && is_value && is_whole {
+            if !is_value || !is_whole {
+                continue;
+            }
+            let key = (owner(source.before(open)), source.at(begin).to_owned());
+            if names.phantoms.contains(&key) {
                 phantoms.insert(begin + 2);
                 self.take(source, begin, end);
             }

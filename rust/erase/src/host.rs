@@ -146,5 +146,5 @@ const ASSOCIATED: &[Associated] = &[
     ("Ordering", &["Equal", "Greater", "Less", "SeqCst"]),
     ("String", &["from_str", "new", "with_capacity"]),
     ("i64", &["MAX", "MIN", "from", "try_from"]),
-    ("Vec", &["from_array", "from_slice", "new", "with_capacity"]),
+    ("Vec", &["from_slice", "new", "with_capacity"]),
 ];

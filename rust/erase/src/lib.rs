@@ -22,6 +22,7 @@ mod ghost_types;
 pub mod host;
 mod items;
 pub mod lex;
+mod lists;
 mod memory;
 mod messages;
 mod names;
@@ -30,6 +31,7 @@ pub mod plan;
 pub mod programs;
 mod scope;
 pub mod source;
+mod types;
 mod walk;
 
 pub use erase::{erase, header};

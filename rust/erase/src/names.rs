@@ -9,6 +9,7 @@ use crate::forms::{self, Forms};
 use crate::ghost_types;
 use crate::memory::Fields;
 use crate::source::{Fault, Source};
+use crate::types::Types;
 use std::collections::{BTreeMap, BTreeSet};
 
 /// The type of no value, as a header names it.
@@ -43,6 +44,8 @@ pub struct Names {
     conditions: BTreeMap<(String, String), BTreeSet<bool>>,
     /// Their fields.
     pub(crate) fields: Fields,
+    /// The types that they declare.
+    pub(crate) values: Types,
     /// The names of std and of the kit that they may use.
     pub forms: Vec<&'static Forms>,
     /// For each trait, by its name and its crate, what it has.
@@ -80,6 +83,7 @@ impl Names {
     pub fn add(&mut self, source: &Source<'_>) -> Result<(), Fault> {
         let mut members = BTreeSet::new();
         self.fields.add(source);
+        self.values.add(source);
         for at in 0..source.len() {
             match source.at(at) {
                 "trait" | "impl" if begins_item(source, at) => {
@@ -405,6 +409,11 @@ impl Names {
     pub(crate) fn has_function(&self, path: &str, name: &str) -> bool {
         let key = (path.to_owned(), name.to_owned());
         self.conditions.contains_key(&key)
+    }
+
+    /// Whether the sources declare a type of this name.
+    pub fn is_type(&self, name: &str) -> bool {
+        self.types.contains_key(name)
     }
 
     /// Whether a path may lead to the name.

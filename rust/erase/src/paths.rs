@@ -144,6 +144,7 @@ impl<'a> Walk<'a> {
         }
         self.need(at)?;
         self.rest_of_path(at)?;
+        self.list_path(at)?;
         Ok(at + 1)
     }
 

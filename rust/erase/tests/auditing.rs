@@ -45,6 +45,9 @@ impl<T: Drop + Copy> From<T> for F {
     {
         // Of o.
         let p: Vec<u8> = k.iter().collect(alloc);
+        p.push(2)?;
+        k.push(p, 2);
+        let y = Vec::with_capacity(alloc, 2);
         F::I
     }
 }
@@ -187,6 +190,16 @@ fn no_code_may_go_into_a_comment() {
             "`{token}` in a comment:\n{other}"
         );
     }
+}
+
+/// What is no list keeps its call, and a list doesn't.
+#[test]
+fn a_list_s_calls_may_not_stay() {
+    let known = result();
+    assert!(known.contains("p.push_fallibly(2)") && known.contains("k.push(p, 2)"));
+    assert!(known.contains("Vec::with_capacity_fallibly(2)"));
+    let other = known.replace("p.push_fallibly(2)", "p.push(2)");
+    assert!(audited(SOURCE, &other).is_err());
 }
 
 #[test]

@@ -282,13 +282,13 @@ fn names_of_the_kit_are_imported() {
     gives(
         "//! A.\n\nuse super::b;\nuse std::alloc::Global;\n\nfn c(alloc: Global, d: Vec<u8>) -> Vec<u8> {\n    prove_eq!(1, 1);\n    \
          d.iter().collect(alloc)\n}\n",
-        "//! A.\n\nuse crate::kit::prove_eq;\nuse crate::kit::vec::CollectIn;\nuse crate::kit::vec::Vec;\n\
+        "//! A.\n\nuse alloc::vec::Vec;\nuse crate::kit::prove_eq;\nuse crate::kit::vec::CollectIn;\n\
          use super::b;\n\n#[inline]\nfn c(d: Vec<u8>) -> Vec<u8> {\n    prove_eq!(1, 1);\n    \
          d.iter().collect_in()\n}\n",
     );
     gives(
         "ghost use A.{b};\n\n/// C.\n#[derive(Drop)]\nstruct C(Vec<u8>);\n",
-        "use crate::kit::vec::Vec;\n\n/// C.\nstruct C(Vec<u8>);\n",
+        "use alloc::vec::Vec;\n\n/// C.\nstruct C(Vec<u8>);\n",
     );
 }
 
@@ -393,11 +393,12 @@ fn padded_texts() {
     let wanted =
         "use crate::kit::padded;\n\n#[inline]\nfn a(f: A) -> A {\n    padded!(f, \"{b}\")\n}\n";
     let path = "crates/ent_handle/src/text.rt";
-    let plain = wanted.replace("padded!", "write!");
+    let plain = format!("// Made.\n\n{}", wanted.replace("padded!", "write!"));
     let (result, audited) = erased_of("ent_handle", path, source, &plain).expect("known forms");
     assert_eq!(body(&result), Some(wanted));
     assert!(audited.is_ok(), "it is as the source says");
-    let (result, audited) = erased_of("ent_handle", PATH, source, wanted).expect("known forms");
+    let padded = format!("// Made.\n\n{wanted}");
+    let (result, audited) = erased_of("ent_handle", PATH, source, &padded).expect("known forms");
     assert_eq!(body(&result), Some(&*format!("#[inline]\n{source}")));
     assert!(audited.is_err());
 }
@@ -423,11 +424,11 @@ fn functions_by_another_name() {
     let source = "impl Entities {\n    pub fn new() -> Self {\n        A::new();\n        Self::new();\n        \
                   Entities::new()\n    }\n}\n\nimpl A {\n    fn new() -> Self {\n        Self::new();\n        \
                   Entities::new()\n    }\n}\n\nstruct Entities;\n\nstruct A;\n";
-    let new = source.replace("Entities::new", "Entities::with_limits");
-    let new = new.replacen("pub fn new", "#[inline]\n    pub fn with_limits", 1);
-    let new = new.replacen("Self::new", "Self::with_limits", 1);
+    let new = source.replace("Entities::new", "Entities::with_exact_limits");
+    let new = new.replacen("pub fn new", "#[inline]\n    pub fn with_exact_limits", 1);
+    let new = new.replacen("Self::new", "Self::with_exact_limits", 1);
     let wanted = new.replace("    fn new", "    #[inline]\n    fn new");
-    let misplaced = wanted.replace("fn new", "fn with_limits");
+    let misplaced = wanted.replace("fn new", "fn with_exact_limits");
     let path = "crates/ent_alloc/src/here.rt";
     let (result, audited) = erased_of("ent_alloc", path, source, &misplaced).expect("known forms");
     assert_eq!(body(&result), Some(&*wanted));
@@ -455,7 +456,7 @@ fn messages_of_an_enum() {
          #[error(\"no b\")]\n    B,\n    #[error(\"{c} of {d:?}\")]\n    C { c: u8, d: E },\n    \
          #[error(\"{c}\")]\n    F {\n        /// C.\n        c: u8,\n        d: Vec<u8>,\n    },\n    \
          #[error(\"{{g}}\")]\n    G(u8),\n}\n\nstruct H;\n",
-        "use crate::kit::vec::Vec;\n\n/// A.\n#[derive(Debug)]\npub enum A {\n    /// B.\n    B,\n    \
+        "use alloc::vec::Vec;\n\n/// A.\n#[derive(Debug)]\npub enum A {\n    /// B.\n    B,\n    \
          C { c: u8, d: E },\n    F {\n        /// C.\n        c: u8,\n        d: Vec<u8>,\n    },\n    G(u8),\n}\n\n\
          impl core::fmt::Display for A {\n    \
          fn fmt(&self, f: &mut core::fmt::Formatter<'_>) -> core::fmt::Result {\n        match self {\n            \

@@ -3,7 +3,6 @@
 //!
 //! The variable `SPAWNRUN` names the program that the kit has made of `crates/spawnrun`.
 
-use crate::kit::vec::Vec;
 use crate::proved::ent_alloc::Limits;
 use crate::proved::ent_handle::Handle;
 use crate::proved::ent_replay::{read_schedule, write_outcome, Event, Machine, Outcome, ReadFault};
@@ -55,7 +54,7 @@ impl Schedule {
         let mut random = Random(seed);
         let limits = Limits::new(random.of(&SLOTS), random.of(&GENERATIONS)).expect("limits");
         let mut machine = Machine::new(limits).expect("it takes no memory");
-        let (mut given, mut open) = (std::vec::Vec::new(), 0);
+        let (mut given, mut open) = (Vec::new(), 0);
         let mut text = String::new();
         for _ in 0..random.below(MOST_EVENTS) {
             let event = event(&mut random, &given, limits, open > 0);
@@ -82,7 +81,7 @@ impl Schedule {
     }
 
     /// What the erased code gives.
-    fn erased(&self) -> std::vec::Vec<u8> {
+    fn erased(&self) -> Vec<u8> {
         let events = match read_schedule(self.text.as_bytes()) {
             Ok(events) => events,
             Err(ReadFault::Line { line, cause }) => {
@@ -100,7 +99,7 @@ impl Schedule {
     }
 
     /// What the program gives.
-    fn native(&self, program: &OsString) -> std::vec::Vec<u8> {
+    fn native(&self, program: &OsString) -> Vec<u8> {
         let mut running = Command::new(program)
             .arg("replay")
             .args(["--slots", &self.limits.slots().to_string()])
@@ -141,11 +140,11 @@ fn event(random: &mut Random, given: &[Handle], limits: Limits, is_open: bool) -
 }
 
 /// The handles that an event has given.
-fn handles(outcome: &Outcome) -> std::vec::Vec<Handle> {
+fn handles(outcome: &Outcome) -> Vec<Handle> {
     match outcome {
         Outcome::Handle(handle) => [*handle].to_vec(),
         Outcome::Born(handles) | Outcome::Handles(handles) => handles.as_slice().to_vec(),
-        _ => std::vec::Vec::new(),
+        _ => Vec::new(),
     }
 }
 

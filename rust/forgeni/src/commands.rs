@@ -52,7 +52,7 @@ impl Commands {
         components: &[(ComponentId, i64)],
     ) -> Result<Vec<Handle>, SpawnError> {
         let bundle = Bundle::of(components)?;
-        Ok(self.proved.spawn_many(count, &bundle)?.into())
+        Ok(self.proved.spawn_many(count, &bundle)?)
     }
 
     /// Gives the entity the components, instead of those that it has under the same numbers.
@@ -117,7 +117,7 @@ impl Commands {
     ///
     /// `OutOfMemory`: there is no memory for the list.
     pub fn by_birth(&self) -> Result<Vec<Handle>, OutOfMemory> {
-        Ok(self.proved.world().view().by_birth()?.into())
+        Ok(self.proved.world().view().by_birth()?)
     }
 
     /// Which of the systems it is: its position in the list that

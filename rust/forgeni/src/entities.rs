@@ -5,14 +5,12 @@ use crate::errors::{
     Unshared,
 };
 use crate::handle::Handle;
-use crate::kit::vec::Vec as List;
 use crate::limits::Limits;
 use crate::proved::{ent_alloc, ent_total};
 use crate::sharing::{Reserver, Shared};
 use alloc::vec::Vec;
 use core::fmt;
 use core::iter::FusedIterator;
-use core::mem;
 
 /// What became of a handle.
 #[derive(Clone, Copy, Debug, PartialEq, Eq, Hash)]
@@ -236,9 +234,9 @@ impl Entities {
     ///
     /// `OutOfMemory`, and then nothing has changed.
     pub fn flush(&mut self) -> Result<Vec<Handle>, OutOfMemory> {
-        let mut born = List::new();
+        let mut born = Vec::new();
         self.proved.flush(&mut born)?;
-        Ok(born.into())
+        Ok(born)
     }
 
     /// [`flush`](Self::flush), which appends the handles to this list. It takes time for each handle
@@ -268,10 +266,7 @@ impl Entities {
     ///
     /// `OutOfMemory`, and then nothing has changed, and the list has the same handles.
     pub fn flush_into(&mut self, born: &mut Vec<Handle>) -> Result<(), OutOfMemory> {
-        let mut list = List::from(mem::take(born));
-        let flushed = self.proved.flush(&mut list);
-        *born = list.into();
-        Ok(flushed?)
+        Ok(self.proved.flush(born)?)
     }
 
     /// [`flush`](Self::flush), which hands each handle to `each` instead, in the same order. All of
@@ -292,7 +287,7 @@ impl Entities {
     ///
     /// `OutOfMemory`, as of `flush`, and then nothing has changed and nothing is handed on.
     pub fn flush_with(&mut self, each: impl FnMut(Handle)) -> Result<(), OutOfMemory> {
-        let mut born = List::new();
+        let mut born = Vec::new();
         self.proved.flush(&mut born)?;
         born.into_iter().for_each(each);
         Ok(())
@@ -519,7 +514,7 @@ impl fmt::Debug for Entities {
 
 /// The handles of the living entities, by rising slot: [`Entities::iter`] makes it.
 pub struct Living<'a> {
-    proved: ent_alloc::LivingHandles<'a>,
+    proved: ent_alloc::Living<'a>,
 }
 
 impl Iterator for Living<'_> {

@@ -1,7 +1,6 @@
 //! Handles of entities.
 
 use crate::proved::ent_handle::TextFault;
-use core::cmp::Ordering;
 use core::error::Error;
 use core::fmt;
 use core::str::FromStr;
@@ -31,19 +30,6 @@ impl Handle {
         Some(greatest) => greatest,
         None => unreachable!(),
     };
-
-    /// The order by bits, which is that of Bevy and hecs: by generation, then by index.
-    ///
-    /// ```
-    /// use forgeni::Handle;
-    /// let [new, old] = [Handle::new(9, 1).unwrap(), Handle::new(0, 2).unwrap()];
-    /// assert!(new.by_bits(&old).is_lt() && new > old);
-    /// ```
-    #[inline]
-    #[must_use]
-    pub fn by_bits(&self, other: &Self) -> Ordering {
-        self.to_bits().cmp(&other.to_bits())
-    }
 }
 
 /// Reads what `Display` writes: the index in decimal, the letter `v`, the generation in decimal. A

@@ -202,13 +202,13 @@ mod world;
 pub use commands::{CommandQueue, Commands, SpawnError};
 pub use component::{Birth, ComponentId};
 pub use entities::{Entities, Freed, Living, State};
-pub use errors::{Absent, AllocError, BornError, CloseError, FreeError, InsertError, OtherPhase};
+pub use errors::{Absent, AllocError, CloseError, FreeError, OtherPhase};
 pub use errors::{OutOfMemory, Refused, RequestError, RequestManyError, ShareError};
 pub use errors::{Unallocated, Unclosed, Unshared};
 #[cfg(feature = "std")]
 pub use frames::{run_frame, FrameError};
 pub use handle::{Handle, ParseHandleError};
-pub use handle_map::{HandleMap, InsertionError, Uninserted};
+pub use handle_map::{HandleMap, InsertError, Uninserted};
 pub use lent::Lent;
 pub use limits::Limits;
 pub use open_world::{FinishError, OpenError, OpenWorld, Unfinished, Unopened};
@@ -216,7 +216,7 @@ pub use report::{Fault, FaultKind, Report};
 #[cfg(feature = "std")]
 pub use reservers::{Lends, Reservers, Unpooled};
 pub use sharing::{Reserver, Shared};
-pub use storage::Storage;
+pub use storage::{Bundle, Items, Storage, StorageError};
 pub use sync::{GoOnError, Queues, Stopped, SyncError, SyncErrorKind};
 #[cfg(feature = "std")]
 pub use system::System;

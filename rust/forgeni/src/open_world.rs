@@ -4,7 +4,6 @@ use crate::commands::{CommandQueue, Commands};
 use crate::component::{Birth, ComponentId};
 use crate::errors::OutOfMemory;
 use crate::handle::Handle;
-use crate::kit::vec::Vec as List;
 use crate::numbers::next_number;
 use crate::proved::ent_total::{self, FinishFault, NumberedWorld, ShareFault};
 use crate::sync::Queues;
@@ -76,7 +75,7 @@ impl OpenWorld {
 
     /// Memory ran out on the way, and no system has begun: the world is as it was.
     fn undo(self) -> Unopened {
-        match self.proved.close_lost(List::new()) {
+        match self.proved.close_lost(Vec::new()) {
             Ok((world, _)) => Unopened {
                 world: World::of(world, self.next),
                 error: OpenError::Memory,
@@ -112,7 +111,7 @@ impl OpenWorld {
     ///
     /// `OutOfMemory`: there is no memory for the list.
     pub fn by_birth(&self) -> Result<Vec<Handle>, OutOfMemory> {
-        Ok(self.proved.world().view().by_birth()?.into())
+        Ok(self.proved.world().view().by_birth()?)
     }
 
     /// How many systems the phase has.
@@ -172,9 +171,8 @@ impl OpenWorld {
 }
 
 /// The queues as the proved code takes them, in the same memory.
-fn issued(queues: Vec<CommandQueue>) -> List<Issued> {
-    let all: Vec<Issued> = queues.into_iter().map(CommandQueue::proved).collect();
-    all.into()
+fn issued(queues: Vec<CommandQueue>) -> Vec<Issued> {
+    queues.into_iter().map(CommandQueue::proved).collect()
 }
 
 impl fmt::Debug for OpenWorld {
@@ -300,7 +298,7 @@ pub struct Unfinished {
 impl Unfinished {
     /// The phase goes on. The queues are handed back in the memory of the list that had them.
     fn of(refused: ent_total::Unfinished, next: Birth) -> Self {
-        let queues: Vec<Issued> = refused.queues.into();
+        let queues = refused.queues;
         Self {
             open: OpenWorld {
                 proved: refused.phase,

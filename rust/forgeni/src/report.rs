@@ -65,10 +65,9 @@ impl Report {
     /// In the memory of the proved one: the two kinds of faults have one layout, so `collect` asks
     /// for none.
     pub(crate) fn of(proved: ent_world::SyncReport) -> Self {
-        let faults: Vec<ent_world::Fault> = proved.faults.into();
         Self {
-            born: proved.born.into(),
-            faults: faults.into_iter().map(Fault::from).collect(),
+            born: proved.born,
+            faults: proved.faults.into_iter().map(Fault::from).collect(),
         }
     }
 

@@ -3,7 +3,6 @@
 use crate::entities::Entities;
 use crate::errors::{CloseError, OtherPhase, OutOfMemory, Refused, ShareError, Unclosed, Unshared};
 use crate::handle::Handle;
-use crate::kit::vec::Vec as List;
 use crate::numbers::next_number;
 use crate::proved::{ent_alloc, ent_handle, ent_total};
 use alloc::vec::Vec;
@@ -78,7 +77,7 @@ impl Shared {
 
     /// Memory ran out on the way, and nobody has reserved: the allocator is as it was.
     fn undo(phase: Phase) -> Unshared {
-        match phase.close_lost(List::new()) {
+        match phase.close_lost(Vec::new()) {
             Ok(entities) => Unshared {
                 entities: Entities::of(entities),
                 error: ShareError::Memory,
@@ -179,7 +178,7 @@ impl Shared {
     fn end(
         self,
         mut reservers: Vec<Reserver>,
-        close: fn(Phase, List<Caller>) -> Result<ent_alloc::Entities, ent_total::Unclosed>,
+        close: fn(Phase, Vec<Caller>) -> Result<ent_alloc::Entities, ent_total::Unclosed>,
     ) -> Result<Entities, Unclosed> {
         // There is room for those of this phase alone.
         if !reservers.iter().all(|one| one.is_of(&self)) {
@@ -191,7 +190,7 @@ impl Shared {
         }
         let (mut callers, pool) = (self.room, self.pool);
         callers.extend(reservers.drain(..).map(|one| one.proved));
-        match close(self.proved, callers.into()) {
+        match close(self.proved, callers) {
             Ok(entities) => Ok(Entities::of(entities)),
             Err(refused) => Err(Self::unclosed(refused, reservers, pool)),
         }
@@ -199,7 +198,7 @@ impl Shared {
 
     /// The phase goes on, and the reservers are handed back in the list in which they came.
     fn unclosed(refused: ent_total::Unclosed, mut reservers: Vec<Reserver>, pool: u64) -> Unclosed {
-        let mut room: Vec<Caller> = refused.callers.into();
+        let mut room = refused.callers;
         let handed_back = room.drain(..).map(|proved| Reserver::of(proved, pool));
         reservers.extend(handed_back);
         // The room is gone with those that are at home now. Where there is none, the next close asks

@@ -47,7 +47,7 @@ impl<'a, 'w> SystemCommands<'a, 'w> {
         components: &[(ComponentId, i64)],
     ) -> Result<Vec<Handle>, SpawnError> {
         let bundle = Bundle::of(components)?;
-        Ok(self.proved.spawn_many(count, &bundle)?.into())
+        Ok(self.proved.spawn_many(count, &bundle)?)
     }
 
     /// Gives the entity the components, instead of those that it has under the same numbers.

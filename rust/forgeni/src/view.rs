@@ -46,7 +46,7 @@ impl<'a> View<'a> {
     ///
     /// `OutOfMemory`: there is no memory for the list.
     pub fn with(self, id: ComponentId) -> Result<Vec<Handle>, OutOfMemory> {
-        Ok(self.proved.with(id)?.into())
+        Ok(self.proved.with(id)?)
     }
 
     /// The handles of all entities, by birth and then by handle. The time is that of a sort.
@@ -55,7 +55,7 @@ impl<'a> View<'a> {
     ///
     /// `OutOfMemory`: there is no memory for the list.
     pub fn by_birth(self) -> Result<Vec<Handle>, OutOfMemory> {
-        Ok(self.proved.by_birth()?.into())
+        Ok(self.proved.by_birth()?)
     }
 
     /// The handle of the entity with that birth, if there is one. If several entities have the

@@ -187,7 +187,7 @@ impl World {
     ///
     /// `OutOfMemory`: there is no memory for the list.
     pub fn by_birth(&self) -> Result<Vec<Handle>, OutOfMemory> {
-        Ok(self.proved.world.by_birth()?.into())
+        Ok(self.proved.world.by_birth()?)
     }
 
     /// How many entities are alive.

@@ -77,6 +77,7 @@ fn maps_of<T: Copy + Default>(slot: usize) {
     assert_eq!(map.capacity(), 3 * BYTES);
     exactly(0, || {
         map.reserve(3 * BYTES).expect("there is room");
+        assert_eq!(map.slots(), 0);
         for index in 0..3 * N {
             let inserted = map.insert(handle(index, 1), T::default());
             assert!(inserted.is_ok_and(|before| before.is_none()));

@@ -1,12 +1,12 @@
 //! Errors travel: by `?` into a box for any thread, and apart from what they hand back.
 
 use forgeni::{
-    Absent, AllocError, BornError, CloseError, CommandQueue, Commands, ComponentId, Entities,
-    Fault, FinishError, FreeError, Freed, GoOnError, Handle, HandleMap, InsertError,
-    InsertionError, Lent, Limits, OpenError, OpenWorld, OtherPhase, OutOfMemory, ParseHandleError,
-    Queues, Refused, Report, RequestError, RequestManyError, Reserver, ShareError, Shared,
-    SpawnError, State, Stopped, Storage, SyncError, SyncErrorKind, Unallocated, Unclosed,
-    Unfinished, Uninserted, Unopened, Unshared, World,
+    Absent, AllocError, CloseError, CommandQueue, Commands, ComponentId, Entities, Fault,
+    FinishError, FreeError, Freed, GoOnError, Handle, HandleMap, InsertError, Lent, Limits,
+    OpenError, OpenWorld, OtherPhase, OutOfMemory, ParseHandleError, Queues, Refused, Report,
+    RequestError, RequestManyError, Reserver, ShareError, Shared, SpawnError, State, Stopped,
+    Storage, StorageError, SyncError, SyncErrorKind, Unallocated, Unclosed, Unfinished, Uninserted,
+    Unopened, Unshared, World,
 };
 use std::error::Error;
 
@@ -19,12 +19,10 @@ fn shared_by_threads<T: Send + Sync>() {}
 fn each_error_travels() {
     travels::<Absent>();
     travels::<AllocError>();
-    travels::<BornError>();
     travels::<CloseError>();
     travels::<FinishError>();
     travels::<FreeError>();
     travels::<GoOnError>();
-    travels::<InsertionError>();
     travels::<Uninserted<String>>();
     travels::<InsertError>();
     travels::<OpenError>();
@@ -35,6 +33,7 @@ fn each_error_travels() {
     travels::<RequestError>();
     travels::<RequestManyError>();
     travels::<ShareError>();
+    travels::<StorageError>();
     travels::<SpawnError>();
     travels::<SyncError>();
     travels::<SyncErrorKind>();

@@ -2,9 +2,9 @@
 //! dropped exactly once. `FORGENI_SEEDS` sets how many seeds are run, `FORGENI_SEED` runs one alone.
 
 use crate::common::{handle, seeds, Numbers};
-use forgeni::{Handle, HandleMap, InsertionError};
+use forgeni::{Handle, HandleMap, InsertError};
 use std::cell::Cell;
-use std::collections::HashMap;
+use std::collections::{HashMap, VecDeque};
 use std::fmt::Debug;
 use std::panic::{catch_unwind, resume_unwind, AssertUnwindSafe};
 use std::rc::Rc;
@@ -44,10 +44,10 @@ impl<T: Value> Model<T> {
         self.0.keys().copied().find(|one| one.index() == index)
     }
 
-    fn insert(&mut self, one: Handle, value: T) -> Result<Option<T>, (T, InsertionError)> {
+    fn insert(&mut self, one: Handle, value: T) -> Result<Option<T>, (T, InsertError)> {
         if let Some(there) = self.occupant(one.index()) {
             if there > one {
-                return Err((value, InsertionError::Later));
+                return Err((value, InsertError::Later));
             }
             if there < one {
                 self.0.remove(&there);
@@ -79,6 +79,11 @@ impl<T: Value> Model<T> {
             map.values().eq(all.iter().map(|(_, value)| value)),
             "{place}"
         );
+        let (keys, values) = (map.keys().rev(), map.values().rev());
+        assert!(keys.zip(values).eq(map.iter().rev()), "{place}");
+        assert!(map.slots() <= map.capacity(), "{place}");
+        let last = map.keys().next_back();
+        assert!(last.is_none_or(|last| (last.index() as usize) < map.slots()));
         for index in 0..10 {
             for generation in 1..5 {
                 let one = handle(index, generation);
@@ -153,7 +158,7 @@ fn run<T: Value>(seed: u64) {
             18 => {
                 let slots = numbers.below(30) as usize;
                 map.reserve(slots).expect("memory");
-                assert!(map.capacity() >= slots, "{place}: reserve");
+                assert!(map.capacity() >= map.slots() + slots, "{place}: reserve");
             }
             _ => {
                 let count = numbers.below(4);
@@ -305,7 +310,7 @@ fn occupants_of_one_slot() {
         refused.to_string(),
         "a later occupant of the slot has a value"
     );
-    assert_eq!(refused.into_parts(), ("again", InsertionError::Later));
+    assert_eq!(refused.into_parts(), ("again", InsertError::Later));
     assert_eq!(map[second], "second");
     // With the later one gone the earlier one may come again.
     assert_eq!(map.remove(second), Some("second"));
@@ -320,8 +325,17 @@ fn capacity_and_room() {
     let room = map.capacity();
     assert!(room >= 100);
     map.insert(handle(99, 1), 1).expect("memory");
+    assert_eq!((map.capacity(), map.slots()), (room, 100));
+    map.reserve(room - 100).expect("there is room");
     assert_eq!(map.capacity(), room);
+    // As of a vector, it is room for more than is there.
+    let mut more = map.clone();
+    more.reserve(100).expect("memory");
+    assert!(more.capacity() >= 200 && more.slots() == 100);
+    assert_eq!(map.remove(handle(99, 1)), Some(1));
+    assert_eq!(map.slots(), 100);
     map.clear();
+    assert_eq!(map.slots(), 0);
     assert_eq!(
         (map.capacity(), map.len(), map.iter().next()),
         (room, 0, None)
@@ -345,7 +359,7 @@ fn limits() {
     let refused = |map: &mut HandleMap<u8>, one| {
         let room = map.capacity();
         let refused = map.insert(one, 7).expect_err("above the limit");
-        assert_eq!(refused.into_parts(), (7, InsertionError::Limit));
+        assert_eq!(refused.into_parts(), (7, InsertError::Limit));
         assert_eq!(map.capacity(), room);
     };
     let mut map = HandleMap::new();
@@ -385,9 +399,46 @@ fn limits() {
     ]);
     assert!(clone.keys().skip(3).eq([handle(8, 1)]));
     assert_eq!(
-        InsertionError::Limit.to_string(),
+        InsertError::Limit.to_string(),
         "the handle is above the map's limit"
     );
+}
+
+/// Iterators are taken from both ends, and a clone of one goes on from where that one is.
+#[test]
+fn both_ends() {
+    seeds(500, |seed| {
+        let mut numbers = Numbers::of(seed);
+        let map: HandleMap<u64> = (0..numbers.below(8))
+            .map(|number| (handle(numbers.below(20) as u32, 1), number))
+            .collect();
+        let mut left: VecDeque<(Handle, u64)> = map.iter().map(|(one, it)| (one, *it)).collect();
+        let (mut all, mut owned) = (map.iter(), map.clone().into_iter());
+        let (mut keys, mut values) = (map.keys(), map.values());
+        for _ in 0..=left.len() {
+            let is_front = numbers.below(2) == 0;
+            let (wanted, item, given, key, value) = if is_front {
+                let wanted = left.pop_front();
+                let ends = (keys.next(), values.next());
+                (wanted, all.next(), owned.next(), ends.0, ends.1)
+            } else {
+                let wanted = left.pop_back();
+                let ends = (keys.next_back(), values.next_back());
+                (wanted, all.next_back(), owned.next_back(), ends.0, ends.1)
+            };
+            assert_eq!(item.map(|(one, it)| (one, *it)), wanted, "seed {seed}");
+            assert_eq!(given, wanted, "seed {seed}");
+            assert_eq!(key.zip(value.copied()), wanted, "seed {seed}");
+            let lens = [all.len(), owned.len(), keys.len(), values.len()];
+            assert_eq!(lens, [left.len(); 4], "seed {seed}");
+            assert!(all.clone().eq(keys.clone().zip(values.clone())));
+            assert!(owned.clone().eq(left.iter().copied()), "seed {seed}");
+        }
+        assert_eq!(
+            (all.next(), keys.next_back(), values.next()),
+            (None, None, None)
+        );
+    });
 }
 
 #[test]
@@ -409,6 +460,9 @@ fn what_it_prints() {
         .collect();
     assert_eq!(format!("{map:?}"), "{0v1: \"a\", 7v2: \"b\"}");
     assert_eq!(format!("{:?}", HandleMap::<u8>::default()), "{}");
+    assert_eq!(format!("{:?}", map.iter()), "{0v1: \"a\", 7v2: \"b\"}");
+    assert_eq!(format!("{:?}", map.keys()), "[0v1, 7v2]");
+    assert_eq!(format!("{:?}", map.values()), "[\"a\", \"b\"]");
 }
 
 /// Maps that are equal have the same handles with equal values, whatever room they have.

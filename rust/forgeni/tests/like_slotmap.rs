@@ -3,7 +3,7 @@
 //! each test stands which behaviour of slotmap it shows, and where this package is meant to differ.
 
 use crate::common::{handle, small, Numbers};
-use forgeni::{Entities, FreeError, Handle, HandleMap, InsertionError};
+use forgeni::{Entities, FreeError, Handle, HandleMap, InsertError};
 use std::collections::{HashMap, HashSet};
 use std::mem::size_of;
 use std::rc::Rc;
@@ -190,7 +190,7 @@ fn a_secondary_map_with_older_keys() {
     let refused = names
         .insert(old, "late")
         .expect_err("it is of an earlier key");
-    assert_eq!(refused.into_parts(), ("late", InsertionError::Later));
+    assert_eq!(refused.into_parts(), ("late", InsertError::Later));
     assert_eq!(names.remove(old), None);
     assert_eq!(names.remove(new), Some("new"));
 }

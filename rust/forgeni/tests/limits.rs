@@ -72,7 +72,7 @@ fn defaults() {
     assert_eq!(Limits::GREATEST, limits(u32::MAX, (1 << 31) - 1));
     assert_eq!(Limits::default(), Limits::GREATEST);
     assert!(Storage::default().is_empty());
-    assert!(Storage::try_new().is_ok_and(|made| made.is_empty()));
+    assert!(Storage::new().is_empty());
     assert_eq!(HandleMap::<u8>::default().limit(), u32::MAX);
 }
 

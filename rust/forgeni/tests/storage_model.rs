@@ -2,7 +2,7 @@
 
 use crate::common::{handle, seeds, Numbers};
 use crate::worlds::{any_birth, any_component, any_components, Components};
-use forgeni::{Absent, Birth, BornError, ComponentId, Handle, InsertError, Storage};
+use forgeni::{Birth, Bundle, ComponentId, Handle, Storage, StorageError};
 use std::collections::btree_map::{BTreeMap, Entry};
 
 /// The handles and births of a storage: few, so that they meet often.
@@ -22,7 +22,7 @@ fn run(seed: u64) {
             0 | 1 => {
                 let birth = any_birth(&mut numbers);
                 let wanted = match model.entry(one) {
-                    Entry::Occupied(_) => Err(BornError::Present),
+                    Entry::Occupied(_) => Err(StorageError::Present),
                     Entry::Vacant(absent) => {
                         absent.insert((birth, Components::new()));
                         Ok(())
@@ -31,7 +31,7 @@ fn run(seed: u64) {
                 assert_eq!(storage.born(one, birth), wanted, "{place}: born {one}");
             }
             2 => {
-                let wanted = model.remove(&one).map(|_| ()).ok_or(Absent);
+                let wanted = model.remove(&one).map(|_| ()).ok_or(StorageError::Absent);
                 assert_eq!(storage.despawn(one), wanted, "{place}: despawn {one}");
             }
             3 | 4 => {
@@ -41,14 +41,14 @@ fn run(seed: u64) {
                         held.extend(components.iter().copied());
                         Ok(())
                     }
-                    None => Err(InsertError::Absent),
+                    None => Err(StorageError::Absent),
                 };
                 assert_eq!(storage.insert(one, &components), wanted, "{place}: insert");
             }
             _ => {
                 let wanted = match model.get_mut(&one) {
                     Some((_, held)) => Ok(held.remove(&id)),
-                    None => Err(Absent),
+                    None => Err(StorageError::Absent),
                 };
                 assert_eq!(storage.remove(one, id), wanted, "{place}: remove {id:?}");
             }
@@ -58,13 +58,32 @@ fn run(seed: u64) {
         assert_eq!(storage.get(one, id), value, "{place}: get {one} {id:?}");
         assert_eq!(storage.birth(one), there.map(|e| e.0), "{place}: birth");
         assert_eq!(storage.contains(one), there.is_some(), "{place}: contains");
-        let items = there.map(|(_, held)| held.iter().map(|(k, v)| (*k, *v)).collect());
-        assert_eq!(storage.items(one), items, "{place}: items of {one}");
+        let items: Option<Vec<_>> =
+            there.map(|(_, held)| held.iter().map(|(k, v)| (*k, *v)).collect());
+        let told = storage.items(one);
+        assert_eq!(
+            told.as_ref().map(|it| it.len()),
+            items.as_ref().map(Vec::len)
+        );
+        assert_eq!(
+            told.map(|it| it.collect()),
+            items,
+            "{place}: items of {one}"
+        );
+        let with: Vec<Handle> = storage.with(id).expect("memory").to_vec();
+        let wanted = model.iter().filter(|(_, (_, held))| held.contains_key(&id));
+        assert_eq!(with.len(), wanted.clone().count(), "{place}: with {id:?}");
+        assert!(wanted.into_iter().all(|(one, _)| with.contains(one)));
+        assert_eq!(storage.dense(id).len(), with.len(), "{place}: dense");
         assert_eq!(storage.len(), model.len(), "{place}: len");
         let mut order: Vec<(Birth, Handle)> = model.iter().map(|(h, e)| (e.0, *h)).collect();
         order.sort_unstable();
         let handles: Vec<Handle> = order.into_iter().map(|pair| pair.1).collect();
-        assert_eq!(storage.by_birth(), Ok(handles), "{place}: by_birth");
+        assert_eq!(
+            storage.by_birth().map(|it| it.to_vec()),
+            Ok(handles),
+            "{place}: by_birth"
+        );
     }
 }
 
@@ -91,7 +110,7 @@ fn ends_of_the_ranges() {
     assert_eq!(storage.insert(last, &values), Ok(()));
     assert_eq!(storage.birth(last), Some(birth));
     let sorted = vec![(ComponentId(0), i64::MAX), (ComponentId(255), -1)];
-    assert_eq!(storage.items(last), Some(sorted));
+    assert_eq!(storage.items(last).map(Vec::from_iter), Some(sorted));
     assert_eq!(
         storage.remove(last, ComponentId(0)),
         Ok(Some(9_223_372_036_854_775_807))
@@ -114,5 +133,57 @@ fn all_components_of_one_entity() {
         .map(|id| (ComponentId(id), -i64::from(id)))
         .collect();
     assert_eq!(storage.insert(one, &all), Ok(()));
-    assert_eq!(storage.items(one), Some(all));
+    let items = storage.items(one).expect("there");
+    let last = items.clone().skip(254);
+    assert!(last.eq([(ComponentId(254), -254), (ComponentId(255), -255)]));
+    assert_eq!(items.collect::<Vec<_>>(), all);
+}
+
+/// There is room for so many entities, which are then born without memory.
+#[test]
+fn room_for_more() {
+    let mut storage = Storage::new();
+    assert_eq!(storage.spare(), 0);
+    storage.reserve(100).expect("memory");
+    let spare = storage.spare();
+    assert!(spare >= 100);
+    let birth = Birth {
+        frame: 0,
+        system: 0,
+        ordinal: 0,
+    };
+    storage.born(handle(3, 1), birth).expect("room");
+    assert_eq!(
+        (storage.spare(), storage.place(handle(3, 1))),
+        (spare - 1, Some(0))
+    );
+    storage.despawn(handle(3, 1)).expect("there");
+    assert_eq!(
+        (storage.spare(), storage.place(handle(3, 1))),
+        (spare, None)
+    );
+    assert!(storage.reserve(usize::MAX).is_err());
+}
+
+/// A bundle has the last value of each component, by rising number.
+#[test]
+fn bundles() {
+    seeds(2_000, |seed| {
+        let mut numbers = Numbers::of(seed);
+        let (some, more) = (any_components(&mut numbers), any_components(&mut numbers));
+        let mut model: Components = some.iter().copied().collect();
+        let mut bundle = Bundle::of(&some).expect("memory");
+        for (id, value) in more {
+            bundle.put(id, value).expect("memory");
+            model.insert(id, value);
+        }
+        let items: Vec<_> = model.into_iter().collect();
+        assert_eq!(bundle.items(), items, "seed {seed}");
+        assert_eq!(bundle.clone(), bundle, "seed {seed}");
+        assert_eq!(bundle == Bundle::default(), items.is_empty(), "seed {seed}");
+    });
+    let bundle = Bundle::of(&[(ComponentId(7), 1), (ComponentId(2), -3)]).expect("memory");
+    let text = "{ComponentId(2): -3, ComponentId(7): 1}";
+    assert_eq!(format!("{bundle:?}"), text);
+    assert!(Bundle::new().items().is_empty());
 }

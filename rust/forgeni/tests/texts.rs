@@ -4,11 +4,10 @@ use crate::common::{handle, small};
 use forgeni::trace::{AllocReply, Call, CheckError, Checker, Difference, FlushReply, FreeReply};
 use forgeni::trace::{Log, Recorder, Reservation, ReserveReply};
 use forgeni::{
-    Absent, AllocError, Birth, BornError, CloseError, Commands, ComponentId, Entities, Fault,
-    FaultKind, FinishError, FreeError, Freed, Handle, HandleMap, InsertError, InsertionError,
-    Limits, OpenError, OtherPhase, OutOfMemory, ParseHandleError, Refused, RequestError,
-    RequestManyError, ShareError, SpawnError, State, Storage, SyncError, SyncErrorKind,
-    Unallocated, World,
+    Absent, AllocError, Birth, CloseError, Commands, ComponentId, Entities, Fault, FaultKind,
+    FinishError, FreeError, Freed, Handle, HandleMap, InsertError, Limits, OpenError, OtherPhase,
+    OutOfMemory, ParseHandleError, Refused, RequestError, RequestManyError, ShareError, SpawnError,
+    State, Storage, StorageError, SyncError, SyncErrorKind, Unallocated, World,
 };
 use std::fmt::{Debug, Display};
 
@@ -85,22 +84,18 @@ fn errors_of_components_and_worlds() {
     let (wanted, left) = SPACE;
     displays([
         (
-            &BornError::Present as &dyn Display,
+            &StorageError::Present as &dyn Display,
             "the entity is there already",
         ),
-        (&BornError::Memory, MEMORY),
-        (&InsertError::Absent, ABSENT),
-        (&InsertError::Memory, MEMORY),
+        (&StorageError::Absent, ABSENT),
+        (&StorageError::Memory, MEMORY),
         (&Absent, ABSENT),
+        (&InsertError::Limit, "the handle is above the map's limit"),
         (
-            &InsertionError::Limit,
-            "the handle is above the map's limit",
-        ),
-        (
-            &InsertionError::Later,
+            &InsertError::Later,
             "a later occupant of the slot has a value",
         ),
-        (&InsertionError::Memory, MEMORY),
+        (&InsertError::Memory, MEMORY),
         (&SpawnError::Space { wanted, left }, WANTED),
         (&SpawnError::Credit { left: 7 }, "the credit left is 7"),
         (&SpawnError::Memory, MEMORY),
@@ -426,9 +421,6 @@ mod frames {
             error: OutOfMemory,
         };
         displays([(&unpooled as &dyn Display, MEMORY)]);
-        debugs([(
-            &unpooled as &dyn Debug,
-            "Unpooled { error: OutOfMemory, .. }",
-        )]);
+        debugs([(&unpooled as &dyn Debug, "Unpooled { error: Memory, .. }")]);
     }
 }

@@ -1,5 +1,5 @@
-ghost use Rattle.std.specs.Prelude.{◌≡◌, Some, length, IfSome};
-ghost use Rattle.std.specs.Iterator.{YieldsFirstBy, UpTo, item_count};
+ghost use Rattle.std.specs.Prelude.{◌≡◌, ⊤, Some, length, IfSome};
+ghost use Rattle.std.specs.Iterator.{YieldsFirstBy, YieldsLastBy, UpTo, item_count};
 ghost use Rattle.std.specs.Iterator.SizeHint.{IsWithinCount};
 
 use crate::handle_map::slot::Slot;
@@ -8,8 +8,9 @@ use std::marker::Model;
 
 /// The handles and values of a map, by rising slot.
 ///
-/// `HandleMap::iter` makes it. It borrows the map and copies nothing.
+/// [`HandleMap::iter`](super::HandleMap::iter) makes it. It borrows the map and copies nothing.
 #[derive(Drop)]
+#[must_use]
 pub struct Iter<'a, T> {
     slots: &'a [Slot<T>],
     index: usize,
@@ -46,6 +47,27 @@ impl<'a, T> Iter<'a, T> {
             left,
         }
     }
+
+    /// The same entries once more. It takes no memory.
+    pub(super) fn again(&self) -> Self
+        ensures { result ≡ self.now }
+    {
+        Iter {
+            slots: self.slots,
+            index: self.index,
+            left: self.left,
+        }
+    }
+}
+
+impl<'a, T> Clone for Iter<'a, T> {
+    ghost is_clone = { λ it copy. copy ≡ it };
+
+    ghost is_infallible = { λ _. ⊤ };
+
+    fn clone(&self) -> Result<Self, std::alloc::AllocError> {
+        Ok(self.again())
+    }
 }
 
 impl<'a, T> Iterator for Iter<'a, T> {
@@ -74,6 +96,22 @@ impl<'a, T> Iterator for Iter<'a, T> {
         ensures exact { result ≡ (length self.now, Some (length self.now)) }
     {
         (self.left, Some(self.left))
+    }
+}
+
+impl<'a, T> DoubleEndedIterator for Iter<'a, T> {
+    ghost next_back_gives = { YieldsLastBy (λ item. (item.0, item.1.now)) (λ rest. rest) };
+
+    fn next_back(&mut self) -> Option<(Handle, &'a T)> {
+        while let Some((slot, rest)) = self.slots.split_last() {
+            let index = (self.index + rest.len()) as u32;
+            self.slots = rest;
+            if let Slot::Occupied { generation, value } = slot {
+                self.left -= 1;
+                return Some((generation.handle(index), value));
+            }
+        }
+        None
     }
 }
 

@@ -1,4 +1,4 @@
-ghost use Rattle.std.specs.Prelude.{◌≡◌, ◌+◌, ◌-◌, ◌^◌, ◌<◌, ◌≤◌, vec_capacity};
+ghost use Rattle.std.specs.Prelude.{◌≡◌, ◌+◌, ◌-◌, ◌^◌, ◌<◌, ◌≤◌, vec_capacity, vec_len};
 ghost use Rattle.ent_storage.specs.Retained.{Retains, RetainsSlot};
 ghost use Rattle.ent_storage.specs.Slots.{entries_from, count_at, AreCounted};
 
@@ -17,6 +17,7 @@ pub(super) fn retain_slots<T: Drop, F: FnMut(Handle, &mut T) -> bool>(
     ensures counted { AreCounted 0 slots.new.items len.new }
     ensures retained { Retains F.step keep (entries_from 0 slots.old.items)
         (entries_from 0 slots.new.items) }
+    ensures len { vec_len slots.new ≡ vec_len slots.old }
     ensures capacity { vec_capacity slots.new ≡ vec_capacity slots.old }
 {
     for index in 0..slots.len() {

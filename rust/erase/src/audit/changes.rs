@@ -39,8 +39,20 @@ pub(super) fn changes(krate: &str, path: &str, names: &Names) -> Vec<Change> {
         Change::new("pub(crate)", OWN_ONLY),
         Change::new("fmt<W: fmt::Write>(", "fmt("),
         Change::new("fmt::Formatter<W>", "fmt::Formatter<'_>"),
+        Change::new(
+            "-> Result<Self, std::alloc::AllocError> { Ok(self.again()) }",
+            "-> Self { self.again() }",
+        ),
         Change::of_path("crate::", &format!("{}::", names.crates[krate])),
     ];
+    for call in forms::LIST_CALLS.iter().filter(|it| it.from != it.to) {
+        let method = |name| format!(".{name}(");
+        changes.push(Change::new(&method(call.from), &method(call.to)));
+    }
+    for (from, to) in forms::LIST_PATHS {
+        let path = |name| format!("{}::{name}", forms::LIST);
+        changes.push(Change::of_path(&path(from), &path(to)));
+    }
     if forms::is_padded(krate, path) {
         changes.push(Change::new("write!(", "padded!("));
     }
@@ -128,6 +140,24 @@ impl Audit<'_> {
         let all = self.changes.iter().chain(derive.as_ref());
         let longest = all.filter(fits).max_by_key(|change| change.from.len())?;
         Some((longest.from.len(), longest.to.len()))
+    }
+
+    /// Whether a call here stays, though what the source says of its value tells that it is a list.
+    pub(super) fn keeps_call_of_list(&self) -> bool {
+        let (source, at) = (self.source, self.at);
+        let list = source.before(at);
+        let is_call =
+            |it: &&forms::ListCall| it.from != it.to && source.has(at, &[".", it.from, "("]);
+        if !forms::LIST_CALLS.iter().any(|it| is_call(&it)) {
+            return false;
+        }
+        let is_list = |at: usize| {
+            source.has(at, &[list, ":", "&", "mut", forms::LIST])
+                || source.has(at, &[list, ":", forms::LIST])
+                || source.has(at, &["let", "mut", list, "=", forms::LIST])
+        };
+        let is_other = |at: usize| source.has(at, &[list, ":"]) && !is_list(at);
+        (0..source.len()).any(is_list) && !(0..source.len()).any(is_other)
     }
 
     /// A derive of which some names stay.

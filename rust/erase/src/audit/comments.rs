@@ -83,7 +83,7 @@ impl Audit<'_> {
         for (name, path) in std::iter::once(own).chain(others) {
             text = text.replace(&format!("]({name}::"), &format!("]({path}::"));
         }
-        text
+        text.replace("](forgeni::", "](crate::")
     }
 }
 

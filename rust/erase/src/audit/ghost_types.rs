@@ -80,12 +80,16 @@ impl Audit<'_> {
     /// The end of a parameter that a ghost trait alone bounds, here or where it is declared.
     fn ghost_argument_end(&self, at: usize) -> Option<usize> {
         let source = self.source;
+        let may_go_on = [":", ",", ">"].contains(&source.at(at + 1));
+        if self.names.ghost_traits.is_empty() || !may_go_on || !source.is_word(at) {
+            return None;
+        }
         let declares = |other: &usize| source.has(*other, &[source.at(at), ":"]);
         let is_bound = |at: usize| {
             self.names.ghost_traits.contains(source.at(at + 2)) && source.at(at + 3) != "+"
         };
         let mut all = (0..source.len()).filter(declares).peekable();
-        if !source.is_word(at) || all.peek().is_none() || !all.all(is_bound) {
+        if all.peek().is_none() || !all.all(is_bound) {
             return None;
         }
         Some(if source.at(at + 1) == ":" {

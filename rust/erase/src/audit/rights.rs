@@ -39,15 +39,19 @@ impl Audit<'_> {
     /// The end of a part of a list, all of which is the right.
     pub(super) fn right_part(&self, at: usize) -> Option<usize> {
         let source = self.source;
-        let is_in_braces = source.at(self.open_before(at)?) == "{";
         let is_begin = ["(", ",", "{", "|"].contains(&source.before(at));
-        let is_field = is_begin && is_in_braces || ["pub", ")"].contains(&source.before(at));
+        let may_begin = is_begin || ["pub", ")"].contains(&source.before(at));
+        let may_go_on = [":", ".", ",", ")", "}", "|"].contains(&source.at(at + 1));
+        if !may_begin || !may_go_on || !source.is_word(at) {
+            return None;
+        }
         let label = self.names.fields.has(source.at(at)) && source.at(at + 1) == ":";
-        let is_typed = source.has(at + 1, &[":", forms::RIGHT]) && (is_begin || is_field);
-        let is_passed = label && is_in_braces && source.at(at + 2) == "_";
+        let is_in_braces = label && source.at(self.open_before(at)?) == "{";
+        let is_typed = source.has(at + 1, &[":", forms::RIGHT]);
+        let is_passed = is_in_braces && source.at(at + 2) == "_";
         let end = if is_typed || is_passed {
             at + 3
-        } else if is_begin && label && is_in_braces {
+        } else if is_begin && is_in_braces {
             self.right_value(at + 2)?
         } else if is_begin {
             self.right_value(at)?

@@ -1,7 +1,7 @@
 //! Functions with a condition are the package's own.
 
 use super::Audit;
-use crate::conditions::imported;
+use crate::conditions::{imported, is_of_a_closure};
 use crate::source::Fault;
 
 impl Audit<'_> {
@@ -34,15 +34,18 @@ impl Audit<'_> {
         Err(self.source.fault(self.at, what))
     }
 
-    /// Whether the word `requires` stands between the name and the body of the function here.
+    /// Whether a condition stands between the name and the body of the function here.
     fn is_conditional(&self, at: usize) -> bool {
         let (source, mut at) = (self.source, at + 1);
         loop {
             match source.at(at) {
-                "requires" => return true,
-                "ensures" => {
+                word @ ("requires" | "ensures") => {
                     let open = (at..source.len()).find(|at| source.at(*at) == "{");
-                    at = open.map_or(source.len(), |open| source.partner(open));
+                    let open = open.unwrap_or(source.len());
+                    if word == "requires" && !is_of_a_closure(source, open) {
+                        return true;
+                    }
+                    at = source.partner(open);
                 }
                 "(" | "[" => at = source.partner(at),
                 "{" | ";" | "" => return false,

@@ -10,7 +10,6 @@ mod kit;
 #[path = "../../../forgeni/src/proved/mod.rs"]
 mod proved;
 
-use kit::vec::Vec as List;
 use proved::ent_alloc::Limits;
 use proved::ent_replay::{read_schedule, write_outcome, Machine};
 use std::error::Error;
@@ -22,11 +21,10 @@ fn main() -> Result<(), Box<dyn Error>> {
     let events = read_schedule(&schedule).map_err(|_| "it is no schedule")?;
     let mut machine = Machine::new(Limits::default_limits()).map_err(|_| "out of memory")?;
     let outcomes = machine.run(&events).map_err(|_| "out of memory")?;
-    let mut text = List::new();
+    let mut text = Vec::new();
     for outcome in &outcomes {
         write_outcome(outcome, &mut text)?;
     }
-    let text: Vec<u8> = text.into();
     io::stdout().write_all(&text)?;
     Ok(())
 }

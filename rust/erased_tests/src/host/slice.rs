@@ -1,7 +1,7 @@
 //! Lists of copies.
 
 use crate::kit::alloc::AllocError;
-use crate::kit::vec::Vec;
+use crate::kit::vec::FallibleVec;
 
 /// The kit's `to_vec`.
 pub trait ToKitVec<T> {
@@ -10,7 +10,7 @@ pub trait ToKitVec<T> {
 
 impl<T: Copy> ToKitVec<T> for [T] {
     fn to_kit_vec(&self) -> Result<Vec<T>, AllocError> {
-        Vec::from_slice(self)
+        Vec::from_slice_fallibly(self)
     }
 }
 
@@ -21,7 +21,7 @@ pub trait AppendCopies<T> {
 
 impl<T: Copy> AppendCopies<T> for Vec<T> {
     fn append_copies(&mut self, others: &mut Vec<T>) -> Result<(), AllocError> {
-        self.extend_from_slice(others)?;
+        self.extend_from_slice_fallibly(others)?;
         others.clear();
         Ok(())
     }

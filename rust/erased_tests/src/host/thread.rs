@@ -4,7 +4,6 @@ pub use crate::kit::thread::{join_mut, Threads};
 pub use std::thread::yield_now;
 
 use crate::kit::alloc::AllocError;
-use crate::kit::vec::Vec;
 use std::thread::scope;
 
 /// Calls `work` with each job, all of them side by side.
@@ -13,11 +12,11 @@ pub fn map_vec<R: Threads + Sync, J: Send, X: Send>(
     jobs: Vec<J>,
     work: &(impl Fn(J) -> X + Sync),
 ) -> Result<Vec<X>, AllocError> {
-    let done: std::vec::Vec<X> = scope(|scope| {
+    let done: Vec<X> = scope(|scope| {
         let start = |job| scope.spawn(|| work(job));
-        let running: std::vec::Vec<_> = jobs.into_iter().map(start).collect();
+        let running: Vec<_> = jobs.into_iter().map(start).collect();
         let joined = running.into_iter().map(|it| it.join());
         joined.map(|it| it.expect("no panic beside")).collect()
     });
-    Ok(done.into())
+    Ok(done)
 }

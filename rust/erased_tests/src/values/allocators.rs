@@ -1,6 +1,5 @@
 //! What no line of a case writes: a request of four thousand million handles, and a list with room.
 
-use crate::kit::vec::Vec;
 use crate::proved::ent_alloc::{Entities, Limits, Span};
 use crate::proved::ent_handle::Handle;
 
@@ -29,7 +28,7 @@ fn a_flush_with_room_for_its_slots_is_not_refused() {
 
 fn assert_flushes_one_by_one(room: usize) {
     let mut entities = Entities::with_limits(Limits::default_limits());
-    let mut out = Vec::with_capacity(room).expect("memory for a list");
+    let mut out = Vec::with_capacity(room);
     // Room is made for more than one slot at a time, so most of these flushes find some.
     for index in 0..20 {
         entities.lower(1);

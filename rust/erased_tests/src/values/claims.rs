@@ -1,6 +1,5 @@
 //! Claimers that claim in turn, and threads that claim side by side.
 
-use crate::kit::vec::Vec;
 use crate::proved::ent_runner::{Claimer, Claims};
 use std::sync::Barrier;
 use std::thread;
@@ -75,9 +74,9 @@ fn each_number_of_workers() {
 fn four_threads_claim_each_number_once() {
     let (claims, mut claimers) = opened(1_000, 4);
     let all_here = Barrier::new(4);
-    let mut claimed = std::vec::Vec::new();
+    let mut claimed = Vec::new();
     thread::scope(|threads| {
-        let workers: std::vec::Vec<_> = claimers
+        let workers: Vec<_> = claimers
             .iter_mut()
             .map(|claimer| threads.spawn(|| claimed_by(&claims, claimer, &all_here)))
             .collect();
@@ -91,7 +90,7 @@ fn four_threads_claim_each_number_once() {
 }
 
 /// What a worker claims until it has ended, once all workers are here.
-fn claimed_by(claims: &Claims, claimer: &mut Claimer, all_here: &Barrier) -> std::vec::Vec<usize> {
+fn claimed_by(claims: &Claims, claimer: &mut Claimer, all_here: &Barrier) -> Vec<usize> {
     all_here.wait();
     std::iter::from_fn(|| claims.next(claimer)).collect()
 }

@@ -1,7 +1,6 @@
 //! How the faults of schedules, requests, queues, sync points and frames read, and what a system
 //! makes of one.
 
-use crate::kit::vec::Vec;
 use crate::proved::ent_handle::Memory;
 use crate::proved::ent_queue::QueueFault;
 use crate::proved::ent_replay::{Cause, ReadFault};

@@ -1,6 +1,5 @@
 //! Whole inputs, from sources that give them in pieces, fail, or never end.
 
-use crate::kit::vec::Vec;
 use crate::made::devices::{read_all, Failed, InputFault, Source};
 
 /// The longest input that `spawnrun` reads, in bytes.

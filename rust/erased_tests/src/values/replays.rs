@@ -1,13 +1,12 @@
 //! The lists of handles in outcomes.
 
-use crate::kit::vec::Vec;
 use crate::proved::ent_handle::Handle;
 use crate::proved::ent_replay::HandleList;
 
 #[test]
 fn lists_of_handles() {
     let handle = Handle::new(2, 1).expect("a handle");
-    let list = HandleList::new(Vec::from_slice(&[handle, handle]).expect("memory for two"));
+    let list = HandleList::new(vec![handle, handle]);
     let none = HandleList::new(Vec::new());
     assert_eq!(
         (list.len(), list.is_empty(), none.is_empty()),

@@ -6,8 +6,9 @@
 pub use ::alloc::collections::LinkedList;
 
 use super::alloc::AllocFailed;
-use super::vec::Vec;
+use super::vec::FallibleVec;
 use ::alloc::collections::btree_map::{Entry, Iter};
+use ::alloc::vec::Vec;
 use core::ops::{Deref, DerefMut};
 
 /// A map by rising key. It is Rust's.
@@ -46,7 +47,7 @@ impl<K: Ord, V> BTreeMap<K, V> {
         let nodes = nodes_for(self.0.len());
         match self.0.entry(key) {
             Entry::Occupied(mut entry) => Ok(Some(entry.insert(value))),
-            Entry::Vacant(entry) => match Vec::<Node<K, V>>::with_capacity(nodes) {
+            Entry::Vacant(entry) => match Vec::<Node<K, V>>::with_capacity_fallibly(nodes) {
                 Ok(room) => {
                     drop(core::hint::black_box(room));
                     entry.insert(value);

@@ -1,7 +1,7 @@
 //! What the proved sources use of their kit's std and crates, for plain Rust.
 //!
 //! The sources below [`proved`](crate::proved) were proved against contracts of the kit: its `Vec`
-//! whose growth can fail, its atomic words, its threads. Here stand types of the same names over
+//! whose growth can fail, its atomic words, its threads. Here are types of the same names, and calls of a list, over
 //! Rust's own `core` and `alloc`, in safe code. Nothing here is proved. So each item says which
 //! contract it has to keep, and its tests go to the edges of it. Each file names the files of the kit's
 //! folder `rattle` that state the contracts.

@@ -3,7 +3,8 @@
 //! The contracts are those of the kit's `smallvec/src/small_vec.rt` and `edits.rt`.
 
 use super::alloc::{AllocError, AllocFailed};
-use super::vec::Vec;
+use super::vec::FallibleVec;
+use ::alloc::vec::Vec;
 use core::ops::{Deref, DerefMut};
 
 /// A list that takes memory only if it has more than `N` items. In safe code the places that are
@@ -31,7 +32,7 @@ impl<T: Copy + Default, const N: usize> SmallVec<T, N> {
         if count <= N {
             return Ok(SmallVec::new());
         }
-        Ok(SmallVec::Heap(Vec::with_capacity(count)?))
+        Ok(SmallVec::Heap(Vec::with_capacity_fallibly(count)?))
     }
 
     #[inline]
@@ -55,7 +56,7 @@ impl<T: Copy + Default, const N: usize> SmallVec<T, N> {
                 *self = SmallVec::Heap(list);
                 Ok(())
             }
-            SmallVec::Heap(list) => list.insert(at, value),
+            SmallVec::Heap(list) => list.insert_fallibly(at, value),
         }
     }
 }
@@ -63,9 +64,9 @@ impl<T: Copy + Default, const N: usize> SmallVec<T, N> {
 /// The items with the value among them, in a list with room for as many more.
 #[cold]
 fn spill<T: Copy>(items: &[T], at: usize, value: T) -> Option<Vec<T>> {
-    let mut list = Vec::with_capacity(2 * items.len() + 1).ok()?;
-    list.extend_from_slice(items).ok()?;
-    list.insert(at, value).ok()?;
+    let mut list = Vec::with_capacity_fallibly(2 * items.len() + 1).ok()?;
+    list.extend_from_slice_fallibly(items).ok()?;
+    list.insert_fallibly(at, value).ok()?;
     Some(list)
 }
 

@@ -1,7 +1,8 @@
 //! Stable sorts that ask for their memory first.
 
 use super::alloc::AllocError;
-use super::vec::Vec;
+use super::vec::FallibleVec;
+use ::alloc::vec::Vec;
 use core::mem;
 
 /// A list of at most this length is sorted in its place.
@@ -16,7 +17,7 @@ pub(super) fn merge_sort<T: Copy, K: Ord>(
         insertion_sort(items, key);
         return Ok(());
     }
-    let mut buffer = Vec::with_capacity(items.len() / 2)?;
+    let mut buffer = Vec::with_capacity_fallibly(items.len() / 2)?;
     sort_with(items, &mut buffer, key);
     Ok(())
 }
@@ -77,7 +78,7 @@ pub(super) fn sort_in_cycles<T, K: Ord>(
     if items.len() < 2 {
         return Ok(());
     }
-    let mut order = Vec::with_capacity(items.len())?;
+    let mut order = Vec::with_capacity_fallibly(items.len())?;
     for (place, item) in items.iter().enumerate() {
         order.push_reserved((key(item), place));
     }

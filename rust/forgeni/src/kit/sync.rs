@@ -3,7 +3,8 @@
 //! The contracts are those of the kit's `std_alloc/src/arc/methods.rt`.
 
 use super::alloc::{AllocError, AllocFailed};
-use super::vec::Vec;
+use super::vec::FallibleVec;
+use ::alloc::vec::Vec;
 use core::ops::Deref;
 
 /// A value that several owners share.
@@ -20,7 +21,7 @@ impl<T> Arc<T> {
     /// first. If another thread takes it meanwhile, and no other memory is left, the program ends.
     #[inline]
     pub fn new(value: T) -> Result<Self, AllocFailed<T>> {
-        match Vec::<Room<T>>::with_capacity(1) {
+        match Vec::<Room<T>>::with_capacity_fallibly(1) {
             Ok(room) => drop(core::hint::black_box(room)),
             Err(AllocError) => return Err(AllocFailed { value }),
         }

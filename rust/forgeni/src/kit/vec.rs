@@ -1,207 +1,194 @@
-//! The kit's `Vec`: each call that may grow it returns a `Result`.
+//! The calls of the kit's `Vec` that return a `Result`, for Rust's own.
+//!
+//! A list of the results is `alloc::vec::Vec`. What the kit's list does as Rust's, as `pop` or `retain`, is that of Rust's. What may be
+//! refused in the kit has another name here, which no list of Rust has: each ends in `_fallibly`.
 //!
 //! The contracts are those of the kit's `std_alloc/src/vec/methods.rt`, `ends.rt`, `edits.rt`,
 //! `filters.rt`, `sorts.rt`, `copies.rt` and `collects.rt`.
 
 use super::alloc::{AllocError, AllocFailed};
 use super::sorting::{merge_sort, sort_in_cycles};
-use core::fmt;
-use core::ops::{Deref, DerefMut};
-use core::slice;
+use ::alloc::vec::Vec;
 
-/// A list whose growth may be refused. It is Rust's, and is made of it and turned into it for nothing.
+/// The calls.
 ///
-/// The contract of each call that returns an `Err`: the items and the capacity are as before, and it
-/// never comes if there was room already. The capacity never shrinks.
-#[derive(PartialEq, Eq, PartialOrd, Ord, Hash)]
-pub struct Vec<T>(::alloc::vec::Vec<T>);
-
-impl<T> Vec<T> {
+/// The contract of each that returns an `Err`: the items and the capacity are as before, and it never comes if there
+/// was room already. The capacity never shrinks.
+pub trait FallibleVec<T>: Sized {
     /// In Rust, a list of values of size 0 has unlimited room; in the kit, the room that was asked for. No source
-    /// has such a list, and one doesn't compile.
+    /// has such a list, and a call of one doesn't compile.
     const HAVE_A_SIZE: () = assert!(
         size_of::<T>() > 0,
         "the room of a list of values without a size isn't what the kit says"
     );
 
-    /// The contract: no items, and no room. It takes no memory.
-    #[inline]
-    pub const fn new() -> Self {
-        let () = Self::HAVE_A_SIZE;
-        Vec(::alloc::vec::Vec::new())
-    }
-
     /// The contract: no items, and room for that many, of which none is too much. It succeeds if
     /// `count` is 0.
-    #[inline]
-    pub fn with_capacity(count: usize) -> Result<Self, AllocError> {
-        let mut list = Vec::new();
-        if count > 0 {
-            allow_growth()?;
-            list.0.try_reserve_exact(count)?;
-        }
-        Ok(list)
-    }
+    fn with_capacity_fallibly(count: usize) -> Result<Self, AllocError>;
 
-    #[inline]
-    pub fn capacity(&self) -> usize {
-        self.0.capacity()
-    }
-
-    #[inline]
-    pub fn as_slice(&self) -> &[T] {
-        &self.0
-    }
+    /// The contract: the number of items for which there is room, with those that are there.
+    fn sized_capacity(&self) -> usize;
 
     /// The contract: after an `Ok` there is room for that many more.
-    #[inline]
-    pub fn reserve(&mut self, additional: usize) -> Result<(), AllocError> {
-        if additional <= self.0.capacity() - self.0.len() {
-            return Ok(());
-        }
-        self.grow(additional)
-    }
-
-    /// It is apart, so that where there is room only the test stands.
-    #[cold]
-    #[inline(never)]
-    fn grow(&mut self, additional: usize) -> Result<(), AllocError> {
-        allow_growth()?;
-        Ok(self.0.try_reserve(additional)?)
-    }
+    fn reserve_fallibly(&mut self, additional: usize) -> Result<(), AllocError>;
 
     /// The contract: the value stands at the end, or comes back.
-    #[inline]
-    pub fn push(&mut self, value: T) -> Result<(), AllocFailed<T>> {
-        if self.reserve(1).is_err() {
-            return Err(AllocFailed { value });
-        }
-        self.0.push(value);
-        Ok(())
-    }
+    fn push_fallibly(&mut self, value: T) -> Result<(), AllocFailed<T>>;
 
     /// The contract: there is room, and the value stands at the end. Who calls it has asked for room.
-    #[inline]
-    pub fn push_reserved(&mut self, value: T) {
-        debug_assert!(self.0.len() < self.0.capacity(), "no room was asked for");
-        self.0.push(value);
-    }
+    fn push_reserved(&mut self, value: T);
 
     /// The contract: the value stands at `at`, which is at most the length, and the later items after
     /// it; or it comes back.
-    #[inline]
-    pub fn insert(&mut self, at: usize, value: T) -> Result<(), AllocFailed<T>> {
-        if self.reserve(1).is_err() {
-            return Err(AllocFailed { value });
-        }
-        self.0.insert(at, value);
-        Ok(())
-    }
+    fn insert_fallibly(&mut self, at: usize, value: T) -> Result<(), AllocFailed<T>>;
 
     /// The contract: copies of the items stand at the end, in their order.
-    #[inline]
-    pub fn extend_from_slice(&mut self, items: &[T]) -> Result<(), AllocError>
+    fn extend_from_slice_fallibly(&mut self, items: &[T]) -> Result<(), AllocError>
     where
-        T: Copy,
-    {
-        self.reserve(items.len())?;
-        self.0.extend_from_slice(items);
-        Ok(())
-    }
+        T: Copy;
 
     /// The contract: the length is `count`. Items beyond it are gone, or those that were missing are
     /// the value.
-    #[inline]
-    pub fn resize(&mut self, count: usize, value: T) -> Result<(), AllocError>
+    fn resize_fallibly(&mut self, count: usize, value: T) -> Result<(), AllocError>
     where
-        T: Copy,
-    {
-        self.reserve(count.saturating_sub(self.len()))?;
-        self.0.resize(count, value);
-        Ok(())
-    }
-
-    /// The contract: the last item is taken, if there is one.
-    #[inline]
-    pub fn pop(&mut self) -> Option<T> {
-        self.0.pop()
-    }
-
-    /// The contract: the first `count` items stay, or all if there are fewer.
-    #[inline]
-    pub fn truncate(&mut self, count: usize) {
-        self.0.truncate(count);
-    }
-
-    /// The contract: no item stays, and the room does.
-    #[inline]
-    pub fn clear(&mut self) {
-        self.0.clear();
-    }
-
-    /// The contract: the item at `at`, which is below the length, is taken, and the last one stands
-    /// there.
-    #[inline]
-    pub fn swap_remove(&mut self, at: usize) -> T {
-        self.0.swap_remove(at)
-    }
-
-    /// The contract: the item at `at`, which is below the length, is taken, and the later ones move
-    /// down.
-    #[inline]
-    pub fn remove(&mut self, at: usize) -> T {
-        self.0.remove(at)
-    }
-
-    /// The contract: the items of which `keeps` says so stay, in their order.
-    #[inline]
-    pub fn retain(&mut self, keeps: impl FnMut(&T) -> bool) {
-        self.0.retain(keeps);
-    }
+        T: Copy;
 
     /// The contract: the items rise by their keys, and those of one key keep their order. All memory
     /// is asked for before an item moves, and none for 20 items or fewer. `sort_by_key` of Rust's
     /// slices ends the program instead.
-    pub fn sort_by_key<K: Ord>(&mut self, key: impl Fn(&T) -> K) -> Result<(), AllocError>
+    fn sort_by_key_fallibly<K: Ord>(&mut self, key: impl Fn(&T) -> K) -> Result<(), AllocError>
     where
-        T: Copy,
-    {
-        merge_sort(&mut self.0, &key)
-    }
+        T: Copy;
 
     /// The contract: the items rise by their keys, and those of one key keep their order. All memory
     /// is asked for before an item moves, and none for one item or for no items.
-    pub fn sort_by_cached_key<K: Ord>(&mut self, key: impl Fn(&T) -> K) -> Result<(), AllocError> {
-        sort_in_cycles(&mut self.0, &key)
-    }
+    fn sort_by_cached_key_fallibly<K: Ord>(
+        &mut self,
+        key: impl Fn(&T) -> K,
+    ) -> Result<(), AllocError>;
+
+    /// The contract: copies of the items.
+    fn from_slice_fallibly(items: &[T]) -> Result<Self, AllocError>
+    where
+        T: Copy;
+
+    /// The contract: the items rise, and equal ones keep their order. It is for the repository's own tests.
+    #[cfg(test)]
+    fn sort_fallibly(&mut self) -> Result<(), AllocError>
+    where
+        T: Ord + Copy;
 }
 
-/// What the repository's own tests call, and the package doesn't.
-impl<T> Vec<T> {
-    /// The contract: the items of the array.
-    pub fn from_array<const N: usize>(items: [T; N]) -> Result<Self, AllocError> {
-        let mut list = Vec::with_capacity(N)?;
-        list.0.extend(items);
+impl<T> FallibleVec<T> for Vec<T> {
+    #[inline]
+    fn with_capacity_fallibly(count: usize) -> Result<Self, AllocError> {
+        let () = Self::HAVE_A_SIZE;
+        let mut list = Vec::new();
+        if count > 0 {
+            allow_growth()?;
+            list.try_reserve_exact(count)?;
+        }
         Ok(list)
     }
 
-    /// The contract: copies of the items.
-    pub fn from_slice(items: &[T]) -> Result<Self, AllocError>
+    #[inline]
+    fn sized_capacity(&self) -> usize {
+        let () = Self::HAVE_A_SIZE;
+        self.capacity()
+    }
+
+    #[inline]
+    fn reserve_fallibly(&mut self, additional: usize) -> Result<(), AllocError> {
+        let () = Self::HAVE_A_SIZE;
+        if additional <= self.capacity() - self.len() {
+            return Ok(());
+        }
+        grow(self, additional)
+    }
+
+    #[inline]
+    fn push_fallibly(&mut self, value: T) -> Result<(), AllocFailed<T>> {
+        if self.reserve_fallibly(1).is_err() {
+            return Err(AllocFailed { value });
+        }
+        self.push(value);
+        Ok(())
+    }
+
+    #[inline]
+    fn push_reserved(&mut self, value: T) {
+        debug_assert!(self.len() < self.capacity(), "no room was asked for");
+        self.push(value);
+    }
+
+    #[inline]
+    fn insert_fallibly(&mut self, at: usize, value: T) -> Result<(), AllocFailed<T>> {
+        if self.reserve_fallibly(1).is_err() {
+            return Err(AllocFailed { value });
+        }
+        self.insert(at, value);
+        Ok(())
+    }
+
+    #[inline]
+    fn extend_from_slice_fallibly(&mut self, items: &[T]) -> Result<(), AllocError>
     where
         T: Copy,
     {
-        let mut list = Vec::with_capacity(items.len())?;
-        list.extend_from_slice(items)?;
+        self.reserve_fallibly(items.len())?;
+        self.extend_from_slice(items);
+        Ok(())
+    }
+
+    #[inline]
+    fn resize_fallibly(&mut self, count: usize, value: T) -> Result<(), AllocError>
+    where
+        T: Copy,
+    {
+        self.reserve_fallibly(count.saturating_sub(self.len()))?;
+        self.resize(count, value);
+        Ok(())
+    }
+
+    fn sort_by_key_fallibly<K: Ord>(&mut self, key: impl Fn(&T) -> K) -> Result<(), AllocError>
+    where
+        T: Copy,
+    {
+        merge_sort(self, &key)
+    }
+
+    fn sort_by_cached_key_fallibly<K: Ord>(
+        &mut self,
+        key: impl Fn(&T) -> K,
+    ) -> Result<(), AllocError> {
+        sort_in_cycles(self, &key)
+    }
+
+    #[inline]
+    fn from_slice_fallibly(items: &[T]) -> Result<Self, AllocError>
+    where
+        T: Copy,
+    {
+        let mut list = Vec::with_capacity_fallibly(items.len())?;
+        list.extend_from_slice(items);
         Ok(list)
     }
 
-    /// The contract: the items rise, and equal ones keep their order.
-    pub fn sort(&mut self) -> Result<(), AllocError>
+    #[cfg(test)]
+    fn sort_fallibly(&mut self) -> Result<(), AllocError>
     where
         T: Ord + Copy,
     {
-        self.sort_by_key(|item| *item)
+        self.sort_by_key_fallibly(|item| *item)
     }
+}
+
+/// It is apart, so that where there is room only the test stands.
+#[cold]
+#[inline(never)]
+fn grow<T>(list: &mut Vec<T>, additional: usize) -> Result<(), AllocError> {
+    allow_growth()?;
+    Ok(list.try_reserve(additional)?)
 }
 
 /// In tests, whether a growth is to be refused now. Else it is up to the allocator alone.
@@ -210,73 +197,6 @@ fn allow_growth() -> Result<(), AllocError> {
     #[cfg(test)]
     super::refusing::ask()?;
     Ok(())
-}
-
-impl<T> From<::alloc::vec::Vec<T>> for Vec<T> {
-    #[inline]
-    fn from(list: ::alloc::vec::Vec<T>) -> Self {
-        let () = Vec::<T>::HAVE_A_SIZE;
-        Vec(list)
-    }
-}
-
-impl<T> From<Vec<T>> for ::alloc::vec::Vec<T> {
-    #[inline]
-    fn from(list: Vec<T>) -> Self {
-        list.0
-    }
-}
-
-impl<T: fmt::Debug> fmt::Debug for Vec<T> {
-    fn fmt(&self, f: &mut fmt::Formatter<'_>) -> fmt::Result {
-        self.0.fmt(f)
-    }
-}
-
-impl<T> Deref for Vec<T> {
-    type Target = [T];
-
-    #[inline]
-    fn deref(&self) -> &[T] {
-        &self.0
-    }
-}
-
-impl<T> DerefMut for Vec<T> {
-    #[inline]
-    fn deref_mut(&mut self) -> &mut [T] {
-        &mut self.0
-    }
-}
-
-impl<T> IntoIterator for Vec<T> {
-    type Item = T;
-    type IntoIter = ::alloc::vec::IntoIter<T>;
-
-    #[inline]
-    fn into_iter(self) -> Self::IntoIter {
-        self.0.into_iter()
-    }
-}
-
-impl<'a, T> IntoIterator for &'a Vec<T> {
-    type Item = &'a T;
-    type IntoIter = slice::Iter<'a, T>;
-
-    #[inline]
-    fn into_iter(self) -> Self::IntoIter {
-        self.0.iter()
-    }
-}
-
-impl<'a, T> IntoIterator for &'a mut Vec<T> {
-    type Item = &'a mut T;
-    type IntoIter = slice::IterMut<'a, T>;
-
-    #[inline]
-    fn into_iter(self) -> Self::IntoIter {
-        self.0.iter_mut()
-    }
 }
 
 /// The kit's `collect`.
@@ -290,10 +210,11 @@ pub trait CollectIn: Iterator + Sized {
             return Ok(Vec::new());
         };
         let count = self.size_hint().0.saturating_add(1);
-        let mut list = Vec::with_capacity(count).or_else(|_| Vec::with_capacity(1))?;
+        let mut list =
+            Vec::with_capacity_fallibly(count).or_else(|_| Vec::with_capacity_fallibly(1))?;
         list.push_reserved(first);
         for item in self {
-            list.push(item)?;
+            list.push_fallibly(item)?;
         }
         Ok(list)
     }
@@ -307,41 +228,47 @@ mod tests {
     use super::*;
 
     fn list(items: &[u32]) -> Vec<u32> {
-        Vec::from(items.to_vec())
+        items.to_vec()
     }
 
     #[test]
     fn new_has_no_room_and_room_for_none_is_never_refused() {
         assert_eq!(Vec::<u32>::new().capacity(), 0);
-        let list = refuse(|| Vec::<u32>::with_capacity(0)).expect("nothing is asked for");
+        let list = refuse(|| Vec::<u32>::with_capacity_fallibly(0)).expect("nothing is asked for");
         assert_eq!((list.len(), list.capacity()), (0, 0));
     }
 
     #[test]
     fn capacity_is_what_was_asked_for() {
         for count in [1, 3, 1000] {
-            let list = Vec::<u64>::with_capacity(count).expect("memory");
+            let list = Vec::<u64>::with_capacity_fallibly(count).expect("memory");
             assert_eq!((list.len(), list.capacity()), (0, count));
         }
     }
 
     #[test]
     fn more_than_there_can_be_is_refused() {
-        assert_eq!(Vec::<u32>::with_capacity(usize::MAX), Err(AllocError));
+        assert_eq!(
+            Vec::<u32>::with_capacity_fallibly(usize::MAX),
+            Err(AllocError)
+        );
         let mut three = list(&[1, 2, 3]);
         let capacity = three.capacity();
-        assert_eq!(three.reserve(usize::MAX), Err(AllocError));
+        assert_eq!(three.reserve_fallibly(usize::MAX), Err(AllocError));
         assert_eq!((&three[..], three.capacity()), (&[1, 2, 3][..], capacity));
     }
 
     #[test]
     fn push_at_capacity_grows_or_gives_the_value_back() {
-        let mut list = Vec::with_capacity(2).expect("memory");
+        let mut list = Vec::with_capacity_fallibly(2).expect("memory");
         list.push_reserved(1);
-        refuse(|| list.push(2)).expect("there is room");
-        assert_eq!(refuse(|| list.push(3)), Err(AllocFailed { value: 3 }));
+        refuse(|| list.push_fallibly(2)).expect("there is room");
+        assert_eq!(
+            refuse(|| list.push_fallibly(3)),
+            Err(AllocFailed { value: 3 })
+        );
         assert_eq!((&list[..], list.capacity()), (&[1, 2][..], 2));
-        list.push(3).expect("memory");
+        list.push_fallibly(3).expect("memory");
         assert_eq!(&list[..], &[1, 2, 3]);
     }
 
@@ -354,36 +281,42 @@ mod tests {
 
     #[test]
     fn insert_at_both_ends() {
-        let mut list = Vec::with_capacity(1).expect("memory");
-        refuse(|| list.insert(0, 2)).expect("there is room");
-        assert_eq!(refuse(|| list.insert(1, 3)), Err(AllocFailed { value: 3 }));
+        let mut list = Vec::with_capacity_fallibly(1).expect("memory");
+        refuse(|| list.insert_fallibly(0, 2)).expect("there is room");
+        assert_eq!(
+            refuse(|| list.insert_fallibly(1, 3)),
+            Err(AllocFailed { value: 3 })
+        );
         assert_eq!(&list[..], &[2]);
-        list.insert(1, 3).expect("memory");
-        list.insert(0, 1).expect("memory");
+        list.insert_fallibly(1, 3).expect("memory");
+        list.insert_fallibly(0, 1).expect("memory");
         assert_eq!(&list[..], &[1, 2, 3]);
     }
 
     #[test]
     fn extending_by_nothing_asks_for_nothing() {
         let mut list = list(&[1]);
-        refuse(|| list.extend_from_slice(&[])).expect("nothing is asked for");
+        refuse(|| list.extend_from_slice_fallibly(&[])).expect("nothing is asked for");
         let more = std::vec![2; list.capacity()];
-        assert_eq!(refuse(|| list.extend_from_slice(&more)), Err(AllocError));
+        assert_eq!(
+            refuse(|| list.extend_from_slice_fallibly(&more)),
+            Err(AllocError)
+        );
         assert_eq!(&list[..], &[1]);
-        list.extend_from_slice(&[2, 3]).expect("memory");
+        list.extend_from_slice_fallibly(&[2, 3]).expect("memory");
         assert_eq!(&list[..], &[1, 2, 3]);
     }
 
     #[test]
     fn resize_shrinks_and_grows() {
         let mut list = list(&[1, 2, 3]);
-        refuse(|| list.resize(1, 9)).expect("it shrinks");
+        refuse(|| list.resize_fallibly(1, 9)).expect("it shrinks");
         assert_eq!(&list[..], &[1]);
         let beyond = list.capacity() + 1;
-        assert_eq!(refuse(|| list.resize(beyond, 9)), Err(AllocError));
-        list.resize(3, 9).expect("memory");
+        assert_eq!(refuse(|| list.resize_fallibly(beyond, 9)), Err(AllocError));
+        list.resize_fallibly(3, 9).expect("memory");
         assert_eq!(&list[..], &[1, 9, 9]);
-        list.resize(0, 9).expect("it shrinks");
+        list.resize_fallibly(0, 9).expect("it shrinks");
         assert_eq!(&list[..], &[0; 0]);
     }
 
@@ -459,12 +392,15 @@ mod tests {
     fn one_item_is_sorted_by_its_key_without_memory() {
         for items in [&[][..], &[7]] {
             let mut few = list(items);
-            assert_eq!(refuse(|| few.sort_by_cached_key(|item| *item)), Ok(()));
+            assert_eq!(
+                refuse(|| few.sort_by_cached_key_fallibly(|item| *item)),
+                Ok(())
+            );
             assert_eq!(&few[..], items);
         }
         let mut two = list(&[7, 6]);
         assert_eq!(
-            refuse(|| two.sort_by_cached_key(|item| *item)),
+            refuse(|| two.sort_by_cached_key_fallibly(|item| *item)),
             Err(AllocError)
         );
         assert_eq!(&two[..], [7, 6]);
@@ -473,8 +409,8 @@ mod tests {
     #[test]
     fn the_room_is_as_much_as_was_asked_for() {
         for count in [1, 2, 3, 5, 7, 1000, 4097, 1 << 20] {
-            let bytes = Vec::<u8>::with_capacity(count).expect("memory");
-            let words = Vec::<[u64; 3]>::with_capacity(count).expect("memory");
+            let bytes = Vec::<u8>::with_capacity_fallibly(count).expect("memory");
+            let words = Vec::<[u64; 3]>::with_capacity_fallibly(count).expect("memory");
             assert_eq!((bytes.capacity(), words.capacity()), (count, count));
         }
     }

@@ -5,7 +5,7 @@ use super::reply::{AllocReply, FlushReply, FreeReply, ReserveReply};
 use crate::entities::State;
 use crate::errors::OutOfMemory;
 use crate::handle::Handle;
-use crate::kit::vec::Vec as List;
+use crate::kit::vec::FallibleVec;
 use crate::limits::Limits;
 use crate::proved::ent_replay::trace::{self, Line};
 use crate::proved::ent_replay::HandleList;
@@ -133,7 +133,7 @@ impl ReserveReply {
 
 /// A copy of the handles.
 fn proved_list(handles: &[Handle]) -> Result<HandleList, OutOfMemory> {
-    let mut list: List<ent_handle::Handle> = List::with_capacity(handles.len())?;
+    let mut list: Vec<ent_handle::Handle> = Vec::with_capacity_fallibly(handles.len())?;
     for handle in handles {
         list.push_reserved(*handle);
     }
@@ -142,5 +142,5 @@ fn proved_list(handles: &[Handle]) -> Result<HandleList, OutOfMemory> {
 
 /// The handles, in the memory of the list.
 pub(super) fn list(handles: HandleList) -> Vec<Handle> {
-    handles.into_vec().into()
+    handles.into_vec()
 }

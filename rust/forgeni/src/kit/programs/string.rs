@@ -3,7 +3,7 @@
 //! The contracts are those of the kit's `std_alloc/src/string.rt` and of `std::convert::AsStr`.
 
 use crate::kit::alloc::AllocError;
-use crate::kit::vec::Vec;
+use ::alloc::vec::Vec;
 use core::borrow::Borrow;
 use core::fmt;
 use core::ops::Deref;
@@ -79,7 +79,7 @@ impl String {
     /// The contract: the bytes of the text. It takes no memory.
     #[inline]
     pub fn into_bytes(self) -> Vec<u8> {
-        Vec::from(self.0.into_bytes())
+        self.0.into_bytes()
     }
 }
 

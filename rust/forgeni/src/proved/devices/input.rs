@@ -2,7 +2,8 @@
 
 //! The whole of what a device gives, within a limit.
 
-use crate::kit::vec::Vec;
+use alloc::vec::Vec;
+use crate::kit::vec::FallibleVec;
 use crate::proved::devices::device::{Failed, Source};
 use crate::kit::alloc::AllocError;
 
@@ -88,7 +89,7 @@ pub fn read_all<S: Source>(
         if count > room {
             return Err(InputFault::TooLong);
         }
-        bytes.extend_from_slice(&piece[..count])?;
+        bytes.extend_from_slice_fallibly(&piece[..count])?;
     }
     unreachable!()
 }

@@ -1,9 +1,10 @@
 // Made of crates/ent_alloc/src/entities.rt by rust/erase. It isn't edited by hand.
 
-use crate::kit::vec::Vec;
+use alloc::vec::Vec;
+use crate::proved::ent_alloc::absent::Absent;
 use crate::proved::ent_alloc::fault::{AllocFault, FreeFault, Freed};
 use crate::proved::ent_alloc::limits::Limits;
-use crate::proved::ent_alloc::living_handles::LivingHandles;
+use crate::proved::ent_alloc::living::Living;
 use crate::proved::ent_alloc::requests::Requests;
 use crate::proved::ent_alloc::slot_record::Occupancy;
 use crate::proved::ent_alloc::slots::Slots;
@@ -11,6 +12,19 @@ use crate::proved::ent_alloc::state::State;
 use crate::proved::ent_handle::{Handle, Memory};
 
 /// Gives out the handles of entities and knows which are alive, as Bevy's `Entities` does.
+///
+/// It is `Send` and `Sync`: it may go to another thread, and many threads may read it at once. While
+/// it is shared, many threads reserve handles from it.
+///
+/// ```
+/// use forgeni::Entities;
+/// use std::sync::RwLock;
+///
+/// static ENTITIES: RwLock<Entities> = RwLock::new(Entities::new());
+/// let first = ENTITIES.write().unwrap().alloc()?;
+/// assert!(ENTITIES.read().unwrap().is_alive(first));
+/// # Ok::<(), forgeni::AllocError>(())
+/// ```
 ///
 /// Contracts see it as a state of the sequential allocator (`specs/Sequential`): the living
 /// handles, the pool of those that can be given, those that are reserved, and those that a refused
@@ -22,7 +36,8 @@ pub struct Entities {
 }
 
 impl Entities {
-    /// An allocator with no entities. It takes no memory, whatever the limits are.
+    /// An allocator with no entities, which gives all handles within its limits. It takes no memory,
+    /// whatever the limits are.
     ///
     /// <details><summary>Contract</summary>
     ///
@@ -36,11 +51,42 @@ impl Entities {
     ///
     /// </details>
     #[inline]
-    pub const fn with_limits(limits: Limits) -> Self {
+    pub const fn with_exact_limits(limits: Limits) -> Self {
         Entities {
             slots: Slots::new(limits),
             requests: Requests::none(),
         }
+    }
+
+    /// An allocator with no entities and these limits. It takes no memory, whatever the limits are.
+    ///
+    /// It never gives the greatest handle, 4294967294v2147483647: where both limits are the
+    /// greatest, each slot has one generation less.
+    ///
+    /// ```
+    /// use forgeni::{AllocError, Entities, Limits};
+    ///
+    /// let mut entities = Entities::with_limits(Limits::new(2, 1).unwrap());
+    /// entities.alloc_many(2)?;
+    /// assert_eq!(entities.alloc(), Err(AllocError::Space));
+    /// # Ok::<(), AllocError>(())
+    /// ```
+    ///
+    /// <details><summary>Contract</summary>
+    ///
+    /// In the words of the folder `specs/` of crate `ent_alloc`:
+    ///
+    /// ```text
+    /// ensures allocator { result.allocator ≡ opening (without_placeholder limits) }
+    /// ensures rows { result.rows ≡ map.empty }
+    /// ensures rows_of_living { HasRowsOfLiving result }
+    /// ```
+    ///
+    /// </details>
+    #[must_use]
+    #[inline]
+    pub const fn with_limits(limits: Limits) -> Self {
+        Entities::with_exact_limits(limits.keeping_placeholder())
     }
 
     /// How many entities are alive.
@@ -54,6 +100,7 @@ impl Entities {
     /// ```
     ///
     /// </details>
+    #[must_use]
     #[inline]
     pub fn len(&self) -> u32 {
         self.slots.live()
@@ -70,12 +117,13 @@ impl Entities {
     /// ```
     ///
     /// </details>
+    #[must_use]
     #[inline]
     pub fn is_empty(&self) -> bool {
         self.len() == 0
     }
 
-    /// How many slots were made: each has or had an occupant. A retired slot counts for good.
+    /// How many slots were made: each has or had an entity. A retired slot counts for good.
     ///
     /// <details><summary>Contract</summary>
     ///
@@ -86,6 +134,7 @@ impl Entities {
     /// ```
     ///
     /// </details>
+    #[must_use]
     #[inline]
     pub fn total(&self) -> u32 {
         self.slots.made()
@@ -102,12 +151,13 @@ impl Entities {
     /// ```
     ///
     /// </details>
+    #[must_use]
     #[inline]
     pub fn room(&self) -> u32 {
         self.slots.limits().slots() - self.slots.made()
     }
 
-    /// How many old slots waited for their next occupant at the last `flush`, `alloc` or `free`.
+    /// How many old slots waited for their next entity at the last `flush`, `alloc` or `free`.
     /// Requests don't change it.
     ///
     /// <details><summary>Contract</summary>
@@ -119,13 +169,14 @@ impl Entities {
     /// ```
     ///
     /// </details>
+    #[must_use]
     #[inline]
     pub fn top(&self) -> u32 {
         self.slots.waiting()
     }
 
-    /// How many slots are retired: they were made, and give no handle any more. It takes constant
-    /// time.
+    /// How many slots are retired: the entity of their last generation was freed, and they give no
+    /// handle any more. It takes constant time.
     ///
     /// <details><summary>Contract</summary>
     ///
@@ -140,6 +191,7 @@ impl Entities {
     /// ```
     ///
     /// </details>
+    #[must_use]
     #[inline]
     pub fn retired(&self) -> u32 {
         self.total() - self.slots.live() - self.slots.waiting()
@@ -162,12 +214,13 @@ impl Entities {
     /// ```
     ///
     /// </details>
+    #[must_use]
     #[inline]
     pub fn cursor(&self) -> i64 {
         self.slots.top() - self.asked() as i64
     }
 
-    /// How many handles were requested since the last flush, at most 2^50.
+    /// How many handles were requested since the last flush, served or refused. It is at most 2^50.
     ///
     /// <details><summary>Contract</summary>
     ///
@@ -179,6 +232,7 @@ impl Entities {
     /// ```
     ///
     /// </details>
+    #[must_use]
     #[inline]
     pub fn asked(&self) -> u64 {
         self.requests.asked
@@ -195,6 +249,7 @@ impl Entities {
     /// ```
     ///
     /// </details>
+    #[must_use]
     #[inline]
     pub fn needs_flush(&self) -> bool {
         self.asked() > 0
@@ -211,19 +266,33 @@ impl Entities {
     /// ```
     ///
     /// </details>
+    #[must_use]
     #[inline]
     pub fn reserved(&self) -> u32 {
         self.requests.served
     }
 
     /// Gives a handle that is alive at once: the next one of the slot that was freed last, or the
-    /// first one of a new slot if none waits.
+    /// first one of a new slot if none waits. It takes constant time.
+    ///
+    /// ```
+    /// use forgeni::Entities;
+    ///
+    /// let mut entities = Entities::new();
+    /// let player = entities.alloc()?;
+    /// assert_eq!((player.to_string(), entities.len()), ("0v1".to_owned(), 1));
+    /// # Ok::<(), forgeni::AllocError>(())
+    /// ```
     ///
     /// # Errors
     ///
-    /// Nothing changes. `NeedsFlush` if handles were requested since the last flush, even if the
-    /// request was refused. `Space` if every slot has a living occupant or is retired. `Memory`
-    /// only if no old slot waits.
+    /// In each case nothing has changed.
+    ///
+    /// - [`AllocError::NeedsFlush`](AllocFault::NeedsFlush) if handles were requested since the last flush, even if the
+    ///   request was refused.
+    /// - [`AllocError::Space`](AllocFault::Space) if every slot has a living entity or is retired.
+    /// - [`AllocError::Memory`](AllocFault::Memory) if there is no memory for a new slot. It never comes if an old slot
+    ///   waits.
     ///
     /// <details><summary>Contract</summary>
     ///
@@ -231,6 +300,7 @@ impl Entities {
     ///
     /// ```text
     /// ensures front { IfOk result (λ h. slice_get self.old.allocator.pool 0 ≡ Some h) }
+    /// ensures within { IfOk result (IsWithin self.old.allocator.limits) }
     /// ensures ok { IfOk result (λ h. self.new.allocator ≡ after_alloc self.old.allocator h) }
     /// ensures rows { self.new.rows ≡ self.old.rows }
     /// ensures no_row { IfOk result (λ h. map.get self.new.rows h ≡ None) }
@@ -258,42 +328,52 @@ impl Entities {
     }
 
     /// Takes a living entity out. Its slot is the first to be given again, with the next
-    /// generation.
+    /// generation. It takes constant time.
     ///
-    /// After the last generation the slot is retired: it is never given again, and `Freed::next` is
-    /// `None`. So no handle is ever given twice. Bevy begins anew there and warns of it.
+    /// After the last generation the slot is retired: it is never given again, and [`Freed::next`]
+    /// is `None`. So no handle is ever given twice. Bevy begins anew there and warns of it.
+    ///
+    /// ```
+    /// use forgeni::Entities;
+    ///
+    /// let mut entities = Entities::new();
+    /// let old = entities.alloc()?;
+    /// let freed = entities.free(old)?;
+    /// let new = entities.alloc()?;
+    /// assert_eq!(freed.next, Some(new));
+    /// assert!(new.index() == old.index() && new.generation() == old.generation() + 1);
+    /// assert!(entities.is_alive(new) && !entities.is_alive(old));
+    /// # Ok::<(), Box<dyn std::error::Error>>(())
+    /// ```
     ///
     /// # Errors
     ///
-    /// Nothing changes. `NeedsFlush` if handles were requested since the last flush, even if the
-    /// request was refused; then `NotAlive`; then `Memory`, which never comes if the slot is
-    /// retired.
+    /// In each case nothing has changed.
     ///
-    /// <details><summary>Contract</summary>
-    ///
-    /// In the words of the folder `specs/` of crate `ent_alloc`:
-    ///
-    /// ```text
-    /// ensures ok { OnOk result (self.new.allocator ≡ after_free self.old.allocator handle) }
-    /// ensures row { OnOk result (self.new.rows ≡ map.remove self.old.rows handle) }
-    /// ensures rows_of_living { HasRowsOfLiving self.new }
-    /// ensures next { IfOk result (λ freed. freed.next ≡ next self.old.allocator.limits handle) }
-    /// ensures lived { OnOk result (set.contains self.old.allocator.live handle ≡ true) }
-    /// ensures needs_flush { IsErrOf result FreeFault.NeedsFlush
-    ///     ↔ (0 < self.old.allocator.asked) }
-    /// ensures not_alive { IsErrOf result FreeFault.NotAlive
-    ///     ↔ ((self.old.allocator.asked ≡ 0)
-    ///     × (set.contains self.old.allocator.live handle ≡ false)) }
-    ///
-    /// // The slot of a handle of the last generation is retired, which takes no memory.
-    /// ensures memory { IsErrOf result FreeFault.Memory
-    ///     → handle.generation ≢ self.old.allocator.limits.generations }
-    /// ensures err { OnErr result (self.new ≡ self.old) }
-    /// ```
-    ///
-    /// </details>
-    #[inline]
-    pub fn free(&mut self, handle: Handle) -> Result<Freed, FreeFault> {
+    /// - [`FreeError::NeedsFlush`](FreeFault::NeedsFlush) if handles were requested since the last flush, even if the
+    ///   request was refused.
+    /// - [`FreeError::NotAlive`](FreeFault::NotAlive) if the entity isn't alive.
+    /// - [`FreeError::Memory`](FreeFault::Memory) if there is no memory for one more slot that waits. It never comes if
+    ///   the slot is retired.
+    // Not inlined, its result goes through memory.
+    #[inline(always)]
+    pub fn free(&mut self, handle: Handle) -> Result<Freed, FreeFault>
+        // ensures ok { OnOk result (self.new.allocator ≡ after_free self.old.allocator handle) }
+        // ensures row { OnOk result (self.new.rows ≡ map.remove self.old.rows handle) }
+        // ensures rows_of_living { HasRowsOfLiving self.new }
+        // ensures next { IfOk result (λ freed. freed.next ≡ next self.old.allocator.limits handle) }
+        // ensures lived { OnOk result (set.contains self.old.allocator.live handle ≡ true) }
+        // ensures needs_flush { IsErrOf result FreeFault.NeedsFlush
+        //     ↔ (0 < self.old.allocator.asked) }
+        // ensures not_alive { IsErrOf result FreeFault.NotAlive
+        //     ↔ ((self.old.allocator.asked ≡ 0)
+        //     × (set.contains self.old.allocator.live handle ≡ false)) }
+
+        // The slot of a handle of the last generation is retired, which takes no memory.
+        // ensures memory { IsErrOf result FreeFault.Memory
+        //     → handle.generation ≢ self.old.allocator.limits.generations }
+        // ensures err { OnErr result (self.new ≡ self.old) }
+    {
         if self.needs_flush() {
             return Err(FreeFault::NeedsFlush);
         }
@@ -308,15 +388,35 @@ impl Entities {
         Ok(Freed { next: Some(next) })
     }
 
-    /// Brings to life what is reserved, and appends it to `out`: first the fresh handles, then the
-    /// old ones. What a refused request passed over can be given again. If nothing is reserved
-    /// it appends nothing.
+    /// Brings to life what is reserved, and appends it to `out`: first the handles of new slots, then
+    /// those of old ones. What a refused request passed over can be given again. If nothing is
+    /// reserved, it appends nothing. It takes time for each handle that it appends, however long the
+    /// list is.
+    ///
+    /// If the list has room for the handles and no slot is new, the call takes no memory. So a list
+    /// that is cleared and used again takes none in the end.
+    ///
+    /// ```
+    /// use forgeni::Entities;
+    ///
+    /// let mut entities = Entities::new();
+    /// let mut born = Vec::new();
+    /// for _ in 0..10 {
+    ///     entities.request_many(100)?;
+    ///     born.clear();
+    ///     entities.flush(&mut born)?;
+    ///     for &handle in &born {
+    ///         entities.free(handle)?;
+    ///     }
+    /// }
+    /// assert_eq!((born.len(), entities.total()), (100, 100));
+    /// # Ok::<(), Box<dyn std::error::Error>>(())
+    /// ```
     ///
     /// # Errors
     ///
-    /// `Memory`, and then nothing has changed, neither here nor in `out`. All room is asked for
-    /// before the first handle is listed. It never comes if `out` has room for `reserved` more
-    /// handles and all of them are of old slots.
+    /// [`OutOfMemory`](Memory) if there is no memory for new slots or for the list. Nothing has changed then,
+    /// neither here nor in `out`: all room is asked for before the first handle is listed.
     ///
     /// <details><summary>Contract</summary>
     ///
@@ -349,7 +449,7 @@ impl Entities {
         Ok(())
     }
 
-    /// What became of a handle. It takes constant time.
+    /// What became of a handle: whether it is alive, reserved, or neither. It takes constant time.
     ///
     /// <details><summary>Contract</summary>
     ///
@@ -360,6 +460,7 @@ impl Entities {
     /// ```
     ///
     /// </details>
+    #[must_use]
     #[inline]
     pub fn state(&self, handle: Handle) -> State {
         let waiting = self.slots.waiting();
@@ -390,12 +491,57 @@ impl Entities {
     /// ```
     ///
     /// </details>
+    #[must_use]
     #[inline]
     pub fn is_alive(&self, handle: Handle) -> bool {
         self.slots.is_alive(handle)
     }
 
-    /// The living handles, by rising slot. It takes no memory.
+    /// Whether the entity is alive or reserved, as `contains` of Bevy and of hecs says it. It takes
+    /// constant time.
+    ///
+    /// ```
+    /// use forgeni::Entities;
+    ///
+    /// let mut entities = Entities::new();
+    /// let soon = entities.request()?;
+    /// assert!(entities.contains(soon) && !entities.is_alive(soon));
+    /// entities.flush(&mut Vec::new())?;
+    /// assert!(entities.contains(soon) && entities.is_alive(soon));
+    /// # Ok::<(), Box<dyn std::error::Error>>(())
+    /// ```
+    ///
+    /// <details><summary>Contract</summary>
+    ///
+    /// In the words of the folder `specs/` of crate `ent_alloc`:
+    ///
+    /// ```text
+    /// ensures { result ≡ (set.contains self.now.allocator.live handle
+    ///     || stands_in self.now.allocator.taken handle) }
+    /// ```
+    ///
+    /// </details>
+    #[must_use]
+    #[inline]
+    pub fn contains(&self, handle: Handle) -> bool {
+        match self.state(handle) {
+            State::Alive | State::Reserved => true,
+            State::Gone => false,
+        }
+    }
+
+    /// The handles of the living entities, by rising slot. It takes no memory. The time is that of a
+    /// look at each slot.
+    ///
+    /// ```
+    /// use forgeni::Entities;
+    ///
+    /// let mut entities = Entities::new();
+    /// let all = entities.alloc_many(3)?;
+    /// entities.free(all[1])?;
+    /// assert!(entities.iter().eq([all[0], all[2]]));
+    /// # Ok::<(), Box<dyn std::error::Error>>(())
+    /// ```
     ///
     /// <details><summary>Contract</summary>
     ///
@@ -409,11 +555,11 @@ impl Entities {
     ///
     /// </details>
     #[inline]
-    pub fn iter(&self) -> LivingHandles<'_> {
+    pub fn iter(&self) -> Living<'_> {
         self.slots.occupants()
     }
 
-    /// Where a handle stands among those that there were to give at the last flush, counted from 0
+    /// The place of a handle among those that there were to give at the last flush, counted from 0
     /// in the order in which they are given. Requests don't change it. `None` if it isn't among
     /// them. It takes constant time.
     ///
@@ -428,6 +574,7 @@ impl Entities {
     /// ```
     ///
     /// </details>
+    #[must_use]
     #[inline]
     pub fn place(&self, handle: Handle) -> Option<u32> {
         let waiting = self.slots.waiting();
@@ -444,8 +591,9 @@ impl Entities {
         }
     }
 
-    /// The row that a program keeps with a living entity. `None` if the handle isn't alive, or if
-    /// no row was set since it came to life.
+    /// The row of a living entity: a number that a program keeps with it, as where its components
+    /// are. `None` if the handle isn't alive, or if no row was set since it came to life. It takes
+    /// constant time.
     ///
     /// <details><summary>Contract</summary>
     ///
@@ -457,6 +605,7 @@ impl Entities {
     /// ```
     ///
     /// </details>
+    #[must_use]
     #[inline]
     pub fn row(&self, handle: Handle) -> Option<u32> {
         self.slots.row(handle)
@@ -472,5 +621,49 @@ impl Entities {
         // ensures allocator { self.new.allocator ≡ self.old.allocator }
     {
         self.slots.set_row(handle, row);
+    }
+
+    /// Keeps a row with a living entity until the entity is freed, in place of the row that was set
+    /// before. It takes constant time, and no memory.
+    ///
+    /// ```
+    /// use forgeni::{Absent, Entities};
+    ///
+    /// let mut entities = Entities::new();
+    /// let one = entities.alloc()?;
+    /// entities.try_set_row(one, 7)?;
+    /// assert_eq!(entities.row(one), Some(7));
+    /// entities.free(one)?;
+    /// assert_eq!(entities.row(one), None);
+    /// assert_eq!(entities.try_set_row(one, 8), Err(Absent));
+    /// # Ok::<(), Box<dyn std::error::Error>>(())
+    /// ```
+    ///
+    /// # Errors
+    ///
+    /// [`Absent`] if the handle isn't alive. Nothing has changed then.
+    ///
+    /// <details><summary>Contract</summary>
+    ///
+    /// In the words of the folder `specs/` of crate `ent_alloc`:
+    ///
+    /// ```text
+    /// ensures row { OnOk result (self.new.rows ≡ map.insert self.old.rows handle row) }
+    /// ensures lives { OnOk result (set.contains self.old.allocator.live handle ≡ true) }
+    /// ensures absent { OnErr result (set.contains self.old.allocator.live handle ≡ false) }
+    /// ensures unchanged { OnErr result (self.new ≡ self.old) }
+    /// ensures allocator { self.new.allocator ≡ self.old.allocator }
+    /// ensures rows_of_living { HasRowsOfLiving self.new }
+    /// ```
+    ///
+    /// </details>
+    #[inline]
+    pub fn try_set_row(&mut self, handle: Handle, row: u32) -> Result<(), Absent> {
+        if self.slots.is_alive(handle) {
+            self.set_row(handle, row);
+            Ok(())
+        } else {
+            Err(Absent)
+        }
     }
 }

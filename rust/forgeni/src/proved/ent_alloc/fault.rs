@@ -4,14 +4,14 @@ use crate::proved::ent_handle::{Handle, Memory};
 use core::error::Error;
 use core::fmt;
 
-/// Why `Entities::alloc` gave no handle. Nothing has changed.
-#[derive(Clone, Copy, Debug, PartialEq, Eq)]
+/// Why [`Entities::alloc`](crate::proved::ent_alloc::Entities::alloc) gave no handle. Nothing has changed.
+#[derive(Clone, Copy, Debug, PartialEq, Eq, Hash)]
 pub enum AllocFault {
     /// Handles were requested since the last flush, even if the request was refused.
     NeedsFlush,
-    /// Every slot has a living occupant or is retired.
+    /// Every slot has a living entity or is retired.
     Space,
-    /// Memory ran out.
+    /// Out of memory.
     Memory,
 }
 
@@ -35,14 +35,14 @@ impl From<Memory> for AllocFault {
     }
 }
 
-/// Why `Entities::free` freed nothing. Nothing has changed.
-#[derive(Clone, Copy, Debug, PartialEq, Eq)]
+/// Why [`Entities::free`](crate::proved::ent_alloc::Entities::free) freed nothing. Nothing has changed.
+#[derive(Clone, Copy, Debug, PartialEq, Eq, Hash)]
 pub enum FreeFault {
     /// Handles were requested since the last flush, even if the request was refused.
     NeedsFlush,
     /// The handle isn't alive.
     NotAlive,
-    /// Memory ran out.
+    /// Out of memory.
     Memory,
 }
 
@@ -66,8 +66,8 @@ impl From<Memory> for FreeFault {
     }
 }
 
-/// What `Entities::free` returns.
-#[derive(Clone, Copy, Debug, PartialEq, Eq)]
+/// What [`Entities::free`](crate::proved::ent_alloc::Entities::free) returns.
+#[derive(Clone, Copy, Debug, PartialEq, Eq, Hash)]
 pub struct Freed {
     /// The handle that the slot gives next. `None` if the freed one was of the last generation: the
     /// slot is retired then, and gives no handle any more.

@@ -7,13 +7,28 @@ pub const CREDIT: u64 = 1 << 40;
 /// How many slots an allocator may make, and the last generation of a slot.
 ///
 /// Limits are this project's own: Bevy always has the greatest ones, which are the default.
-#[derive(Clone, Copy, Debug, PartialEq, Eq)]
+///
+/// ```
+/// use forgeni::Limits;
+///
+/// let limits = Limits::new(1000, 4).unwrap();
+/// assert_eq!((limits.slots(), limits.generations()), (1000, 4));
+/// assert_eq!(Limits::new(0, 1), None);
+/// assert_eq!(Limits::default(), Limits::GREATEST);
+/// ```
+#[derive(Clone, Copy, Debug, PartialEq, Eq, Hash)]
 pub struct Limits {
     slots: u32,
     generations: u32,
 }
 
 impl Limits {
+    /// The greatest limits, which are Bevy's: 4,294,967,295 slots of 2,147,483,647 generations.
+    pub const GREATEST: Limits = Limits {
+        slots: u32::MAX,
+        generations: (1 << 31) - 1,
+    };
+
     /// The limits of these numbers: slots from 1 to 4,294,967,295, generations from 1 to
     /// 2,147,483,647. `None` if one of them is out of its range.
     ///
@@ -29,6 +44,7 @@ impl Limits {
     /// ```
     ///
     /// </details>
+    #[must_use]
     #[inline]
     pub const fn new(slots: u32, generations: u32) -> Option<Self> {
         if 1 <= slots && 1 <= generations && generations < 1 << 31 {
@@ -49,11 +65,43 @@ impl Limits {
     /// ```
     ///
     /// </details>
+    #[must_use]
     #[inline]
     pub const fn default_limits() -> Self {
-        Limits {
-            slots: u32::MAX,
-            generations: (1 << 31) - 1,
+        Limits::GREATEST
+    }
+
+    /// The limits of an allocator that never gives the greatest handle, 4294967294v2147483647: one
+    /// generation less if both limits are the greatest, and else the same ones.
+    ///
+    /// The greatest handle is the last one of the last slot that can be.
+    ///
+    /// <details><summary>Contract</summary>
+    ///
+    /// In the words of the folder `specs/` of crate `ent_alloc`:
+    ///
+    /// ```text
+    /// ensures value { result ≡ without_placeholder self }
+    /// ensures both { self ≡ greatest_limits → result ≡ record greatest_limits {
+    ///   generations = 2 ^ 31 - 2;
+    /// } }
+    /// ensures others { self ≢ greatest_limits → result ≡ self }
+    ///
+    /// // An allocator gives handles within its limits alone.
+    /// ensures kept_back { ¬ (IsWithin result placeholder) }
+    /// ```
+    ///
+    /// </details>
+    #[must_use]
+    #[inline]
+    pub const fn keeping_placeholder(self) -> Self {
+        if self.slots == u32::MAX && self.generations == (1 << 31) - 1 {
+            Limits {
+                slots: self.slots,
+                generations: self.generations - 1,
+            }
+        } else {
+            self
         }
     }
 
@@ -68,8 +116,9 @@ impl Limits {
     /// ```
     ///
     /// </details>
+    #[must_use]
     #[inline]
-    pub fn slots(self) -> u32 {
+    pub const fn slots(self) -> u32 {
         self.slots
     }
 
@@ -84,8 +133,9 @@ impl Limits {
     /// ```
     ///
     /// </details>
+    #[must_use]
     #[inline]
-    pub fn generations(self) -> u32 {
+    pub const fn generations(self) -> u32 {
         self.generations
     }
 }

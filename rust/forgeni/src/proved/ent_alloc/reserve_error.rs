@@ -43,10 +43,12 @@ impl ReserveError {
     /// What a system makes of the error. The queue keeps a refusal, and the system goes on. Only
     /// want of memory ends the system:
     ///
-    /// ```text
-    /// if let Err(error) = commands.spawn(bundle) {
-    ///     error.or_memory()?;
-    /// }
+    /// ```
+    /// use forgeni::{OutOfMemory, ReserveError};
+    ///
+    /// let refused = ReserveError::Space { wanted: 2, left: 1 };
+    /// assert_eq!(refused.or_memory(), Ok(()));
+    /// assert_eq!(ReserveError::Memory.or_memory(), Err(OutOfMemory));
     /// ```
     ///
     /// # Errors

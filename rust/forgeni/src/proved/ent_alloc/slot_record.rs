@@ -1,6 +1,7 @@
 // Made of crates/ent_alloc/src/slot_record.rt by rust/erase. It isn't edited by hand.
 
-use crate::kit::vec::Vec;
+use alloc::vec::Vec;
+use crate::kit::vec::FallibleVec;
 use crate::proved::ent_handle::Handle;
 
 /// Who has a slot.

@@ -1,8 +1,9 @@
 // Made of crates/ent_alloc/src/slots.rt by rust/erase. It isn't edited by hand.
 
-use crate::kit::vec::Vec;
+use alloc::vec::Vec;
+use crate::kit::vec::FallibleVec;
 use crate::proved::ent_alloc::limits::Limits;
-use crate::proved::ent_alloc::living_handles::LivingHandles;
+use crate::proved::ent_alloc::living::Living;
 use crate::proved::ent_alloc::slot_record;
 use crate::proved::ent_alloc::slot_record::{Occupancy, SlotRecord, first_occupant, make_all, reuse_all};
 use crate::proved::ent_handle::{Handle, Memory};
@@ -84,12 +85,12 @@ impl Slots {
 
     /// The living occupants, by rising slot.
     #[inline]
-    pub(super) fn occupants(&self) -> LivingHandles<'_>
+    pub(super) fn occupants(&self) -> Living<'_>
         // ensures living { set.from_list result ≡ self.now.live }
         // ensures rising { AllPairs (λ g h. g.index < h.index) result }
         // ensures count { length result ≡ set.len self.now.live }
     {
-        LivingHandles::new(&self.records, self.live)
+        Living::new(&self.records, self.live)
     }
 
     /// Who has the handle's slot; `None` if the slot wasn't made or is at another generation.
@@ -203,7 +204,7 @@ impl Slots {
         // ensures err { OnErr result (self.new ≡ self.old) }
     {
         let handle = first_occupant(self.made());
-        self.records.push(SlotRecord::new())?;
+        self.records.push_fallibly(SlotRecord::new())?;
         self.live += 1;
         Ok(handle)
     }
@@ -236,8 +237,8 @@ impl Slots {
         //     ⊎ (vec_capacity out.old < vec_len out.old + (length self.old.pending - kept))) }
     {
         let reused = self.pending.len() - kept;
-        self.records.reserve(fresh as usize)?;
-        out.reserve(fresh as usize + reused)?;
+        self.records.reserve_fallibly(fresh as usize)?;
+        out.reserve_fallibly(fresh as usize + reused)?;
         make_all(&mut self.records, fresh, out);
         reuse_all(&mut self.records, &self.pending[kept..], out);
         self.pending.truncate(kept);
@@ -261,7 +262,7 @@ impl Slots {
         let index = handle.index();
         let generation = handle.generation() + 1;
         let position = self.pending.len() as u32;
-        self.pending.push(index)?;
+        self.pending.push_fallibly(index)?;
         self.records[index as usize] = SlotRecord {
             generation,
             occupancy: Occupancy::Pending { position },

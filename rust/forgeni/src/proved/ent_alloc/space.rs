@@ -4,7 +4,7 @@ use core::error::Error;
 use core::fmt;
 
 /// The refusal of a request for which too few handles were left.
-#[derive(Clone, Copy, Debug, PartialEq, Eq)]
+#[derive(Clone, Copy, Debug, PartialEq, Eq, Hash)]
 pub struct Space {
     /// How many handles were requested.
     pub wanted: u32,

@@ -3,7 +3,7 @@
 /// The positions that one request passed: from `low` up to, not including, `high`.
 ///
 /// A position of 0 or more is one of the pending list. Those below 0 stand for fresh slots.
-#[derive(Clone, Copy, Debug, PartialEq, Eq)]
+#[derive(Clone, Copy, Debug, PartialEq, Eq, Hash)]
 pub struct Span {
     /// The cursor before the request.
     pub high: i64,

@@ -1,7 +1,7 @@
 // Made of crates/ent_alloc/src/state.rt by rust/erase. It isn't edited by hand.
 
 /// What became of a handle.
-#[derive(Clone, Copy, Debug, PartialEq, Eq)]
+#[derive(Clone, Copy, Debug, PartialEq, Eq, Hash)]
 pub enum State {
     /// It is alive.
     Alive,

@@ -4,14 +4,34 @@ use core::cmp::Ordering;
 use core::hash::{Hash, Hasher};
 use core::num::NonZeroU64;
 
-/// Names one occupant of one slot: the slot's index, and a generation that tells the slot's
-/// occupants apart.
+/// The name of an entity: the index of a slot, and a generation that tells the slot's entities
+/// apart. It is ordered by index and then by generation.
+///
+/// It takes 8 bytes, and so does an `Option<Handle>`. It is written `0v1`, by `Display` and by
+/// `Debug`, and parsed from that text.
+///
+/// A handle is only a name. One that was made by hand, or by another allocator, is the name of an
+/// entity here if one of that index and generation lives.
+///
+/// ```
+/// use forgeni::Handle;
+///
+/// let mut handles: Vec<Handle> = ["2v1", "0v7", "1v3"]
+///     .iter()
+///     .map(|text| text.parse())
+///     .collect::<Result<_, _>>()?;
+/// handles.sort();
+/// assert_eq!(format!("{handles:?}"), "[0v7, 1v3, 2v1]");
+/// handles.sort_by(Handle::by_bits);
+/// assert_eq!(format!("{handles:?}"), "[2v1, 1v3, 0v7]");
+/// # Ok::<(), forgeni::ParseHandleError>(())
+/// ```
 ///
 /// An index is 0 to 4,294,967,294, and a generation 1 to 2,147,483,647: Bevy's ranges without the
-/// index that its placeholder has. As in Bevy, each occupant of a slot has the generation after
-/// that of the one before it, so that an earlier handle does not name a later occupant. After the
-/// last generation a slot has no more occupants, where in Bevy the first one comes again. The order
-/// is this project's own: by index, then by generation. Bevy's is by generation first.
+/// index that its placeholder has. As in Bevy, each entity of a slot has the generation after that
+/// of the one before it, so that an earlier handle does not name a later entity. After the last
+/// generation a slot has no more entities, where in Bevy the first one comes again. The order is
+/// this project's own: that of Bevy and hecs is [`by_bits`](Self::by_bits).
 #[derive(Clone, Copy, PartialEq, Eq)]
 #[repr(transparent)]
 pub struct Handle {
@@ -19,7 +39,16 @@ pub struct Handle {
 }
 
 impl Handle {
-    /// The handle of these numbers, or `None` if one of them is out of range.
+    /// The handle of these numbers: an index below 4,294,967,295, a generation from 1 to
+    /// 2,147,483,647. `None` if one of them is out of its range.
+    ///
+    /// ```
+    /// use forgeni::Handle;
+    ///
+    /// const FIRST: Handle = Handle::new(0, 1).unwrap();
+    /// assert_eq!(FIRST.to_string(), "0v1");
+    /// assert_eq!(Handle::new(0, 0), None);
+    /// ```
     ///
     /// <details><summary>Contract</summary>
     ///
@@ -32,6 +61,7 @@ impl Handle {
     /// ```
     ///
     /// </details>
+    #[must_use]
     #[inline]
     pub const fn new(index: u32, generation: u32) -> Option<Self> {
         if index < u32::MAX && 1 <= generation && generation < 1 << 31 {
@@ -58,7 +88,7 @@ impl Handle {
         Handle { bits }
     }
 
-    /// Which slot it is: 0 to 4,294,967,294.
+    /// The index of its slot: 0 to 4,294,967,294.
     ///
     /// <details><summary>Contract</summary>
     ///
@@ -69,12 +99,13 @@ impl Handle {
     /// ```
     ///
     /// </details>
+    #[must_use]
     #[inline]
     pub const fn index(self) -> u32 {
         (self.bits.get() & 0xffff_ffff) as u32
     }
 
-    /// Which occupant of the slot it is: 1 to 2,147,483,647.
+    /// Its generation: 1 for the first entity of a slot, and at most 2,147,483,647.
     ///
     /// <details><summary>Contract</summary>
     ///
@@ -85,12 +116,20 @@ impl Handle {
     /// ```
     ///
     /// </details>
+    #[must_use]
     #[inline]
     pub const fn generation(self) -> u32 {
         (self.bits.get() >> 32) as u32
     }
 
-    /// The handle as one number: the generation times 2^32, plus the index.
+    /// Both numbers in one: the generation times 2^32, plus the index.
+    ///
+    /// ```
+    /// use forgeni::Handle;
+    ///
+    /// let handle = Handle::new(7, 2).unwrap();
+    /// assert_eq!(Handle::from_bits(handle.to_bits()), Some(handle));
+    /// ```
     ///
     /// <details><summary>Contract</summary>
     ///
@@ -102,12 +141,41 @@ impl Handle {
     /// ```
     ///
     /// </details>
+    #[must_use]
     #[inline]
     pub const fn to_bits(self) -> u64 {
         self.bits.get()
     }
 
-    /// The handle that has these bits, or `None` if no handle has them.
+    /// The order by bits, which is that of Bevy and hecs: by generation, then by index.
+    ///
+    /// ```
+    /// use forgeni::Handle;
+    ///
+    /// let [new, old] = [Handle::new(9, 1).unwrap(), Handle::new(0, 2).unwrap()];
+    /// assert!(new.by_bits(&old).is_lt() && new > old);
+    /// ```
+    ///
+    /// <details><summary>Contract</summary>
+    ///
+    /// In the words of the folder `specs/` of crate `ent_handle`:
+    ///
+    /// ```text
+    /// ensures bits { result ≡ nat_cmp (bits self.now) (bits other.now) }
+    /// ensures parts { result ≡ ordering_then
+    ///     (nat_cmp self.now.generation other.now.generation)
+    ///     (nat_cmp self.now.index other.now.index) }
+    /// ```
+    ///
+    /// </details>
+    #[must_use]
+    #[inline]
+    pub fn by_bits(&self, other: &Self) -> Ordering {
+        self.to_bits().cmp(&other.to_bits())
+    }
+
+    /// The handle that [`to_bits`](Self::to_bits) packed into these bits. `None` if they are the
+    /// bits of no handle.
     ///
     /// <details><summary>Contract</summary>
     ///
@@ -120,6 +188,7 @@ impl Handle {
     /// ```
     ///
     /// </details>
+    #[must_use]
     #[inline]
     pub const fn from_bits(of: u64) -> Option<Self> {
         Handle::new((of & 0xffff_ffff) as u32, (of >> 32) as u32)

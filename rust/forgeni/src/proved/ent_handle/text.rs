@@ -1,7 +1,8 @@
 // Made of crates/ent_handle/src/text.rt by rust/erase. It isn't edited by hand.
 
+use alloc::vec::Vec;
 use crate::kit::padded;
-use crate::kit::vec::Vec;
+use crate::kit::vec::FallibleVec;
 use crate::proved::ent_handle::decimal::{decimal_value, is_decimal};
 use crate::proved::ent_handle::handle::Handle;
 use crate::proved::ent_handle::memory::Memory;
@@ -11,17 +12,17 @@ use core::fmt;
 /// Why a text is not a number, or not a handle.
 #[derive(Clone, Copy, Debug, PartialEq, Eq, Hash)]
 pub enum TextFault {
-    /// The text does not have the form.
+    /// It doesn't have the form, which is that of `0v1` for a handle.
     Shape,
-    /// The text has the form, but a number in it is out of range.
+    /// It has the form, and a number in it is out of range.
     Range,
 }
 
 impl core::fmt::Display for TextFault {
     fn fmt(&self, f: &mut core::fmt::Formatter<'_>) -> core::fmt::Result {
         match self {
-            TextFault::Shape => write!(f, "not of the form"),
-            TextFault::Range => write!(f, "a number out of range"),
+            TextFault::Shape => write!(f, "not of the form of a handle, as 0v1"),
+            TextFault::Range => write!(f, "no handle has these numbers"),
         }
     }
 }
@@ -124,10 +125,10 @@ impl Handle {
         let mut generation = Buffer::new();
         let generation = generation.format(self.generation()).as_bytes();
 
-        out.reserve(index.len() + 1 + generation.len())?;
-        out.extend_from_slice(index).unwrap();
+        out.reserve_fallibly(index.len() + 1 + generation.len())?;
+        out.extend_from_slice_fallibly(index).unwrap();
         out.push_reserved(b'v');
-        out.extend_from_slice(generation).unwrap();
+        out.extend_from_slice_fallibly(generation).unwrap();
         Ok(())
     }
 }
@@ -146,8 +147,8 @@ impl fmt::Display for Handle {
 impl fmt::Debug for Handle {
     #[inline]
     fn fmt(&self, f: &mut fmt::Formatter<'_>) -> fmt::Result {
-        let index = self.index();
-        let generation = self.generation();
-        padded!(f, "{index}v{generation}")
+        let slot = self.index();
+        let occupant = self.generation();
+        padded!(f, "{slot}v{occupant}")
     }
 }

@@ -1,6 +1,6 @@
 // Made of crates/ent_queue/src/commands.rt by rust/erase. It isn't edited by hand.
 
-use crate::kit::vec::Vec;
+use alloc::vec::Vec;
 use crate::proved::ent_queue::queue::CommandQueue;
 use crate::proved::ent_alloc::ReserveError as QueueFault;
 use crate::proved::ent_handle::{ComponentId, Handle, Memory};

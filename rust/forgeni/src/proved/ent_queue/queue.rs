@@ -1,6 +1,7 @@
 // Made of crates/ent_queue/src/queue.rt by rust/erase. It isn't edited by hand.
 
-use crate::kit::vec::Vec;
+use alloc::vec::Vec;
+use crate::kit::vec::FallibleVec;
 use crate::proved::ent_queue::entries::Entries;
 use crate::proved::ent_queue::kind::{INSERT, SPAWN};
 use crate::proved::ent_queue::writing::{
@@ -132,7 +133,7 @@ impl CommandQueue {
         //     → IsReturned shared.now reserver.old reserver.new 1 (listed_alone reply) }
     {
         let own = 11 + 9 * items.len();
-        self.bytes.reserve(own.max(REFUSAL))?;
+        self.bytes.reserve_fallibly(own.max(REFUSAL))?;
         match shared.reserve(reserver) {
             Ok(handle) => {
                 write_with_bundle(&mut self.bytes, SPAWN, handle, items);
@@ -168,9 +169,9 @@ impl CommandQueue {
         //     → as_list result ≡ queued reply
         //     → IsReturned shared.now reserver.old reserver.new n reply }
     {
-        let mut handles = Vec::with_capacity(n as usize)?;
+        let mut handles = Vec::with_capacity_fallibly(n as usize)?;
         let own = 7 + 8 * n as usize + 9 * items.len();
-        self.bytes.reserve(own.max(REFUSAL))?;
+        self.bytes.reserve_fallibly(own.max(REFUSAL))?;
         match shared.reserve_many(reserver, n) {
             Ok(given) => {
                 write_many(&mut self.bytes, &mut handles, n, given);
@@ -196,7 +197,7 @@ impl CommandQueue {
         // ensures ok { OnOk result (self.new ≡ self.old ++ Insert handle items.now ∷ []) }
         // ensures err { OnErr result (self.new ≡ self.old) }
     {
-        self.bytes.reserve(11 + 9 * items.len())?;
+        self.bytes.reserve_fallibly(11 + 9 * items.len())?;
         write_with_bundle(&mut self.bytes, INSERT, handle, items);
         self.count += 1;
         Ok(())
@@ -207,7 +208,7 @@ impl CommandQueue {
         // ensures ok { OnOk result (self.new ≡ self.old ++ Remove handle id ∷ []) }
         // ensures err { OnErr result (self.new ≡ self.old) }
     {
-        self.bytes.reserve(10)?;
+        self.bytes.reserve_fallibly(10)?;
         write_remove(&mut self.bytes, handle, id);
         self.count += 1;
         Ok(())
@@ -218,7 +219,7 @@ impl CommandQueue {
         // ensures ok { OnOk result (self.new ≡ self.old ++ Despawn handle ∷ []) }
         // ensures err { OnErr result (self.new ≡ self.old) }
     {
-        self.bytes.reserve(9)?;
+        self.bytes.reserve_fallibly(9)?;
         write_despawn(&mut self.bytes, handle);
         self.count += 1;
         Ok(())

@@ -2,7 +2,8 @@
 
 //! Commands at the end of packed bytes, and their parts. There is room for all that is written.
 
-use crate::kit::vec::Vec;
+use alloc::vec::Vec;
+use crate::kit::vec::FallibleVec;
 use crate::proved::ent_queue::kind::{DESPAWN, REFUSED, REMOVE, SPAWN_MANY};
 use crate::proved::ent_alloc::Reserved;
 use crate::proved::ent_handle::{ComponentId, Handle};
@@ -25,7 +26,7 @@ pub(super) fn write_u16(bytes: &mut Vec<u8>, number: u16)
     // ensures len { vec_len bytes.new ≡ vec_len bytes.old + 2 }
     // ensures capacity { vec_capacity bytes.old ≤ vec_capacity bytes.new }
 {
-    let _ = bytes.extend_from_slice(&number.to_le_bytes());
+    let _ = bytes.extend_from_slice_fallibly(&number.to_le_bytes());
 }
 
 #[inline]
@@ -35,7 +36,7 @@ pub(super) fn write_u32(bytes: &mut Vec<u8>, number: u32)
     // ensures len { vec_len bytes.new ≡ vec_len bytes.old + 4 }
     // ensures capacity { vec_capacity bytes.old ≤ vec_capacity bytes.new }
 {
-    let _ = bytes.extend_from_slice(&number.to_le_bytes());
+    let _ = bytes.extend_from_slice_fallibly(&number.to_le_bytes());
 }
 
 #[inline]
@@ -45,7 +46,7 @@ pub(super) fn write_u64(bytes: &mut Vec<u8>, number: u64)
     // ensures len { vec_len bytes.new ≡ vec_len bytes.old + 8 }
     // ensures capacity { vec_capacity bytes.old ≤ vec_capacity bytes.new }
 {
-    let _ = bytes.extend_from_slice(&number.to_le_bytes());
+    let _ = bytes.extend_from_slice_fallibly(&number.to_le_bytes());
 }
 
 #[inline]

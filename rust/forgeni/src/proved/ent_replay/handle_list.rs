@@ -1,6 +1,6 @@
 // Made of crates/ent_replay/src/handle_list.rt by rust/erase. It isn't edited by hand.
 
-use crate::kit::vec::Vec;
+use alloc::vec::Vec;
 use crate::proved::ent_handle::Handle;
 
 /// Handles in order.

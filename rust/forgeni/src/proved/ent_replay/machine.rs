@@ -1,7 +1,8 @@
 // Made of crates/ent_replay/src/machine.rt by rust/erase. It isn't edited by hand.
 
+use alloc::vec::Vec;
 use crate::kit::prove_eq;
-use crate::kit::vec::Vec;
+use crate::kit::vec::FallibleVec;
 use crate::proved::ent_replay::by_caller::ByCaller;
 use crate::proved::ent_replay::event::Event;
 use crate::proved::ent_replay::fault::ReplayFault;
@@ -51,7 +52,7 @@ impl Machine {
     /// </details>
     #[inline]
     pub fn new(limits: Limits) -> Result<Self, Memory> {
-        let entities = Entities::with_limits(limits);
+        let entities = Entities::with_exact_limits(limits);
         prove_eq!(entities.cursor(), 0);
         Ok(Machine {
             entities,
@@ -136,7 +137,7 @@ impl Machine {
     /// </details>
     #[inline]
     pub fn run(&mut self, events: &[Event]) -> Result<Vec<Result<Outcome, ReplayFault>>, RunMemory> {
-        let Ok(mut outcomes) = Vec::with_capacity(events.len()) else {
+        let Ok(mut outcomes) = Vec::with_capacity_fallibly(events.len()) else {
             return Err(RunMemory { done: 0 });
         };
         for (done, event) in events.iter().enumerate() {
@@ -293,7 +294,7 @@ fn listed(reserved: Reserved<'_>) -> Result<HandleList, Memory>
     // ensures ok { IfOk result (λ handles. handles ≡ reserved.entry) }
     // ensures memory { OnErr result (0 < length reserved.entry) }
 {
-    let mut handles = Vec::with_capacity(reserved.len())?;
+    let mut handles = Vec::with_capacity_fallibly(reserved.len())?;
     for handle in reserved {
         handles.push_reserved(handle);
     }

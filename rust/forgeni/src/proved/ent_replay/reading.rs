@@ -1,6 +1,7 @@
 // Made of crates/ent_replay/src/reading.rt by rust/erase. It isn't edited by hand.
 
-use crate::kit::vec::Vec;
+use alloc::vec::Vec;
+use crate::kit::vec::FallibleVec;
 use crate::proved::ent_replay::event::Event;
 use crate::proved::ent_replay::read_fault::{Cause, ReadFault};
 use crate::proved::ent_handle::{Handle, read_decimal, split_once};
@@ -140,7 +141,7 @@ pub fn read_schedule(text: &[u8]) -> Result<Vec<Event>, ReadFault> {
     while !rest.is_empty() {
         let (line, following) = first_line(rest);
         match read_event(line) {
-            Ok(event) => events.push(event)?,
+            Ok(event) => events.push_fallibly(event)?,
             Err(cause) => {
                 return Err(ReadFault::Line {
                     line: events.len() + 1,

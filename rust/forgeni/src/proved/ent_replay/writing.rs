@@ -1,6 +1,7 @@
 // Made of crates/ent_replay/src/writing.rt by rust/erase. It isn't edited by hand.
 
-use crate::kit::vec::Vec;
+use alloc::vec::Vec;
+use crate::kit::vec::FallibleVec;
 use crate::proved::ent_replay::fault::ReplayFault;
 use crate::proved::ent_replay::handle_list::HandleList;
 use crate::proved::ent_replay::outcome::Outcome;
@@ -14,7 +15,7 @@ fn append(out: &mut Vec<u8>, text: &[u8]) -> Result<(), Memory>
     // ensures full { OnErr result (vec_capacity out.old < vec_len out.old + length text.now) }
     // ensures capacity { vec_capacity out.old ≤ vec_capacity out.new }
 {
-    Ok(out.extend_from_slice(text)?)
+    Ok(out.extend_from_slice_fallibly(text)?)
 }
 
 #[inline]
@@ -199,7 +200,7 @@ fn write_line(outcome: &Result<Outcome, ReplayFault>, out: &mut Vec<u8>) -> Resu
 {
     match outcome {
         Ok(outcome) => {
-            out.reserve(list_len(outcome))?;
+            out.reserve_fallibly(list_len(outcome))?;
             write_text(outcome, out)?;
         }
         Err(fault) => write_fault(*fault, out)?,

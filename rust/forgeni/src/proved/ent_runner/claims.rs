@@ -1,6 +1,7 @@
 // Made of crates/ent_runner/src/claims.rt by rust/erase. It isn't edited by hand.
 
-use crate::kit::vec::Vec;
+use alloc::vec::Vec;
+use crate::kit::vec::FallibleVec;
 use crate::proved::ent_runner::claimer::Claimer;
 use crate::proved::ent_runner::rule::Opening;
 use crate::proved::ent_runner::word;
@@ -37,7 +38,7 @@ impl Claims {
         // ensures unused { IfOk result (λ made. All (λ c.
         //     (c.own.claims ≡ []) × (c.own.ended ≡ false)) made.1.items) }
     {
-        let mut claimers = Vec::with_capacity(workers)?;
+        let mut claimers = Vec::with_capacity_fallibly(workers)?;
         let opening = Opening { numbers, workers };
         let (word, mut all) = word::open(&opening)?;
         for _ in 0..workers {

@@ -2,7 +2,8 @@
 
 //! The queues that workers hand back are put at the numbers of their systems.
 
-use crate::kit::vec::Vec;
+use alloc::vec::Vec;
+use crate::kit::vec::FallibleVec;
 use crate::proved::ent_runner::worker::SystemQueue;
 use crate::proved::ent_queue::CommandQueue;
 

@@ -3,7 +3,8 @@
 //! The workers of a frame are made before it and taken apart after it, in room that was asked for
 //! before the phase was opened.
 
-use crate::kit::vec::Vec;
+use alloc::vec::Vec;
+use crate::kit::vec::FallibleVec;
 use crate::proved::ent_runner::claimer::Claimer;
 use crate::proved::ent_runner::claims::Claims;
 use crate::proved::ent_runner::collecting::put_all;
@@ -45,7 +46,7 @@ impl Room {
         Ok(Room {
             claims,
             unused,
-            workers: Vec::with_capacity(workers)?,
+            workers: Vec::with_capacity_fallibly(workers)?,
             issued: lists_for_one(workers)?,
             returned: Returned::new(systems, workers)?,
         })
@@ -58,10 +59,10 @@ impl Returned {
         // ensures { IfOk result (HasReturns systems workers) }
     {
         Ok(Returned {
-            reservers: Vec::with_capacity(workers)?,
-            claimers: Vec::with_capacity(workers)?,
+            reservers: Vec::with_capacity_fallibly(workers)?,
+            claimers: Vec::with_capacity_fallibly(workers)?,
             by_system: without_queues(systems)?,
-            queues: Vec::with_capacity(systems)?,
+            queues: Vec::with_capacity_fallibly(systems)?,
         })
     }
 }
@@ -72,9 +73,9 @@ fn lists_for_one(count: usize) -> Result<Vec<Vec<SystemQueue>>, AllocError>
     // ensures count { IfOk result (λ lists. length lists.items ≡ count) }
     // ensures each { IfOk result (λ lists. All IsRoomForOne lists.items) }
 {
-    let mut lists = Vec::with_capacity(count)?;
+    let mut lists = Vec::with_capacity_fallibly(count)?;
     for _ in 0..count {
-        lists.push_reserved(Vec::with_capacity(1)?);
+        lists.push_reserved(Vec::with_capacity_fallibly(1)?);
     }
     Ok(lists)
 }
@@ -84,7 +85,7 @@ fn lists_for_one(count: usize) -> Result<Vec<Vec<SystemQueue>>, AllocError>
 fn without_queues(count: usize) -> Result<Vec<Option<CommandQueue>>, AllocError>
     // ensures { IfOk result (λ by_system. by_system.items ≡ replicate count None) }
 {
-    let mut by_system = Vec::with_capacity(count)?;
+    let mut by_system = Vec::with_capacity_fallibly(count)?;
     for _ in 0..count {
         by_system.push_reserved(None);
     }

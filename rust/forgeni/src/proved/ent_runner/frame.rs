@@ -3,7 +3,7 @@
 //! A frame: workers run the systems while the world is open, and the sync point applies their
 //! queues.
 
-use crate::kit::vec::Vec;
+use alloc::vec::Vec;
 use crate::proved::ent_runner::claims::Claims;
 use crate::proved::ent_runner::collecting::collect;
 use crate::proved::ent_runner::crew::{Returned, Room, disband, recruit, some_stopped};

@@ -1,6 +1,6 @@
 // Made of crates/ent_runner/src/report.rt by rust/erase. It isn't edited by hand.
 
-use crate::kit::vec::Vec;
+use alloc::vec::Vec;
 use crate::proved::ent_queue::CommandQueue;
 use crate::proved::ent_world::{SyncFault, SyncReport};
 

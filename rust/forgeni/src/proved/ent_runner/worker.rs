@@ -2,7 +2,8 @@
 
 //! Workers: each claims systems, one after the other, runs them, and keeps their queues.
 
-use crate::kit::vec::Vec;
+use alloc::vec::Vec;
+use crate::kit::vec::FallibleVec;
 use crate::proved::ent_runner::claimer::Claimer;
 use crate::proved::ent_runner::claims::Claims;
 use crate::proved::ent_runner::gate::Gate;
@@ -87,7 +88,7 @@ impl Worker {
             let (queue, ran) = stage.issue(system, &mut self.reserver);
             self.issued.push_reserved(SystemQueue { system, queue });
             ran?;
-            if self.issued.reserve(1).is_err() {
+            if self.issued.reserve_fallibly(1).is_err() {
                 return Ok(());
             }
         }

@@ -1,7 +1,8 @@
 // Made of crates/ent_script/src/bound.rt by rust/erase. It isn't edited by hand.
 
+use alloc::vec::Vec;
 use crate::kit::programs::string::String;
-use crate::kit::vec::Vec;
+use crate::kit::vec::FallibleVec;
 use crate::proved::ent_handle::Memory;
 use crate::kit::collections::BTreeMap;
 
@@ -51,7 +52,7 @@ impl Bound {
         }
         let text = String::from_str(name)?;
         let key = String::from_str(name)?;
-        self.list.reserve(1)?;
+        self.list.reserve_fallibly(1)?;
         let number = self.list.as_slice().len();
         self.numbers.insert(key, number)?;
         self.list.push_reserved(text);

@@ -1,7 +1,7 @@
 // Made of crates/ent_script/src/cutting.rt by rust/erase. It isn't edited by hand.
 
+use alloc::vec::Vec;
 use crate::kit::programs::string::String;
-use crate::kit::vec::Vec;
 use crate::proved::ent_script::number::number;
 use crate::proved::ent_script::passing::pass_rest;
 use crate::proved::ent_script::read_fault::ReadFault;

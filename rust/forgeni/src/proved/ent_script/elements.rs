@@ -1,7 +1,7 @@
 // Made of crates/ent_script/src/elements.rt by rust/erase. It isn't edited by hand.
 
+use alloc::vec::Vec;
 use crate::kit::programs::string::String;
-use crate::kit::vec::Vec;
 use crate::proved::ent_script::names::is_name;
 use crate::kit::programs::serde_json::{Map, Value};
 

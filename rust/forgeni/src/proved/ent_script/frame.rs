@@ -1,6 +1,6 @@
 // Made of crates/ent_script/src/frame.rt by rust/erase. It isn't edited by hand.
 
-use crate::kit::vec::Vec;
+use alloc::vec::Vec;
 use crate::proved::ent_script::system::System;
 
 /// The systems of a frame, in order. Contracts see the list of them.

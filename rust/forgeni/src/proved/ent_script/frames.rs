@@ -1,6 +1,7 @@
 // Made of crates/ent_script/src/frames.rt by rust/erase. It isn't edited by hand.
 
-use crate::kit::vec::Vec;
+use alloc::vec::Vec;
+use crate::kit::vec::FallibleVec;
 use crate::proved::ent_script::at::At;
 use crate::proved::ent_script::bound::Bound;
 use crate::proved::ent_script::cause::{Cause, ScriptCause};
@@ -180,7 +181,7 @@ fn operations(
             operation: number,
         };
         match next_operation(format, components, &mut bound, at, reader, depth) {
-            Ok(operation) => operations.push(operation)?,
+            Ok(operation) => operations.push_fallibly(operation)?,
             Err(fault) => {
                 return Err(fault_of_array(reader, depth, 9_999 - number, fault, limit));
             }
@@ -240,7 +241,7 @@ fn systems(
             return Err(fault_of_array(reader, depth, 0, limit, limit));
         }
         match system(format, components, frame, number, reader, depth) {
-            Ok(system) => systems.push(system)?,
+            Ok(system) => systems.push_fallibly(system)?,
             Err(fault) => {
                 return Err(fault_of_array(reader, depth, 255 - number, fault, limit));
             }
@@ -295,7 +296,7 @@ fn frames_inside(
             return Err(fault_of_array(reader, depth, 0, limit, limit));
         }
         match frame(format, components, number, reader, depth) {
-            Ok(frame) => frames.push(frame)?,
+            Ok(frame) => frames.push_fallibly(frame)?,
             Err(fault) => {
                 return Err(fault_of_array(reader, depth, 999 - number, fault, limit));
             }

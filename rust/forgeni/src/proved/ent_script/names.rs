@@ -1,6 +1,7 @@
 // Made of crates/ent_script/src/names.rt by rust/erase. It isn't edited by hand.
 
-use crate::kit::vec::Vec;
+use alloc::vec::Vec;
+use crate::kit::vec::FallibleVec;
 use crate::proved::ent_handle::Memory;
 use crate::kit::collections::BTreeMap;
 
@@ -62,7 +63,7 @@ impl<'a> Names<'a> {
         if self.numbers.contains_key(name) {
             return Ok(());
         }
-        self.list.reserve(1)?;
+        self.list.reserve_fallibly(1)?;
         let number = self.list.as_slice().len();
         self.numbers.insert(name, number)?;
         self.list.push_reserved(name);

@@ -1,7 +1,8 @@
 // Made of crates/ent_script/src/reading.rt by rust/erase. It isn't edited by hand.
 
+use alloc::vec::Vec;
 use crate::kit::programs::string::String;
-use crate::kit::vec::Vec;
+use crate::kit::vec::FallibleVec;
 use crate::proved::ent_script::cause::ScriptCause;
 use crate::proved::ent_script::cutting::read_cut;
 use crate::proved::ent_script::elements::{are_keys_among, members, name, whole_within};
@@ -98,9 +99,9 @@ fn owned(names: &[&str]) -> Result<Vec<String>, ReadFault>
     //     ≡ map (λ name. name.now) names.now) }
     // ensures err { IfErr result (λ fault. fault ≡ Memory) }
 {
-    let mut texts = Vec::with_capacity(names.len())?;
+    let mut texts = Vec::with_capacity_fallibly(names.len())?;
     for name in names {
-        texts.push(String::from_str(*name)?)?;
+        texts.push_fallibly(String::from_str(*name)?)?;
     }
     Ok(texts)
 }

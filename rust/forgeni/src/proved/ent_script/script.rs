@@ -1,7 +1,7 @@
 // Made of crates/ent_script/src/script.rt by rust/erase. It isn't edited by hand.
 
+use alloc::vec::Vec;
 use crate::kit::programs::string::String;
-use crate::kit::vec::Vec;
 use crate::proved::ent_script::frame::Frame;
 use crate::proved::ent_alloc::Limits;
 

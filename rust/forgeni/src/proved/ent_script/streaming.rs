@@ -1,6 +1,7 @@
 // Made of crates/ent_script/src/streaming.rt by rust/erase. It isn't edited by hand.
 
-use crate::kit::vec::Vec;
+use alloc::vec::Vec;
+use crate::kit::vec::FallibleVec;
 use crate::proved::ent_script::cutting::read_cut;
 use crate::proved::ent_script::passing::{pass_rest, pass_value};
 use crate::proved::ent_script::read_fault::ReadFault;
@@ -121,7 +122,7 @@ fn elements_cut(
             passes_at_most(reader, depth, 0)?;
             return Ok(None);
         }
-        found.push(read_cut(reader, depth, levels)?)?;
+        found.push_fallibly(read_cut(reader, depth, levels)?)?;
     }
     Ok(Some(found))
 }

@@ -1,6 +1,6 @@
 // Made of crates/ent_script/src/system.rt by rust/erase. It isn't edited by hand.
 
-use crate::kit::vec::Vec;
+use alloc::vec::Vec;
 use crate::proved::ent_script::operation::Operation;
 
 /// The operations of a system, in order. Contracts see the list of them.

@@ -1,6 +1,7 @@
 // Made of crates/ent_script/src/writing.rt by rust/erase. It isn't edited by hand.
 
-use crate::kit::vec::Vec;
+use alloc::vec::Vec;
+use crate::kit::vec::FallibleVec;
 use crate::proved::ent_script::at::At;
 use crate::proved::ent_script::cause::{Cause, ScriptCause};
 use crate::proved::ent_script::read_fault::ReadFault;
@@ -14,7 +15,7 @@ fn append(out: &mut Vec<u8>, text: &[u8]) -> Result<(), Memory>
     // ensures full { OnErr result (vec_capacity out.old < vec_len out.old + length text.now) }
     // ensures capacity { vec_capacity out.old ≤ vec_capacity out.new }
 {
-    Ok(out.extend_from_slice(text)?)
+    Ok(out.extend_from_slice_fallibly(text)?)
 }
 
 /// Appends a space and the decimal of a number.

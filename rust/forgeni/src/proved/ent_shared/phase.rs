@@ -1,6 +1,7 @@
 // Made of crates/ent_shared/src/phase.rt by rust/erase. It isn't edited by hand.
 
-use crate::kit::vec::Vec;
+use alloc::vec::Vec;
+use crate::kit::vec::FallibleVec;
 use crate::proved::ent_shared::reserver::Reserver;
 use crate::proved::ent_shared::rule::Opening;
 use crate::proved::ent_shared::seats::split_first;
@@ -35,7 +36,7 @@ pub(crate) fn share(
     // ensures own { IfOk result (λ made. All (IsOf made.0) made.1.items) }
     // ensures err { IfErr result (λ refused. refused.0 ≡ entities) }
 {
-    let mut reservers = match Vec::with_capacity(n) {
+    let mut reservers = match Vec::with_capacity_fallibly(n) {
         Ok(reservers) => reservers,
         Err(_) => return Err((entities, Memory)),
     };

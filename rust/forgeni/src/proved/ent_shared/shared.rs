@@ -1,6 +1,6 @@
 // Made of crates/ent_shared/src/shared.rt by rust/erase. It isn't edited by hand.
 
-use crate::kit::vec::Vec;
+use alloc::vec::Vec;
 use crate::proved::ent_shared::reserver::Reserver;
 use crate::proved::ent_shared::seats::{merge, new_seat};
 use crate::proved::ent_shared::word;

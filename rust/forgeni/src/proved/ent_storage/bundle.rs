@@ -4,15 +4,26 @@ use crate::proved::ent_storage::pairs::search;
 use crate::proved::ent_handle::{ComponentId, Memory};
 use crate::kit::smallvec::SmallVec;
 
-/// Components and their values, by strictly rising number. Contracts see the list of them.
+/// Components and their values, by strictly rising number: what an entity is given. Contracts see the
+/// list of them.
 ///
 /// Up to `INLINE` components lie in the bundle itself, and take no memory.
+///
+/// ```
+/// use forgeni::{Bundle, ComponentId};
+///
+/// let [mass, speed] = [ComponentId(0), ComponentId(1)];
+/// let mut bundle = Bundle::of(&[(speed, 1), (mass, 7)])?;
+/// bundle.put(speed, 2)?;
+/// assert_eq!(bundle.items(), [(mass, 7), (speed, 2)]);
+/// # Ok::<(), forgeni::OutOfMemory>(())
+/// ```
 pub struct Bundle<const INLINE: usize> {
     items: SmallVec<(ComponentId, i64), INLINE>,
 }
 
 impl<const INLINE: usize> Bundle<INLINE> {
-    /// A bundle with no components.
+    /// A bundle with no components. It takes no memory.
     ///
     /// <details><summary>Contract</summary>
     ///
@@ -23,6 +34,7 @@ impl<const INLINE: usize> Bundle<INLINE> {
     /// ```
     ///
     /// </details>
+    #[must_use]
     #[inline]
     pub fn new() -> Self {
         Bundle {
@@ -30,11 +42,11 @@ impl<const INLINE: usize> Bundle<INLINE> {
         }
     }
 
-    /// A bundle with no components, and room for so many.
+    /// A bundle with no components, and room for that many.
     ///
     /// # Errors
     ///
-    /// `Memory`, which needs a count of more than `INLINE`.
+    /// Out of memory, which needs a count of more than `INLINE`.
     ///
     /// <details><summary>Contract</summary>
     ///
@@ -53,12 +65,12 @@ impl<const INLINE: usize> Bundle<INLINE> {
         })
     }
 
-    /// A bundle of these components, in any order. Of one that stands there twice the last value
-    /// counts.
+    /// A bundle of these components. The list may be in any order. If a component is in it twice, its
+    /// last value counts.
     ///
     /// # Errors
     ///
-    /// `Memory`, which needs more than `INLINE` different components. Nothing is left behind.
+    /// Out of memory, which needs more than `INLINE` different components.
     ///
     /// <details><summary>Contract</summary>
     ///
@@ -81,12 +93,12 @@ impl<const INLINE: usize> Bundle<INLINE> {
         Ok(bundle)
     }
 
-    /// Puts the component's value, instead of the one that is there.
+    /// Sets the component's value. If the component is there already, this value replaces its own.
     ///
     /// # Errors
     ///
-    /// `Memory`, which needs a component that is not there and at least `INLINE` that are. Nothing
-    /// has changed.
+    /// Out of memory, which needs a component that is not there and at least `INLINE` that are.
+    /// Nothing has changed.
     ///
     /// <details><summary>Contract</summary>
     ///
@@ -121,6 +133,7 @@ impl<const INLINE: usize> Bundle<INLINE> {
     /// ```
     ///
     /// </details>
+    #[must_use]
     #[inline]
     pub fn items(&self) -> &[(ComponentId, i64)] {
         self.items.as_slice()

@@ -1,6 +1,7 @@
 // Made of crates/ent_storage/src/columns.rt by rust/erase. It isn't edited by hand.
 
-use crate::kit::vec::Vec;
+use alloc::vec::Vec;
+use crate::kit::vec::FallibleVec;
 use super::sparse_set::SparseSet;
 use crate::proved::ent_handle::ComponentId;
 use crate::kit::alloc::AllocError;
@@ -126,7 +127,7 @@ fn mark(used: &mut Vec<u8>, number: u8) -> Result<(), AllocError>
     // ensures ok { OnOk result (Contains used.new.items number) }
 {
     if let Err(gap) = used.binary_search(&number) {
-        used.insert(gap, number)?;
+        used.insert_fallibly(gap, number)?;
     }
     Ok(())
 }
@@ -143,7 +144,7 @@ fn grow(columns: &mut Vec<SparseSet>, count: usize) -> Result<(), AllocError>
     // ensures numbered { length columns.new.items ≤ 256 }
 {
     for _ in columns.len()..count {
-        columns.push(SparseSet::new())?;
+        columns.push_fallibly(SparseSet::new())?;
     }
     Ok(())
 }

@@ -3,15 +3,14 @@
 use core::error::Error;
 use core::fmt;
 
-/// Why a storage refused a call. The storage is as it was before.
-#[derive(Clone, Copy, Debug, PartialEq, Eq)]
+/// Why a [`Storage`](super::Storage) refused a call. Nothing has changed.
+#[derive(Clone, Copy, Debug, PartialEq, Eq, Hash)]
 pub enum StorageFault {
     /// No entity has that handle.
     Absent,
     /// An entity has that handle already.
     Present,
-    /// Memory ran out: a growth was really refused, or there would be more than 4,294,967,296
-    /// entities.
+    /// Out of memory, or there would be more than 4,294,967,296 entities.
     Memory,
 }
 

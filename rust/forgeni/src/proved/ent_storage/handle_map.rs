@@ -2,54 +2,143 @@
 
 //! A map from handles to values of any type, at most one for each slot.
 
-mod fault;
+mod error;
 mod generation;
 mod iter;
+mod keys;
+mod limit;
 mod retaining;
 mod slot;
+mod values;
 
-use crate::kit::vec::Vec;
-pub use crate::proved::ent_storage::handle_map::fault::{InsertFault, Uninserted};
+use alloc::vec::Vec;
+use crate::kit::vec::FallibleVec;
+pub use crate::proved::ent_storage::handle_map::error::{InsertError, Uninserted};
 pub use crate::proved::ent_storage::handle_map::iter::Iter;
+pub use crate::proved::ent_storage::handle_map::keys::Keys;
+use crate::proved::ent_storage::handle_map::limit::Limit;
 use crate::proved::ent_storage::handle_map::retaining::retain_slots;
 use crate::proved::ent_storage::handle_map::slot::{Slot, make_slot};
+pub use crate::proved::ent_storage::handle_map::values::Values;
 use crate::proved::ent_handle::{Handle, Memory};
 use core::mem;
 
-/// A value for each of some handles, at most one for each slot.
+/// A value of any type for each of some handles: a component. At most one handle of a slot has a
+/// value.
 ///
-/// Contracts see a finite map from handles to values. A look-up is that of one slot in a vector. So
-/// a map has room for as many slots as the greatest index of its handles tells.
+/// It is what this package recommends for components: one map for each type, beside an
+/// [`Entities`](crate::Entities) or in what a program calls its world. A look-up is one access to a
+/// vector by the handle's index, and a comparison of the generation. So a map has room for as many
+/// slots as the greatest index of its handles tells, and nothing moves when a value goes.
+///
+/// It does not know which handles an allocator has given or freed. A value that nobody removes stays
+/// until a later occupant of its slot gets one, and can't be found by that one's handle.
+///
+/// ```
+/// use forgeni::{Entities, HandleMap};
+///
+/// struct Body {
+///     place: [f32; 2],
+///     speed: [f32; 2],
+/// }
+///
+/// let mut entities = Entities::new();
+/// let mut bodies = HandleMap::new();
+/// let mut names = HandleMap::new();
+/// let ball = entities.alloc()?;
+/// bodies.insert(ball, Body { place: [0.0; 2], speed: [1.0, 2.0] })?;
+/// names.insert(ball, "ball")?;
+///
+/// bodies.for_each_mut(|_, body| {
+///     body.place[0] += body.speed[0];
+///     body.place[1] += body.speed[1];
+/// });
+/// assert_eq!(bodies[ball].place, [1.0, 2.0]);
+///
+/// entities.free(ball)?;
+/// assert_eq!(names.remove(ball), Some("ball"));
+/// assert!(!names.contains(ball));
+/// # Ok::<(), Box<dyn std::error::Error + Send + Sync>>(())
+/// ```
+///
+/// **A handle from a save or a network may make the map take much memory.** The handle's index says
+/// for how many slots the map takes room, and `200000000v1` is a well-formed handle. So give a map
+/// for such handles a [limit](Self::with_limit). It refuses each handle whose slot is at or above
+/// it:
+///
+/// ```
+/// use forgeni::{Entities, Handle, HandleMap, InsertError};
+///
+/// let mut entities = Entities::new();
+/// let cart = entities.alloc()?;
+/// let mut names = HandleMap::with_limit(entities.total());
+/// names.insert(cart, "cart")?;
+/// let saved: Handle = "200000000v1".parse()?;
+/// let refused = names.insert(saved, "ship").unwrap_err();
+/// assert_eq!(refused.into_parts(), ("ship", InsertError::Limit));
+/// # Ok::<(), Box<dyn std::error::Error + Send + Sync>>(())
+/// ```
+///
+/// A value takes 4 bytes more than its own, for its generation, and what alignment adds. A slot of
+/// values of up to 4 bytes has 8 bytes, and one of values of 8 bytes has 16.
+///
+/// Contracts see a finite map from handles to values (`values`), how many slots there are (`slots`),
+/// for how many slots there is room (`room`), and for how many slots there may be values (`limit`).
 pub struct HandleMap<T> {
     slots: Vec<Slot<T>>,
     len: usize,
+    limit: Limit,
 }
 
 impl<T> HandleMap<T> {
-    /// A map without values. It takes no memory.
+    /// A map without values, and without a limit. It takes no memory.
     ///
     /// <details><summary>Contract</summary>
     ///
     /// In the words of the folder `specs/` of crate `ent_storage`:
     ///
     /// ```text
-    /// ensures { result ≡ record { values = map.empty; room = 0 } }
+    /// ensures { result ≡ record { values = map.empty; slots = 0; room = 0; limit = no_limit } }
     /// ```
     ///
     /// </details>
+    #[must_use]
     #[inline]
     pub const fn new() -> Self {
+        HandleMap::with_limit(u32::MAX)
+    }
+
+    /// A map without values, which refuses each handle whose slot is at or above this limit. It
+    /// takes no memory.
+    ///
+    /// [`Entities::total`](crate::Entities::total) is a limit that fits an allocator as long as it
+    /// makes no new slots. [`set_limit`](Self::set_limit) changes the limit.
+    ///
+    /// <details><summary>Contract</summary>
+    ///
+    /// In the words of the folder `specs/` of crate `ent_storage`:
+    ///
+    /// ```text
+    /// ensures { result ≡ record { values = map.empty; slots = 0; room = 0; limit = limit } }
+    /// ```
+    ///
+    /// </details>
+    #[must_use]
+    #[inline]
+    pub const fn with_limit(limit: u32) -> Self {
         HandleMap {
             slots: Vec::new(),
             len: 0,
+            limit: Limit::of(limit),
         }
     }
 
-    /// A map without values, with room for just that many slots. It takes no memory for none.
+    /// A map without values and without a limit, with room for just that many slots. It takes no
+    /// memory for none.
     ///
     /// # Errors
     ///
-    /// `Memory` if there is not that much.
+    /// Out of memory.
     ///
     /// <details><summary>Contract</summary>
     ///
@@ -57,7 +146,9 @@ impl<T> HandleMap<T> {
     ///
     /// ```text
     /// ensures empty { IfOk result (λ m. m.values ≡ map.empty) }
+    /// ensures slots { IfOk result (λ m. m.slots ≡ 0) }
     /// ensures room { IfOk result (λ m. m.room ≡ slots) }
+    /// ensures limit { IfOk result (λ m. m.limit ≡ no_limit) }
     /// ensures memory { OnErr result (0 < slots) }
     /// ```
     ///
@@ -65,9 +156,57 @@ impl<T> HandleMap<T> {
     #[inline]
     pub fn with_capacity(slots: usize) -> Result<Self, Memory> {
         Ok(HandleMap {
-            slots: Vec::with_capacity(slots)?,
+            slots: Vec::with_capacity_fallibly(slots)?,
             len: 0,
+            limit: Limit::of(u32::MAX),
         })
+    }
+
+    /// For how many slots the map may have values, from slot 0 on: 4,294,967,295, which is no limit,
+    /// or the limit that was set.
+    ///
+    /// <details><summary>Contract</summary>
+    ///
+    /// In the words of the folder `specs/` of crate `ent_storage`:
+    ///
+    /// ```text
+    /// ensures { result ≡ self.now.limit }
+    /// ```
+    ///
+    /// </details>
+    #[must_use]
+    #[inline]
+    pub const fn limit(&self) -> u32 {
+        self.limit.slots()
+    }
+
+    /// Sets the limit. The map keeps the values that it has, even those of slots at or above the
+    /// limit.
+    ///
+    /// ```
+    /// use forgeni::{Handle, HandleMap, InsertError};
+    ///
+    /// let [third, fourth] = [Handle::new(3, 1).unwrap(), Handle::new(4, 1).unwrap()];
+    /// let mut map = HandleMap::new();
+    /// map.insert(third, "c")?;
+    /// map.set_limit(3);
+    /// assert_eq!((map.limit(), map.get(third)), (3, Some(&"c")));
+    /// assert_eq!(map.insert(fourth, "d").unwrap_err().error, InsertError::Limit);
+    /// # Ok::<(), Box<dyn std::error::Error + Send + Sync>>(())
+    /// ```
+    ///
+    /// <details><summary>Contract</summary>
+    ///
+    /// In the words of the folder `specs/` of crate `ent_storage`:
+    ///
+    /// ```text
+    /// ensures { self.new ≡ record self.old { limit = limit } }
+    /// ```
+    ///
+    /// </details>
+    #[inline]
+    pub fn set_limit(&mut self, limit: u32) {
+        self.limit = Limit::of(limit);
     }
 
     /// How many values there are. It takes constant time.
@@ -81,6 +220,7 @@ impl<T> HandleMap<T> {
     /// ```
     ///
     /// </details>
+    #[must_use]
     #[inline]
     pub fn len(&self) -> usize {
         self.len
@@ -97,6 +237,7 @@ impl<T> HandleMap<T> {
     /// ```
     ///
     /// </details>
+    #[must_use]
     #[inline]
     pub fn is_empty(&self) -> bool {
         self.len() == 0
@@ -114,12 +255,34 @@ impl<T> HandleMap<T> {
     /// ```
     ///
     /// </details>
+    #[must_use]
     #[inline]
     pub fn capacity(&self) -> usize {
-        self.slots.capacity()
+        self.slots.sized_capacity()
     }
 
-    /// Whether the handle has a value.
+    /// How many slots there are. They reach up to the slot with the greatest index of those that
+    /// were given a value since the map was made or cleared.
+    ///
+    /// <details><summary>Contract</summary>
+    ///
+    /// In the words of the folder `specs/` of crate `ent_storage`:
+    ///
+    /// ```text
+    /// ensures value { result ≡ self.now.slots }
+    /// ensures room { self.now.slots ≤ self.now.room }
+    /// ensures values { (handle : Handle) → IsSome (map.get self.now.values handle)
+    ///     → handle.index < self.now.slots }
+    /// ```
+    ///
+    /// </details>
+    #[must_use]
+    #[inline]
+    pub fn slots(&self) -> usize {
+        self.slots.len()
+    }
+
+    /// Whether the handle has a value. It takes constant time.
     ///
     /// <details><summary>Contract</summary>
     ///
@@ -130,12 +293,13 @@ impl<T> HandleMap<T> {
     /// ```
     ///
     /// </details>
+    #[must_use]
     #[inline]
     pub fn contains(&self, handle: Handle) -> bool {
         self.get(handle).is_some()
     }
 
-    /// The value of the handle, if it has one. It is one look-up.
+    /// The value of the handle, if it has one. It takes constant time.
     ///
     /// <details><summary>Contract</summary>
     ///
@@ -146,12 +310,13 @@ impl<T> HandleMap<T> {
     /// ```
     ///
     /// </details>
+    #[must_use]
     #[inline]
     pub fn get(&self, handle: Handle) -> Option<&T> {
         find(&self.slots, handle)
     }
 
-    /// The value of the handle for writing, if it has one.
+    /// The value of the handle, if it has one, to be changed. It takes constant time.
     ///
     /// <details><summary>Contract</summary>
     ///
@@ -163,6 +328,7 @@ impl<T> HandleMap<T> {
     /// ```
     ///
     /// </details>
+    #[must_use]
     #[inline]
     pub fn get_mut(&mut self, handle: Handle) -> Option<&mut T> {
         if self.contains(handle) {
@@ -182,35 +348,46 @@ impl<T> HandleMap<T> {
         self.slots[handle.index() as usize].value_mut()
     }
 
-    /// Makes room for the slots below that number. It takes no memory if there is room.
+    /// Makes room for that many slots more than there [are](Self::slots), as `Vec::reserve` does.
+    /// It takes no memory if there is room.
+    ///
+    /// ```
+    /// use forgeni::{Handle, HandleMap};
+    ///
+    /// let mut map = HandleMap::new();
+    /// map.insert(Handle::new(9, 1).unwrap(), "last")?;
+    /// map.reserve(90)?;
+    /// assert!(map.slots() == 10 && map.capacity() >= 100);
+    /// # Ok::<(), Box<dyn std::error::Error + Send + Sync>>(())
+    /// ```
     ///
     /// # Errors
     ///
-    /// `Memory`. Nothing has changed.
+    /// Out of memory. Nothing has changed.
     ///
     /// <details><summary>Contract</summary>
     ///
     /// In the words of the folder `specs/` of crate `ent_storage`:
     ///
     /// ```text
-    /// ensures room { OnOk result (slots ≤ self.new.room) }
-    /// ensures values { self.new.values ≡ self.old.values }
+    /// ensures room { OnOk result (self.old.slots + additional ≤ self.new.room) }
+    /// ensures kept { self.new ≡ record self.old { room = self.new.room } }
     /// ensures grows { self.old.room ≤ self.new.room }
-    /// ensures memory { OnErr result (self.old.room < slots) }
+    /// ensures in_place { self.old.slots + additional ≤ self.old.room → self.new ≡ self.old }
+    /// ensures memory { OnErr result (self.old.room < self.old.slots + additional) }
     /// ensures err { OnErr result (self.new ≡ self.old) }
     /// ```
     ///
     /// </details>
     #[inline]
-    pub fn reserve(&mut self, slots: usize) -> Result<(), Memory> {
-        let made = self.slots.len();
-        if made < slots {
-            self.slots.reserve(slots - made)?;
+    pub fn reserve(&mut self, additional: usize) -> Result<(), Memory> {
+        if self.slots.sized_capacity() - self.slots.len() < additional {
+            self.slots.reserve_fallibly(additional)?;
         }
         Ok(())
     }
 
-    /// The handles and values, by rising slot.
+    /// The handles and their values, by rising slot. The time is that of a look at each slot.
     ///
     /// <details><summary>Contract</summary>
     ///
@@ -227,18 +404,70 @@ impl<T> HandleMap<T> {
     pub fn iter(&self) -> Iter<'_, T> {
         Iter::new(&self.slots, self.len)
     }
+
+    /// The handles that have a value, by rising slot.
+    ///
+    /// <details><summary>Contract</summary>
+    ///
+    /// In the words of the folder `specs/` of crate `ent_storage`:
+    ///
+    /// ```text
+    /// ensures { result ≡ map.keys self.now.values }
+    /// ```
+    ///
+    /// </details>
+    #[inline]
+    pub fn keys(&self) -> Keys<'_, T> {
+        Keys::new(self.iter())
+    }
+
+    /// The values, by rising slot.
+    ///
+    /// <details><summary>Contract</summary>
+    ///
+    /// In the words of the folder `specs/` of crate `ent_storage`:
+    ///
+    /// ```text
+    /// ensures { result ≡ map.values self.now.values }
+    /// ```
+    ///
+    /// </details>
+    #[inline]
+    pub fn values(&self) -> Values<'_, T> {
+        Values::new(self.iter())
+    }
 }
 
 impl<T> HandleMap<T> {
-    /// Gives the handle a value, and returns the one that it had.
+    /// Gives the handle a value, and returns the one that it had. If an earlier occupant of the slot
+    /// has one, that is dropped.
     ///
-    /// An earlier occupant of the slot loses its value: it is dropped. So a slot never has two. It
-    /// takes memory only for a slot at or after `capacity`.
+    /// If there is room for the slot ([`capacity`](Self::capacity)), it takes no memory, and
+    /// constant time. If not, it takes memory and time for all slots up to that of the handle.
+    ///
+    /// ```
+    /// use forgeni::{Handle, HandleMap, InsertError};
+    ///
+    /// let [first, second] = [Handle::new(7, 1).unwrap(), Handle::new(7, 2).unwrap()];
+    /// let mut map = HandleMap::new();
+    /// assert_eq!(map.insert(first, "a")?, None);
+    /// assert_eq!(map.insert(first, "b")?, Some("a"));
+    /// assert_eq!(map.insert(second, "c")?, None);
+    /// assert_eq!((map.get(first), map.get(second)), (None, Some(&"c")));
+    ///
+    /// let refused = map.insert(first, "d").unwrap_err();
+    /// assert_eq!(refused.into_parts(), ("d", InsertError::Later));
+    /// # Ok::<(), Box<dyn std::error::Error + Send + Sync>>(())
+    /// ```
     ///
     /// # Errors
     ///
-    /// The value is handed back, and nothing has changed. `Later` if a later occupant of the slot
-    /// has a value; then `Memory`.
+    /// [`Uninserted`] has the value, and nothing has changed. The first that holds is the reason:
+    ///
+    /// - `Limit`: the handle's slot is at or above the [`limit`](Self::limit), or the handle is
+    ///   [`Handle::PLACEHOLDER`], which no map takes.
+    /// - `Later`: a later occupant of the slot has a value.
+    /// - `Memory`: memory ran out.
     ///
     /// <details><summary>Contract</summary>
     ///
@@ -248,9 +477,15 @@ impl<T> HandleMap<T> {
     /// ensures ok { OnOk result (self.new.values
     ///     ≡ map.insert (without_slot self.old.values handle.index) handle value) }
     /// ensures before { IfOk result (λ before. before ≡ map.get self.old.values handle) }
+    /// ensures slots { OnOk result (self.new.slots ≡ max self.old.slots (handle.index + 1)) }
     /// ensures room { self.old.room ≤ self.new.room }
-    /// ensures later { (fault_of result ≡ Some InsertFault.Later) ↔ HasLater self.old.values handle }
-    /// ensures memory { fault_of result ≡ Some InsertFault.Memory → self.old.room ≤ handle.index }
+    /// ensures kept { self.new.limit ≡ self.old.limit }
+    ///
+    /// ensures limit { (error_of result ≡ Some InsertError.Limit)
+    ///     ↔ IsBeyond self.old.limit handle }
+    /// ensures later { (error_of result ≡ Some InsertError.Later)
+    ///     ↔ (¬ (IsBeyond self.old.limit handle) × HasLater self.old.values handle) }
+    /// ensures memory { error_of result ≡ Some InsertError.Memory → self.old.room ≤ handle.index }
     /// ensures back { IfErr result (λ refused. refused.value ≡ value) }
     /// ensures err { OnErr result (self.new ≡ self.old) }
     /// ```
@@ -258,18 +493,24 @@ impl<T> HandleMap<T> {
     /// </details>
     #[inline]
     pub fn insert(&mut self, handle: Handle, value: T) -> Result<Option<T>, Uninserted<T>> {
+        if self.limit.refuses(handle) {
+            return Err(Uninserted {
+                value,
+                error: InsertError::Limit,
+            });
+        }
         let index = index_of(handle);
         let standing = generation_in(&self.slots, index);
         if handle.generation() < standing {
             return Err(Uninserted {
                 value,
-                why: InsertFault::Later,
+                error: InsertError::Later,
             });
         }
         let Ok(()) = make_slot(&mut self.slots, index) else {
             return Err(Uninserted {
                 value,
-                why: InsertFault::Memory,
+                error: InsertError::Memory,
             });
         };
         let before = mem::replace(&mut self.slots[index], Slot::of(handle, value));
@@ -277,7 +518,8 @@ impl<T> HandleMap<T> {
         Ok(before.into_value(handle.generation()))
     }
 
-    /// Takes the value of the handle out, and returns it, if it has one.
+    /// Takes the value of the handle out, and returns it, if it has one. It takes constant time and
+    /// no memory.
     ///
     /// <details><summary>Contract</summary>
     ///
@@ -300,15 +542,45 @@ impl<T> HandleMap<T> {
         slot.into_value(handle.generation())
     }
 
-    /// Calls `keep` at each value, by rising slot, and drops the values at which it returns `false`.
-    /// It may write to those that stay. The room stays.
+    /// Calls `keep` on each value once, by rising slot, and drops the values of which it returns
+    /// `false`. It may change those that stay. The room stays.
+    ///
+    /// ```
+    /// use forgeni::{Entities, HandleMap};
+    ///
+    /// let mut entities = Entities::new();
+    /// let mut frames_left: HandleMap<u32> = HandleMap::new();
+    /// for (frames, one) in (1..).zip(entities.alloc_many(3)?) {
+    ///     frames_left.insert(one, frames)?;
+    /// }
+    /// frames_left.retain(|one, frames| {
+    ///     *frames -= 1;
+    ///     *frames > 0 || entities.free(one).is_err()
+    /// });
+    /// assert!(frames_left.keys().eq(&entities));
+    /// assert!(frames_left.values().eq(&[1, 2]));
+    /// # Ok::<(), Box<dyn std::error::Error + Send + Sync>>(())
+    /// ```
+    ///
+    /// # Panics
+    ///
+    /// A panic of `keep` is handed on. The map then has the values that were kept, those that `keep`
+    /// wasn't called on, and the one on which it panicked, as far as `keep` had changed it.
+    ///
+    /// <details><summary>Contract</summary>
+    ///
+    /// In the words of the folder `specs/` of crate `ent_storage`:
+    ///
+    /// ```text
+    /// requires { F.IsAlwaysCallable keep }
+    /// ensures retained { Retains F.step keep (map.entries self.old.values)
+    ///     (map.entries self.new.values) }
+    /// ensures kept { self.new ≡ record self.old { values = self.new.values } }
+    /// ```
+    ///
+    /// </details>
     #[inline]
-    pub(crate) fn retain<F: FnMut(Handle, &mut T) -> bool>(&mut self, keep: F)
-        // requires { F.IsAlwaysCallable keep }
-        // ensures retained { Retains F.step keep (map.entries self.old.values)
-        //     (map.entries self.new.values) }
-        // ensures room { self.new.room ≡ self.old.room }
-    {
+    pub fn retain<F: FnMut(Handle, &mut T) -> bool>(&mut self, keep: F) {
         retain_slots(&mut self.slots, &mut self.len, keep);
     }
 
@@ -319,7 +591,7 @@ impl<T> HandleMap<T> {
     /// In the words of the folder `specs/` of crate `ent_storage`:
     ///
     /// ```text
-    /// ensures { self.new ≡ record self.old { values = map.empty } }
+    /// ensures { self.new ≡ record self.old { values = map.empty; slots = 0 } }
     /// ```
     ///
     /// </details>

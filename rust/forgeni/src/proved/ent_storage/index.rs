@@ -1,6 +1,7 @@
 // Made of crates/ent_storage/src/index.rt by rust/erase. It isn't edited by hand.
 
-use crate::kit::vec::Vec;
+use alloc::vec::Vec;
+use crate::kit::vec::FallibleVec;
 use super::key::Key;
 use super::living::{Living, has_handle_at};
 use super::places::MOST_PLACES;
@@ -153,7 +154,7 @@ impl Index {
     /// </details>
     #[inline]
     pub fn room(&self) -> usize {
-        self.pairs.capacity().min(MOST_PLACES)
+        self.pairs.sized_capacity().min(MOST_PLACES)
     }
 
     /// Makes room for `count` handles in all. After an `Err` nothing is changed.
@@ -177,7 +178,7 @@ impl Index {
         if count > MOST_PLACES {
             return Err(AllocError);
         }
-        self.pairs.reserve(additional)
+        self.pairs.reserve_fallibly(additional)
     }
 }
 
@@ -260,7 +261,7 @@ fn put_behind(pairs: &mut Vec<(Key, u32)>, living: &Living, pair: (Key, u32)) ->
     // ensures capacity { vec_capacity pairs.new ≡ vec_capacity pairs.old }
 {
     let end = pairs.len();
-    if end < pairs.capacity() && is_gap(pairs, end, pair.0.handle()) {
+    if end < pairs.sized_capacity() && is_gap(pairs, end, pair.0.handle()) {
         pairs.push_reserved(pair);
         true
     } else {
@@ -288,7 +289,7 @@ fn put_found(
     //     (map.from_sorted pairs.new.items) }
     // ensures capacity { vec_capacity pairs.new ≡ vec_capacity pairs.old }
 {
-    if pairs.len() < pairs.capacity() {
+    if pairs.len() < pairs.sized_capacity() {
         put_at(pairs, living, found, pair);
     } else {
         sweep(pairs, living);
@@ -340,7 +341,7 @@ fn put_in_gap(pairs: &mut Vec<(Key, u32)>, living: &Living, position: usize, pai
         Some(other) => pairs[other] = pair,
         None if position == pairs.len() => pairs.push_reserved(pair),
         None => {
-            let _ = pairs.insert(position, pair);
+            let _ = pairs.insert_fallibly(position, pair);
         }
     }
 }

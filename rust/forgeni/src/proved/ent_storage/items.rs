@@ -6,8 +6,9 @@ use crate::proved::ent_handle::ComponentId;
 
 /// The components of one entity and their values, by rising number.
 ///
-/// `Storage::items` makes it. It borrows the storage and copies nothing. It looks at the components
-/// that any entity has ever had, at most 256 of them.
+/// [`Storage::items`](super::Storage::items) makes it. It borrows the storage and copies nothing. It
+/// looks at the components that any entity has ever had, at most 256 of them.
+#[must_use]
 pub struct Items<'a> {
     columns: &'a [SparseSet],
     used: &'a [u8],
@@ -28,6 +29,26 @@ impl<'a> Items<'a> {
             place,
             left: count_of(columns, used, place),
         }
+    }
+
+    /// The same items once more. It takes no memory.
+    #[inline]
+    fn again(&self) -> Self
+        // ensures { result ≡ self.now }
+    {
+        Items {
+            columns: self.columns,
+            used: self.used,
+            place: self.place,
+            left: self.left,
+        }
+    }
+}
+
+impl Clone for Items<'_> {
+    #[inline]
+    fn clone(&self) -> Self {
+        self.again()
     }
 }
 

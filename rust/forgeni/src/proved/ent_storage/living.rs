@@ -1,7 +1,8 @@
 // Made of crates/ent_storage/src/living.rt by rust/erase. It isn't edited by hand.
 
+use alloc::vec::Vec;
 use crate::kit::vec::CollectIn;
-use crate::kit::vec::Vec;
+use crate::kit::vec::FallibleVec;
 use super::columns;
 use super::items::Items;
 use super::order::least_of_birth;
@@ -94,7 +95,7 @@ impl Living {
     /// </details>
     #[inline]
     pub fn capacity(&self) -> usize {
-        self.residents.capacity()
+        self.residents.sized_capacity()
     }
 
     /// Makes room for `additional` more entities. After an `Err` nothing is changed.
@@ -115,7 +116,7 @@ impl Living {
     /// </details>
     #[inline]
     pub fn reserve(&mut self, additional: usize) -> Result<(), AllocError> {
-        self.residents.reserve(additional)
+        self.residents.reserve_fallibly(additional)
     }
 
     /// The handle of the entity at the place.
@@ -266,10 +267,10 @@ impl Living {
         //     ≡ map (λ pair. born_at self.now.entities pair.0) pairs.now) }
         // ensures memory { OnErr result (0 < length pairs.now) }
     {
-        let mut births = Vec::with_capacity(pairs.len())?;
+        let mut births = Vec::with_capacity_fallibly(pairs.len())?;
         for pair in pairs {
             let resident = self.residents[pair.0];
-            births.push((resident.birth, resident.handle))?;
+            births.push_fallibly((resident.birth, resident.handle))?;
         }
         Ok(births)
     }

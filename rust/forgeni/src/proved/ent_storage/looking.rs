@@ -2,7 +2,7 @@
 
 //! What a storage has: the look-ups, which change nothing.
 
-use crate::kit::vec::Vec;
+use alloc::vec::Vec;
 use crate::proved::ent_storage::items::Items;
 use crate::proved::ent_storage::order::handles_in_order;
 use crate::proved::ent_storage::storage::Storage;
@@ -20,6 +20,7 @@ impl Storage {
     /// ```
     ///
     /// </details>
+    #[must_use]
     #[inline]
     pub fn contains(&self, handle: Handle) -> bool {
         self.place(handle).is_some()
@@ -36,6 +37,7 @@ impl Storage {
     /// ```
     ///
     /// </details>
+    #[must_use]
     #[inline]
     pub fn birth(&self, handle: Handle) -> Option<Birth> {
         let place = self.place(handle)?;
@@ -53,6 +55,7 @@ impl Storage {
     /// ```
     ///
     /// </details>
+    #[must_use]
     #[inline]
     pub fn get(&self, handle: Handle, id: ComponentId) -> Option<i64> {
         let place = self.place(handle)?;
@@ -70,13 +73,15 @@ impl Storage {
     /// ```
     ///
     /// </details>
+    #[must_use]
     #[inline]
     pub fn items(&self, handle: Handle) -> Option<Items<'_>> {
         let place = self.place(handle)?;
         Some(self.items_at(place, handle))
     }
 
-    /// The place of the entity, if it is there. It stays until an entity is taken out.
+    /// The place of the entity in the vector of entities, if it is there. It stays the same until an
+    /// entity is taken out.
     ///
     /// <details><summary>Contract</summary>
     ///
@@ -88,6 +93,7 @@ impl Storage {
     /// ```
     ///
     /// </details>
+    #[must_use]
     #[inline(always)]
     pub fn place(&self, handle: Handle) -> Option<usize> {
         self.index.place(&self.living, handle)
@@ -127,7 +133,7 @@ impl Storage {
     ///
     /// # Errors
     ///
-    /// `Memory`: there is no memory for the list. It never comes if there are no entities.
+    /// Out of memory for the list. It never comes if there are no entities.
     ///
     /// <details><summary>Contract</summary>
     ///
@@ -165,6 +171,7 @@ impl Storage {
     /// ```
     ///
     /// </details>
+    #[must_use]
     #[inline]
     pub fn of_birth(&self, birth: Birth) -> Option<Handle> {
         self.living.of_birth(birth)
@@ -184,6 +191,7 @@ impl Storage {
     /// ```
     ///
     /// </details>
+    #[must_use]
     #[inline]
     pub fn dense(&self, id: ComponentId) -> &[(usize, i64)] {
         self.living.pairs(id)
@@ -194,7 +202,7 @@ impl Storage {
     ///
     /// # Errors
     ///
-    /// `Memory`: there is no memory for the list. It never comes if no entity has the component.
+    /// Out of memory for the list. It never comes if no entity has the component.
     ///
     /// <details><summary>Contract</summary>
     ///

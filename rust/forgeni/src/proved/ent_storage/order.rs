@@ -1,7 +1,8 @@
 // Made of crates/ent_storage/src/order.rt by rust/erase. It isn't edited by hand.
 
+use alloc::vec::Vec;
 use crate::kit::vec::CollectIn;
-use crate::kit::vec::Vec;
+use crate::kit::vec::FallibleVec;
 use super::living::Resident;
 use crate::proved::ent_handle::{Birth, Handle};
 use crate::kit::alloc::AllocError;
@@ -39,7 +40,7 @@ pub fn handles_in_order(
 fn sort_births(births: &mut Vec<(Birth, Handle)>)
     // ensures { IsPermutation births.old.items births.new.items }
 {
-    let _ = births.sort_by_key(|pair| packed(pair.0));
+    let _ = births.sort_by_key_fallibly(|pair| packed(pair.0));
 }
 
 // One number that has the order of the births: it is compared at once.

@@ -1,6 +1,7 @@
 // Made of crates/ent_storage/src/sparse_set.rt by rust/erase. It isn't edited by hand.
 
-use crate::kit::vec::Vec;
+use alloc::vec::Vec;
+use crate::kit::vec::FallibleVec;
 use super::places::MOST_PLACES;
 use crate::kit::alloc::AllocError;
 
@@ -116,7 +117,7 @@ impl SparseSet {
     /// </details>
     #[inline]
     pub fn has_room(&self, place: usize) -> bool {
-        self.dense.len() < self.dense.capacity().min(MOST_PLACES) && place < self.sparse.len()
+        self.dense.len() < self.dense.sized_capacity().min(MOST_PLACES) && place < self.sparse.len()
     }
 
     /// Makes room for a value of the place. After an `Err` the values are as before.
@@ -137,12 +138,12 @@ impl SparseSet {
         if self.dense.len() >= MOST_PLACES {
             return Err(AllocError);
         }
-        self.dense.reserve(1)?;
+        self.dense.reserve_fallibly(1)?;
         let places = place.checked_add(1).ok_or(AllocError)?;
         self.sparse
-            .reserve(places.saturating_sub(self.sparse.len()))?;
+            .reserve_fallibly(places.saturating_sub(self.sparse.len()))?;
         // All the room is put to use at once, so that the next places are there.
-        self.sparse.resize(self.sparse.capacity(), 0)
+        self.sparse.resize_fallibly(self.sparse.sized_capacity(), 0)
     }
 
     /// Takes the value of the place out, and returns it. It takes no memory.

@@ -5,12 +5,35 @@ use super::index::Index;
 use super::living::Living;
 use crate::proved::ent_handle::{Birth, ComponentId, Handle, Memory};
 
-/// The living entities: a finite map from handles to births and components.
+/// What living entities are made of: for each handle its birth, and a value for each component that
+/// the entity has.
 ///
-/// It also has the handle at each place, and a number, `spare`: for how many more entities there is
-/// room. It takes constant time to look an entity up by its handle if the handles are those of an
-/// allocator that has retired few slots, and else logarithmic time. Each component's values stand
-/// in a vector of their own.
+/// It does not know which handles an allocator has given: keep it beside an
+/// [`Entities`](crate::Entities). A [`World`](crate::World) has both.
+///
+/// ```
+/// use forgeni::{Birth, ComponentId, Entities, Storage};
+///
+/// const SPEED: ComponentId = ComponentId(0);
+///
+/// let mut entities = Entities::new();
+/// let mut storage = Storage::new();
+/// let cart = entities.alloc()?;
+/// storage.born(cart, Birth { frame: 0, system: 0, ordinal: 0 })?;
+/// storage.insert(cart, &[(SPEED, 40)])?;
+/// assert_eq!(storage.get(cart, SPEED), Some(40));
+/// # Ok::<(), Box<dyn std::error::Error>>(())
+/// ```
+///
+/// It may go to another thread, and many threads may read it at once: it is `Send` and `Sync`.
+///
+/// To look an entity up by its handle takes constant time if the handles are those of an allocator
+/// that has retired few slots, and else logarithmic time. The values of each component lie in a
+/// vector of their own.
+///
+/// Contracts see a finite map from handles to births and components (`entities`), the handle at each
+/// place of the vector of entities (`places`), and for how many more entities there is room
+/// (`spare`).
 pub struct Storage {
     pub(super) living: Living,
     pub(super) index: Index,
@@ -30,6 +53,7 @@ impl Storage {
     /// ```
     ///
     /// </details>
+    #[must_use]
     #[inline]
     pub fn new() -> Self {
         Storage {
@@ -50,6 +74,7 @@ impl Storage {
     /// ```
     ///
     /// </details>
+    #[must_use]
     #[inline]
     pub fn len(&self) -> usize {
         self.living.len()
@@ -66,6 +91,7 @@ impl Storage {
     /// ```
     ///
     /// </details>
+    #[must_use]
     #[inline]
     pub fn is_empty(&self) -> bool {
         self.living.is_empty()
@@ -97,6 +123,7 @@ impl Storage {
     /// ```
     ///
     /// </details>
+    #[must_use]
     #[inline]
     pub fn spare(&self) -> usize {
         let room = self.living.capacity().min(self.index.room());
@@ -115,10 +142,19 @@ impl Storage {
     /// Makes room for `additional` more entities, so that `born` takes no memory for them. If there
     /// is room for that many already, it takes no memory and changes nothing.
     ///
+    /// ```
+    /// use forgeni::Storage;
+    ///
+    /// let mut storage = Storage::new();
+    /// storage.reserve(1000)?;
+    /// assert!(storage.spare() >= 1000);
+    /// # Ok::<(), forgeni::OutOfMemory>(())
+    /// ```
+    ///
     /// # Errors
     ///
-    /// `Memory` if there is no memory for so many, or if they would be more than 4,294,967,296. The
-    /// entities are as before, and `spare` is below `additional`. It may have grown.
+    /// Out of memory, or there would be more than 4,294,967,296 entities. The entities are as before,
+    /// and `spare` is below `additional`. It may have grown.
     ///
     /// <details><summary>Contract</summary>
     ///
@@ -155,19 +191,19 @@ impl Storage {
     /// Adds an entity without components. With `spare` above 0 it takes no memory, and `spare` is
     /// then less by 1.
     ///
-    /// The time is that of one look-up, if the handle comes after all others, or if the pair of an
-    /// entity that is gone stands where the new pair goes, or beside it. With an allocator's
-    /// handles that is the pair of the slot's last occupant. Else the later pairs of the index move
-    /// up by one. If the index is full, the pairs of all that are gone are dropped first, in one
-    /// pass.
+    /// The time is that of one look-up, if the handle comes after all others, or if the index still
+    /// has the pair of an entity that is gone where the new pair goes, or beside it. With an
+    /// allocator's handles that is the pair of the slot's last occupant. Else the later pairs of the
+    /// index move up by one. If the index is full, the pairs of all that are gone are dropped first,
+    /// in one pass.
     ///
     /// # Errors
     ///
-    /// After either of them nothing is changed.
+    /// Nothing has changed.
     ///
     /// - `Present`: the entity is there already. This is tested first.
-    /// - `Memory`: `spare` is 0, and there is no memory for more, or there are 4,294,967,296
-    ///   entities, which is the most.
+    /// - `Memory`: `spare` is 0, and memory ran out, or there are 4,294,967,296 entities, which is the
+    ///   most.
     ///
     /// <details><summary>Contract</summary>
     ///
@@ -198,12 +234,12 @@ impl Storage {
         self.born_within(handle, birth)
     }
 
-    /// Does what [`Storage::born`] does, where there is room: who enters many tests that once for all
-    /// of them. It takes no memory, and `spare` is then less by 1.
+    /// Does what [`Storage::born`] does, where there is room: a caller that adds many tests that once
+    /// for all of them. It takes no memory, and `spare` is then less by 1.
     ///
     /// # Errors
     ///
-    /// `Present`: the entity is there already. Nothing is changed.
+    /// `Present`: the entity is there already. Nothing has changed.
     #[inline(always)]
     pub(crate) fn born_within(&mut self, handle: Handle, birth: Birth) -> Result<(), StorageFault>
         // requires room { 0 < self.old.spare }
@@ -224,14 +260,15 @@ impl Storage {
         }
     }
 
-    /// Takes the entity out. It takes no memory, and `spare` is then greater by 1.
+    /// Takes the entity out, with all its components. It takes no memory, and `spare` is then greater
+    /// by 1.
     ///
     /// The time is that of two look-ups, and of a look at each component that any entity has ever
     /// had. The index stays as it is, but for the entity that moves.
     ///
     /// # Errors
     ///
-    /// `Absent`: the entity is not there. Nothing is changed.
+    /// `Absent`: the entity is not there. Nothing has changed.
     ///
     /// <details><summary>Contract</summary>
     ///
@@ -295,17 +332,29 @@ impl Storage {
         }
     }
 
-    /// Sets each of the components, and leaves the entity's others as they are. If a component
-    /// stands twice among the items, its last value counts.
+    /// Sets each of the components, and leaves the entity's others as they are. The list may be in any
+    /// order. If a component is in it twice, its last value counts.
     ///
     /// It takes memory only for components that the entity does not have yet.
     ///
+    /// ```
+    /// use forgeni::{Birth, ComponentId, Handle, Storage};
+    ///
+    /// let [mass, speed] = [ComponentId(0), ComponentId(1)];
+    /// let cart = Handle::new(0, 1).unwrap();
+    /// let mut storage = Storage::new();
+    /// storage.born(cart, Birth { frame: 0, system: 0, ordinal: 0 })?;
+    /// storage.insert(cart, &[(speed, 1), (mass, 7), (speed, 2)])?;
+    /// assert!(storage.items(cart).unwrap().eq([(mass, 7), (speed, 2)]));
+    /// # Ok::<(), Box<dyn std::error::Error>>(())
+    /// ```
+    ///
     /// # Errors
     ///
-    /// After either of them nothing is changed.
+    /// Nothing has changed.
     ///
     /// - `Absent`: the entity is not there.
-    /// - `Memory`: there is no memory for the components that the entity does not have yet.
+    /// - `Memory`: memory ran out for the components that the entity does not have yet.
     ///
     /// <details><summary>Contract</summary>
     ///
@@ -341,16 +390,15 @@ impl Storage {
     }
 
     /// Sets each of these components of the entity at this place, and leaves its others as they
-    /// are. The place has to be that of the handle. If a component stands twice among the items,
-    /// its last value counts.
+    /// are. The place has to be that of the handle. If a component is in the list twice, its last
+    /// value counts.
     ///
     /// It takes memory only for components that the entity does not have yet. The index is not
     /// searched.
     ///
     /// # Errors
     ///
-    /// `Memory`: there is no memory for the components that the entity does not have yet. Nothing
-    /// is changed.
+    /// Out of memory for the components that the entity does not have yet. Nothing has changed.
     #[inline(always)]
     pub(crate) fn insert_at(
         &mut self,
@@ -378,7 +426,7 @@ impl Storage {
     ///
     /// # Errors
     ///
-    /// `Absent`: the entity is not there. Nothing is changed.
+    /// `Absent`: the entity is not there. Nothing has changed.
     ///
     /// <details><summary>Contract</summary>
     ///

@@ -2,7 +2,7 @@
 
 //! A phase ends, and gives the allocator back.
 
-use crate::kit::vec::Vec;
+use alloc::vec::Vec;
 use crate::proved::ent_total::caller::Caller;
 use crate::proved::ent_total::homecoming::are_of;
 use crate::proved::ent_total::phase::Phase;

@@ -2,7 +2,7 @@
 
 //! A phase of a world ends, and gives the world back, with the queues of its systems.
 
-use crate::kit::vec::Vec;
+use alloc::vec::Vec;
 use crate::proved::ent_total::issued::Issued;
 use crate::proved::ent_total::numbered_world::NumberedWorld;
 use crate::proved::ent_total::queues::Queues;

@@ -2,7 +2,7 @@
 
 //! Frames: systems run on workers over a world, and the sync point lets their queues take effect.
 
-use crate::kit::vec::Vec;
+use alloc::vec::Vec;
 use crate::proved::ent_total::numbered_world::NumberedWorld;
 use crate::proved::ent_total::queues::Queues;
 use crate::proved::ent_total::stop::Stop;

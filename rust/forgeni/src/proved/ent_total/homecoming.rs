@@ -2,7 +2,8 @@
 
 //! Callers come home: their reservers go back to the phase.
 
-use crate::kit::vec::Vec;
+use alloc::vec::Vec;
+use crate::kit::vec::FallibleVec;
 use crate::proved::ent_total::caller::Caller;
 use crate::proved::ent_shared::{Reserver, Shared};
 

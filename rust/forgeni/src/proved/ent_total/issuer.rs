@@ -1,6 +1,6 @@
 // Made of crates/ent_total/src/issuer.rt by rust/erase. It isn't edited by hand.
 
-use crate::kit::vec::Vec;
+use alloc::vec::Vec;
 use crate::proved::ent_total::issued::Issued;
 use crate::proved::ent_total::world_phase::WorldPhase;
 use crate::proved::ent_handle::{ComponentId, Handle, Memory};

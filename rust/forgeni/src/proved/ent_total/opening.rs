@@ -1,6 +1,6 @@
 // Made of crates/ent_total/src/opening.rt by rust/erase. It isn't edited by hand.
 
-use crate::kit::vec::Vec;
+use alloc::vec::Vec;
 use crate::proved::ent_total::phase::Phase;
 use crate::proved::ent_alloc::Entities;
 use crate::proved::ent_shared::{Reserver, Shared};

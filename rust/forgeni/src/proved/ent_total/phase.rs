@@ -1,6 +1,6 @@
 // Made of crates/ent_total/src/phase.rt by rust/erase. It isn't edited by hand.
 
-use crate::kit::vec::Vec;
+use alloc::vec::Vec;
 use crate::proved::ent_total::caller::Caller;
 use crate::proved::ent_total::homecoming::bring_home;
 use crate::proved::ent_handle::{Handle, Memory};

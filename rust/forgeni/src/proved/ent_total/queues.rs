@@ -1,6 +1,6 @@
 // Made of crates/ent_total/src/queues.rt by rust/erase. It isn't edited by hand.
 
-use crate::kit::vec::Vec;
+use alloc::vec::Vec;
 use crate::proved::ent_queue::CommandQueue;
 
 /// The queues of a phase, in the order of their effect, and the number of its world.

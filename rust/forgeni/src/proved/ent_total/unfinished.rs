@@ -1,6 +1,6 @@
 // Made of crates/ent_total/src/unfinished.rt by rust/erase. It isn't edited by hand.
 
-use crate::kit::vec::Vec;
+use alloc::vec::Vec;
 use crate::proved::ent_total::issued::Issued;
 use crate::proved::ent_total::world_phase::WorldPhase;
 

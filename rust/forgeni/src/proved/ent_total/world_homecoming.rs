@@ -2,7 +2,8 @@
 
 //! Systems come home: their reservers and their queues go back to the phase.
 
-use crate::kit::vec::Vec;
+use alloc::vec::Vec;
+use crate::kit::vec::FallibleVec;
 use crate::proved::ent_total::issued::Issued;
 use crate::proved::ent_total::issuer::Issuer;
 use crate::proved::ent_queue::CommandQueue;

@@ -1,6 +1,6 @@
 // Made of crates/ent_total/src/world_opening.rt by rust/erase. It isn't edited by hand.
 
-use crate::kit::vec::Vec;
+use alloc::vec::Vec;
 use crate::proved::ent_total::numbered_world::NumberedWorld;
 use crate::proved::ent_total::opening::{CALLERS, ShareFault};
 use crate::proved::ent_total::world_phase::WorldPhase;

@@ -1,6 +1,7 @@
 // Made of crates/ent_total/src/world_phase.rt by rust/erase. It isn't edited by hand.
 
-use crate::kit::vec::Vec;
+use alloc::vec::Vec;
+use crate::kit::vec::FallibleVec;
 use crate::proved::ent_total::issued::Issued;
 use crate::proved::ent_total::issuer::Issuer;
 use crate::proved::ent_total::world_homecoming::bring_home;
@@ -163,7 +164,7 @@ impl WorldPhase {
         // ensures err { IfErr result (λ back.
         //     (back.items ≡ queues.items) × (self.new ≡ self.old)) }
     {
-        if self.home.reserve(queues.len()).is_err() || self.queues.reserve(queues.len()).is_err() {
+        if self.home.reserve_fallibly(queues.len()).is_err() || self.queues.reserve_fallibly(queues.len()).is_err() {
             return Err(queues);
         }
         bring_home(

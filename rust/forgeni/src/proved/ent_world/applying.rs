@@ -3,7 +3,8 @@
 //! The commands of a sync point take effect, one by one. Each changes the world whole or not at
 //! all.
 
-use crate::kit::vec::Vec;
+use alloc::vec::Vec;
+use crate::kit::vec::FallibleVec;
 use crate::proved::ent_world::fault::{Fault, FaultKind};
 use crate::proved::ent_world::rows::place_of;
 use crate::proved::ent_world::stop::{At, Stop};
@@ -53,7 +54,7 @@ impl Applying {
         // ensures memory { OnErr result (0 < length bundle.now) }
     {
         self.items.clear();
-        self.items.reserve(bundle.len())?;
+        self.items.reserve_fallibly(bundle.len())?;
         for item in bundle.iter() {
             self.items.push_reserved(item);
         }
@@ -68,7 +69,7 @@ impl Applying {
         //     ++ record { system = at.system; command = at.command; kind = kind } ∷ []) }
         // ensures err { OnErr result (self.new.faults.items ≡ self.old.faults.items) }
     {
-        self.faults.push(Fault {
+        self.faults.push_fallibly(Fault {
             system: at.system,
             command: at.command,
             kind,

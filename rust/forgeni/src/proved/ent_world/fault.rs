@@ -1,6 +1,6 @@
 // Made of crates/ent_world/src/fault.rt by rust/erase. It isn't edited by hand.
 
-use crate::kit::vec::Vec;
+use alloc::vec::Vec;
 use crate::proved::ent_handle::Handle;
 
 /// Why a command had no effect.

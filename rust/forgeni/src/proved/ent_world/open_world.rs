@@ -1,6 +1,6 @@
 // Made of crates/ent_world/src/open_world.rt by rust/erase. It isn't edited by hand.
 
-use crate::kit::vec::Vec;
+use alloc::vec::Vec;
 use crate::proved::ent_world::view::View;
 use crate::proved::ent_world::world::World;
 use crate::proved::ent_shared::{Reserver, Shared};

@@ -2,7 +2,7 @@
 
 //! The sync point of a world: what was reserved comes to life, and then the queues take effect.
 
-use crate::kit::vec::Vec;
+use alloc::vec::Vec;
 use crate::proved::ent_world::applying::Applying;
 use crate::proved::ent_world::births::{enter_all, name_listed, number_others};
 use crate::proved::ent_world::fault::{SyncFault, SyncReport};

@@ -1,6 +1,6 @@
 // Made of crates/ent_world/src/view.rt by rust/erase. It isn't edited by hand.
 
-use crate::kit::vec::Vec;
+use alloc::vec::Vec;
 use crate::proved::ent_handle::{Birth, ComponentId, Handle, Memory};
 use crate::proved::ent_storage::Storage;
 

@@ -1,7 +1,7 @@
 // Made of crates/ent_world/src/world.rt by rust/erase. It isn't edited by hand.
 
+use alloc::vec::Vec;
 use crate::kit::prove_eq;
-use crate::kit::vec::Vec;
 use crate::proved::ent_world::open_world::OpenWorld;
 use crate::proved::ent_world::rows::place_of;
 use crate::proved::ent_world::spawning::{make, next_handle};
@@ -36,7 +36,7 @@ impl World {
     /// </details>
     #[inline]
     pub fn new(limits: Limits) -> Self {
-        let entities = Entities::with_limits(limits);
+        let entities = Entities::with_exact_limits(limits);
         // Whatever the limits are, it begins in a sound state, as `cursor` promises.
         prove_eq!(entities.cursor(), 0);
         World {

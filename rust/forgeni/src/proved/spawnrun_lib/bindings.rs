@@ -1,6 +1,7 @@
 // Made of crates/spawnrun_lib/src/bindings.rt by rust/erase. It isn't edited by hand.
 
-use crate::kit::vec::Vec;
+use alloc::vec::Vec;
+use crate::kit::vec::FallibleVec;
 use crate::proved::ent_handle::{Handle, Memory};
 
 /// The lists of handles to which the names of a system are bound, by the numbers of the names.
@@ -37,7 +38,7 @@ impl Bindings {
         // ensures long { OnOk result (name < length self.new) }
     {
         while self.lists.len() <= name {
-            self.lists.push(Vec::new())?;
+            self.lists.push_fallibly(Vec::new())?;
         }
         Ok(())
     }

@@ -2,7 +2,8 @@
 
 //! Parts of lines. What comes after a refusal keeps the bytes that were there before.
 
-use crate::kit::vec::Vec;
+use alloc::vec::Vec;
+use crate::kit::vec::FallibleVec;
 use crate::proved::spawnrun_lib::show::Show;
 use crate::proved::ent_handle::{Handle, Memory};
 use crate::kit::itoa::{Buffer, Integer};
@@ -14,7 +15,7 @@ pub(super) fn append(out: &mut Vec<u8>, text: &[u8]) -> Result<(), Memory>
     // ensures full { OnErr result (vec_capacity out.old < vec_len out.old + length text.now) }
     // ensures capacity { vec_capacity out.old ≤ vec_capacity out.new }
 {
-    Ok(out.extend_from_slice(text)?)
+    Ok(out.extend_from_slice_fallibly(text)?)
 }
 
 #[inline]

@@ -2,7 +2,8 @@
 
 //! One frame of a script.
 
-use crate::kit::vec::Vec;
+use alloc::vec::Vec;
+use crate::kit::vec::FallibleVec;
 use crate::proved::spawnrun_lib::script_system::ScriptSystem;
 use crate::proved::ent_handle::Memory;
 use crate::proved::ent_runner::{NoGate, run_frame};
@@ -15,7 +16,7 @@ use crate::kit::thread::Threads;
 fn runnable<'a>(systems: &'a [System]) -> Result<Vec<ScriptSystem<'a>>, Memory>
     // ensures { IfOk result (λ runnable. runnable.items ≡ systems.now) }
 {
-    let mut runnable = Vec::with_capacity(systems.len())?;
+    let mut runnable = Vec::with_capacity_fallibly(systems.len())?;
     for system in systems {
         runnable.push_reserved(ScriptSystem::new(system));
     }

@@ -1,6 +1,6 @@
 // Made of crates/spawnrun_lib/src/frame_text.rt by rust/erase. It isn't edited by hand.
 
-use crate::kit::vec::Vec;
+use alloc::vec::Vec;
 use crate::proved::spawnrun_lib::bytes::{append, append_labelled, append_shown};
 use crate::proved::spawnrun_lib::show::Show;
 use crate::proved::ent_handle::Memory;

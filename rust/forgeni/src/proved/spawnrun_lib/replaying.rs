@@ -2,8 +2,8 @@
 
 //! The run of a schedule: bytes in, bytes out.
 
+use alloc::vec::Vec;
 use crate::kit::programs::format;
-use crate::kit::vec::Vec;
 use crate::proved::spawnrun_lib::progress::Progress;
 use crate::proved::spawnrun_lib::schedule::schedule_found;
 use crate::proved::spawnrun_lib::status::Status;

@@ -1,6 +1,6 @@
 // Made of crates/spawnrun_lib/src/roll.rt by rust/erase. It isn't edited by hand.
 
-use crate::kit::vec::Vec;
+use alloc::vec::Vec;
 use crate::proved::ent_handle::{Birth, Handle, Memory};
 use crate::proved::ent_world::View;
 

@@ -2,7 +2,7 @@
 
 //! The run of a script: bytes in, bytes out.
 
-use crate::kit::vec::Vec;
+use alloc::vec::Vec;
 use crate::proved::spawnrun_lib::progress::Progress;
 use crate::proved::spawnrun_lib::script::script_found;
 use crate::proved::spawnrun_lib::script_run::run_script;

@@ -2,7 +2,7 @@
 
 //! The run of a whole script.
 
-use crate::kit::vec::Vec;
+use alloc::vec::Vec;
 use crate::proved::spawnrun_lib::frame;
 use crate::proved::spawnrun_lib::frame_text::write_frame;
 use crate::proved::spawnrun_lib::progress::Progress;

@@ -1,6 +1,7 @@
 // Made of crates/spawnrun_lib/src/spawning.rt by rust/erase. It isn't edited by hand.
 
-use crate::kit::vec::Vec;
+use alloc::vec::Vec;
+use crate::kit::vec::FallibleVec;
 use crate::proved::spawnrun_lib::bindings::Bindings;
 use crate::proved::ent_handle::Memory;
 use crate::proved::ent_queue::{Commands, QueueFault};
@@ -48,7 +49,7 @@ fn spawn_named(
     // ensures err { OnErr result (queue_of commands.new ≡ queue_of commands.old) }
 {
     names.reach(name)?;
-    let mut list = Vec::with_capacity(1)?;
+    let mut list = Vec::with_capacity_fallibly(1)?;
     match commands.spawn(bundle) {
         Ok(handle) => {
             list.push_reserved(handle);

@@ -2,10 +2,10 @@
 
 //! The program on the words that it was started with.
 
+use alloc::vec::Vec;
 use crate::kit::programs::rt::AllocGlobal;
 use crate::kit::programs::string::String;
 use crate::kit::vec::CollectIn;
-use crate::kit::vec::Vec;
 use crate::proved::spawnrun_lib::program::{execute, refuse_words};
 use crate::proved::spawnrun_lib::progress::Teller;
 use crate::proved::devices::Counted;

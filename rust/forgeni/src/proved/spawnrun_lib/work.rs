@@ -2,7 +2,8 @@
 
 //! The work on an input: all of it is read, something is made of it, and that is written.
 
-use crate::kit::vec::Vec;
+use alloc::vec::Vec;
+use crate::kit::vec::FallibleVec;
 use crate::proved::spawnrun_lib::found::Found;
 use crate::proved::spawnrun_lib::output::{refuse, write};
 use crate::proved::spawnrun_lib::progress::Progress;
@@ -137,7 +138,7 @@ fn too_long() -> Result<Refusal, Memory>
     //     ≡ record { line = size_line; wants = size_wants; found = [] }) }
 {
     Ok(Refusal {
-        line: Vec::from_slice(b"refused size\n")?,
+        line: Vec::from_slice_fallibly(b"refused size\n")?,
         wants: size_wants(),
         found: Found::new(),
     })

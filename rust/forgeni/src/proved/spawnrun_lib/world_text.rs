@@ -1,7 +1,7 @@
 // Made of crates/spawnrun_lib/src/world_text.rt by rust/erase. It isn't edited by hand.
 
+use alloc::vec::Vec;
 use crate::kit::programs::string::String;
-use crate::kit::vec::Vec;
 use crate::proved::spawnrun_lib::bytes::{append, append_labelled, append_number, append_shown};
 use crate::proved::spawnrun_lib::show::Show;
 use crate::proved::ent_handle::{Birth, ComponentId, Handle, Memory};

@@ -2,7 +2,8 @@
 
 //! Pieces of a text, cut into lines.
 
-use crate::kit::vec::Vec;
+use alloc::vec::Vec;
+use crate::kit::vec::FallibleVec;
 use crate::proved::tracecheck::checking::{Checking, End};
 use crate::proved::ent_handle::split_once;
 
@@ -28,7 +29,7 @@ fn end_line(checking: Checking, pending: &mut Vec<u8>, bytes: &[u8]) -> Result<C
     //     → HasRead limits text checking pending.old.items
     //     → MayEnd limits (lines_of (text ++ bytes.now ++ 10 ∷ more)) end) }
 {
-    pending.extend_from_slice(bytes)?;
+    pending.extend_from_slice_fallibly(bytes)?;
     let checking = checking.take(without_return(pending))?;
     pending.clear();
     Ok(checking)
@@ -59,7 +60,7 @@ pub fn feed(checking: Checking, pending: &mut Vec<u8>, piece: &[u8]) -> Result<C
         checking = end_line(checking, pending, line)?;
         rest = others;
     }
-    pending.extend_from_slice(rest)?;
+    pending.extend_from_slice_fallibly(rest)?;
     Ok(checking)
 }
 

@@ -3,11 +3,11 @@
 //! The program: what its words ask for, done between two devices, and what it writes to the error stream
 //! and to a terminal.
 
+use alloc::vec::Vec;
 use crate::kit::programs::format;
 use crate::kit::programs::rt::AllocGlobal;
 use crate::kit::programs::string::String;
 use crate::kit::vec::CollectIn;
-use crate::kit::vec::Vec;
 use crate::proved::tracecheck::command_line::{LineFault, command_line};
 use crate::proved::tracecheck::running::check_trace;
 use crate::proved::tracecheck::status::Status;

@@ -2,7 +2,7 @@
 
 //! The check of a trace: bytes in, a verdict out.
 
-use crate::kit::vec::Vec;
+use alloc::vec::Vec;
 use crate::proved::tracecheck::checking::{Checking, End};
 use crate::proved::tracecheck::lines::{feed, finish};
 use crate::proved::tracecheck::progress::tell;

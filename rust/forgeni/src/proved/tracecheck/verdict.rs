@@ -2,8 +2,9 @@
 
 //! What is said of a trace.
 
+use alloc::vec::Vec;
 use crate::kit::programs::format;
-use crate::kit::vec::Vec;
+use crate::kit::vec::FallibleVec;
 use crate::proved::ent_handle::{Handle, Memory};
 use crate::proved::ent_replay::trace::{Cause, Difference, append_answer, append_handles, write_line};
 
@@ -110,9 +111,9 @@ fn difference_text(difference: &Difference) -> Result<Vec<u8>, Memory>
     let number = difference.number;
     let mut text = format!("differs line {number}: ")?.into_bytes();
     write_line(&mut text, &difference.told)?;
-    text.extend_from_slice(b", expected")?;
+    text.extend_from_slice_fallibly(b", expected")?;
     append_answer(&mut text, &difference.expected)?;
-    text.push(b'\n')?;
+    text.push_fallibly(b'\n')?;
     append_state(
         &mut text,
         difference.front.as_slice(),
@@ -132,7 +133,7 @@ fn append_state(
 {
     append_pool(out, front)?;
     let cursor = format!(", cursor {cursor}\n")?;
-    Ok(out.extend_from_slice(cursor.as_bytes())?)
+    Ok(out.extend_from_slice_fallibly(cursor.as_bytes())?)
 }
 
 #[inline]
@@ -141,12 +142,12 @@ fn append_pool(out: &mut Vec<u8>, front: &[Handle]) -> Result<(), Memory>
     //     ≡ out.old.items ++ codes "pool" ++ spaced (pool_words front.now)) }
 {
     if front.is_empty() {
-        return Ok(out.extend_from_slice(b"pool empty")?);
+        return Ok(out.extend_from_slice_fallibly(b"pool empty")?);
     }
-    out.extend_from_slice(b"pool")?;
+    out.extend_from_slice_fallibly(b"pool")?;
     append_handles(out, front)?;
     if front.len() == SHOWN {
-        out.extend_from_slice(b" ..")?;
+        out.extend_from_slice_fallibly(b" ..")?;
     }
     Ok(())
 }

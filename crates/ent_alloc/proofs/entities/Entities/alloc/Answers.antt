@@ -8,6 +8,7 @@ use Rattle.ent_alloc.specs.Roster.{Roster}
 use Rattle.ent_alloc.proofs.Meaning.{allocator_is, IsAtRest, at_rest, top_view}
 use Rattle.ent_alloc.proofs.MeaningOfAlloc.{IsGiven, made_roster, length_pool, reused_given}
 use Rattle.ent_alloc.proofs.MeaningOfAlloc.{made_given}
+use Rattle.ent_alloc.proofs.Asked.{first_within}
 use Rattle.ent_alloc.proofs.entities.Entities.alloc.Goals.{Else-needs_flush, Then-room-gt0, In-Some}
 use Rattle.ent_alloc.proofs.entities.Entities.alloc.Goals.{In_ok-make_one}
 use Rattle.ent_alloc.proofs.entities.Entities.alloc.Goals as goal
@@ -112,3 +113,17 @@ returns-in_ok-make_one-clause-rows_of_living c =
     let at = goal.at.returns-in_ok-make_one-clause-rows_of_living c in
     let given = made at.In_ok-make_one (rest at.Else-needs_flush) (some_room at.Then-room-gt0) in
     given.stands.reserved.rows
+
+pub returns-in-Some-clause-within : goal.returns-in-Some-clause-within
+returns-in-Some-clause-within c =
+    let at = goal.at.returns-in-Some-clause-within c in
+    let rest = rest at.Else-needs_flush in
+    first_within c.args.self.now.allocator c.in-Some.handle rest.sound
+    (reused at.In-Some rest).front
+
+pub returns-in_ok-make_one-clause-within : goal.returns-in_ok-make_one-clause-within
+returns-in_ok-make_one-clause-within c =
+    let at = goal.at.returns-in_ok-make_one-clause-within c in
+    let rest = rest at.Else-needs_flush in
+    first_within c.args.self.now.allocator c.in_ok-make_one.field-0 rest.sound
+    (made at.In_ok-make_one rest (some_room at.Then-room-gt0)).front

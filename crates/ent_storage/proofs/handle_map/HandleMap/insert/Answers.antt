@@ -14,15 +14,15 @@ returns-then-generation-standing-clause-later g c =
     let stands : c.generation_in-standing.result ≡ generation_of (slot_at slots h.index) =
     c.generation_in-standing.ensures
     ∙ (λ i. generation_of (slot_at (c.deref.ensures.value i) (c.index_of-index.ensures.value i)))
-    in (
-      λ _. later slots _ h values (omega (
-        arith,
-        stands,
-        c.generation.ensures,
-        c.if-generation-standing.true,
-      )),
-      λ _. refl,
-    )
+    in
+    let is = later slots _ h values (omega (
+      arith,
+      stands,
+      c.generation.ensures,
+      c.if-generation-standing.true,
+    ))
+    in
+    (λ _. (λ beyond. grind (arith, common_steps), is), λ _. refl)
 
 pub returns-in_default-clause-later : goal.returns-in_default-clause-later
 returns-in_default-clause-later g c = grind (arith, common_steps, no_later)
@@ -72,7 +72,7 @@ returns-clause-later g c =
         stands,
         c.generation.ensures,
         c.if-generation-standing.false,
-      )) is),
+      )) is.1),
     )
 
 pub index_mut-requires : goal.index_mut-requires

@@ -13,6 +13,7 @@ loop-index-preserved g c =
     let inv = c.loop-index.invariant in
     record {
       callable = c.retain_slot-keep.ensures.callable;
+      len = inv.len;
       capacity = inv.capacity;
       counted = counted-slot now c.loop-index.len c.retain_slot-keep.new.len index
           c.index_mut.result.now new inv.counted (omega (arith, inv.below.long))

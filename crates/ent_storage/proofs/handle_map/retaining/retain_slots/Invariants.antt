@@ -1,5 +1,5 @@
 use Rattle.std.proofs.Common.{◌≡◌}
-use Rattle.std.specs.Prelude.{vec_capacity}
+use Rattle.std.specs.Prelude.{vec_capacity, vec_len}
 use Rattle.ent_storage.specs.Slots.{AreCounted}
 use Rattle.ent_storage.proofs.Kept.{RetainedBelow}
 use Rattle.ent_storage.proofs.handle_map.retaining.retain_slots.Given as goal
@@ -7,6 +7,7 @@ use Rattle.ent_storage.proofs.handle_map.retaining.retain_slots.Given as goal
 abbrev pub invariant-loop-index : goal.invariant-loop-index
 invariant-loop-index g l = record {
   callable : goal.F-IsAlwaysCallable g l.keep;
+  len : vec_len l.slots ≡ vec_len l.fn.slots;
   capacity : vec_capacity l.slots ≡ vec_capacity l.fn.slots;
   counted : AreCounted 0 l.slots.items l.len;
   below : RetainedBelow (goal.F-step g) l.fn.keep l.fn.slots.items l.keep l.slots.items l.index;

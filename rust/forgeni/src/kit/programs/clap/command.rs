@@ -5,7 +5,8 @@ use super::similar::similar;
 use super::Error;
 use crate::kit::alloc::AllocError;
 use crate::kit::programs::string::String;
-use crate::kit::vec::Vec;
+use crate::kit::vec::FallibleVec;
+use ::alloc::vec::Vec;
 
 /// A program, or a subcommand of it.
 #[derive(Debug)]
@@ -59,13 +60,13 @@ impl<'a> Command<'a> {
 
     /// The contract: it has the option too.
     pub fn arg(mut self, argument: Arg<'a>) -> Result<Self, AllocError> {
-        self.arguments.push(argument)?;
+        self.arguments.push_fallibly(argument)?;
         Ok(self)
     }
 
     /// The contract: it has the subcommand too.
     pub fn subcommand(mut self, subcommand: Command<'a>) -> Result<Self, AllocError> {
-        self.subcommands.push(subcommand)?;
+        self.subcommands.push_fallibly(subcommand)?;
         Ok(self)
     }
 
@@ -108,7 +109,7 @@ impl<'a> Command<'a> {
         let named = self.arguments.iter().position(|it| Some(it.name) == name);
         for number in used.chain(named) {
             if !options.contains(&number) {
-                options.push(number)?;
+                options.push_fallibly(number)?;
             }
         }
         let is_help = name == Some("help");

@@ -5,7 +5,8 @@ use super::command::Command;
 use super::Error;
 use crate::kit::alloc::AllocError;
 use crate::kit::programs::string::String;
-use crate::kit::vec::Vec;
+use crate::kit::vec::FallibleVec;
+use ::alloc::vec::Vec;
 
 /// What words give: a value for each option, and the subcommand with its own.
 #[derive(Debug)]
@@ -20,9 +21,9 @@ pub struct ArgMatches<'a> {
 impl<'a> ArgMatches<'a> {
     /// What no words give.
     pub(super) fn of(command: &Command<'a>) -> Result<Self, AllocError> {
-        let mut values = Vec::with_capacity(command.arguments.len())?;
+        let mut values = Vec::with_capacity_fallibly(command.arguments.len())?;
         for Arg { name, default, .. } in &command.arguments {
-            values.push((*name, String::from_str(default)?))?;
+            values.push_fallibly((*name, String::from_str(default)?))?;
         }
         Ok(ArgMatches {
             values,
@@ -42,14 +43,14 @@ impl<'a> ArgMatches<'a> {
     /// Gives the option its value.
     pub(super) fn set(&mut self, number: usize, value: &str) -> Result<(), AllocError> {
         let value = String::from_str(value)?;
-        self.used.push(number)?;
+        self.used.push_fallibly(number)?;
         self.values[number].1 = value;
         Ok(())
     }
 
     /// Gives what the words after a subcommand give.
     pub(super) fn choose(&mut self, name: &'a str, inner: ArgMatches<'a>) -> Result<(), Error> {
-        Ok(self.subcommand.push((name, inner))?)
+        Ok(self.subcommand.push_fallibly((name, inner))?)
     }
 
     /// The contract: the subcommand that the words name, with what its words give.

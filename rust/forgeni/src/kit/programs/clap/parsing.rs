@@ -5,7 +5,8 @@ use super::matches::ArgMatches;
 use super::Error;
 use crate::kit::alloc::AllocError;
 use crate::kit::programs::string::{AsStr, String};
-use crate::kit::vec::{CollectIn, Vec};
+use crate::kit::vec::CollectIn;
+use ::alloc::vec::Vec;
 
 /// What a word is, by its letters alone.
 enum Word<'w> {

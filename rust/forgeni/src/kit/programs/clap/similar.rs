@@ -1,7 +1,8 @@
 //! Which names are like a word that somebody has mistyped.
 
 use crate::kit::alloc::AllocError;
-use crate::kit::vec::Vec;
+use crate::kit::vec::FallibleVec;
+use ::alloc::vec::Vec;
 
 /// How like a word has to be, from 0 to 1.
 const LEAST: f64 = 0.7;
@@ -21,7 +22,7 @@ pub(super) fn similar<'n>(
         while at > 0 && jaro(word, found[at - 1])? > likeness {
             at -= 1;
         }
-        found.insert(at, name)?;
+        found.insert_fallibly(at, name)?;
     }
     Ok(found)
 }
@@ -35,16 +36,16 @@ fn jaro(one: &str, other: &str) -> Result<f64, AllocError> {
     }
     let reach = (one_len.max(other_len) / 2).saturating_sub(1);
     // The letters that are shared, in the order of the first text, and which letters of the second one they are.
-    let mut shared: Vec<char> = Vec::with_capacity(one_len)?;
+    let mut shared: Vec<char> = Vec::with_capacity_fallibly(one_len)?;
     let mut is_shared: Vec<bool> = Vec::new();
-    is_shared.resize(other_len, false)?;
+    is_shared.resize_fallibly(other_len, false)?;
     for (at, letter) in one.chars().enumerate() {
         let near = at.saturating_sub(reach)..(at + reach + 1).min(other_len);
         let mut others = other.chars().enumerate();
         let found = others.find(|(to, it)| near.contains(to) && !is_shared[*to] && *it == letter);
         if let Some((to, _)) = found {
             is_shared[to] = true;
-            shared.push(letter)?;
+            shared.push_fallibly(letter)?;
         }
     }
     if shared.is_empty() {

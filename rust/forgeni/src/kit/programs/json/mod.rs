@@ -8,7 +8,8 @@ mod strings;
 mod words;
 
 use crate::kit::alloc::AllocError;
-use crate::kit::vec::Vec;
+use crate::kit::vec::FallibleVec;
+use ::alloc::vec::Vec;
 use core::fmt;
 
 /// The text is no JSON of the wanted form.
@@ -81,7 +82,7 @@ impl<'a> Reader<'a> {
     /// The contract: a reader of all tokens of the text, or an `Err` if the scratch can't grow to the length of the text.
     pub fn new(text: &'a str, scratch: &'a mut Scratch) -> Result<Self, AllocError> {
         if scratch.text.len() < text.len() {
-            scratch.text.resize(text.len(), 0)?;
+            scratch.text.resize_fallibly(text.len(), 0)?;
         }
         let mut reader = Reader {
             text,

@@ -14,7 +14,7 @@ pub use number::Number;
 
 use super::string::String;
 use crate::kit::collections::BTreeMap;
-use crate::kit::vec::Vec;
+use ::alloc::vec::Vec;
 
 /// The members of an object, in the order of their keys. Of a key that comes twice the last one counts.
 pub type Map<K, V> = BTreeMap<K, V>;

@@ -4,7 +4,8 @@ use super::error::Code;
 use super::{Error, Map, Number, Value};
 use crate::kit::programs::json::{Reader, Scratch, Token};
 use crate::kit::programs::string::String;
-use crate::kit::vec::Vec;
+use crate::kit::vec::FallibleVec;
+use ::alloc::vec::Vec;
 
 /// How deep arrays and objects may be nested.
 const DEPTH: usize = 127;
@@ -53,7 +54,7 @@ fn items(reader: &mut Reader<'_>, depth: usize) -> Result<Vec<Value>, Code> {
     let mut found = Vec::new();
     while !reader.take_end_array() {
         let item = read(reader, depth)?;
-        found.push(item)?;
+        found.push_fallibly(item)?;
     }
     Ok(found)
 }

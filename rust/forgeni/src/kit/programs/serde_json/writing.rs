@@ -81,9 +81,8 @@ fn write_float(out: &mut String, float: f64) -> Written {
     if float < 0.0 {
         out.push_str("-")?;
     }
-    // At most 17 digits, a point and an exponent of three digits with its sign.
-    let shortest = InlineText::<32>::of(format_args!("{:e}", float.abs()));
-    let (mantissa, exponent) = shortest.as_str().split_once('e').unwrap_or(("0", "0"));
+    let digits = digits_of(float.abs());
+    let (mantissa, exponent) = digits.as_str().split_once('e').unwrap_or(("0", "0"));
     let (first, more) = mantissa.split_once('.').unwrap_or((mantissa, ""));
     let exponent: i32 = exponent.parse().unwrap_or(0);
     // How many digits come before the point, which is negative for zeros after it.
@@ -107,6 +106,21 @@ fn write_float(out: &mut String, float: f64) -> Written {
             let point = if more.is_empty() { "" } else { "." };
             write!(out, "{first}{point}{more}e{exponent:+}")
         }
+    }
+}
+
+/// The digits, with a point after the first one, and the exponent. There are as few as read as the float, and of those
+/// they are the nearest, or of two that are as near the even ones.
+fn digits_of(float: f64) -> InlineText<32> {
+    // Of two that are as near, Rust's shortest digits may be the odd ones. Its rounded digits are the even ones.
+    let shortest = InlineText::<32>::of(format_args!("{float:e}"));
+    let mantissa = shortest.as_str().split('e').next().unwrap_or("");
+    let more = mantissa.len().saturating_sub(2);
+    let nearest = InlineText::<32>::of(format_args!("{float:.more$e}"));
+    if nearest.as_str().parse() == Ok(float) {
+        nearest
+    } else {
+        shortest
     }
 }
 

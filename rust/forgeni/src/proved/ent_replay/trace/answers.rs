@@ -2,7 +2,8 @@
 
 //! What a line says was answered, read from its words.
 
-use crate::kit::vec::Vec;
+use alloc::vec::Vec;
+use crate::kit::vec::FallibleVec;
 use crate::proved::ent_replay::handle_list::HandleList;
 use crate::proved::ent_replay::trace::read_fault::{Cause, ReadFault};
 use crate::proved::ent_replay::trace::reply::{AllocReply, FlushReply, FreeReply, ReserveReply};
@@ -120,7 +121,7 @@ fn read_handles(told: &[u8]) -> Result<HandleList, ReadFault>
     let mut handles = Vec::new();
     let mut rest = told;
     while let Some((word, others)) = first_word(rest) {
-        handles.push(read_handle(word)?)?;
+        handles.push_fallibly(read_handle(word)?)?;
         rest = others;
     }
     Ok(HandleList::new(handles))

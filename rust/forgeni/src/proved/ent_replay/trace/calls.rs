@@ -2,7 +2,7 @@
 
 //! The calls that nothing overlaps: each is made, and says what the allocator answered.
 
-use crate::kit::vec::Vec;
+use alloc::vec::Vec;
 use crate::proved::ent_replay::handle_list::HandleList;
 use crate::proved::ent_replay::trace::fitting::{fits_born, fits_freed};
 use crate::proved::ent_replay::trace::line::Line;

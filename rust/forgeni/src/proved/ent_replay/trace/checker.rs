@@ -2,7 +2,8 @@
 
 //! The checker: one line of a trace after the other.
 
-use crate::kit::vec::Vec;
+use alloc::vec::Vec;
+use crate::kit::vec::FallibleVec;
 use crate::proved::ent_replay::by_caller::ByCaller;
 use crate::proved::ent_replay::trace::calls::answered;
 use crate::proved::ent_replay::trace::difference::{Difference, Stop};
@@ -42,7 +43,7 @@ impl Checker {
     #[inline]
     pub fn new(limits: Limits) -> Self {
         Checker {
-            entities: Entities::with_limits(limits),
+            entities: Entities::with_exact_limits(limits),
             run: Vec::new(),
             latest: ByCaller::new(),
             wanted: 0,
@@ -137,7 +138,7 @@ impl Checker {
             mut latest,
             wanted,
         } = self;
-        run.sort_by_cached_key(|placed| placed.key)?;
+        run.sort_by_cached_key_fallibly(|placed| placed.key)?;
         let lineup = Lineup::new(run, &entities).settle(&entities)?;
         if !lineup.rest.is_empty() {
             return Err(Stop::Differs(lineup.difference(&entities)?));
@@ -220,7 +221,7 @@ impl Checker {
         let caller = reservation.caller;
         let before = latest.get(caller).unwrap_or(0);
         let key = own_key(&entities, reservation.requested, &reservation.reply).max(before);
-        run.push(Placed { reservation, key })?;
+        run.push_fallibly(Placed { reservation, key })?;
         latest.insert(caller, key)?;
         Ok(Checker {
             entities,

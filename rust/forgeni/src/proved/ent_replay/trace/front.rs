@@ -2,7 +2,8 @@
 
 //! The front of the pool, for a difference to show.
 
-use crate::kit::vec::Vec;
+use alloc::vec::Vec;
+use crate::kit::vec::FallibleVec;
 use crate::proved::ent_replay::handle_list::HandleList;
 use crate::proved::ent_alloc::Entities;
 use crate::proved::ent_handle::{Handle, Memory};
@@ -41,7 +42,7 @@ pub(super) fn front_at(
         let Some(handle) = handle_at(entities, next) else {
             break;
         };
-        front.push(handle)?;
+        front.push_fallibly(handle)?;
         next -= 1;
     }
     Ok(HandleList::new(front))

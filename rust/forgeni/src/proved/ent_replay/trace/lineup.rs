@@ -3,7 +3,8 @@
 //! The reservations of a run, lined up: those that agree, in an order in which they may have come, and
 //! the others.
 
-use crate::kit::vec::Vec;
+use alloc::vec::Vec;
+use crate::kit::vec::FallibleVec;
 use crate::proved::ent_replay::by_caller::ByCaller;
 use crate::proved::ent_replay::handle_list::HandleList;
 use crate::proved::ent_replay::trace::difference::Difference;
@@ -89,10 +90,10 @@ impl Lineup {
             let free = blocked.get(caller).is_none();
             if free && fits_at(entities, at, &one.reservation)? {
                 at -= i64::from(one.reservation.requested);
-                placed.push(one)?;
+                placed.push_fallibly(one)?;
             } else {
                 blocked.insert(caller, one.key)?;
-                left.push(one)?;
+                left.push_fallibly(one)?;
             }
         }
         Ok(Lineup {
@@ -171,7 +172,7 @@ pub(super) fn make_all(entities: &mut Entities, run: &[Placed])
 fn listed(reserved: Reserved<'_>) -> Result<HandleList, Memory>
     // ensures { IfOk result (λ handles. handles ≡ reserved.entry) }
 {
-    let mut handles = Vec::with_capacity(reserved.len())?;
+    let mut handles = Vec::with_capacity_fallibly(reserved.len())?;
     for handle in reserved {
         handles.push_reserved(handle);
     }

@@ -2,7 +2,8 @@
 
 //! Chooses which of the reservations that can't be placed a difference names.
 
-use crate::kit::vec::Vec;
+use alloc::vec::Vec;
+use crate::kit::vec::FallibleVec;
 use crate::proved::ent_replay::by_caller::ByCaller;
 use crate::proved::ent_replay::trace::key::own_key;
 use crate::proved::ent_replay::trace::lineup::fits_at;
@@ -59,13 +60,13 @@ pub(super) fn suspect(
 /// The reservations in the order of the handles that they were given.
 #[inline]
 fn turns(entities: &Entities, rest: &[Placed]) -> Result<Vec<Turn>, Memory> {
-    let mut order = Vec::with_capacity(rest.len())?;
+    let mut order = Vec::with_capacity_fallibly(rest.len())?;
     for (index, one) in rest.iter().enumerate() {
         let reservation = &one.reservation;
         let key = own_key(entities, reservation.requested, &reservation.reply);
-        order.push(Turn { key, index })?;
+        order.push_fallibly(Turn { key, index })?;
     }
-    order.sort_by_cached_key(|turn| turn.key)?;
+    order.sort_by_cached_key_fallibly(|turn| turn.key)?;
     Ok(order)
 }
 

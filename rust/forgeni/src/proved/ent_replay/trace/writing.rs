@@ -2,7 +2,8 @@
 
 //! A line of a trace as text.
 
-use crate::kit::vec::Vec;
+use alloc::vec::Vec;
+use crate::kit::vec::FallibleVec;
 use crate::proved::ent_replay::trace::line::{Line, Reservation};
 use crate::proved::ent_replay::trace::reply::{AllocReply, FlushReply, FreeReply, ReserveReply};
 use crate::proved::ent_alloc::State;
@@ -14,7 +15,7 @@ fn append(out: &mut Vec<u8>, text: &[u8]) -> Result<(), Memory>
     // ensures ok { OnOk result (out.new.items ≡ out.old.items ++ text.now) }
     // ensures err { OnErr result (out.new.items ≡ out.old.items) }
 {
-    Ok(out.extend_from_slice(text)?)
+    Ok(out.extend_from_slice_fallibly(text)?)
 }
 
 #[inline]

@@ -5,7 +5,8 @@ use crate::proved::ent_handle::Handle;
 
 /// The handles and values of a map, by rising slot.
 ///
-/// `HandleMap::iter` makes it. It borrows the map and copies nothing.
+/// [`HandleMap::iter`](super::HandleMap::iter) makes it. It borrows the map and copies nothing.
+#[must_use]
 pub struct Iter<'a, T> {
     slots: &'a [Slot<T>],
     index: usize,
@@ -24,6 +25,25 @@ impl<'a, T> Iter<'a, T> {
             index: 0,
             left,
         }
+    }
+
+    /// The same entries once more. It takes no memory.
+    #[inline]
+    pub(super) fn again(&self) -> Self
+        // ensures { result ≡ self.now }
+    {
+        Iter {
+            slots: self.slots,
+            index: self.index,
+            left: self.left,
+        }
+    }
+}
+
+impl<'a, T> Clone for Iter<'a, T> {
+    #[inline]
+    fn clone(&self) -> Self {
+        self.again()
     }
 }
 
@@ -51,6 +71,21 @@ impl<'a, T> Iterator for Iter<'a, T> {
         // ensures exact { result ≡ (length self.now, Some (length self.now)) }
     {
         (self.left, Some(self.left))
+    }
+}
+
+impl<'a, T> DoubleEndedIterator for Iter<'a, T> {
+    #[inline]
+    fn next_back(&mut self) -> Option<(Handle, &'a T)> {
+        while let Some((slot, rest)) = self.slots.split_last() {
+            let index = (self.index + rest.len()) as u32;
+            self.slots = rest;
+            if let Slot::Occupied { generation, value } = slot {
+                self.left -= 1;
+                return Some((generation.handle(index), value));
+            }
+        }
+        None
     }
 }
 

@@ -1,6 +1,6 @@
 // Made of crates/ent_storage/src/handle_map/retaining.rt by rust/erase. It isn't edited by hand.
 
-use crate::kit::vec::Vec;
+use alloc::vec::Vec;
 use crate::proved::ent_storage::handle_map::slot::Slot;
 use crate::proved::ent_handle::Handle;
 
@@ -17,6 +17,7 @@ pub(super) fn retain_slots<T, F: FnMut(Handle, &mut T) -> bool>(
     // ensures counted { AreCounted 0 slots.new.items len.new }
     // ensures retained { Retains F.step keep (entries_from 0 slots.old.items)
     //     (entries_from 0 slots.new.items) }
+    // ensures len { vec_len slots.new ≡ vec_len slots.old }
     // ensures capacity { vec_capacity slots.new ≡ vec_capacity slots.old }
 {
     for index in 0..slots.len() {

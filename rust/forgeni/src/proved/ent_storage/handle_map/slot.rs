@@ -1,6 +1,7 @@
 // Made of crates/ent_storage/src/handle_map/slot.rt by rust/erase. It isn't edited by hand.
 
-use crate::kit::vec::Vec;
+use alloc::vec::Vec;
+use crate::kit::vec::FallibleVec;
 use crate::proved::ent_storage::handle_map::generation::Generation;
 use crate::proved::ent_handle::Handle;
 use crate::kit::alloc::AllocError;
@@ -140,7 +141,7 @@ fn add_slots<T>(slots: &mut Vec<Slot<T>>, index: usize) -> Result<(), AllocError
     // ensures memory { OnErr result (vec_capacity slots.old ≤ index) }
 {
     let made = slots.len();
-    slots.reserve(index + 1 - made)?;
+    slots.reserve_fallibly(index + 1 - made)?;
     for _ in made..index + 1 {
         slots.push_reserved(Slot::Vacant);
     }

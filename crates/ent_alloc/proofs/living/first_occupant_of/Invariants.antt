@@ -1,6 +1,6 @@
 use Rattle.std.proofs.Common.{◌≡◌, ◌+◌, drop}
 use Rattle.ent_alloc.specs.Slots.{occupants}
-use Rattle.ent_alloc.proofs.living_handles.first_occupant_of.Given as goal
+use Rattle.ent_alloc.proofs.living.first_occupant_of.Given as goal
 
 -- the records that were passed have no living occupant
 abbrev pub invariant-loop-position : goal.invariant-loop-position

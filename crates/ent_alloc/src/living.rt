@@ -3,24 +3,24 @@ ghost use Rattle.std.specs.Prelude.{IfSome};
 ghost use Rattle.std.specs.Iterator.{YieldsFirst, UpTo, item_count};
 ghost use Rattle.std.specs.Iterator.SizeHint.{IsWithinCount};
 ghost use Rattle.ent_alloc.specs.Slots.{occupants};
-ghost use Rattle.ent_alloc.specs.LivingHandles.{HasGeneration, AreLeft};
+ghost use Rattle.ent_alloc.specs.Living.{HasGeneration, AreLeft};
 
 use crate::slot_record::SlotRecord;
 use ent_handle::Handle;
 use std::marker::Model;
 
-/// The living handles, by rising slot.
+/// The handles of the living entities, by rising slot.
 ///
-/// `Entities::iter` makes it. It borrows the allocator and copies nothing. Between two handles it
+/// [`Entities::iter`](crate::Entities::iter) makes it. It borrows the allocator and copies nothing. Between two handles it
 /// looks at each slot once. After the last handle it looks at none.
-#[derive(Drop)]
-pub struct LivingHandles<'a> {
+#[derive(Clone, Drop)]
+pub struct Living<'a> {
     records: &'a [SlotRecord],
     index: u32,
     left: u32,
 }
 
-impl<'a> Model for LivingHandles<'a> {
+impl<'a> Model for Living<'a> {
     ghost use Rattle.std.specs.Prelude.{List};
     ghost use Rattle.std.specs.Coded.{coded_list};
     ghost use Rattle.ent_handle.specs.Handle.{Handle, handle_code};
@@ -30,20 +30,20 @@ impl<'a> Model for LivingHandles<'a> {
     ghost coded = { coded_list handle_code };
 
     ghost use Rattle.ent_alloc.specs.Slots.{occupants};
-    ghost use Rattle.ent_alloc.specs.LivingHandles.{AreLeft};
+    ghost use Rattle.ent_alloc.specs.Living.{AreLeft};
 
     ghost view = { λ l. occupants l.index l.records.now };
 
     ghost invariant = { λ l. AreLeft l.index l.records.now l.left };
 }
 
-impl<'a> LivingHandles<'a> {
+impl<'a> Living<'a> {
     /// The living occupants of all slots. There are `left`.
     pub(crate) fn new(records: &'a [SlotRecord], left: u32) -> Self
         requires { AreLeft 0 records.now left }
         ensures { result ≡ occupants 0 records.now }
     {
-        LivingHandles {
+        Living {
             records,
             index: 0,
             left,
@@ -51,7 +51,7 @@ impl<'a> LivingHandles<'a> {
     }
 }
 
-impl Iterator for LivingHandles<'_> {
+impl Iterator for Living<'_> {
     type Item = Handle;
 
     ghost next_gives = { YieldsFirst (λ handles. handles) };
@@ -81,7 +81,7 @@ impl Iterator for LivingHandles<'_> {
     }
 }
 
-impl ExactSizeIterator for LivingHandles<'_> {
+impl ExactSizeIterator for Living<'_> {
     fn len(&self) -> usize {
         self.left as usize
     }

@@ -1,26 +1,27 @@
-// Made of crates/ent_alloc/src/living_handles.rt by rust/erase. It isn't edited by hand.
+// Made of crates/ent_alloc/src/living.rt by rust/erase. It isn't edited by hand.
 
 use crate::proved::ent_alloc::slot_record::SlotRecord;
 use crate::proved::ent_handle::Handle;
 
-/// The living handles, by rising slot.
+/// The handles of the living entities, by rising slot.
 ///
-/// `Entities::iter` makes it. It borrows the allocator and copies nothing. Between two handles it
+/// [`Entities::iter`](crate::proved::ent_alloc::Entities::iter) makes it. It borrows the allocator and copies nothing. Between two handles it
 /// looks at each slot once. After the last handle it looks at none.
-pub struct LivingHandles<'a> {
+#[derive(Clone)]
+pub struct Living<'a> {
     records: &'a [SlotRecord],
     index: u32,
     left: u32,
 }
 
-impl<'a> LivingHandles<'a> {
+impl<'a> Living<'a> {
     /// The living occupants of all slots. There are `left`.
     #[inline]
     pub(super) fn new(records: &'a [SlotRecord], left: u32) -> Self
         // requires { AreLeft 0 records.now left }
         // ensures { result ≡ occupants 0 records.now }
     {
-        LivingHandles {
+        Living {
             records,
             index: 0,
             left,
@@ -28,7 +29,7 @@ impl<'a> LivingHandles<'a> {
     }
 }
 
-impl Iterator for LivingHandles<'_> {
+impl Iterator for Living<'_> {
     type Item = Handle;
 
     #[inline]
@@ -56,7 +57,7 @@ impl Iterator for LivingHandles<'_> {
     }
 }
 
-impl ExactSizeIterator for LivingHandles<'_> {
+impl ExactSizeIterator for Living<'_> {
     #[inline]
     fn len(&self) -> usize {
         self.left as usize

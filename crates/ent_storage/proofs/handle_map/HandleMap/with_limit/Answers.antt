@@ -1,6 +1,6 @@
 use Rattle.std.proofs.Common.{rules}
 use Rattle.ent_storage.proofs.Entries.{map_none}
-use Rattle.ent_storage.proofs.handle_map.HandleMap.new.Goals as goal
+use Rattle.ent_storage.proofs.handle_map.HandleMap.with_limit.Goals as goal
 
 pub returns : goal.returns
 returns g c = search (rules, map_none)

@@ -1,0 +1,77 @@
+-- Many handles that come to life at once: as if they were requested and flushed.
+use Rattle.std.proofs.Common.{rules, ◌≡◌, sym, ap, ◌∙◌, subst, refl, ℕ, ◌+◌, ◌-◌, ◌<◌, ◌≤◌, length, take}
+use Rattle.std.proofs.Common.{drop, reverse, ◌++◌, All, None, arith, List, slice_index_or}
+use Rattle.std.specs.FinMap as maps
+use Rattle.std.proofs.lemmas.List.{length-append, length-reverse, take_at, drop_at}
+use Rattle.std.proofs.lemmas.List.Elements.{All-take}
+use Rattle.ent_handle.specs.Handle.{Handle}
+use Rattle.ent_alloc.specs.declared.requests.Requests.{Requests}
+use Rattle.ent_alloc.specs.Roster.{Roster}
+use Rattle.ent_alloc.specs.Sequential.{Allocator, available, fresh, after_take, after_flush}
+use Rattle.ent_alloc.specs.Sound.{IsSound, IsLive}
+use Rattle.ent_alloc.specs.Entities.{Entities, allocator_of, HasRowsOfLiving}
+use Rattle.ent_alloc.proofs.Soundness.{after_take-sound, after_flush-sound}
+use Rattle.ent_alloc.proofs.Replies.{not_apart, of_pool}
+use Rattle.ent_alloc.proofs.RowsOfLiving.{rows-joined}
+use Rattle.ent_alloc.proofs.Meaning.{IsAtRest, StandFor, closed}
+use Rattle.ent_alloc.proofs.MeaningOfRequests.{lower_served}
+use Rattle.ent_alloc.proofs.MeaningOfFlush.{flushed_roster, flush_is, taken_is}
+use Rattle.ent_alloc.proofs.MeaningOfAlloc.{pool_is}
+
+-- what may be given is not alive
+not_live : (s : Allocator) → IsSound s → All (λ x. ¬ (IsLive s x)) (available s)
+not_live s sound k d lt alive =
+    let x = slice_index_or (available s) k d in not_apart x ((sound.live x alive).apart k d lt)
+
+-- so it has no row
+pub front_no_row : (e : Entities) (n : ℕ) → IsSound e.allocator → HasRowsOfLiving e
+    → All (λ h. maps.get e.rows h ≡ None) (take n e.allocator.pool)
+front_no_row e n sound kept k d lt =
+    kept (slice_index_or (take n e.allocator.pool) k d)
+    (All-take (λ x. ¬ (IsLive e.allocator x)) n e.allocator.pool
+    (of_pool (λ x. ¬ (IsLive e.allocator x)) e.allocator (not_live e.allocator sound)) k d lt)
+
+-- a list that has the fresh handles first, once its two parts are in the order of single calls
+pub ordered : (news olds items handles : List Handle) (many len : ℕ) → items ≡ news ++ olds
+    → many ≡ length news → handles ≡ reverse (drop many items) ++ take many items
+    → len ≡ length items → take len (handles ++ drop (length handles) items) ≡ reverse olds ++ news
+ordered news olds items handles many len items_are many_is handles_are len_is =
+    let olds_are : drop many items ≡ olds = ap (drop many) items_are ∙ drop_at news olds many (sym many_is) in
+    let news_are : take many items ≡ news = ap (take many) items_are ∙ take_at news olds many (sym many_is) in
+    let all : handles ≡ reverse olds ++ news =
+    handles_are ∙ (λ i. reverse (olds_are i) ++ news_are i) in
+    let long : len ≡ length handles =
+    len_is ∙ search (rules, length-append, length-reverse) in
+    take_at handles (drop (length handles) items) len (sym long) ∙ all
+
+module _ (r : Roster) (requests : Requests) (s : Allocator) (rest : IsAtRest r requests s) (n : ℕ)
+    (enough : n ≤ length r.pending + (r.limits.slots - r.made)) where
+  -- how many slots go on waiting, and how many are made
+  abbrev waits : ℕ
+  waits = length r.pending - n
+
+  abbrev news : ℕ
+  news = n - length r.pending
+
+  -- the roster with the request, as if it had been made
+  requested : allocator_of r n n ≡ after_take s n
+  requested = search (rules, lower_served r 0 0 n refl, rest.view)
+
+  sound : IsSound (allocator_of r n n)
+  sound = subst IsSound (sym requested) (after_take-sound s n rest.sound)
+
+  -- the front of the pool, as the vectors have it
+  pub front_is : reverse (drop waits r.pending) ++ fresh r.made news ≡ take n s.pool
+  front_is =
+      sym (taken_is r n n (omega arith) enough sound) ∙ ap (take n) (pool_is r requests s rest)
+
+  -- the slots that are left stand for the allocator
+  pub many_given : (new : Roster) → new ≡ flushed_roster r waits news
+      → StandFor new requests (after_flush (after_take s n))
+  many_given new is =
+      closed new (flushed_roster r waits news) requests (after_flush (after_take s n)) is
+      rest.requests_is
+      (flush_is r n n (omega arith) enough sound ∙ ap after_flush requested)
+      (after_flush-sound (after_take s n) (after_take-sound s n rest.sound))
+      (rows-joined _ (drop waits r.pending) r.rows
+      (rows-joined r.live (fresh r.made news) r.rows rest.rows))

@@ -1,0 +1,126 @@
+use Rattle.std.proofs.Common.{rules, ◌≡◌, sym, ap, ◌∙◌, subst, ℕ, ◌+◌, ◌-◌, ◌<◌, ◌≤◌, length, take, drop}
+use Rattle.std.proofs.Common.{◌++◌, reverse, arith, List, All}
+use Rattle.std.proofs.lemmas.List.{append-nil, take_at, drop_at, take_all, length-append}
+use Rattle.ent_handle.specs.Handle.{Handle}
+use Rattle.ent_alloc.specs.Sequential.{fresh, after_take, after_flush}
+use Rattle.ent_alloc.specs.Sound.{IsSound, IsWithin}
+use Rattle.ent_alloc.specs.Entities.{Entities, HasRowsOfLiving}
+use Rattle.ent_alloc.proofs.FreshHandles.{length-fresh}
+use Rattle.ent_alloc.proofs.Meaning.{allocator_is, IsAtRest, at_rest, StandFor}
+use Rattle.ent_alloc.proofs.MeaningOfAlloc.{length_pool}
+use Rattle.ent_alloc.proofs.MeaningOfFlush.{flushed_roster}
+use Rattle.ent_alloc.proofs.GivenMany.{front_no_row, front_is, many_given, ordered}
+use Rattle.ent_alloc.proofs.Asked.{front_within}
+use Rattle.ent_alloc.proofs.OneByOne.{one_by_one}
+use Rattle.ent_alloc.proofs.entities.Entities.alloc_many.Goals.{Else-needs_flush, Else-n-left}
+use Rattle.ent_alloc.proofs.entities.Entities.alloc_many.Goals.{After-fresh-fresh, In_ok-bring_to_life}
+use Rattle.ent_alloc.proofs.entities.Entities.alloc_many.Goals as goal
+
+-- nothing is reserved
+rest : (c : Else-needs_flush) → IsAtRest c.self.inside.slots c.self.inside.requests
+    c.args.self.now.allocator
+rest c = search (rules, at_rest, allocator_is)
+
+-- there are as many
+enough : (c : Else-n-left) → IsAtRest c.self.inside.slots c.self.inside.requests
+    c.args.self.now.allocator
+    → c.args.n ≤ length c.self.inside.slots.pending
+    + (c.self.inside.slots.limits.slots - c.self.inside.slots.made)
+enough c rest =
+    let many = length_pool c.self.inside.slots c.self.inside.requests c.args.self.now.allocator
+    rest in
+    omega (arith, many, c.left.ensures, c.if-n-left.false)
+
+-- how many slots go on waiting, and how many are made
+record AreCounted (waiting n kept news : ℕ) : Type 0 where
+  kept_is : kept ≡ waiting - n
+  news_is : news ≡ n - waiting
+
+counted : (c : After-fresh-fresh) → AreCounted (length c.self.inside.slots.pending) c.args.n
+    c.kept-kept.result c.fresh-fresh.result
+counted c = search (rules)
+
+-- what is left stands for the allocator after the call
+given : (c : In_ok-bring_to_life) → IsAtRest c.self.inside.slots c.self.inside.requests
+    c.args.self.now.allocator
+    → c.args.n ≤ length c.self.inside.slots.pending
+    + (c.self.inside.slots.limits.slots - c.self.inside.slots.made)
+    → AreCounted (length c.self.inside.slots.pending) c.args.n c.kept-kept.result
+    c.fresh-fresh.result
+    → StandFor c.bring_to_life.new.self c.self.inside.requests
+    (after_flush (after_take c.args.self.now.allocator c.args.n))
+given c rest enough counts =
+    many_given c.self.inside.slots c.self.inside.requests c.args.self.now.allocator rest c.args.n
+    enough c.bring_to_life.new.self
+    (c.in_ok-bring_to_life.ensures.ok
+    ∙ (λ i. flushed_roster c.self.inside.slots (counts.kept_is i) (counts.news_is i)))
+
+pub bring_to_life-requires-clause-room : goal.bring_to_life-requires-clause-room
+bring_to_life-requires-clause-room c =
+    let at = goal.at.bring_to_life-requires-clause-room c in
+    let many = enough at.Else-n-left (rest at.Else-needs_flush) in
+    let counts = counted at.After-fresh-fresh in
+    let news = counts.news_is in
+    let few = c.waiting-waiting.ensures.few in
+    omega (arith, many, news, few)
+
+pub in_order-requires : goal.in_order-requires
+in_order-requires c = search (rules, length-append, length-fresh)
+
+pub invariant_of-self-2 : goal.invariant_of-self-2
+invariant_of-self-2 c =
+    let at = goal.at.invariant_of-self-2 c in
+    (given at.In_ok-bring_to_life (rest at.Else-needs_flush)
+    (enough at.Else-n-left (rest at.Else-needs_flush)) (counted at.After-fresh-fresh)).reserved
+
+pub returns-clause-ok : goal.returns-clause-ok
+returns-clause-ok c =
+    let at = goal.at.returns-clause-ok c in
+    (given at.In_ok-bring_to_life (rest at.Else-needs_flush)
+    (enough at.Else-n-left (rest at.Else-needs_flush)) (counted at.After-fresh-fresh)).view
+
+pub returns-clause-handles : goal.returns-clause-handles
+returns-clause-handles c =
+    let at = goal.at.returns-clause-handles c in
+    let r = c.self.inside.slots in
+    let n = c.args.n in
+    let counts = counted at.After-fresh-fresh in
+    let news = fresh r.made (n - length r.pending) in
+    let olds = drop (length r.pending - n) r.pending in
+    let items_are : c.bring_to_life.new.out.items ≡ news ++ olds = search (rules, counts) in
+    let many_is : c.fresh-fresh.result ≡ length news = counts.news_is
+    ∙ sym (length-fresh r.made (n - length r.pending)) in
+    ordered news olds c.bring_to_life.new.out.items c.in_order.new.handles c.fresh-fresh.result
+    c.bring_to_life.new.out.len items_are many_is (search (rules)) (search (rules))
+    ∙ front_is r c.self.inside.requests c.args.self.now.allocator (rest at.Else-needs_flush) n
+    (enough at.Else-n-left (rest at.Else-needs_flush))
+
+pub returns-clause-calls : goal.returns-clause-calls
+returns-clause-calls c =
+    let at = goal.at.returns-clause-calls c in
+    let at_rest = rest at.Else-needs_flush in
+    let many = enough at.Else-n-left at_rest in
+    (given at.In_ok-bring_to_life at_rest many (counted at.After-fresh-fresh)).view
+    ∙ one_by_one c.self.inside.slots c.self.inside.requests c.args.self.now.allocator at_rest
+    c.args.n many
+
+pub returns-clause-within : goal.returns-clause-within
+returns-clause-within c =
+    let at = goal.at.returns-clause-within c in
+    subst (All (IsWithin c.args.self.now.allocator.limits)) (sym (returns-clause-handles c))
+    (front_within c.args.self.now.allocator c.args.n (rest at.Else-needs_flush).sound)
+
+pub returns-clause-rows_of_living : goal.returns-clause-rows_of_living
+returns-clause-rows_of_living c =
+    let at = goal.at.returns-clause-rows_of_living c in
+    (given at.In_ok-bring_to_life (rest at.Else-needs_flush)
+    (enough at.Else-n-left (rest at.Else-needs_flush)) (counted at.After-fresh-fresh)).reserved.rows
+
+pub returns-clause-no_rows : goal.returns-clause-no_rows
+returns-clause-no_rows c =
+    let view = c.self.view_is in
+    let inv = c.self.invariant in
+    let none = front_no_row c.args.self.now c.args.n
+    (subst (λ (e : Entities). IsSound e.allocator) view inv.sound)
+    (subst HasRowsOfLiving view inv.rows) in
+    search (rules, none, c.in_ok-bring_to_life.ensures.ok, view)

@@ -1,0 +1,55 @@
+use Rattle.std.proofs.Common.{rules, ◌≡◌, ◌<◌, ◌≤◌, ◌∙◌, ap, sym, arith, subst, length, take, List, Ok, Err, All}
+use Rattle.ent_handle.specs.Handle.{Handle}
+use Rattle.ent_alloc.specs.declared.space.Space.{Space}
+use Rattle.ent_alloc.specs.Sequential.{listed, reply_to}
+use Rattle.ent_alloc.specs.Sound.{IsSound, IsWithin}
+use Rattle.ent_alloc.proofs.Meaning.{allocator_is}
+use Rattle.ent_alloc.proofs.Asked.{told, of_served, of_refused, space_of_three}
+use Rattle.ent_alloc.proofs.entities.Entities.request_into.Goals.{After-reply, In_ok-reply}
+use Rattle.ent_alloc.proofs.entities.Entities.request_into.Goals.{In_err-reply}
+use Rattle.ent_alloc.proofs.entities.Entities.request_into.Goals as goal
+
+sound : (c : After-reply) → IsSound c.args.self.now.allocator
+sound c = subst IsSound (allocator_is c.self.view_is) c.self.invariant.sound
+
+-- the reply that is looked up is that to the request
+replied : (c : After-reply) → c.reply.result ≡ reply_to c.args.self.now.allocator c.args.n
+replied c =
+    told c.args.self.now.allocator c.lower-span.new.self.allocator c.args.n c.lower-span.result
+    (sound c) c.lower-span.ensures.span c.lower-span.ensures.step c.reply.result c.reply.ensures
+
+pub returns-in_err-reply-clause-refused : goal.returns-in_err-reply-clause-refused
+returns-in_err-reply-clause-refused c =
+    let at = goal.at.returns-in_err-reply-clause-refused c in
+    let is = of_refused c.args.self.now.allocator c.args.n c.in_err-reply.field-0.0
+    (sym (replied at.After-reply) ∙ c.in_err-reply.was) in
+    space_of_three c.from_residual-in_err-reply.result c.in_err-reply.field-0.0.wanted
+    c.in_err-reply.field-0.0.left c.args.n _ _ c.from_residual-in_err-reply.ensures.1 is.wanted
+    is.left
+
+pub append-requires : goal.append-requires
+append-requires c =
+    let at = goal.at.append-requires c in
+    let is = of_served c.args.self.now.allocator c.args.n c.in_ok-reply.field-0
+    (sound at.After-reply) (sym (replied at.After-reply) ∙ c.in_ok-reply.was) in
+    search (rules)
+
+pub returns-clause-listed : goal.returns-clause-listed
+returns-clause-listed c =
+    let at = goal.at.returns-clause-listed c in
+    let is = of_served c.args.self.now.allocator c.args.n c.in_ok-reply.field-0
+    (sound at.After-reply) (sym (replied at.After-reply) ∙ c.in_ok-reply.was) in
+    search (rules)
+
+pub returns-clause-enough : goal.returns-clause-enough
+returns-clause-enough c =
+    let at = goal.at.returns-clause-enough c in
+    (of_served c.args.self.now.allocator c.args.n c.in_ok-reply.field-0
+    (sound at.After-reply) (sym (replied at.After-reply) ∙ c.in_ok-reply.was)).enough
+
+pub returns-clause-within : goal.returns-clause-within
+returns-clause-within c =
+    let at = goal.at.returns-clause-within c in
+    let is = of_served c.args.self.now.allocator c.args.n c.in_ok-reply.field-0
+    (sound at.After-reply) (sym (replied at.After-reply) ∙ c.in_ok-reply.was) in
+    subst (All (IsWithin c.args.self.now.allocator.limits)) is.lists is.within

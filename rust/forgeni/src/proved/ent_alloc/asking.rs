@@ -1,0 +1,200 @@
+// Made of crates/ent_alloc/src/asking.rt by rust/erase. It isn't edited by hand.
+
+//! Requests in one call each: it tests what the request needs, and lists what the request is given.
+
+use alloc::vec::Vec;
+use crate::kit::vec::FallibleVec;
+use crate::proved::ent_alloc::entities::Entities;
+use crate::proved::ent_alloc::refused::Refused;
+use crate::proved::ent_alloc::reserve_error::ReserveError;
+use crate::proved::ent_alloc::reserved::Reserved;
+use crate::proved::ent_handle::Handle;
+
+/// How many handles may be requested between two flushes.
+const MOST: u64 = 1 << 50;
+
+impl Entities {
+    /// Requests a handle, which the next [`flush`](Self::flush) brings to life. Until then `alloc`
+    /// and `free` return `NeedsFlush`. It takes constant time, and no memory.
+    ///
+    /// ```
+    /// use forgeni::{Entities, State};
+    ///
+    /// let mut entities = Entities::new();
+    /// let soon = entities.request()?;
+    /// assert_eq!(entities.state(soon), State::Reserved);
+    /// let mut born = Vec::new();
+    /// entities.flush(&mut born)?;
+    /// assert_eq!(born, [soon]);
+    /// # Ok::<(), Box<dyn std::error::Error>>(())
+    /// ```
+    ///
+    /// # Errors
+    ///
+    /// - [`Refused::Space`] if no handle is left. The request counts all the same, and every later
+    ///   one is refused until the next flush.
+    /// - [`Refused::Quota`] if 2^50 handles were requested since the last flush. Nothing has
+    ///   changed.
+    ///
+    /// <details><summary>Contract</summary>
+    ///
+    /// In the words of the folder `specs/` of crate `ent_alloc`:
+    ///
+    /// ```text
+    /// ensures front { IfOk result (λ h. slice_get self.old.allocator.pool 0 ≡ Some h) }
+    /// ensures reply { IfOk result (λ h. reply_to self.old.allocator 1 ≡ Ok (h ∷ [])) }
+    /// ensures within { IfOk result (IsWithin self.old.allocator.limits) }
+    /// ensures space { IsErrOf result (refused.Space 1 0)
+    ///     ↔ ((self.old.allocator.asked < 2 ^ 50) × (self.old.allocator.pool ≡ [])) }
+    /// ensures quota { IsErrOf result (refused.Quota 0) ↔ (2 ^ 50 ≤ self.old.allocator.asked) }
+    /// ensures refused { IfErr result (λ why.
+    ///     (why ≡ refused.Space 1 0) ⊎ (why ≡ refused.Quota 0)) }
+    /// ensures step { self.old.allocator.asked < 2 ^ 50
+    ///     → self.new.allocator ≡ after_take self.old.allocator 1 }
+    /// ensures unchanged { 2 ^ 50 ≤ self.old.allocator.asked → self.new ≡ self.old }
+    /// ensures rows { self.new.rows ≡ self.old.rows }
+    /// ensures rows_of_living { HasRowsOfLiving self.new }
+    /// ```
+    ///
+    /// </details>
+    #[inline]
+    pub fn request(&mut self) -> Result<Handle, Refused> {
+        let high = self.cursor();
+        let left = MOST - self.asked();
+        if left == 0 {
+            return Err(Refused::Quota { left });
+        }
+        let _span = self.lower(1);
+        Ok(self.reply_one(high)?)
+    }
+
+    /// Requests `n` handles at once, all of them or none, and appends them to a list: those of old
+    /// slots first, the one that waits longest before the others, then those of new slots. The next
+    /// [`flush`](Self::flush) brings them to life.
+    ///
+    /// # Errors
+    ///
+    /// In each case the list has the same handles as before.
+    ///
+    /// - [`ReserveError::Quota`] if more than 2^50 handles were requested since the last flush, with
+    ///   these. Nothing has changed.
+    /// - [`ReserveError::Memory`] if the list has too little room, and there is no memory for more.
+    ///   Nothing has changed, and no handle was requested.
+    /// - [`ReserveError::Space`] if fewer than `n` handles are left. The request counts all the
+    ///   same, and every later one is refused until the next flush. A caller that wants to go on
+    ///   with fewer looks at [`left`](Self::left) first.
+    ///
+    /// <details><summary>Contract</summary>
+    ///
+    /// In the words of the folder `specs/` of crate `ent_alloc`:
+    ///
+    /// ```text
+    /// ensures listed { OnOk result (handles.new.items ≡ handles.old.items
+    ///     ++ listed self.old.allocator.made (take n self.old.allocator.pool)) }
+    /// ensures within { OnOk result (All (IsWithin self.old.allocator.limits)
+    ///     (listed self.old.allocator.made (take n self.old.allocator.pool))) }
+    /// ensures enough { OnOk result (n ≤ length self.old.allocator.pool) }
+    /// ensures quota { IsErrOf result (failed.Quota (2 ^ 50 - self.old.allocator.asked))
+    ///     ↔ (2 ^ 50 < self.old.allocator.asked + n) }
+    /// ensures space { IsErrOf result (failed.Space n (length self.old.allocator.pool))
+    ///     → length self.old.allocator.pool < n }
+    /// ensures memory { IsErrOf result failed.Memory
+    ///     → vec_capacity handles.old < vec_len handles.old + n }
+    /// ensures refused { IfErr result (λ why. (why ≡ failed.Memory)
+    ///     ⊎ ((why ≡ failed.Space n (length self.old.allocator.pool))
+    ///     ⊎ (why ≡ failed.Quota (2 ^ 50 - self.old.allocator.asked)))) }
+    /// ensures step { ¬ (IsErrOf result failed.Memory) → self.old.allocator.asked + n ≤ 2 ^ 50
+    ///     → self.new.allocator ≡ after_take self.old.allocator n }
+    /// ensures unchanged { IsErrOf result failed.Memory → self.new ≡ self.old }
+    /// ensures over { 2 ^ 50 < self.old.allocator.asked + n → self.new ≡ self.old }
+    /// ensures kept { OnErr result (handles.new.items ≡ handles.old.items) }
+    /// ensures rows { self.new.rows ≡ self.old.rows }
+    /// ensures rows_of_living { HasRowsOfLiving self.new }
+    /// ```
+    ///
+    /// </details>
+    #[inline]
+    pub fn request_into(&mut self, handles: &mut Vec<Handle>, n: u32) -> Result<(), ReserveError> {
+        let left = MOST - self.requests.asked;
+        if u64::from(n) > left {
+            return Err(ReserveError::Quota { left });
+        }
+        handles.reserve_fallibly(n as usize)?;
+        let span = self.lower(n);
+        append(handles, self.reply(span)?);
+        Ok(())
+    }
+
+    /// Requests `n` handles at once, all of them or none, and lists them: those of old slots first,
+    /// the one that waits longest before the others, then those of new slots. The next
+    /// [`flush`](Self::flush) brings them to life.
+    ///
+    /// ```
+    /// use forgeni::{Entities, Limits, ReserveError};
+    ///
+    /// let mut entities = Entities::with_limits(Limits::new(3, 1).unwrap());
+    /// assert_eq!(entities.request_many(2)?.len(), 2);
+    /// let refused = ReserveError::Space { wanted: 2, left: 1 };
+    /// assert_eq!(entities.request_many(2), Err(refused));
+    ///
+    /// // What is left can be given again after a flush.
+    /// entities.flush(&mut Vec::new())?;
+    /// assert_eq!((entities.len(), entities.left()), (2, 1));
+    /// # Ok::<(), Box<dyn std::error::Error>>(())
+    /// ```
+    ///
+    /// # Errors
+    ///
+    /// - [`ReserveError::Quota`] if more than 2^50 handles were requested since the last flush, with
+    ///   these. Nothing has changed.
+    /// - [`ReserveError::Memory`] if there is no memory for the list. Nothing has changed, and no
+    ///   handle was requested.
+    /// - [`ReserveError::Space`] if fewer than `n` handles are left. The request counts all the
+    ///   same, and every later one is refused until the next flush. A caller that wants to go on
+    ///   with fewer looks at [`left`](Self::left) first.
+    ///
+    /// <details><summary>Contract</summary>
+    ///
+    /// In the words of the folder `specs/` of crate `ent_alloc`:
+    ///
+    /// ```text
+    /// ensures listed { IfOk result (λ handles.
+    ///     handles.items ≡ listed self.old.allocator.made (take n self.old.allocator.pool)) }
+    /// ensures within { IfOk result (λ handles.
+    ///     All (IsWithin self.old.allocator.limits) handles.items) }
+    /// ensures enough { OnOk result (n ≤ length self.old.allocator.pool) }
+    /// ensures quota { IsErrOf result (failed.Quota (2 ^ 50 - self.old.allocator.asked))
+    ///     ↔ (2 ^ 50 < self.old.allocator.asked + n) }
+    /// ensures space { IsErrOf result (failed.Space n (length self.old.allocator.pool))
+    ///     → length self.old.allocator.pool < n }
+    /// ensures memory { IsErrOf result failed.Memory → 0 < n }
+    /// ensures refused { IfErr result (λ why. (why ≡ failed.Memory)
+    ///     ⊎ ((why ≡ failed.Space n (length self.old.allocator.pool))
+    ///     ⊎ (why ≡ failed.Quota (2 ^ 50 - self.old.allocator.asked)))) }
+    /// ensures step { ¬ (IsErrOf result failed.Memory) → self.old.allocator.asked + n ≤ 2 ^ 50
+    ///     → self.new.allocator ≡ after_take self.old.allocator n }
+    /// ensures unchanged { IsErrOf result failed.Memory → self.new ≡ self.old }
+    /// ensures over { 2 ^ 50 < self.old.allocator.asked + n → self.new ≡ self.old }
+    /// ensures rows { self.new.rows ≡ self.old.rows }
+    /// ensures rows_of_living { HasRowsOfLiving self.new }
+    /// ```
+    ///
+    /// </details>
+    #[inline]
+    pub fn request_many(&mut self, n: u32) -> Result<Vec<Handle>, ReserveError> {
+        let mut handles = Vec::new();
+        self.request_into(&mut handles, n)?;
+        Ok(handles)
+    }
+}
+
+/// Appends what a request was given to a list that has room for it.
+#[inline]
+fn append(handles: &mut Vec<Handle>, given: Reserved<'_>)
+    // requires { vec_len handles.old + length given ≤ vec_capacity handles.old }
+    // ensures { handles.new.items ≡ handles.old.items ++ given.entry }
+{
+    for handle in given {
+        handles.push_reserved(handle);
+    }
+}

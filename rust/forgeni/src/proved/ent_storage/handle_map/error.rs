@@ -1,0 +1,52 @@
+// Made of crates/ent_storage/src/handle_map/error.rt by rust/erase. It isn't edited by hand.
+
+/// Why [`HandleMap::insert`](super::HandleMap::insert) inserted nothing. The map is as it was.
+#[derive(Clone, Copy, Debug, PartialEq, Eq, Hash)]
+#[non_exhaustive]
+pub enum InsertError {
+    /// The handle's slot is at or above the map's limit, or the handle is the placeholder.
+    Limit,
+    /// A later occupant of the slot has a value.
+    Later,
+    /// Memory ran out.
+    Memory,
+}
+
+impl core::fmt::Display for InsertError {
+    fn fmt(&self, f: &mut core::fmt::Formatter<'_>) -> core::fmt::Result {
+        match self {
+            InsertError::Limit => write!(f, "the handle is above the map's limit"),
+            InsertError::Later => write!(f, "a later occupant of the slot has a value"),
+            InsertError::Memory => write!(f, "out of memory"),
+        }
+    }
+}
+
+impl core::error::Error for InsertError {}
+
+/// A value that [`HandleMap::insert`](super::HandleMap::insert) hands back.
+pub struct Uninserted<T> {
+    /// The value.
+    pub value: T,
+    /// Why it was not inserted.
+    pub error: InsertError,
+}
+
+impl<T> Uninserted<T> {
+    /// The value, and why it was not inserted.
+    ///
+    /// <details><summary>Contract</summary>
+    ///
+    /// In the words of the folder `specs/` of crate `ent_storage`:
+    ///
+    /// ```text
+    /// ensures { result ≡ (self.value, self.error) }
+    /// ```
+    ///
+    /// </details>
+    #[must_use]
+    #[inline]
+    pub fn into_parts(self) -> (T, InsertError) {
+        (self.value, self.error)
+    }
+}

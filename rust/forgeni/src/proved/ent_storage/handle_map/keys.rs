@@ -1,0 +1,77 @@
+// Made of crates/ent_storage/src/handle_map/keys.rt by rust/erase. It isn't edited by hand.
+
+use crate::proved::ent_storage::handle_map::iter::Iter;
+use crate::proved::ent_handle::Handle;
+
+/// The handles of a map that have a value, by rising slot.
+///
+/// [`HandleMap::keys`](super::HandleMap::keys) makes it. It borrows the map and copies nothing.
+#[must_use]
+pub struct Keys<'a, T> {
+    entries: Iter<'a, T>,
+}
+
+impl<'a, T> Keys<'a, T> {
+    /// The handles of these entries.
+    #[inline]
+    pub(super) fn new(entries: Iter<'a, T>) -> Self
+        // ensures { result ≡ map (λ entry. entry.0) entries.entry }
+    {
+        Keys { entries }
+    }
+
+    /// The same handles once more. It takes no memory.
+    #[inline]
+    fn again(&self) -> Self
+        // ensures { result ≡ self.now }
+    {
+        Keys {
+            entries: self.entries.again(),
+        }
+    }
+}
+
+impl<'a, T> Clone for Keys<'a, T> {
+    #[inline]
+    fn clone(&self) -> Self {
+        self.again()
+    }
+}
+
+impl<'a, T> Iterator for Keys<'a, T> {
+    type Item = Handle;
+
+    #[inline]
+    fn next(&mut self) -> Option<Handle> {
+        match self.entries.next() {
+            Some((handle, _)) => Some(handle),
+            None => None,
+        }
+    }
+
+    #[inline]
+    fn size_hint(&self) -> (usize, Option<usize>)
+        // ensures lower { IsWithinCount result.0 (item_count (λ rest. rest) self.now) }
+        // ensures upper { IfSome result.1 (UpTo (item_count (λ rest. rest) self.now)) }
+        // ensures exact { result ≡ (length self.now, Some (length self.now)) }
+    {
+        self.entries.size_hint()
+    }
+}
+
+impl<'a, T> DoubleEndedIterator for Keys<'a, T> {
+    #[inline]
+    fn next_back(&mut self) -> Option<Handle> {
+        match self.entries.next_back() {
+            Some((handle, _)) => Some(handle),
+            None => None,
+        }
+    }
+}
+
+impl<'a, T> ExactSizeIterator for Keys<'a, T> {
+    #[inline]
+    fn len(&self) -> usize {
+        self.entries.len()
+    }
+}
