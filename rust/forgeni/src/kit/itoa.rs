@@ -56,7 +56,7 @@ impl Integer for i64 {
 /// Room for the longest number.
 pub struct Buffer(Decimal);
 
-/// A number as a text. Its bytes are had without a test whether they are one.
+/// A number as a text. Its bytes and their count are had without a test whether they are one.
 pub struct Decimal {
     bytes: [u8; Decimal::LENGTH],
     /// Where the text begins, which ends with the bytes.
@@ -122,6 +122,13 @@ impl Decimal {
     pub fn as_bytes(&self) -> &[u8] {
         &self.bytes[self.start..]
     }
+
+    // A number has a digit.
+    #[allow(clippy::len_without_is_empty)]
+    #[inline]
+    pub fn len(&self) -> usize {
+        Decimal::LENGTH - self.start
+    }
 }
 
 impl Deref for Decimal {
@@ -143,6 +150,7 @@ mod tests {
         let mut buffer = Buffer::new();
         let (wanted, found) = (number.to_string(), buffer.format(number));
         assert_eq!((&**found, found.as_bytes()), (&*wanted, wanted.as_bytes()));
+        assert_eq!(found.len(), wanted.len());
     }
 
     #[test]

@@ -3,45 +3,54 @@
 //! The contracts are those of the kit's `std::env`.
 
 use super::string::String;
+use crate::kit::vec::FallibleVec;
 use std::ffi::OsString;
 use std::io;
-use std::vec::IntoIter;
+use std::vec::{IntoIter, Vec};
 
 /// The right to read the words.
 pub trait Env {}
 
-/// The contract: all words in their order, the program's name first, or `InvalidData` if one is no UTF-8.
+/// The contract: all words in their order, the program's name first; or `InvalidData` if one is no UTF-8, or
+/// `OutOfMemory` if there is no memory for the list of them.
 ///
-/// Rust's std takes the memory for them, and ends the program if that is refused.
+/// The words themselves are in memory that Rust's std takes, and it ends the program if that is refused.
 pub fn args(_rt: &impl Env) -> io::Result<impl Iterator<Item = String>> {
-    texts(std::env::args_os().collect())
+    texts(std::env::args_os())
 }
 
-/// The words as texts, in the same memory.
-fn texts(words: std::vec::Vec<OsString>) -> io::Result<IntoIter<String>> {
-    let text = |word: OsString| word.into_string().map(String::of);
-    let texts: Result<std::vec::Vec<_>, _> = words.into_iter().map(text).collect();
-    match texts {
-        Ok(texts) => Ok(texts.into_iter()),
-        Err(_) => Err(io::ErrorKind::InvalidData.into()),
+fn texts(words: impl ExactSizeIterator<Item = OsString>) -> io::Result<IntoIter<String>> {
+    let mut texts = Vec::with_capacity_fallibly(words.len())?;
+    for word in words {
+        let text = word.into_string().map_err(|_| io::ErrorKind::InvalidData)?;
+        texts.push_reserved(String::of(text));
     }
+    Ok(texts.into_iter())
 }
 
 #[cfg(test)]
 mod tests {
     use super::*;
-    use std::string::ToString as _;
+    use crate::kit::refusing::refuse;
+
+    fn kind(words: Vec<OsString>) -> io::ErrorKind {
+        let refused = texts(words.into_iter()).err();
+        refused.expect("no words").kind()
+    }
 
     #[test]
     fn words_keep_their_order() {
         let words = ["", "run", "ä", "--workers=2"];
-        let given = words.iter().map(OsString::from).collect();
-        let texts: std::vec::Vec<_> = texts(given)
-            .expect("UTF-8")
-            .map(|it| it.to_string())
-            .collect();
-        assert_eq!(texts, words);
-        assert_eq!(self::texts(std::vec::Vec::new()).expect("none").count(), 0);
+        let found = texts(words.iter().map(OsString::from)).expect("words");
+        assert!(found.eq(words.map(|word| String::of(word.into()))));
+        let none = refuse(|| texts(std::iter::empty()));
+        assert_eq!(none.expect("nothing is asked for").len(), 0);
+    }
+
+    #[test]
+    fn a_list_that_is_refused_is_an_error_of_memory() {
+        let words = std::vec![OsString::from("a")];
+        assert_eq!(refuse(|| kind(words)), io::ErrorKind::OutOfMemory);
     }
 
     #[test]
@@ -49,7 +58,6 @@ mod tests {
     fn a_word_that_is_no_text_is_refused() {
         use std::os::unix::ffi::OsStringExt;
         let words = std::vec![OsString::from("a"), OsString::from_vec(std::vec![0xff])];
-        let refused = texts(words).err().map(|error| error.kind());
-        assert_eq!(refused, Some(io::ErrorKind::InvalidData));
+        assert_eq!(kind(words), io::ErrorKind::InvalidData);
     }
 }

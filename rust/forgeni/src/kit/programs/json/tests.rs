@@ -7,11 +7,16 @@ use std::{format, vec};
 
 /// The tokens of a text, each as a word, and where the reader is then.
 fn tokens(text: &str) -> (String, usize) {
+    tokens_by(text, |_| None)
+}
+
+/// The same, with strings as `shown` has them.
+fn tokens_by(text: &str, shown: impl Fn(&Token<'_>) -> Option<String>) -> (String, usize) {
     let mut scratch = Scratch::new();
     let mut reader = Reader::new(text, &mut scratch).expect("memory");
     let mut found = vec![];
     while let Some(token) = reader.next() {
-        found.push(match token {
+        let word = || match token {
             Token::BeginObject => "{".to_string(),
             Token::EndObject => "}".to_string(),
             Token::BeginArray => "[".to_string(),
@@ -22,7 +27,8 @@ fn tokens(text: &str) -> (String, usize) {
             Token::Bool(is) => is.to_string(),
             Token::Null => "null".to_string(),
             Token::Bad => "bad".to_string(),
-        });
+        };
+        found.push(shown(&token).unwrap_or_else(word));
     }
     (found.join(" "), reader.offset())
 }
@@ -221,9 +227,18 @@ fn a_scratch_that_has_room_asks_for_none() {
 fn tokens_of_a_file() {
     let path = |name| std::env::var_os(name).expect("a path");
     let texts = std::fs::read_to_string(path("TEXTS")).expect("the texts");
-    let lines: String = texts
-        .split('\0')
-        .map(|text| tokens(text).0 + "\0")
-        .collect();
+    let hex = |mark: &str, text: &str| {
+        let bytes = text.bytes().map(|byte| format!("{byte:02x}"));
+        mark.to_string() + &bytes.collect::<String>()
+    };
+    let line = |text: &str| {
+        let strings = |token: &Token<'_>| match token {
+            Token::Key(text) => Some(hex("k", text)),
+            Token::String(text) => Some(hex("s", text)),
+            _ => None,
+        };
+        tokens_by(text, strings).0 + "\0"
+    };
+    let lines: String = texts.split('\0').map(line).collect();
     std::fs::write(path("SAID"), lines).expect("a file");
 }
