@@ -98,17 +98,28 @@ impl Decimal {
 
     #[inline]
     fn set(&mut self, size: u64, is_negative: bool) {
-        let (mut at, mut left) = (Decimal::LENGTH, size);
-        while left >= 100 {
+        let (mut at, mut size) = (Decimal::LENGTH, size);
+        while size > u64::from(u32::MAX) {
+            at -= 4;
+            self.put_four(at, (size % 10_000) as u32);
+            size /= 10_000;
+        }
+        let mut left = size as u32;
+        while left >= 10_000 {
+            at -= 4;
+            self.put_four(at, left % 10_000);
+            left /= 10_000;
+        }
+        if left >= 100 {
             at -= 2;
-            [self.bytes[at], self.bytes[at + 1]] = PAIRS[(left % 100) as usize];
+            self.put_two(at, left % 100);
             left /= 100;
         }
-        at -= 1;
         if left >= 10 {
-            at -= 1;
-            [self.bytes[at], self.bytes[at + 1]] = PAIRS[left as usize];
+            at -= 2;
+            self.put_two(at, left);
         } else {
+            at -= 1;
             self.bytes[at] = b'0' + left as u8;
         }
         if is_negative {
@@ -116,6 +127,17 @@ impl Decimal {
             self.bytes[at] = b'-';
         }
         self.start = at;
+    }
+
+    #[inline]
+    fn put_four(&mut self, at: usize, number: u32) {
+        self.put_two(at, number / 100);
+        self.put_two(at + 2, number % 100);
+    }
+
+    #[inline]
+    fn put_two(&mut self, at: usize, number: u32) {
+        [self.bytes[at], self.bytes[at + 1]] = PAIRS[number as usize];
     }
 
     #[inline]
