@@ -3,7 +3,8 @@
 
     calls.py TYPE..
 
-`docs/CALLS.md` quotes what it prints, and `.ci/pages.py` compares. It runs at the top of the repository.
+`CRATE::TYPE` is the type of one crate, if several have one of that name. `docs/CALLS.md` quotes what it prints, and `.ci/pages.py`
+compares. It runs at the top of the repository.
 """
 
 import pathlib
@@ -13,7 +14,7 @@ import textwrap
 
 ROOT = pathlib.Path("crates")
 WIDTH = 138
-CALL = re.compile(r"    pub (?:const )?fn (\w+)(?:<.*?>)?\(([^)]*)\)")
+CALL = re.compile(r"    pub (?:const )?fn (\w+)(?:<.*?>)?\((.*?)\)(?: |$)")
 ASIDE = ("alloc", "rt")
 
 
@@ -25,7 +26,7 @@ def first_sentence(comments):
 
 def arguments(text):
     """The names of the arguments that a caller thinks of."""
-    names = [it.split(":")[0].strip().removeprefix("mut ") for it in text.split(",")]
+    names = [it.split(":")[0].strip().removeprefix("mut ") for it in re.sub(r"\[[^]]*\]", "", text).split(",")]
     return [it for it in names if it and not it.endswith("self") and it not in ASIDE]
 
 
@@ -44,8 +45,9 @@ def calls_of(type, file):
             comments = []
 
 
-def print_calls(type):
-    files = [it for it in ROOT.glob("ent_*/src/*.rt") if "_tests" not in it.parts[1]]
+def print_calls(path):
+    crate, type = path.split("::") if "::" in path else ("ent_*", path)
+    files = [it for it in ROOT.glob(f"{crate}/src/*.rt") if "_tests" not in it.parts[1]]
     files.sort(key=lambda it: (f"pub struct {type}" not in it.read_text(), str(it)))
     calls = [it for file in files for it in calls_of(type, file)]
     width = max(len(name) for name, _ in calls)

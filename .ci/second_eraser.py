@@ -21,26 +21,28 @@ LINTS = "#![allow(dead_code, unused_imports, unused_variables, clippy::all)]"
 
 # What differs between a source without its ghost words and its result: each class, how often it occurs today, and why it keeps the meaning.
 TABLE = {
-    "derive(Drop)": (74, "in the kit a type may be dropped only if it says so, in Rust each may; no type here has a destructor"),
+    "derive(Drop)": (77, "in the kit a type may be dropped only if it says so, in Rust each may; no type here has a destructor"),
     "derive(Error)": (15, "written out as the next class"),
     "messages": (15, "`impl Display` writes the texts of `#[error(..)]`, and `impl Error` is empty, as the kit's derive has it"),
     "bound Drop": (8, "as derive(Drop), for a type parameter"),
     "crate path": (212, "a crate is a module of the package: `crate::x` is `crate::proved::NAME::x`"),
     "sister path": (172, "as crate path, for the crates that a crate uses"),
-    "stand-in path": (39, "the kit's own `Vec`, words, maps and threads are the package's `kit`, by PATHS"),
+    "stand-in path": (39, "the kit's own words, maps and threads are the package's `kit`, by PATHS"),
     "core path": (18, "the kit's std and Rust's have the same there, by PATHS"),
-    "import": (59, "`Vec`, `prove_eq!` and the trait of `collect_in` need no import in the kit"),
+    "import": (89, "`Vec`, `prove_eq!` and the traits of `collect_in` and of lists need no import in the kit"),
     "collect_in": (2, "Rust's `Iterator` has a `collect` without an allocator"),
     "formatter": (6, "the kit's `Formatter<W>` writes to a `W`, Rust's to a `dyn Write`; each use is `write_str` or `write!`"),
     "visibility": (217, "`pub(crate)` would open a module to the whole package; too narrow a word fails to compile"),
-    "condition": (69, "a function with a `requires` may be called by proved code alone, which the package's own is; so it isn't `pub`"),
-    "inline": (605, "a hint to the compiler, on each function with a body and without a hint of its own"),
+    "condition": (68, "a function with a `requires` may be called by proved code alone, which the package's own is; so it isn't `pub`"),
+    "inline": (634, "a hint to the compiler, on each function with a body and without a hint of its own"),
     "layout": (1, "`Handle` is laid out as its word, so that an `Option` of it is; no source reads a layout"),
     "equality": (2, "`impl PartialEq` and `impl Eq` of `Handle`, which compare its one field, are derived, so that a constant is a pattern"),
     "padded": (2, "`padded!` is `write!` with a width, for which nobody can ask in the kit"),
-    "allocator": (280, "the right to allocate, `Global`, is handed to nobody in Rust: parameters, arguments, fields, what is bound"),
+    "allocator": (282, "the right to allocate, `Global`, is handed to nobody in Rust: parameters, arguments, fields, what is bound"),
     "ghost trait": (16, "a trait with ghost members alone, its imports and impls, and a module of nothing else"),
     "ghost type": (79, "a type parameter that such a trait bounds, as an argument, and in a `PhantomData`"),
+    "clone": (4, "the kit's `clone` may be refused memory; that of an iterator asks for none, and calls its `again`"),
+    "list call": (94, "a list is Rust's own; what the kit's has otherwise is a call of `FallibleVec`, whose names no list of Rust has"),
     "with_exact_limits": (5, "the allocator's `new(limits)`: in Rust `new()` has no parameter"),
     "const": (12, "what makes an allocator without memory may be called in a constant: CONSTANT lists them"),
 }
@@ -61,20 +63,20 @@ IMPORTS = set(
     "either::Left either::Right itoa::Buffer itoa::Integer smallvec::SmallVec".split()
 )
 PRELUDE = set(
-    "Some None Ok Err Option Result Vec Self self Iterator ExactSizeIterator From Default Copy Clone Send Sync Fn FnMut FnOnce Ord PartialOrd "
+    "Some None Ok Err Option Result Vec Self self Iterator DoubleEndedIterator ExactSizeIterator From Default Copy Clone Send Sync Fn FnMut FnOnce Ord PartialOrd "
     "PartialEq Eq bool char str u8 u16 u32 u64 u128 usize i64".split()
 )
 ASSOCIATED = set(
     "Arc::new Arc::try_clone Arc::try_unwrap BTreeMap::new Badge::blank Buffer::new NonZeroU32::new NonZeroU64::MIN NonZeroU64::new "
-    "SmallVec::new SmallVec::with_capacity Table::of_words Vec::new Vec::with_capacity fmt::Debug fmt::Display fmt::Formatter fmt::Result i64::from mem::replace str::from_utf8 "
-    "u16::from_le_bytes u32::MAX u32::from_le_bytes u64::from u64::from_le_bytes usize::from".split()
+    "SmallVec::new SmallVec::with_capacity Table::of_words Vec::new Vec::with_capacity fmt::Debug fmt::Display fmt::Formatter "
+    "fmt::Result i64::from mem::replace str::from_utf8 u16::from_le_bytes u32::MAX u32::from_le_bytes u64::from u64::from_le_bytes usize::from".split()
 )
 METHODS = set(
     "all as_bytes as_chunks as_slice binary_search binary_search_by_key capacity cast_signed cast_unsigned checked_add checked_sub clear "
     "close_with cmp collect contains copied count enumerate extend_from_slice fetch_add fetch_sub filter format free get get_mut insert into "
-    "into_badge into_seat is_ascii_digit is_empty is_err is_none is_none_or is_some iter join_seat len load_new_seat map map_err max min next ok "
+    "into_badge into_seat is_ascii_digit is_empty is_err is_none is_none_or is_some iter join_seat len load_new_seat map map_err max min next next_back ok "
     "ok_or parse pop position push push_reserved remove reserve resize retain reverse saturating_add saturating_mul saturating_sub size_hint "
-    "sort_by_cached_key sort_by_key sort_unstable split_at split_at_mut split_first split_first_chunk split_seat swap_remove take then "
+    "sort_by_cached_key sort_by_key sort_unstable split_at split_at_mut split_first split_first_chunk split_last split_seat swap_remove take then "
     "to_le_bytes truncate unwrap unwrap_or word write_str write_u64".split()
 )
 # Methods of a trait of these crates that another type or trait has too. Each call of one can mean no other method.
@@ -82,14 +84,22 @@ SHARED_NAMES = {
     "run": "`System` has it, and `Worker` of the same crate, which is no `System`",
     "take": "`Sink` has it, called on a parameter `S: Sink`; `Machine` and `Checker` are no `Sink`, and iterators are none",
 }
-CONSTANT = {(f"ent_alloc/{it}", "new") for it in ("entities", "limits", "slots")} | {("ent_storage/handle_map", "new")}
+CONSTANT = {(f"ent_alloc/{it}", "new") for it in ("entities", "limits", "slots")}
+CONSTANT |= {("ent_storage/handle_map", it) for it in ("limit", "new", "with_limit")} | {("ent_storage/handle_map/limit", it) for it in ("of", "slots")}
 CONSTANT |= {("ent_alloc/limits", "default_limits"), ("ent_alloc/requests", "none"), ("ent_alloc/entities", "with_limits")}
 CONSTANT |= {("ent_alloc/limits", it) for it in ("generations", "keeping_placeholder", "slots")}
 CONSTANT |= {("ent_handle/handle", it) for it in "from_bits from_parts generation index new to_bits".split()}
 # What `prove_eq!` may call, and whose stand-in is an enum alone (the empty path: what is imported from these crates).
 READS, WITHOUT_METHODS = {"cursor"}, {"", "either::Either"}
-# A file with a type of one word and its field, a file whose texts keep a width, and a function with another name.
-WORD_TYPE, PADDED, RENAMED = ("ent_handle/handle", "Handle", "bits"), "ent_handle/text", ("Entities", "new", "with_exact_limits")
+# A file with a type that shares no line of a cache, one with a type of one word and its field, a file whose texts keep a width, and
+# functions with another name.
+APART_TYPE = "ent_total/reserver", "Reserver"
+WORD_TYPE, PADDED, RENAMED = ("ent_handle/handle", "Handle", "bits"), "ent_handle/text", {("Entities", "new"): "with_exact_limits"}
+RENAMED |= {("Vec", it): it + "_fallibly" for it in ("from_slice", "with_capacity")}
+# Calls of the kit's list that Rust's has otherwise, with the receivers that are no lists. A wrong one doesn't compile.
+LISTS = {"capacity": "living", "extend_from_slice": "", "push": "living", "push_reserved": "", "resize": "", "sort_by_cached_key": ""}
+LISTS |= {"sort_by_key": "", "reserve": "] index living self shared storage"}
+LISTS |= {"insert": "blocked calls commands items last latest living queue seen spent values"}
 DERIVES = set("Clone Copy Debug Default PartialEq Eq Hash".split())
 KEYWORDS = set(
     "as async await break const continue crate dyn else enum extern false fn for if impl in let loop match mod move mut pub ref return "
@@ -102,6 +112,8 @@ LEXEME = re.compile(
     % "|".join(re.escape(it) for it in OPERATORS),
     re.VERBOSE | re.DOTALL | re.ASCII,
 )
+# That a closure may be called: any of Rust's may.
+OF_A_CLOSURE = re.compile(r"requires\s+(?:\w+\s+)?\{\s*[A-Z]\w*\.IsAlwaysCallable\s+\w+\s*\}")
 ADDED = re.compile(r"""\"[^"]*"|'?\w+|::|->|=>|\.\.|\S""")
 BINARY = set("+ - * / % ^ & | && || << == != < > <= >= = += -= *= /= %= ^= |= &= <<=".split())
 Token = collections.namedtuple("Token", "kind text start end line")
@@ -211,7 +223,7 @@ class Reader:
             self.text.fail(f"{self.text.token(self.far).text!r} in a form that is in no rule", self.text.token(self.far).start)
         head = len(self.out)
         for name in sorted({name for kind, name, _ in self.log if kind == "add"}):
-            self.add(f"use crate::kit::{name};", "import")
+            self.add(f"use {name};", "import")
         self.out[self.imports_at or 0 : 0] = self.cut(head)
         if self.texts(0).count("PhantomData") == 1 and ("count", "ghost type", None) in self.log:
             at = self.texts(0).index("PhantomData")
@@ -418,9 +430,11 @@ class Reader:
     def is_step(self):
         """A name after a `::`, or of a member. One function has another name."""
         before = self.out[-1 - (self.out[-1].text == "::")].text
-        if (self.target if before in ("Self", "fn") else before, self.look().text) != RENAMED[:2]:
+        to = RENAMED.get((self.target if before in ("Self", "fn") else before, self.look().text))
+        if to is None:
             return self.word("NAME")
-        return self.drop() and self.add(*RENAMED[2:] * 2)
+        self.note("add", "crate::kit::vec::FallibleVec") if before == "Vec" else None
+        return self.drop() and self.add(to, "list call" if before == "Vec" else to)
 
     # Names.
 
@@ -452,7 +466,7 @@ class Reader:
         first, whole = words[0], "::".join(words)
         kit = next((it for it in PATHS if whole.startswith(it + "::")), None)
         known = first in PRELUDE | {"crate", "super"} | self.imports.keys() or any(first in it for it in self.names)
-        self.note("add", "vec::Vec") if first == "Vec" else None
+        self.note("add", "alloc::vec::Vec") if first == "Vec" else None
         if not known and kit is None and not (first in self.unit.crates and len(words) > 1):
             self.use("name", first)
         elif len(words) > 1:
@@ -528,19 +542,28 @@ class Reader:
         if self.look(1).text not in ("(", "::") or self.look().kind != "id":
             return False
         self.use("method", name)
+        if name in LISTS and self.out[-2].text not in LISTS[name].split():
+            self.note("add", "crate::kit::vec::FallibleVec")
+            to = {"capacity": "sized_capacity", "push_reserved": name}.get(name, name + "_fallibly")
+            return self.drop() and self.add(to, "list call")
         if name != "collect":
             return self.word("NAME")
         self.drop()
-        return self.note("add", "vec::CollectIn") and self.add("collect_in", "collect_in")
+        return self.note("add", "crate::kit::vec::CollectIn") and self.add("collect_in", "collect_in")
 
     def is_binary(self):
         found = self.sees(*BINARY) and self.take()
         return found and (found.text != ">" or not self.sees(">", ">=") or self.take())
 
+    def add_padded(self):
+        return self.note("add", "crate::kit::padded") and self.add("padded", "padded")
+
     def is_aligned(self):
         if (self.result, self.look(1).text, self.look(2).text) == (WORD_TYPE[0], "struct", WORD_TYPE[1]):
             self.insert(len(self.out) - 2, ", PartialEq, Eq")
             self.add("#[repr(transparent)]", "layout")
+        if (self.result, self.look(1).text, self.look(2).text) == (APART_TYPE[0], "struct", APART_TYPE[1]):
+            self.add("#[repr(align(128))]", "layout")
         return True
 
     def is_derives(self):
@@ -610,6 +633,10 @@ class Reader:
         at = max(at for at in range(notes) if self.log[at][0] == "function")
         self.log[at] = ("function", self.log[at][1], (self.owner, receiver))
 
+    def after_cloner(self, mark, _):
+        rest = self.cut(mark)
+        self.out += rest if self.add("#[inline]", "inline") else []
+
     def after_function(self, mark, notes):
         if self.requires:
             name = next(name for kind, name, _ in self.log[notes:] if kind == "function")
@@ -634,7 +661,7 @@ module    = visible? 'mod' DECLARED ';'
 constant  = visible? 'const' CONSTANT ':' type ('=' expression)? ';'
 attribute = -('#' '[' ('tactic' | 'cycle') group ']') | '#' '[' 'derive' DERIVES ']' | -('#' '[' 'error' '(' ERROR ')' ']') | hint | lint
 hint      = '#' '[' ('inline' ('(' ('always' | 'never') ')')? | 'cold') ']'
-lint      = '#' '[' ('must_use' | 'non_exhaustive') ']'
+lint      = '#' '[' ('must_use' ('=' STR)? | 'non_exhaustive') ']'
 visible   = 'pub' ('(' SCOPE ')')?
 struct    = attribute* ALIGNED visible? 'struct' DECLARED generics ('{' named '}' | ('(' unnamed% ')')? ';')
 enum      = attribute* visible? 'enum' DECLARED generics '{' variant% '}'
@@ -646,7 +673,9 @@ impl      = attribute* 'impl' generics (TRAIT type 'for' OF)? TARGET type where 
 trait     = attribute* visible? 'trait' DECLARED generics bounds where TRAIT_OWNER members
 members   = '{' member* '}'
 alias     = visible? 'type' CONSTANT generics ('=' type)? ';'
-member    = ghost | alias | constant | function
+member    = ghost | alias | constant | cloner | function
+cloner    = 'fn' &'clone' FUNCTION '(' &('&' 'self' ')') receiver ')' '->' -('Result' '<') 'Self' -(',' 'std' '::' 'alloc' '::' 'AllocError' '>') cloning
+cloning   = '{' -('Ok' '(') 'self' '.' &'again' METHOD '(' ')' -')' '}'
 function  = attribute* visible? CONST? 'fn' FUNCTION (writer | generics) '(' receiver? parameter% ')' arrow? where clause* (block | ';')
 writer    = -('<' 'W' ':' 'fmt' '::' 'Write' '>')
 receiver  = '&'? LIFE? 'mut'? 'self' (',' | &')')
@@ -654,7 +683,7 @@ parameter = pattern ':' type
 arrow     = '->' type
 where     = ('where' predicate*)?
 predicate = !(CLAUSE_WORD | '{' | ';') type bounds (',' | &'{' | &CLAUSE_WORD)
-clause    = -(CLAUSE_WORD '*'? NAME? CLAUSE)
+clause    = -(CALLABLE | CLAUSE_WORD '*'? NAME? CLAUSE)
 generics  = ('<' generic% '>')?
 generic   = 'const' BIND ':' type | (LIFE | BIND) bounds ('=' type)?
 bounds    = (':' (bound '+'?)*)?
@@ -712,6 +741,7 @@ WORDS = {it.upper(): lambda r, it=it: r.look().kind == it and r.take() for it in
     "UNTIL_SEMICOLON": lambda r: r.set("at", r.text.text.index(";", r.at)),
     "CLAUSE": lambda r: r.sees("{") and r.set("at", r.text.after_clause(r.look().start)),
     "CLAUSE_WORD": lambda r: r.sees("requires", "ensures") and r.set("requires", r.requires or r.sees("requires")) and r.take(),
+    "CALLABLE": lambda r: (found := OF_A_CLOSURE.match(r.text.text, r.look().start)) and r.set("at", found.end()),
     "SCOPE": lambda r: r.sees("crate", "super") and r.add("super", "visibility" if r.drop().text == "crate" else None),
     "FORMATTER": lambda r: r.imports.get("fmt") == "std::fmt" and r.add("'_"),
     "BIND": lambda r: r.word("NAME") and (r.names[-1].add(r.out[-1].text) or True),
@@ -724,7 +754,7 @@ WORDS = {it.upper(): lambda r, it=it: r.look().kind == it and r.take() for it in
     "TRAIT": lambda r: r.set("trait", "::".join(r.imports.get(it) or it for it in r.words()[0])),
     "OF": lambda r: r.set("of", r.trait),
     "CONST": lambda r: r.sees("const") and r.take() or (r.result, r.look(1).text) in CONSTANT and r.add("const", "const"),
-    "WRITE": lambda r: r.sees("write") and (r.take() if r.result != PADDED else r.drop() and r.note("add", "padded") and r.add("padded", "padded")),
+    "WRITE": lambda r: r.sees("write") and (r.take() if r.result != PADDED else r.drop() and r.add_padded()),
     "TARGET": lambda r: r.set("target", r.look().text),
     "OF_TYPE": lambda r: r.set("tag", r.target if r.out[-1].text == "Self" else r.out[-1].text),
     "OWNER": lambda r: r.set("owner", f"impl trait {r.of.split('::')[-1]}" if r.of else "impl"),
@@ -739,8 +769,8 @@ STATES = {"condition": {"no_struct": True}, "inner": {"no_struct": False}, "bloc
 STATES |= {it: {"requires": False} for it in ("function", "closure")} | {it: {"tag": ""} for it in ("tagged", "struct_of")}
 STATES |= {"impl": {"owner": "", "of": "", "target": ""}, "trait": {"owner": ""}, "variant": {"error": "", "fields": []}}
 STATES |= {it: {"arms": "", "error": "", "errs": False} for it in ("struct", "enum")}
-NOTES = {"writer": ("count", "formatter"), "ghost": ("count", "(ghost members and imports)")}
-NOTES |= {"clause": ("count", "(clauses)"), "proves": ("add", "prove_eq")}
+NOTES = {"cloner": ("count", "clone"), "writer": ("count", "formatter"), "ghost": ("count", "(ghost members and imports)")}
+NOTES |= {"clause": ("count", "(clauses)"), "proves": ("add", "crate::kit::prove_eq")}
 
 
 def parsed(words):

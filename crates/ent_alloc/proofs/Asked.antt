@@ -1,5 +1,5 @@
 -- What a request in one call is given, by the pool that it found.
-use Rattle.std.proofs.Common.{rules, ◌≡◌, sym, ap, ◌∙◌, ℕ, ◌+◌, ◌-◌, ◌<◌, ◌≤◌, ◌^◌, ℤ, pos, ◌-ℤ◌}
+use Rattle.std.proofs.Common.{◌≡◌, sym, ap, ◌∙◌, ℕ, ◌<◌, ◌≤◌, ℤ, pos, ◌-ℤ◌}
 use Rattle.std.proofs.Common.{List, [], ◌∷◌, length, take, Result, Ok, Err, arith, slice_get, Some}
 use Rattle.std.proofs.Common.{◌⊎◌, inl, inr, All, subst}
 use Rattle.std.specs.Result.{IsErrAnd, IsErrOf, IfErr}

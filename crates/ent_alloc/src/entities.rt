@@ -64,8 +64,10 @@ impl Model for Entities {
 }
 
 impl Entities {
-    /// An allocator with no entities, which gives all handles within its limits. It takes no memory,
-    /// whatever the limits are.
+    /// An allocator with no entities, which gives all handles within its limits, also the greatest
+    /// one, which [`with_limits`](Self::with_limits) keeps back. It takes no memory, whatever the
+    /// limits are.
+    #[must_use]
     pub fn new(alloc: Global, limits: Limits) -> Self
         ensures allocator { result.allocator ≡ opening limits }
         ensures rows { result.rows ≡ map.empty }

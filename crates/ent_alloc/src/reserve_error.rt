@@ -23,7 +23,7 @@ pub enum ReserveError {
     /// More handles were requested than the quota still allows: that of a reserver, or that of an
     /// allocator, which is 2^50 between two flushes. No handle was requested. A queue of commands
     /// keeps the refusal.
-    #[error("the credit left is {left}")]
+    #[error("the quota left is {left}")]
     Quota {
         /// How many the quota still allows.
         left: u64,

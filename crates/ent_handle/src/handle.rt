@@ -145,6 +145,15 @@ impl Handle {
         self.bits.get()
     }
 
+    /// Both numbers in one with the index above, which is a rotation of the bits: one comparison of
+    /// these orders handles by index, then by generation.
+    fn index_first(self) -> u64
+        ensures word { result ≡ self.index * 2 ^ 32 + self.generation }
+        ensures in_range { IsHandle self }
+    {
+        (u64::from(self.index()) << 32) + u64::from(self.generation())
+    }
+
     /// The order by bits, which is that of Bevy and hecs: by generation, then by index.
     ///
     /// ```
@@ -209,8 +218,7 @@ impl Ord for Handle {
     ghost matches_eq = { Prim.search (comparing, rules) };
 
     fn cmp(&self, other: &Self) -> Ordering {
-        let by_index = self.index().cmp(&other.index());
-        by_index.then(self.generation().cmp(&other.generation()))
+        self.index_first().cmp(&other.index_first())
     }
 }
 

@@ -6,8 +6,8 @@ use Rattle.std.proofs.lemmas.Bool.{cases_eq}
 use Rattle.std.proofs.lemmas.List.Elements.{filter-append}
 use Rattle.std.specs.List.{AllByRecursion}
 use Rattle.ent_replay.specs.declared.trace.placed.Placed.{Placed}
-use Rattle.ent_replay.specs.declared.trace.line.Line.{Line}
-use Rattle.ent_replay.specs.declared.trace.line.Line.TheVariants as line
+use Rattle.ent_replay.specs.declared.trace.call.Call.{Call}
+use Rattle.ent_replay.specs.declared.trace.call.Call.TheVariants as line
 use Rattle.ent_replay.specs.Trace.{MayPass, IsOrderOf}
 use Rattle.ent_replay.specs.Lineup.{KeepsCallers, is_of}
 use Rattle.ent_replay.proofs.Lists.{split}
@@ -99,7 +99,7 @@ keeps-IsOrderOf (p ∷ order) run keeps =
       lines s.after,
       ap lines s.is ∙ lines_split s.before s.after p,
       others_all p s.before s.none,
-      subst (λ (ls : List Line). IsOrderOf ls (lines order)) (lines_append s.before s.after)
+      subst (λ (ls : List Call). IsOrderOf ls (lines order)) (lines_append s.before s.after)
           (keeps-IsOrderOf order (s.before ++ s.after) rest),
     )
 

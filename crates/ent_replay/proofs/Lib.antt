@@ -16,6 +16,8 @@ pub mod Schedules
 pub mod Linear
 pub mod Lists
 pub mod Stops
+pub mod Taken
+pub mod Recorded
 pub mod Parting
 pub mod Fronts
 pub mod Orders

@@ -9,8 +9,8 @@ use Rattle.std.proofs.lemmas.List.Sums.{sum_by-cons}
 use Rattle.ent_handle.specs.Handle.{Handle}
 use Rattle.ent_alloc.specs.Sequential.{Allocator, available}
 use Rattle.ent_alloc.specs.Sound.{IsSound}
-use Rattle.ent_replay.specs.declared.trace.line.Line.{Line}
-use Rattle.ent_replay.specs.declared.trace.line.Line.TheVariants as line
+use Rattle.ent_replay.specs.declared.trace.call.Call.{Call}
+use Rattle.ent_replay.specs.declared.trace.call.Call.TheVariants as line
 use Rattle.ent_replay.specs.declared.trace.reply.ReserveReply.{ReserveReply}
 use Rattle.ent_replay.specs.declared.trace.placed.Placed.{Placed}
 use Rattle.ent_replay.specs.Trace.{MayPass, IsOrderOf, FitsReserved, AreAnswered, after_lines}
@@ -24,7 +24,7 @@ use Rattle.ent_replay.proofs.Complete.{IsPlacedOrder, all_unordered, all_alike, 
 
 -- ---- with their keys
 
-pub record Unmapped (run : List Placed) (before after : List Line) (c : Line) : Type 0 where
+pub record Unmapped (run : List Placed) (before after : List Call) (c : Call) : Type 0 where
   pub first : List Placed
   pub rest : List Placed
   pub placed : Placed
@@ -33,7 +33,7 @@ pub record Unmapped (run : List Placed) (before after : List Line) (c : Line) : 
   pub placed_is : line.Reserve placed.reservation ≡ c
   pub after_is : lines rest ≡ after
 
-pub unmapped : (run : List Placed) (before after : List Line) (c : Line)
+pub unmapped : (run : List Placed) (before after : List Call) (c : Call)
     → lines run ≡ before ++ c ∷ after → Unmapped run before after c
 unmapped [] [] after c e = absurd (let no : [] ≡ c ∷ after = e in cc)
 unmapped [] (b ∷ before) after c e = absurd (let no : [] ≡ b ∷ (before ++ c ∷ after) = e in cc)
@@ -73,12 +73,12 @@ pub others_of : (p : Placed) (before : List Placed)
 others_of p [] all = tt
 others_of p (b ∷ before) all = (all.0, others_of p before all.1)
 
-pub record Lifted (run : List Placed) (order : List Line) : Type 0 where
+pub record Lifted (run : List Placed) (order : List Call) : Type 0 where
   pub placed : List Placed
   pub is : order ≡ lines placed
   pub is_order : IsPlacedOrder run placed
 
-pub lifted : (order : List Line) (run : List Placed) → IsOrderOf (lines run) order
+pub lifted : (order : List Call) (run : List Placed) → IsOrderOf (lines run) order
     → Lifted run order
 lifted [] [] is = record { placed = []; is = refl; is_order = refl }
 lifted [] (p ∷ run) is = absurd (let no : line.Reserve p.reservation ∷ lines run ≡ [] = is in cc)
@@ -87,10 +87,10 @@ lifted (c ∷ order) run (before, after, parts, passes, more) =
     let same : before ++ after ≡ lines (u.first ++ u.rest) =
     (λ i. sym u.before_is i ++ sym u.after_is i) ∙ sym (lines_append u.first u.rest) in
     let next = lifted order (u.first ++ u.rest)
-    (subst (λ (ls : List Line). IsOrderOf ls order) same more) in
-    let here = subst (λ (ls : List Line).
+    (subst (λ (ls : List Call). IsOrderOf ls order) same more) in
+    let here = subst (λ (ls : List Call).
     AllByRecursion (MayPass (line.Reserve u.placed.reservation)) ls) (sym u.before_is)
-    (subst (λ (l : Line). AllByRecursion (MayPass l) before) (sym u.placed_is) passes) in
+    (subst (λ (l : Call). AllByRecursion (MayPass l) before) (sym u.placed_is) passes) in
     record {
       placed = u.placed ∷ next.placed;
       is = λ i. sym u.placed_is i ∷ next.is i;
@@ -210,7 +210,7 @@ some_filtered [] = tt
 some_filtered (p ∷ run) = search (rules, some_filtered run)
 
 -- If any order of a run is answered so, the sorted one is, and leaves the same state.
-pub sorted_run : (s : Allocator) (sorted run : List Placed) (order : List Line) → IsSound s
+pub sorted_run : (s : Allocator) (sorted run : List Placed) (order : List Call) → IsSound s
     → AreKeyed (available s) (λ _. 0) run → IsRising sorted → TieAlike sorted run
     → requested_in (reservations_of sorted) ≡ requested_in (reservations_of run)
     → IsOrderOf (lines run) order → AreAnswered s order

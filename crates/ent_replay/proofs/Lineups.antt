@@ -17,7 +17,7 @@ use Rattle.ent_alloc.proofs.PoolLaw.{pool_at-cursor, reply-cursor, top-after_tak
 use Rattle.ent_alloc.proofs.Soundness.{after_take-sound}
 use Rattle.ent_alloc.proofs.Taken.{available-after_take}
 use Rattle.ent_replay.specs.declared.trace.lineup.Lineup.{Lineup}
-use Rattle.ent_replay.specs.declared.trace.line.Line.TheVariants as line
+use Rattle.ent_replay.specs.declared.trace.call.Call.TheVariants as line
 use Rattle.ent_replay.specs.declared.trace.placed.Placed.{Placed}
 use Rattle.ent_replay.specs.Trace.{AreAnswered, FitsReserved, after_lines}
 use Rattle.ent_replay.specs.Lineup.{FitsAt, IsLineup, KeepsCallers, NoneFits, all_of, is_of, lines_of}

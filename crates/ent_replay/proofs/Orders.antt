@@ -3,9 +3,9 @@ use Rattle.std.proofs.Common.{arith, rules, ◌≡◌, ℕ, List, [], ◌∷◌,
 use Rattle.std.proofs.lemmas.Grind.{common_steps}
 use Rattle.std.proofs.lemmas.List.{append_assoc}
 use Rattle.ent_alloc.specs.Sequential.{Allocator}
-use Rattle.ent_replay.specs.declared.trace.line.Line.{Line}
-use Rattle.ent_replay.specs.declared.trace.line.Line.TheVariants as line
-use Rattle.ent_replay.specs.declared.trace.line.Reservation.{Reservation}
+use Rattle.ent_replay.specs.declared.trace.call.Call.{Call}
+use Rattle.ent_replay.specs.declared.trace.call.Call.TheVariants as line
+use Rattle.ent_replay.specs.declared.trace.reservation.Reservation.{Reservation}
 use Rattle.ent_replay.specs.Trace.{Fits, AreAnswered, after_line, after_lines, IsAlone, IsOrderOf}
 use Rattle.ent_replay.specs.Checker.{Checked, reserve_lines, AgreesWith, IsSettled, Follows, Reaches}
 use Rattle.ent_replay.specs.Checker.{Differs, IfReserve, Shows, HasNoOrder, NoneFollows}
@@ -18,56 +18,56 @@ use Rattle.std.proofs.Common.{length, sym, ◌∙◌, inl, inr}
 use Rattle.ent_replay.specs.declared.trace.difference.Difference.{Difference}
 
 -- an order of the front and one of the rest are one of all
-pub IsOrderOf-append : (front rest first second : List Line) → IsOrderOf front first
+pub IsOrderOf-append : (front rest first second : List Call) → IsOrderOf front first
     → IsOrderOf rest second → IsOrderOf (front ++ rest) (first ++ second)
 IsOrderOf-append front rest [] second none is = search rules
 IsOrderOf-append front rest (l ∷ first) second (before, after, parts, passes, more) is =
     search (rules, parts, append_assoc, IsOrderOf-append (before ++ after) rest first second more is)
 
 -- one line first
-pub IsOrderOf-cons : (l : Line) (rest order : List Line) → IsOrderOf rest order
+pub IsOrderOf-cons : (l : Call) (rest order : List Call) → IsOrderOf rest order
     → IsOrderOf (l ∷ rest) (l ∷ order)
 IsOrderOf-cons l rest order is = ([], rest, refl, tt, is)
 
-pub AreAnswered-append : (s : Allocator) (first second : List Line) → AreAnswered s first
+pub AreAnswered-append : (s : Allocator) (first second : List Call) → AreAnswered s first
     → AreAnswered (after_lines s first) second → AreAnswered s (first ++ second)
 AreAnswered-append s [] second first_yes more = more
 AreAnswered-append s (l ∷ first) second first_yes more =
     (first_yes.0, AreAnswered-append (after_line s l) first second first_yes.1 more)
 
 -- one more reservation in the run, or as the next line
-pub run_more : (run : List Reservation) (r : Reservation) (rest : List Line)
+pub run_more : (run : List Reservation) (r : Reservation) (rest : List Call)
     → reserve_lines (run ++ r ∷ []) ++ rest ≡ reserve_lines run ++ line.Reserve r ∷ rest
 run_more [] r rest = refl
-run_more (q ∷ run) r rest = ap (λ (lines : List Line). line.Reserve q ∷ lines) (run_more run r rest)
+run_more (q ∷ run) r rest = ap (λ (lines : List Call). line.Reserve q ∷ lines) (run_more run r rest)
 
-answered_front : (s : Allocator) (first second : List Line) → AreAnswered s (first ++ second)
+answered_front : (s : Allocator) (first second : List Call) → AreAnswered s (first ++ second)
     → AreAnswered s first
 answered_front s [] second all = tt
 answered_front s (l ∷ first) second all =
     (all.0, answered_front (after_line s l) first second all.1)
 
-pub answered_back : (s : Allocator) (first second : List Line) → AreAnswered s (first ++ second)
+pub answered_back : (s : Allocator) (first second : List Call) → AreAnswered s (first ++ second)
     → AreAnswered (after_lines s first) second
 answered_back s [] second all = all
 answered_back s (l ∷ first) second all = answered_back (after_line s l) first second all.1
 
 -- what a trace that begins with the run and this line tells: of the run, of the line and of the rest
-pub record Told (c : Checked) (l : Line) (rest : List Line) : Type 0 where
-  pub first : List Line
-  pub second : List Line
+pub record Told (c : Checked) (l : Call) (rest : List Call) : Type 0 where
+  pub first : List Call
+  pub second : List Call
   pub is_order : IsOrderOf (reserve_lines c.run) first
   pub answered : AreAnswered c.allocator first
   pub fits : Fits (after_lines c.allocator first) l
   pub rest_is_order : IsOrderOf rest second
   pub rest_answered : AreAnswered (after_line (after_lines c.allocator first) l) second
 
-pub told : (c : Checked) (l : Line) (rest : List Line) → IsAlone l → AgreesWith c (l ∷ rest)
+pub told : (c : Checked) (l : Call) (rest : List Call) → IsAlone l → AgreesWith c (l ∷ rest)
     → Told c l rest
 told c l rest alone agrees = search (rules, parts, all_reserve, answered_back, answered_front)
 
 -- the run was settled, and the line fits then
-pub called-Follows : (c : Checked) (l : Line) (after : Allocator) → IsAlone l → IsSettled c after
+pub called-Follows : (c : Checked) (l : Call) (after : Allocator) → IsAlone l → IsSettled c after
     → Fits after l → Follows c l (record { allocator = after_line after l; run = [] })
 called-Follows c l after alone settled fits = record {
   sound = λ rest agrees. record {
@@ -82,7 +82,7 @@ called-Follows c l after alone settled fits = record {
 
 -- ---- where a trace doesn't agree
 
-length-ordered : (order lines : List Line) → IsOrderOf lines order → length order ≡ length lines
+length-ordered : (order lines : List Call) → IsOrderOf lines order → length order ≡ length lines
 length-ordered [] lines is = ap length (sym is)
 length-ordered (l ∷ order) lines (before, after, parts, passes, more) =
     let a = length-ordered order (before ++ after) more in
@@ -92,13 +92,13 @@ length-ordered (l ∷ order) lines (before, after, parts, passes, more) =
     omega arith
 
 -- an alone line isn't one of a run
-not_in_run : (run : List Reservation) (order before after : List Line) (l : Line)
+not_in_run : (run : List Reservation) (order before after : List Call) (l : Call)
     → IsOrderOf (reserve_lines run) order → order ≡ before ++ l ∷ after → IsAlone l → ⊥
 not_in_run run order before after l is parts alone = not_both l alone
     (all_at IsReserve before after l (subst (AllByRecursion IsReserve) parts
     (reserves-ordered order (reserve_lines run) is (all_reserve run))))
   where
-    not_both : (l : Line) → IsAlone l → IsReserve l → ⊥
+    not_both : (l : Call) → IsAlone l → IsReserve l → ⊥
     not_both (line.Reserve r) alone reserve = alone
     not_both (line.Alloc told) alone reserve = reserve
     not_both (line.Free h told) alone reserve = reserve
@@ -106,17 +106,17 @@ not_in_run run order before after l is parts alone = not_both l alone
     not_both (line.State h told) alone reserve = reserve
     not_both (line.Len told) alone reserve = reserve
 
-no_rest : (run : List Reservation) (order : List Line) → IsOrderOf (reserve_lines run ++ []) order
+no_rest : (run : List Reservation) (order : List Call) → IsOrderOf (reserve_lines run ++ []) order
     → IsOrderOf (reserve_lines run) order
-no_rest run order is = subst (λ (ls : List Line). IsOrderOf ls order) (append-nil (reserve_lines run)) is
+no_rest run order is = subst (λ (ls : List Call). IsOrderOf ls order) (append-nil (reserve_lines run)) is
 
-some_rest : (run : List Reservation) (order : List Line) → IsOrderOf (reserve_lines run) order
+some_rest : (run : List Reservation) (order : List Call) → IsOrderOf (reserve_lines run) order
     → IsOrderOf (reserve_lines run ++ []) order
 some_rest run order is =
-    subst (λ (ls : List Line). IsOrderOf ls order) (sym (append-nil (reserve_lines run))) is
+    subst (λ (ls : List Call). IsOrderOf ls order) (sym (append-nil (reserve_lines run))) is
 
 -- one more line doesn't change it
-pub Shows-more : (c : Checked) (n : ℕ) (l : Line) (d : Difference) → IsAlone l → Shows c n [] d
+pub Shows-more : (c : Checked) (n : ℕ) (l : Call) (d : Difference) → IsAlone l → Shows c n [] d
     → Shows c n (l ∷ []) d
 Shows-more c n l d alone shows = record {
   placed = shows.placed;
@@ -137,7 +137,7 @@ Shows-more c n l d alone shows = record {
         | inl inside ↦
             absurd (not_in_run c.run (shows.placed ++ shows.next ∷ shows.left) p.first
             (inside.more ++ shows.next ∷ shows.left) l own
-            (ap (λ (ls : List Line). ls ++ shows.next ∷ shows.left) inside.front_is
+            (ap (λ (ls : List Call). ls ++ shows.next ∷ shows.left) inside.front_is
             ∙ append_assoc p.first (l ∷ inside.more) (shows.next ∷ shows.left)) alone)
         | inr (inl itself) ↦
             let a = length-ordered p.first (reserve_lines c.run) p.first_is in
@@ -151,7 +151,7 @@ Shows-more c n l d alone shows = record {
       ];
 }
 
-none_blamed : (l : Line) (P : Type 0) → IsAlone l → IfReserve l P
+none_blamed : (l : Call) (P : Type 0) → IsAlone l → IfReserve l P
 none_blamed (line.Reserve r) P alone = absurd alone
 none_blamed (line.Alloc told) P alone = tt
 none_blamed (line.Free h told) P alone = tt
@@ -160,7 +160,7 @@ none_blamed (line.State h told) P alone = tt
 none_blamed (line.Len told) P alone = tt
 
 -- the run was settled, and the line differs then
-pub called-Shows : (c : Checked) (l : Line) (after : Allocator) (n : ℕ) (d : Difference) → IsAlone l
+pub called-Shows : (c : Checked) (l : Call) (after : Allocator) (n : ℕ) (d : Difference) → IsAlone l
     → IsSettled c after → Differs after n l d → Shows c n (l ∷ []) d
 called-Shows c l after n d alone settled differs = record {
   placed = settled.order;
@@ -190,17 +190,17 @@ called-Shows c l after n d alone settled differs = record {
 }
 
 -- and no other order of the run would help
-pub called-None : (c : Checked) (l : Line) (after : Allocator) → IsAlone l → IsSettled c after
+pub called-None : (c : Checked) (l : Call) (after : Allocator) → IsAlone l → IsSettled c after
     → ¬ (Fits after l) → NoneFollows c l
 called-None c l after alone settled unlike rest agrees =
     grind (arith, common_steps, told c l rest alone agrees, settled.only)
 
 -- no order of the run is answered so
-pub settled-None : (c : Checked) (l : Line) → IsAlone l → HasNoOrder c → NoneFollows c l
+pub settled-None : (c : Checked) (l : Call) → IsAlone l → HasNoOrder c → NoneFollows c l
 settled-None c l alone none rest agrees = grind (arith, common_steps, told c l rest alone agrees)
 
 -- a call that nothing overlaps is made in the state after the run
-pub alone_Reaches : (c : Checked) (l : Line) (new : Checked) (at : Allocator) → IsAlone l
+pub alone_Reaches : (c : Checked) (l : Call) (new : Checked) (at : Allocator) → IsAlone l
     → IsSettled c at → Fits at l → new ≡ record { allocator = after_line at l; run = [] }
     → Reaches c l new
 alone_Reaches c (line.Reserve r) new at alone settled fits is = absurd alone

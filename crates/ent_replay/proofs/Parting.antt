@@ -5,14 +5,14 @@ use Rattle.std.proofs.Common.{rules, arith, ◌≡◌, List, [], ◌∷◌, ◌+
 use Rattle.std.proofs.Common.{inl, inr}
 use Rattle.std.specs.List.{AllByRecursion}
 use Rattle.std.proofs.lemmas.List.{append_assoc}
-use Rattle.ent_replay.specs.declared.trace.line.Line.{Line}
-use Rattle.ent_replay.specs.declared.trace.line.Line.TheVariants as line
-use Rattle.ent_replay.specs.declared.trace.line.Reservation.{Reservation}
+use Rattle.ent_replay.specs.declared.trace.call.Call.{Call}
+use Rattle.ent_replay.specs.declared.trace.call.Call.TheVariants as line
+use Rattle.ent_replay.specs.declared.trace.reservation.Reservation.{Reservation}
 use Rattle.ent_replay.specs.Trace.{MayPass, IsAlone, IsOrderOf}
 use Rattle.ent_replay.specs.Checker.{reserve_lines}
 use Rattle.ent_replay.proofs.Lists.{all_at, all_without}
 
-abbrev pub IsReserve : Line → Type 0
+abbrev pub IsReserve : Call → Type 0
 IsReserve (line.Reserve r) = Unit {0}
 IsReserve other = ⊥
 
@@ -58,28 +58,28 @@ module _ {X : Type 0} where
   no_middle [] rest x e = cc
   no_middle (f ∷ front) rest x e = cc
 
-not_passed : (l x : Line) → IsAlone x → MayPass l x → ⊥
+not_passed : (l x : Call) → IsAlone x → MayPass l x → ⊥
 not_passed l other alone p = search rules
 
-none_before : (x : Line) (front : List Line) → IsAlone x → AllByRecursion (MayPass x) front
+none_before : (x : Call) (front : List Call) → IsAlone x → AllByRecursion (MayPass x) front
     → front ≡ []
 none_before x [] alone all = refl
 none_before x (y ∷ front) alone all = absurd (grind (arith, common_steps))
 
-pub record Parts (front rest order : List Line) (x : Line) : Type 0 where
-  pub first : List Line
-  pub second : List Line
+pub record Parts (front rest order : List Call) (x : Call) : Type 0 where
+  pub first : List Call
+  pub second : List Call
   pub is : order ≡ first ++ x ∷ second
   pub first_is : IsOrderOf front first
   pub second_is : IsOrderOf rest second
 
-pub parts : (front rest : List Line) (x : Line) (order : List Line) → AllByRecursion IsReserve front
+pub parts : (front rest : List Call) (x : Call) (order : List Call) → AllByRecursion IsReserve front
     → IsAlone x → IsOrderOf (front ++ x ∷ rest) order → Parts front rest order x
 parts front rest x [] reserves alone e = absurd (no_middle front rest x e)
 parts front rest x (l ∷ order) reserves alone (before, after, is, passes, more) =
     elim (parted front rest before after x l is) [
       | inl p ↦
-          let here = subst (λ (ls : List Line). IsOrderOf ls order)
+          let here = subst (λ (ls : List Call). IsOrderOf ls order)
           (grind (arith, common_steps, append_assoc)) more in
           let left = all_without IsReserve before p.more l
           (subst (AllByRecursion IsReserve) p.front_is reserves) in
@@ -87,7 +87,7 @@ parts front rest x (l ∷ order) reserves alone (before, after, is, passes, more
           record {
             first = l ∷ next.first;
             second = next.second;
-            is = ap (λ (ls : List Line). l ∷ ls) next.is;
+            is = ap (λ (ls : List Call). l ∷ ls) next.is;
             first_is = (before, p.more, p.front_is, passes, next.first_is);
             second_is = next.second_is;
           }

@@ -7,9 +7,9 @@ use Rattle.std.specs.FinSet as set
 use Rattle.ent_handle.specs.Handle.{Handle}
 use Rattle.ent_alloc.specs.Sequential.{Allocator, after_free}
 use Rattle.ent_alloc.proofs.PoolLaw.{asked-after_take}
-use Rattle.ent_replay.specs.declared.trace.line.Line.{Line}
-use Rattle.ent_replay.specs.declared.trace.line.Line.TheVariants as line
-use Rattle.ent_replay.specs.declared.trace.line.Reservation.{Reservation}
+use Rattle.ent_replay.specs.declared.trace.call.Call.{Call}
+use Rattle.ent_replay.specs.declared.trace.call.Call.TheVariants as line
+use Rattle.ent_replay.specs.declared.trace.reservation.Reservation.{Reservation}
 use Rattle.ent_replay.specs.Trace.{IsOrderOf, after_front, after_line, after_lines}
 use Rattle.ent_replay.specs.Checker.{Checked, IsSettled, Reaches, ReachesAll, requested_in}
 use Rattle.ent_replay.specs.Checker.{reserve_lines}
@@ -20,11 +20,11 @@ use Rattle.ent_alloc.specs.declared.state.State.{State}
 use Rattle.ent_replay.proofs.Lists.{all_at, all_without}
 use Rattle.ent_replay.proofs.Parting.{IsReserve, all_reserve}
 
-abbrev asks_line : Line → ℕ
+abbrev asks_line : Call → ℕ
 asks_line (line.Reserve r) = r.requested
 asks_line other = 0
 
-abbrev asks_in : List Line → ℕ
+abbrev asks_in : List Call → ℕ
 asks_in [] = 0
 asks_in (l ∷ lines) = asks_line l + asks_in lines
 
@@ -32,18 +32,18 @@ asks-run : (run : List Reservation) → asks_in (reserve_lines run) ≡ requeste
 asks-run [] = refl
 asks-run (r ∷ run) = search (rules, sum_by-cons, asks-run run)
 
-asks-middle : (before after : List Line) (l : Line) → asks_in (before ++ l ∷ after)
+asks-middle : (before after : List Call) (l : Call) → asks_in (before ++ l ∷ after)
     ≡ asks_line l + asks_in (before ++ after)
 asks-middle [] after l = refl
 asks-middle (b ∷ before) after l = let more = asks-middle before after l in omega arith
 
-asks-ordered : (order lines : List Line) → IsOrderOf lines order → asks_in order ≡ asks_in lines
+asks-ordered : (order lines : List Call) → IsOrderOf lines order → asks_in order ≡ asks_in lines
 asks-ordered [] lines is = ap asks_in (sym is)
 asks-ordered (l ∷ order) lines (before, after, parts, passes, more) =
     ap (λ n. asks_line l + n) (asks-ordered order (before ++ after) more)
     ∙ sym (asks-middle before after l) ∙ ap asks_in (sym parts)
 
-pub reserves-ordered : (order lines : List Line) → IsOrderOf lines order → AllByRecursion IsReserve lines
+pub reserves-ordered : (order lines : List Call) → IsOrderOf lines order → AllByRecursion IsReserve lines
     → AllByRecursion IsReserve order
 reserves-ordered [] lines is all = tt
 reserves-ordered (l ∷ order) lines (before, after, parts, passes, more) all =
@@ -52,7 +52,7 @@ reserves-ordered (l ∷ order) lines (before, after, parts, passes, more) all =
       reserves-ordered order (before ++ after) more (all_without IsReserve before after l here),
     )
 
-asked-reserves : (order : List Line) (s : Allocator) → AllByRecursion IsReserve order
+asked-reserves : (order : List Call) (s : Allocator) → AllByRecursion IsReserve order
     → (after_lines s order).asked ≡ s.asked + asks_in order
 asked-reserves [] s all = omega arith
 asked-reserves (line.Reserve r ∷ order) s all =
@@ -107,7 +107,7 @@ module _ (old new : Checked) where
   requested-flush told (at, settled, fits, is) = ap requested_by is
 
   -- a call that changes nothing that is requested
-  kept : (at : Allocator) (l : Line) → IsSettled old at
+  kept : (at : Allocator) (l : Call) → IsSettled old at
       → new ≡ record { allocator = after_line at l; run = [] }
       → (after_line at l).asked ≡ at.asked → requested_by new ≡ requested_by old
   kept at l settled is stays =
@@ -135,7 +135,7 @@ module _ (old new : Checked) where
   requested-len told (at, settled, fits, is) = kept at (line.Len told) settled is refl
 
 -- one line after the others
-pub ReachesAll-next : (old middle new : Checked) (lines : List Line) (l : Line)
+pub ReachesAll-next : (old middle new : Checked) (lines : List Call) (l : Call)
     → ReachesAll old lines middle → Reaches middle l new → ReachesAll old (lines ++ l ∷ []) new
 ReachesAll-next old middle new [] l is next =
     (new, subst (λ c. Reaches c l new) is next, refl)

@@ -4,7 +4,7 @@ use Rattle.std.proofs.lemmas.List.{append-nil}
 use Rattle.std.specs.List.{AllByRecursion}
 use Rattle.ent_alloc.specs.Sequential.{Allocator, available}
 use Rattle.ent_alloc.specs.Sound.{IsSound}
-use Rattle.ent_replay.specs.declared.trace.line.Line.{Line}
+use Rattle.ent_replay.specs.declared.trace.call.Call.{Call}
 use Rattle.ent_replay.specs.declared.trace.lineup.Lineup.{Lineup}
 use Rattle.ent_replay.specs.declared.trace.placed.Placed.{Placed}
 use Rattle.ent_replay.specs.declared.trace.difference.Difference.{Difference}
@@ -51,7 +51,7 @@ module _ (s : Allocator) (run sorted : List Placed) (l : Lineup) (sound : IsSoun
       (order-keeps sorted run (sorted-placed sorted run up alike steady)) keeps
 
   -- if any order of the run is answered so, the sorted one is, and leaves the same state
-  best : (other : List Line) → IsOrderOf (lines_of run) other → AreAnswered s other
+  best : (other : List Call) → IsOrderOf (lines_of run) other → AreAnswered s other
       → AreAnswered s (lines_of sorted) × (after_lines s other ≡ after_lines s (lines_of sorted))
   best other is all = sorted_run s sorted run other sound keyed up alike sum is all
 

@@ -11,14 +11,14 @@ use Rattle.std.specs.declared.cmp.Ordering.TheVariants.{Less, Equal, Greater}
 use Rattle.std.proofs.lemmas.Bool.{le-ltb}
 use Rattle.std.proofs.lemmas.List.Elements.{All-head, All-tail, All-cons, All-filter, filter-append}
 use Rattle.std.proofs.lemmas.List.Elements.{All-from_recursion, recursion_from_All}
-use Rattle.ent_replay.specs.declared.trace.line.Line.{Line}
-use Rattle.ent_replay.specs.declared.trace.line.Line.TheVariants as line
+use Rattle.ent_replay.specs.declared.trace.call.Call.{Call}
+use Rattle.ent_replay.specs.declared.trace.call.Call.TheVariants as line
 use Rattle.ent_replay.specs.declared.trace.placed.Placed.{Placed}
 use Rattle.ent_replay.specs.Trace.{MayPass}
 use Rattle.ent_replay.specs.Checker.{reservations_of, reserve_lines, ComesAfter, AreSteady}
 use Rattle.ent_replay.proofs.Lists.{all_at, all_without}
 
-abbrev pub lines : List Placed → List Line
+abbrev pub lines : List Placed → List Call
 lines run = reserve_lines (reservations_of run)
 
 abbrev pub key : Placed → ℕ

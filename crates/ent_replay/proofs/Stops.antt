@@ -2,10 +2,10 @@
 use Rattle.std.proofs.Common.{rules, Result}
 use Rattle.std.specs.Result.{IfOk, IfErr, OnOk}
 use Rattle.ent_replay.specs.declared.trace.difference.Difference.{Difference}
-use Rattle.ent_replay.specs.declared.trace.difference.Stop.{Stop}
+use Rattle.ent_replay.specs.declared.trace.check_error.CheckError.{CheckError}
 use Rattle.ent_replay.specs.Checker.{OnDiffers}
 
-pub on_differs : (s : Stop) (P Q : Difference → Type 0) → ((d : Difference) → P d → Q d)
+pub on_differs : (s : CheckError) (P Q : Difference → Type 0) → ((d : Difference) → P d → Q d)
     → OnDiffers s P → OnDiffers s Q
 on_differs it P Q each h = search rules
 

@@ -5,8 +5,8 @@ use Rattle.std.proofs.lemmas.List.{append-nil}
 use Rattle.std.proofs.lemmas.List.Elements.{filter-append}
 use Rattle.ent_alloc.specs.Sequential.{Allocator}
 use Rattle.ent_replay.specs.declared.trace.difference.Difference.{Difference}
-use Rattle.ent_replay.specs.declared.trace.line.Line.{Line}
-use Rattle.ent_replay.specs.declared.trace.line.Line.TheVariants as line
+use Rattle.ent_replay.specs.declared.trace.call.Call.{Call}
+use Rattle.ent_replay.specs.declared.trace.call.Call.TheVariants as line
 use Rattle.ent_replay.specs.declared.trace.lineup.Lineup.{Lineup}
 use Rattle.ent_replay.specs.declared.trace.placed.Placed.{Placed}
 use Rattle.ent_replay.specs.Trace.{Fits, IsOrderOf}
@@ -50,7 +50,7 @@ cancelled (x ∷ a) (y ∷ b) c d long is =
     cancelled a b c d (omega arith) rest
 
 module _ (s : Allocator) (run : List Placed) (l : Lineup) (keeps : KeepsCallers run (all_of l)) where
-  pub stuck : NoneFits (reached s l) l.rest.items → (next : Line) (left : List Line)
+  pub stuck : NoneFits (reached s l) l.rest.items → (next : Call) (left : List Call)
       → IsOrderOf (lines_of run) (lines_of l.placed.items ++ next ∷ left) → Fits (reached s l) next → ⊥
   stuck none next left is fits =
       let up = lifted (lines_of l.placed.items ++ next ∷ left) run is in
@@ -83,7 +83,7 @@ module _ (s : Allocator) (run : List Placed) (l : Lineup) (keeps : KeepsCallers 
         placed = lines_of l.placed.items;
         next = line.Reserve names.named.reservation;
         left = lines_of (names.before ++ names.after);
-        is_order = subst (λ (ls : List Line). IsOrderOf ls (lines_of l.placed.items
+        is_order = subst (λ (ls : List Call). IsOrderOf ls (lines_of l.placed.items
             ++ line.Reserve names.named.reservation ∷ lines_of (names.before ++ names.after)))
             (sym (append-nil (lines_of run)))
             (subst (IsOrderOf (lines_of run))
@@ -93,7 +93,7 @@ module _ (s : Allocator) (run : List Placed) (l : Lineup) (keeps : KeepsCallers 
         answered = lined.answered;
         differs = names.differs n;
         stuck = λ next left is. stuck none next left
-            (subst (λ (ls : List Line). IsOrderOf ls (lines_of l.placed.items ++ next ∷ left))
+            (subst (λ (ls : List Call). IsOrderOf ls (lines_of l.placed.items ++ next ∷ left))
             (append-nil (lines_of run)) is);
         blamed = unordered;
       }

@@ -8,17 +8,18 @@ use Rattle.std.specs.Ordering.{nat_cmp}
 use Rattle.std.specs.FinMap as finite
 use Rattle.std.specs.Coded.{Coded, code_by, coded×, coded_list}
 use Rattle.ent_handle.specs.Handle.{Handle}
-use Rattle.ent_alloc.specs.Sequential.{Allocator, allocator_code, available, cursor, stands_in}
-use Rattle.ent_replay.specs.contracts.trace.line.Reservation as reservation
-use Rattle.ent_replay.specs.declared.trace.line.Reservation.{Reservation}
-use Rattle.ent_replay.specs.declared.trace.line.Line.{Line}
-use Rattle.ent_replay.specs.declared.trace.line.Line.TheVariants as line
+use Rattle.ent_alloc.specs.Limits.{Limits}
+use Rattle.ent_alloc.specs.Sequential.{Allocator, allocator_code, available, cursor, opening, stands_in}
+use Rattle.ent_replay.specs.contracts.trace.reservation.Reservation as reservation
+use Rattle.ent_replay.specs.declared.trace.reservation.Reservation.{Reservation}
+use Rattle.ent_replay.specs.declared.trace.call.Call.{Call}
+use Rattle.ent_replay.specs.declared.trace.call.Call.TheVariants as line
 use Rattle.ent_replay.specs.declared.trace.reply.ReserveReply.{ReserveReply}
 use Rattle.ent_replay.specs.declared.trace.reply.ReserveReply.TheVariants as reserve
 use Rattle.ent_replay.specs.declared.trace.placed.Placed.{Placed}
 use Rattle.ent_replay.specs.declared.trace.difference.Difference.{Difference}
-use Rattle.ent_replay.specs.declared.trace.difference.Stop.{Stop}
-use Rattle.ent_replay.specs.declared.trace.difference.Stop.TheVariants as stop
+use Rattle.ent_replay.specs.declared.trace.check_error.CheckError.{CheckError}
+use Rattle.ent_replay.specs.declared.trace.check_error.CheckError.TheVariants as stop
 use Rattle.ent_replay.specs.Trace.{Agrees, Fits, AreAnswered, IsOrderOf, after_line, after_lines}
 use Rattle.ent_replay.specs.Trace.{answered_line}
 
@@ -33,57 +34,66 @@ checked_code =
     (coded× allocator_code (coded_list reservation.the_row.coded)) (λ c. (c.allocator, c.run))
     (λ p. record { allocator = p.0; run = p.1 }) (λ _. refl)
 
+-- no line is checked yet
+abbrev pub opened : Limits → Checked
+opened limits = record { allocator = opening limits; run = [] }
+
 -- reservations as lines
-abbrev pub reserve_lines : List Reservation → List Line
+abbrev pub reserve_lines : List Reservation → List Call
 reserve_lines run = map line.Reserve run
 
 -- these lines may follow those that were checked
-abbrev pub AgreesWith : Checked → List Line → Type 0
+abbrev pub AgreesWith : Checked → List Call → Type 0
 AgreesWith c rest = Agrees c.allocator (reserve_lines c.run ++ rest)
 
 -- before and after a line: the same lines may follow
-pub record Follows (old : Checked) (l : Line) (new : Checked) : Type 0 where
-  pub sound : (rest : List Line) → AgreesWith new rest → AgreesWith old (l ∷ rest)
-  pub complete : (rest : List Line) → AgreesWith old (l ∷ rest) → AgreesWith new rest
+pub record Follows (old : Checked) (l : Call) (new : Checked) : Type 0 where
+  pub sound : (rest : List Call) → AgreesWith new rest → AgreesWith old (l ∷ rest)
+  pub complete : (rest : List Call) → AgreesWith old (l ∷ rest) → AgreesWith new rest
+
+-- before and after these lines: the same lines may follow
+pub record AllFollow (old : Checked) (lines : List Call) (new : Checked) : Type 0 where
+  pub sound : (rest : List Call) → AgreesWith new rest → AgreesWith old (lines ++ rest)
+  pub complete : (rest : List Call) → AgreesWith old (lines ++ rest) → AgreesWith new rest
 
 -- In some order all reservations of the run were answered so, and this is the state after them, as
 -- after any such order.
 pub record IsSettled (c : Checked) (after : Allocator) : Type 0 where
-  pub order : List Line
+  pub order : List Call
   pub is_order : IsOrderOf (reserve_lines c.run) order
   pub answered : AreAnswered c.allocator order
   pub after_is : after ≡ after_lines c.allocator order
-  pub only : (other : List Line) → IsOrderOf (reserve_lines c.run) other
+  pub only : (other : List Call) → IsOrderOf (reserve_lines c.run) other
       → AreAnswered c.allocator other → after_lines c.allocator other ≡ after
 
 -- The state after a line: a reservation joins the run, and any other call is made in the state after the
 -- run, where its reply fits.
-abbrev pub Reaches : Checked → Line → Checked → Type 0
+abbrev pub Reaches : Checked → Call → Checked → Type 0
 Reaches old (line.Reserve r) new = new ≡ record old { run = old.run ++ r ∷ [] }
 Reaches old l new =
     (at : Allocator) × IsSettled old at × Fits at l
     × (new ≡ record { allocator = after_line at l; run = [] })
 
 -- the state after these lines, one after the other
-abbrev pub ReachesAll : Checked → List Line → Checked → Type 0
+abbrev pub ReachesAll : Checked → List Call → Checked → Type 0
 ReachesAll old [] new = new ≡ old
 ReachesAll old (l ∷ lines) new = (next : Checked) × Reaches old l next × ReachesAll next lines new
 
 -- ---- where a trace doesn't agree
 
 -- what a stop for a difference has to say
-abbrev pub OnDiffers : Stop → (Difference → Type 0) → Type 0
+abbrev pub OnDiffers : CheckError → (Difference → Type 0) → Type 0
 OnDiffers (stop.Differs d) P = P d
 OnDiffers other P = Unit {0}
 
 -- a reservation has its own number, and any other line has the one that comes with it
-abbrev pub number_of : ℕ → Line → ℕ
+abbrev pub number_of : ℕ → Call → ℕ
 number_of number (line.Reserve r) = r.number
 number_of number other = number
 
 -- The line's reply isn't the allocator's in this state. The difference says what it is, and which one
 -- is the allocator's, and shows the state: the front of the pool, and the cursor.
-pub record Differs (s : Allocator) (number : ℕ) (l : Line) (d : Difference) : Type 0 where
+pub record Differs (s : Allocator) (number : ℕ) (l : Call) (d : Difference) : Type 0 where
   pub unlike : ¬ (Fits s l)
   pub expected : d.expected ≡ answered_line s l
   pub number_is : d.number ≡ number_of number l
@@ -93,25 +103,25 @@ pub record Differs (s : Allocator) (number : ℕ) (l : Line) (d : Difference) : 
 
 -- in no order the reservations of the run were answered so
 abbrev pub HasNoOrder : Checked → Type 0
-HasNoOrder c = (order : List Line) → IsOrderOf (reserve_lines c.run) order
+HasNoOrder c = (order : List Call) → IsOrderOf (reserve_lines c.run) order
     → AreAnswered c.allocator order → ⊥
 
 -- what has to hold if the line is a reservation
-abbrev pub IfReserve : Line → Type 0 → Type 0
+abbrev pub IfReserve : Call → Type 0 → Type 0
 IfReserve (line.Reserve r) P = P
 IfReserve other P = Unit {0}
 
 -- no line that may come next after these fits
-abbrev pub IsStuck : Allocator → List Line → List Line → Type 0
-IsStuck s lines placed = (next : Line) (left : List Line)
+abbrev pub IsStuck : Allocator → List Call → List Call → Type 0
+IsStuck s lines placed = (next : Call) (left : List Call)
     → IsOrderOf lines (placed ++ next ∷ left) → ¬ (Fits (after_lines s placed) next)
 
 -- The lines may have come in this order, in which some agree and the next one doesn't. After those that
 -- agree no line that may come next does. It is a reservation only if the run agrees in no order.
-pub record Shows (c : Checked) (number : ℕ) (rest : List Line) (d : Difference) : Type 0 where
-  pub placed : List Line
-  pub next : Line
-  pub left : List Line
+pub record Shows (c : Checked) (number : ℕ) (rest : List Call) (d : Difference) : Type 0 where
+  pub placed : List Call
+  pub next : Call
+  pub left : List Call
   pub is_order : IsOrderOf (reserve_lines c.run ++ rest) (placed ++ next ∷ left)
   pub answered : AreAnswered c.allocator placed
   pub differs : Differs (after_lines c.allocator placed) number next d
@@ -119,13 +129,13 @@ pub record Shows (c : Checked) (number : ℕ) (rest : List Line) (d : Difference
   pub blamed : IfReserve next (HasNoOrder c)
 
 -- no trace that goes on with this line agrees
-abbrev pub NoneFollows : Checked → Line → Type 0
-NoneFollows c l = (rest : List Line) → AgreesWith c (l ∷ rest) → ⊥
+abbrev pub NoneFollows : Checked → Call → Type 0
+NoneFollows c l = (rest : List Call) → AgreesWith c (l ∷ rest) → ⊥
 
 -- ---- where more is requested than an allocator counts
 
 -- what a stop for too many requests has to say
-abbrev pub OnTooMany : Stop → Type 0 → Type 0
+abbrev pub OnTooMany : CheckError → Type 0 → Type 0
 OnTooMany stop.TooMany P = P
 OnTooMany other P = Unit {0}
 
@@ -137,7 +147,7 @@ abbrev pub IsTooManyIn : Checked → Reservation → Type 0
 IsTooManyIn c r = 2 ^ 50 < c.allocator.asked + requested_in c.run + r.requested
 
 -- the line is such a reservation
-abbrev pub IsTooMany : Checked → Line → Type 0
+abbrev pub IsTooMany : Checked → Call → Type 0
 IsTooMany c (line.Reserve r) = IsTooManyIn c r
 IsTooMany c other = ⊥
 

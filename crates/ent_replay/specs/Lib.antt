@@ -7,6 +7,9 @@ pub mod Machine
 pub mod Histories
 pub mod Trace
 pub mod Checker
+pub mod Logs
+pub mod Recording
+pub mod Lending
 pub mod Lineup
 pub mod Text
 pub mod Words

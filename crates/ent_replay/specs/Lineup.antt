@@ -3,12 +3,12 @@ use Rattle.std.specs.Prelude.{◌≡◌, ℕ, ◌+◌, ◌^◌, ◌≤◌, ◌==
 use Rattle.ent_alloc.specs.Sequential.{Allocator, cursor, reply_to}
 use Rattle.ent_alloc.specs.Sound.{IsSound}
 use Rattle.ent_replay.specs.declared.trace.lineup.Lineup.{Lineup}
-use Rattle.ent_replay.specs.declared.trace.line.Line.{Line}
+use Rattle.ent_replay.specs.declared.trace.call.Call.{Call}
 use Rattle.ent_replay.specs.declared.trace.placed.Placed.{Placed}
 use Rattle.ent_replay.specs.Trace.{AreAnswered, FitsReserved, after_lines}
 use Rattle.ent_replay.specs.Checker.{Differs, requested_in, reservations_of, reserve_lines}
 use Rattle.ent_replay.specs.declared.trace.difference.Difference.{Difference}
-use Rattle.ent_replay.specs.declared.trace.line.Line.TheVariants as line
+use Rattle.ent_replay.specs.declared.trace.call.Call.TheVariants as line
 
 -- the reservation is this caller's
 abbrev pub is_of : ℕ → Placed → Bool
@@ -18,7 +18,7 @@ is_of q p = p.reservation.caller == q
 abbrev pub KeepsCallers : List Placed → List Placed → Type 0
 KeepsCallers run order = (q : ℕ) → filter (is_of q) order ≡ filter (is_of q) run
 
-abbrev pub lines_of : List Placed → List Line
+abbrev pub lines_of : List Placed → List Call
 lines_of run = reserve_lines (reservations_of run)
 
 -- the reply is the allocator's in this state

@@ -19,8 +19,9 @@ use Rattle.ent_replay.specs.declared.trace.reply.FlushReply.{FlushReply}
 use Rattle.ent_replay.specs.declared.trace.reply.FlushReply.TheVariants as flush
 use Rattle.ent_replay.specs.declared.trace.reply.ReserveReply.{ReserveReply}
 use Rattle.ent_replay.specs.declared.trace.reply.ReserveReply.TheVariants as reserve
-use Rattle.ent_replay.specs.declared.trace.line.Line.{Line}
-use Rattle.ent_replay.specs.declared.trace.line.Line.TheVariants as line
+use Rattle.ent_replay.specs.declared.trace.call.Call.{Call}
+use Rattle.ent_replay.specs.declared.trace.call.Call.TheVariants as line
+use Rattle.ent_replay.specs.declared.trace.difference.Difference.{Difference}
 use Rattle.ent_replay.specs.declared.trace.read_fault.Cause.{Cause}
 use Rattle.ent_replay.specs.declared.trace.read_fault.Cause.TheVariants as cause
 use Rattle.ent_replay.specs.declared.trace.read_fault.ReadFault.{ReadFault}
@@ -70,7 +71,7 @@ told_words words None = []
 told_words words (Some reply) = codes "=>" ∷ words reply
 
 -- the words of a call and its answer
-abbrev pub line_words : Line → List Word
+abbrev pub line_words : Call → List Word
 line_words (line.Alloc told) = codes "alloc" ∷ told_words alloc_words told
 line_words (line.Free h told) = codes "free" ∷ handle_text h ∷ told_words free_words told
 line_words (line.Flush told) = codes "flush" ∷ told_words flush_words told
@@ -80,7 +81,7 @@ line_words (line.State h told) = codes "state" ∷ handle_text h ∷ told_words 
 line_words (line.Len told) = codes "len" ∷ told_words len_words told
 
 -- the words of the answer alone
-abbrev pub answer_words : Line → List Word
+abbrev pub answer_words : Call → List Word
 answer_words (line.Alloc (Some reply)) = alloc_words reply
 answer_words (line.Free h (Some reply)) = free_words reply
 answer_words (line.Flush (Some reply)) = flush_words reply
@@ -294,26 +295,26 @@ one_argument words = one (after_arrow words) (before_arrow words)
 abbrev pub two_arguments : List Word → Result (Word × Word × Option (List Word)) Cause
 two_arguments words = two (after_arrow words) (before_arrow words)
 
-unfoldable pub alloc_line : List Word → Result Line Cause
+unfoldable pub alloc_line : List Word → Result Call Cause
 alloc_line words = do
   told ← no_argument words
   reply ← optional alloc_told told
   Ok (line.Alloc reply)
 
-unfoldable pub free_line : List Word → Result Line Cause
+unfoldable pub free_line : List Word → Result Call Cause
 free_line words = do
   call ← one_argument words
   h ← handle_word call.0
   reply ← optional free_told call.1
   Ok (line.Free h reply)
 
-unfoldable pub flush_line : List Word → Result Line Cause
+unfoldable pub flush_line : List Word → Result Call Cause
 flush_line words = do
   told ← no_argument words
   reply ← optional flush_told told
   Ok (line.Flush reply)
 
-unfoldable pub reserve_line : ℕ → List Word → Result Line Cause
+unfoldable pub reserve_line : ℕ → List Word → Result Call Cause
 reserve_line number words = do
   call ← two_arguments words
   caller ← number_word call.0
@@ -326,14 +327,14 @@ reserve_line number words = do
     reply = reply;
   }))
 
-unfoldable pub state_line : List Word → Result Line Cause
+unfoldable pub state_line : List Word → Result Call Cause
 state_line words = do
   call ← one_argument words
   h ← handle_word call.0
   reply ← optional state_told call.1
   Ok (line.State h reply)
 
-unfoldable pub len_line : List Word → Result Line Cause
+unfoldable pub len_line : List Word → Result Call Cause
 len_line words = do
   told ← no_argument words
   reply ← optional len_told told
@@ -341,7 +342,7 @@ len_line words = do
 
 -- The call of a first word and those after it, or the first test that they fail: the first word,
 -- the count of words, the numbers from the left, the handle, the answer. The number is the line's.
-unfoldable pub call_of : ℕ → Word → List Word → Result Line Cause
+unfoldable pub call_of : ℕ → Word → List Word → Result Call Cause
 call_of number word others =
     if bytes_eq word (codes "reserve") then reserve_line number others
     else (if bytes_eq word (codes "alloc") then alloc_line others
@@ -352,7 +353,7 @@ call_of number word others =
     else Err cause.Word)))))
 
 -- the call of a line, if it has words
-abbrev pub line_of : ℕ → List Word → Result (Option Line) Cause
+abbrev pub line_of : ℕ → List Word → Result (Option Call) Cause
 line_of number [] = Ok None
 line_of number (word ∷ others) = call_of number word others >>= λ l. Ok (Some l)
 
@@ -388,5 +389,11 @@ abbrev pub joined : List Word → List ℕ
 joined [] = []
 joined (word ∷ others) = word ++ spaced others
 
-abbrev pub line_text : Line → List ℕ
+abbrev pub line_text : Call → List ℕ
 line_text l = joined (line_words l)
+
+-- the number of the call, the call as it was, and what the allocator answers
+abbrev pub difference_text : Difference → List ℕ
+difference_text d =
+    codes "differs line " ++ decimal d.number ++ codes ": " ++ line_text d.told
+    ++ codes ", expected" ++ spaced (answer_words d.expected)

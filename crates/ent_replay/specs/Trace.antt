@@ -16,8 +16,8 @@ use Rattle.ent_replay.specs.declared.trace.reply.FlushReply.{FlushReply}
 use Rattle.ent_replay.specs.declared.trace.reply.FlushReply.TheVariants as flush
 use Rattle.ent_replay.specs.declared.trace.reply.ReserveReply.{ReserveReply}
 use Rattle.ent_replay.specs.declared.trace.reply.ReserveReply.TheVariants as reserve
-use Rattle.ent_replay.specs.declared.trace.line.Line.{Line}
-use Rattle.ent_replay.specs.declared.trace.line.Line.TheVariants as line
+use Rattle.ent_replay.specs.declared.trace.call.Call.{Call}
+use Rattle.ent_replay.specs.declared.trace.call.Call.TheVariants as line
 
 -- ---- what the allocator answers, and the state after it
 
@@ -42,7 +42,7 @@ abbrev pub after_front : Allocator → List Handle → Allocator
 after_front s [] = s
 after_front s (h ∷ pool) = after_alloc s h
 
-abbrev pub after_line : Allocator → Line → Allocator
+abbrev pub after_line : Allocator → Call → Allocator
 after_line s (line.Alloc told) = if nat_lt 0 s.asked then s else after_front s s.pool
 after_line s (line.Free h told) =
     if nat_lt 0 s.asked then s else (if set.contains s.live h then after_free s h else s)
@@ -75,7 +75,7 @@ FitsReserved (reserve.SpaceLeft told) (Ok given) = ⊥
 FitsReserved (reserve.SpaceLeft told) (Err space) = told ≡ space.left
 
 -- What a line says was answered is what the allocator answers. A line may say nothing of it.
-abbrev pub Fits : Allocator → Line → Type 0
+abbrev pub Fits : Allocator → Call → Type 0
 Fits s (line.Alloc told) = IfSome told (λ reply. reply ≡ alloc_reply s)
 Fits s (line.Free h told) = IfSome told (λ reply. FitsFreed reply (free_reply s h))
 Fits s (line.Flush told) = IfSome told (λ reply. FitsBorn reply (born s))
@@ -88,7 +88,7 @@ reserve_reply (Ok given) = reserve.Handles given
 reserve_reply (Err space) = reserve.SpaceLeft space.left
 
 -- the same call with what the allocator answers
-abbrev pub answered_line : Allocator → Line → Line
+abbrev pub answered_line : Allocator → Call → Call
 answered_line s (line.Alloc told) = line.Alloc (Some (alloc_reply s))
 answered_line s (line.Free h told) = line.Free h (Some (free_reply s h))
 answered_line s (line.Flush told) = line.Flush (Some (flush.Born (born s)))
@@ -98,40 +98,40 @@ answered_line s (line.State h told) = line.State h (Some (state_of s h))
 answered_line s (line.Len told) = line.Len (Some (set.len s.live))
 
 -- each line in turn fits
-abbrev pub AreAnswered : Allocator → List Line → Type 0
+abbrev pub AreAnswered : Allocator → List Call → Type 0
 AreAnswered s [] = Unit {0}
 AreAnswered s (l ∷ lines) = Fits s l × AreAnswered (after_line s l) lines
 
-abbrev pub after_lines : Allocator → List Line → Allocator
+abbrev pub after_lines : Allocator → List Call → Allocator
 after_lines s [] = s
 after_lines s (l ∷ lines) = after_lines (after_line s l) lines
 
 -- ---- which order they came in
 
 -- nothing overlaps this line
-abbrev pub IsAlone : Line → Type 0
+abbrev pub IsAlone : Call → Type 0
 IsAlone (line.Reserve r) = ⊥
 IsAlone other = Unit {0}
 
 -- The first may have come before the second, which stands before it: both are reservations, of
 -- different callers.
-abbrev pub MayPass : Line → Line → Type 0
+abbrev pub MayPass : Call → Call → Type 0
 MayPass (line.Reserve r) (line.Reserve before) = before.caller ≢ r.caller
 MayPass (line.Reserve r) other = ⊥
 MayPass l other = ⊥
 
 -- The second list has the lines of the first in an order that they may have come in: each is taken
 -- out of what is left, past lines that it may pass.
-abbrev pub IsOrderOf : List Line → List Line → Type 0
+abbrev pub IsOrderOf : List Call → List Call → Type 0
 IsOrderOf lines [] = lines ≡ []
 IsOrderOf lines (l ∷ order) =
-    (before : List Line) × (after : List Line) × (lines ≡ before ++ l ∷ after)
+    (before : List Call) × (after : List Call) × (lines ≡ before ++ l ∷ after)
     × AllByRecursion (MayPass l) before
     × IsOrderOf (before ++ after) order
 
 -- A trace agrees with the sequential allocator in this state: in some order of its lines each
 -- reply is the allocator's.
-pub record Agrees (s : Allocator) (lines : List Line) : Type 0 where
-  pub order : List Line
+pub record Agrees (s : Allocator) (lines : List Call) : Type 0 where
+  pub order : List Call
   pub is_order : IsOrderOf lines order
   pub answered : AreAnswered s order

@@ -1,10 +1,11 @@
-ghost use Rattle.std.specs.Prelude.{◌≡◌, ◌↔◌, [], length, nat_eq, IsTrue, List};
+ghost use Rattle.std.specs.Prelude.{◌≡◌, ◌↔◌, [], length, nat_eq, IfOk, IsTrue, List};
 ghost use Rattle.std.proofs.Common.{rules};
 ghost use Rattle.std.specs.Cmp.Lexicographic.{pointwise};
 ghost use Rattle.std.specs.Cmp.Rules.{comparing};
 ghost use Rattle.std.specs.Ordering.{eq_of_both, on};
 
-use ent_handle::Handle;
+use ent_handle::{Handle, Memory};
+use std::alloc::Global;
 use std::marker::Model;
 
 /// Handles in order.
@@ -51,6 +52,15 @@ impl HandleList {
         self.handles.is_empty()
     }
 
+    /// A copy.
+    pub(crate) fn try_copy(&self, alloc: Global) -> Result<HandleList, Memory>
+        ensures { IfOk result (λ copy. copy ≡ self.now) }
+    {
+        let mut handles = Vec::new(alloc);
+        handles.extend_from_slice(&self.handles)?;
+        Ok(HandleList { handles })
+    }
+
     /// Gives the handles back, with their memory.
     pub fn into_vec(self) -> Vec<Handle>
         ensures { result.items ≡ self }
@@ -73,4 +83,12 @@ impl PartialEq for HandleList {
 
 impl Eq for HandleList {
     ghost laws = { Prim.search (comparing, rules) };
+}
+
+impl From<Vec<Handle>> for HandleList {
+    ghost from_gives = { λ handles list. list ≡ handles.items };
+
+    fn from(handles: Vec<Handle>) -> Self {
+        HandleList::new(handles)
+    }
 }

@@ -1,6 +1,6 @@
 -- What a reservation returns.
 use Rattle.std.proofs.Common.{rules, ◌≡◌, ℕ, ℤ, pos, ◌-ℤ◌, List, [], length, take, ◌∙◌, arith, Ok}
-use Rattle.std.proofs.Common.{Err}
+use Rattle.std.proofs.Common.{Err, ◌≤◌, ◌-◌, length-drop}
 use Rattle.std.proofs.lemmas.Grind.{common_steps}
 use Rattle.std.specs.Prelude.{Result, nat_le, true}
 use Rattle.std.proofs.lemmas.List.Sorted.{length_permutation}
@@ -11,7 +11,10 @@ use Rattle.ent_alloc.specs.declared.space.Space.{Space}
 use Rattle.ent_alloc.specs.declared.span.Span.{Span}
 use Rattle.ent_shared.specs.declared.record.Record.{Record}
 use Rattle.ent_shared.specs.Record.{reservation_at, after_reservation}
-use Rattle.ent_alloc.specs.Sequential.{Allocator, pool_at, reply_from, listed}
+use Rattle.ent_alloc.specs.Sequential.{Allocator, pool_at, reply_from, listed, asked_at, top}
+use Rattle.ent_alloc.specs.Sequential.{available}
+use Rattle.ent_alloc.specs.Sound.{IsSound}
+use Rattle.ent_alloc.proofs.Taken.{length-pool}
 
 pub reply-none : (made : ℕ) (pool : List Handle) → reply_from made pool 0 ≡ Ok []
 reply-none made pool = search (rules, nat_tests)
@@ -36,6 +39,16 @@ length-served made pool handles n is =
     let test = enough_served made pool handles n is in
     let long = length_permutation (take n pool) (listed made (take n pool))
     (listed-IsPermutation made (take n pool)) in
+    grind (arith, nat_tests, common_steps)
+
+-- the pool never has more than at the opening
+pub enough_at_first : (start : Allocator) (high : ℤ) (handles : List Handle) (n : ℕ)
+    → IsSound start → start.asked ≡ 0 → reply_from start.made (pool_at start high) n ≡ Ok handles
+    → n ≤ length start.pool
+enough_at_first start high handles n sound flushed is =
+    let test = enough_served start.made (pool_at start high) handles n is in
+    let all = length-pool start sound in
+    let left = length-drop (asked_at (top start) high) (available start) in
     grind (arith, nat_tests, common_steps)
 
 -- the span of a request, at the cursor as the code reads it

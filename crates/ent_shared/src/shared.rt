@@ -1,6 +1,6 @@
 ghost use Rattle.std.specs.Prelude.{◌≡◌, ◌≢◌, ◌↔◌, ◌⊎◌, ◌+◌, ◌*◌, ◌<◌, ◌≤◌, ◌≤ℤ◌, ◌<ℤ◌};
 ghost use Rattle.std.specs.Prelude.{[], ◌∷◌, ◌++◌, length, sum_by, All, AllPairs, Contains};
-ghost use Rattle.std.specs.Prelude.{Ok, Err, IfOk, OnErr, OnSome, true};
+ghost use Rattle.std.specs.Prelude.{Ok, Err, IfOk, OnOk, OnErr, OnSome, IsTrue, true};
 ghost use Rattle.std.specs.FinSet as set;
 ghost use Rattle.std.specs.FinMap as map;
 ghost use Rattle.ent_handle.specs.Handle.{Handle as HandleValue};
@@ -20,7 +20,7 @@ use crate::reserver::Reserver;
 use crate::seats::{merge, new_seat};
 use crate::word;
 use crate::word::Word;
-use ent_alloc::{Entities, Refused, Reserved, Span};
+use ent_alloc::{Entities, Living, Refused, Reserved, Span};
 use ent_handle::Handle;
 use std::marker::Model;
 
@@ -86,6 +86,36 @@ impl Shared {
         self.entities.is_alive(handle)
     }
 
+    /// How many handles were alive when the phase was opened.
+    pub fn len(&self) -> u32
+        ensures { result ≡ set.len self.now.start.live }
+    {
+        self.entities.len()
+    }
+
+    /// Whether no handle was alive when the phase was opened.
+    pub fn is_empty(&self) -> bool
+        ensures { IsTrue result ↔ (set.len self.now.start.live ≡ 0) }
+    {
+        self.entities.is_empty()
+    }
+
+    /// The handles that were alive when the phase was opened, by rising slot.
+    pub fn iter(&self) -> Living<'_>
+        ensures living { set.from_list result ≡ self.now.start.live }
+        ensures rising { AllPairs (λ g h. g.index < h.index) result }
+        ensures count { length result ≡ set.len self.now.start.live }
+    {
+        self.entities.iter()
+    }
+
+    /// How many handles the pool had when the phase was opened. It never has more.
+    pub fn pool(&self) -> u64
+        ensures { result ≡ length self.now.start.pool }
+    {
+        u64::from(self.entities.top()) + u64::from(self.entities.room())
+    }
+
     /// The row that the program kept with the entity when the phase was opened. `None` if the
     /// handle was not alive then, or if no row was set since it came to life. It takes constant
     /// time.
@@ -149,6 +179,7 @@ impl Shared {
         ensures gains { 0 < n → n ≤ reserver.old.own.left
             → Reserves self.now reserver.old reserver.new n result }
         ensures length { IfOk result (λ handles. length handles ≡ n) }
+        ensures enough { OnOk result (n ≤ length self.now.start.pool) }
 
         // What was given is recorded.
         ensures given { IfOk result (λ handles.

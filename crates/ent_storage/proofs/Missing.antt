@@ -1,7 +1,7 @@
 -- How many items set a component that is not there.
 use Rattle.std.proofs.lemmas.Grind.{common_steps}
-use Rattle.std.proofs.Common.{◌≡◌, ℕ, None, Option, ℤ, ◌<◌, ◌≤◌, cond, List, length, get_or}
-use Rattle.std.proofs.Common.{is_none, arith, Result, Ok, Err, OnErr}
+use Rattle.std.proofs.Common.{◌≡◌, ℕ, None, ℤ, ◌<◌, List, length, get_or}
+use Rattle.std.proofs.Common.{arith, Result, Ok, Err, OnErr}
 use Rattle.std.specs.FinMap as map
 use Rattle.ent_handle.specs.declared.component.ComponentId.{ComponentId}
 use Rattle.ent_storage.specs.Components.{Components, missing}

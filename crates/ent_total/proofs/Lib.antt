@@ -1,4 +1,3 @@
-pub mod OneHandle
 pub mod Recorded
 pub mod Replied
 pub mod Unused

@@ -14,7 +14,7 @@ use Rattle.ent_shared.specs.Record.{reservation_at}
 use Rattle.ent_shared.specs.Replies.{Reserves}
 use Rattle.ent_shared.proofs.Laws.{handles_of-append}
 use Rattle.ent_shared.proofs.Records.{own-made}
-use Rattle.ent_alloc.specs.declared.reserve_error.ReserveError.{ReserveError as QueueFault}
+use Rattle.ent_alloc.specs.declared.reserve_error.ReserveError.{ReserveError}
 use Rattle.ent_alloc.specs.declared.reserve_error.ReserveError.TheVariants as fault
 use Rattle.ent_queue.specs.Reserving.{IsReturned, queued, as_list}
 
@@ -45,13 +45,13 @@ module _ (s : Shared) (b a : Reserver) (n : ℕ) where
   given_no_more why r = grind (arith, common_steps, refused_no_more, r.quota, r.nothing, r.gains)
 
 module _ (s : Shared) (b a : Reserver) where
-  pub recorded_one : (r : Result Handle QueueFault) → ((reply : Result Handle Refused)
+  pub recorded_one : (r : Result Handle ReserveError) → ((reply : Result Handle Refused)
       → r ≡ queued reply → IsReturned s b a 1 (listed_alone reply))
       → IfOk r (λ h. handles_given a.own ≡ handles_given b.own ++ h ∷ [])
   recorded_one (Ok h) replies = given_more s b a 1 (h ∷ []) (replies (Ok h) refl)
   recorded_one (Err why) replies = tt
 
-  pub unrecorded_one : (r : Result Handle QueueFault) → ((reply : Result Handle Refused)
+  pub unrecorded_one : (r : Result Handle ReserveError) → ((reply : Result Handle Refused)
       → r ≡ queued reply → IsReturned s b a 1 (listed_alone reply))
       → (IsErrOf r fault.Memory → a ≡ b) → OnErr r (handles_given a.own ≡ handles_given b.own)
   unrecorded_one (Ok h) replies memory = tt
@@ -62,14 +62,14 @@ module _ (s : Shared) (b a : Reserver) where
   unrecorded_one (Err fault.Memory) replies memory =
       ap (λ (r : Reserver). handles_given r.own) (memory refl)
 
-  pub recorded_many : (n : ℕ) (r : Result (Vec Handle Global) QueueFault)
+  pub recorded_many : (n : ℕ) (r : Result (Vec Handle Global) ReserveError)
       → ((reply : Result (List Handle) Refused) → as_list r ≡ queued reply
       → IsReturned s b a n reply)
       → IfOk r (λ hs. handles_given a.own ≡ handles_given b.own ++ hs.items)
   recorded_many n (Ok hs) replies = given_more s b a n hs.items (replies (Ok hs.items) refl)
   recorded_many n (Err why) replies = tt
 
-  pub unrecorded_many : (n : ℕ) (r : Result (Vec Handle Global) QueueFault)
+  pub unrecorded_many : (n : ℕ) (r : Result (Vec Handle Global) ReserveError)
       → ((reply : Result (List Handle) Refused) → as_list r ≡ queued reply
       → IsReturned s b a n reply)
       → (IsErrOf r fault.Memory → a ≡ b) → OnErr r (handles_given a.own ≡ handles_given b.own)

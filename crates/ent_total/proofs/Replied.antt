@@ -6,22 +6,22 @@ use Rattle.ent_alloc.specs.Sequential.{listed_alone}
 use Rattle.ent_alloc.specs.declared.refused.Refused.{Refused}
 use Rattle.ent_alloc.specs.declared.refused.Refused.TheVariants.{Space, Quota}
 use Rattle.ent_shared.specs.Phase.{Shared, Reserver}
-use Rattle.ent_alloc.specs.declared.reserve_error.ReserveError.{ReserveError as QueueFault}
+use Rattle.ent_alloc.specs.declared.reserve_error.ReserveError.{ReserveError}
 use Rattle.ent_alloc.specs.declared.reserve_error.ReserveError.TheVariants as fault
 use Rattle.ent_queue.specs.Reserving.{IsReturned, queued}
 use Rattle.ent_total.specs.Issuing.{IsRefused}
 
 module _ (s : Shared) (b a : Reserver) where
-  abbrev RepliesOne : Result Handle QueueFault → Type 0
+  abbrev RepliesOne : Result Handle ReserveError → Type 0
   RepliesOne r = (reply : Result Handle Refused) → r ≡ queued reply
       → IsReturned s b a 1 (listed_alone reply)
 
-  pub given_one : (r : Result Handle QueueFault) → RepliesOne r
+  pub given_one : (r : Result Handle ReserveError) → RepliesOne r
       → IfOk r (λ h. IsReturned s b a 1 (Ok (h ∷ [])))
   given_one (Ok h) replies = replies (Ok h) refl
   given_one (Err why) replies = tt
 
-  pub refused_one : (r : Result Handle QueueFault) → RepliesOne r → IfErr r (IsRefused s b a 1)
+  pub refused_one : (r : Result Handle ReserveError) → RepliesOne r → IfErr r (IsRefused s b a 1)
   refused_one (Ok h) replies = tt
   refused_one (Err (fault.Space wanted left)) replies = replies (Err (Space wanted left)) refl
   refused_one (Err (fault.Quota left)) replies = replies (Err (Quota left)) refl

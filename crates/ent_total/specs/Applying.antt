@@ -1,76 +1,80 @@
 -- What is said of a sync point that didn't do all.
+use Rattle.std.specs.Prelude.{◌≡◌, ℕ, Result, Ok, Err}
 use Rattle.ent_world.specs.declared.fault.SyncReport.{SyncReport}
 use Rattle.ent_total.specs.Batch.{Queues, Stopped}
-use Rattle.ent_total.specs.declared.applying.Unapplied.{Unapplied}
-use Rattle.ent_total.specs.declared.applying.Unapplied.TheVariants as applied
-use Rattle.ent_total.specs.declared.applying.Ungone.{Ungone}
-use Rattle.ent_total.specs.declared.applying.Ungone.TheVariants as gone
+use Rattle.ent_total.specs.declared.sync_error.SyncError.{SyncError}
+use Rattle.ent_total.specs.declared.sync_error.SyncError.TheVariants as applied
+use Rattle.ent_total.specs.declared.go_on_error.GoOnError.{GoOnError}
+use Rattle.ent_total.specs.declared.go_on_error.GoOnError.TheVariants as gone
 
 -- the queues that come back
-abbrev pub queues_in : Unapplied → Queues
+abbrev pub queues_in : SyncError → Queues
 queues_in (applied.OtherWorld queues) = queues
-queues_in (applied.TooMany queues) = queues
 queues_in (applied.Memory queues) = queues
-queues_in (applied.Stopped stopped so_far) = stopped.queues
+queues_in (applied.Stopped stopped) = stopped.queues
 
--- if it stopped at a command, this is true of the queues with their stop, and of the report
-abbrev pub IfStopped : Unapplied → (Stopped → SyncReport → Type 0) → Type 0
+-- what comes back: the queues if nothing was done, and else where it stopped
+abbrev pub parts_of : SyncError → Result Queues Stopped
+parts_of (applied.OtherWorld queues) = Ok queues
+parts_of (applied.Memory queues) = Ok queues
+parts_of (applied.Stopped stopped) = Err stopped
+
+-- if it stopped at a command, this is true of the stop
+abbrev pub IfStopped : SyncError → (Stopped → Type 0) → Type 0
 IfStopped (applied.OtherWorld queues) P = Unit {0}
-IfStopped (applied.TooMany queues) P = Unit {0}
 IfStopped (applied.Memory queues) P = Unit {0}
-IfStopped (applied.Stopped stopped so_far) P = P stopped so_far
+IfStopped (applied.Stopped stopped) P = P stopped
 
 -- nothing was done
-abbrev pub IsUnbegun : Unapplied → Type 0
+abbrev pub IsUnbegun : SyncError → Type 0
 IsUnbegun (applied.OtherWorld queues) = Unit {0}
-IsUnbegun (applied.TooMany queues) = Unit {0}
 IsUnbegun (applied.Memory queues) = Unit {0}
-IsUnbegun (applied.Stopped stopped so_far) = ⊥
+IsUnbegun (applied.Stopped stopped) = ⊥
 
 -- each reason
-abbrev pub IsOtherWorld : Unapplied → Type 0
+abbrev pub IsOtherWorld : SyncError → Type 0
 IsOtherWorld (applied.OtherWorld queues) = Unit {0}
-IsOtherWorld (applied.TooMany queues) = ⊥
 IsOtherWorld (applied.Memory queues) = ⊥
-IsOtherWorld (applied.Stopped stopped so_far) = ⊥
+IsOtherWorld (applied.Stopped stopped) = ⊥
 
-abbrev pub IsTooMany : Unapplied → Type 0
-IsTooMany (applied.OtherWorld queues) = ⊥
-IsTooMany (applied.TooMany queues) = Unit {0}
-IsTooMany (applied.Memory queues) = ⊥
-IsTooMany (applied.Stopped stopped so_far) = ⊥
-
-abbrev pub IsMemory : Unapplied → Type 0
+abbrev pub IsMemory : SyncError → Type 0
 IsMemory (applied.OtherWorld queues) = ⊥
-IsMemory (applied.TooMany queues) = ⊥
 IsMemory (applied.Memory queues) = Unit {0}
-IsMemory (applied.Stopped stopped so_far) = ⊥
+IsMemory (applied.Stopped stopped) = ⊥
 
--- the queues that come back, with their stop
-abbrev pub stopped_in : Ungone → Stopped
+-- How many entities were spawned since the last flush, before and after: none if it flushed, and
+-- else as many as before.
+abbrev pub IsCounted : Result SyncReport SyncError → ℕ → ℕ → Type 0
+IsCounted (Ok report) before after = after ≡ 0
+IsCounted (Err (applied.OtherWorld queues)) before after = after ≡ before
+IsCounted (Err (applied.Memory queues)) before after = after ≡ before
+IsCounted (Err (applied.Stopped stopped)) before after = after ≡ 0
+
+-- the sync point that comes back
+abbrev pub stopped_in : GoOnError → Stopped
 stopped_in (gone.OtherWorld stopped) = stopped
 stopped_in (gone.NeedsFlush stopped) = stopped
-stopped_in (gone.Stopped stopped so_far) = stopped
+stopped_in (gone.Stopped stopped) = stopped
 
--- if it stopped again, this is true of the queues with their later stop, and of the report
-abbrev pub IfStoppedAgain : Ungone → (Stopped → SyncReport → Type 0) → Type 0
+-- if it stopped again, this is true of the later stop
+abbrev pub IfStoppedAgain : GoOnError → (Stopped → Type 0) → Type 0
 IfStoppedAgain (gone.OtherWorld stopped) P = Unit {0}
 IfStoppedAgain (gone.NeedsFlush stopped) P = Unit {0}
-IfStoppedAgain (gone.Stopped stopped so_far) P = P stopped so_far
+IfStoppedAgain (gone.Stopped stopped) P = P stopped
 
 -- it did not go on
-abbrev pub IsUnmoved : Ungone → Type 0
+abbrev pub IsUnmoved : GoOnError → Type 0
 IsUnmoved (gone.OtherWorld stopped) = Unit {0}
 IsUnmoved (gone.NeedsFlush stopped) = Unit {0}
-IsUnmoved (gone.Stopped stopped so_far) = ⊥
+IsUnmoved (gone.Stopped stopped) = ⊥
 
 -- each reason
-abbrev pub IsOfOtherWorld : Ungone → Type 0
+abbrev pub IsOfOtherWorld : GoOnError → Type 0
 IsOfOtherWorld (gone.OtherWorld stopped) = Unit {0}
 IsOfOtherWorld (gone.NeedsFlush stopped) = ⊥
-IsOfOtherWorld (gone.Stopped stopped so_far) = ⊥
+IsOfOtherWorld (gone.Stopped stopped) = ⊥
 
-abbrev pub IsUnflushed : Ungone → Type 0
+abbrev pub IsUnflushed : GoOnError → Type 0
 IsUnflushed (gone.OtherWorld stopped) = ⊥
 IsUnflushed (gone.NeedsFlush stopped) = Unit {0}
-IsUnflushed (gone.Stopped stopped so_far) = ⊥
+IsUnflushed (gone.Stopped stopped) = ⊥

@@ -4,6 +4,7 @@ use Rattle.std.specs.Coded.{Coded, code_by, coded×, coded_ℕ, coded_list}
 use Rattle.ent_alloc.specs.Sequential.{born}
 use Rattle.ent_queue.specs.Command.{Command}
 use Rattle.ent_queue.specs.contracts.queue.CommandQueue as queued
+use Rattle.ent_world.specs.contracts.fault.SyncReport as reported
 use Rattle.ent_world.specs.World.{World}
 use Rattle.ent_world.specs.declared.fault.Fault.{Fault}
 use Rattle.ent_world.specs.declared.fault.SyncReport.{SyncReport}
@@ -18,10 +19,11 @@ pub record Queues : Type 0 where
   pub world : ℕ
   pub queues : List (List Command)
 
--- the queues, and where they stopped
+-- the queues, where they stopped, and the report so far
 pub record Stopped : Type 0 where
   pub queues : Queues
   pub stop : Stop
+  pub so_far : SyncReport
 
 -- The sync point of the queues was done: the world after it, and what it reports.
 pub record IsSynced (queues : List (List Command)) (before after : World) (r : SyncReport)
@@ -94,5 +96,7 @@ queues_code =
 
 abbrev pub stopped_code : Coded Stopped
 stopped_code =
-    code_by (Queues × Stop) (coded× queues_code stop_code)
-    (λ s. (s.queues, s.stop)) (λ t. record { queues = t.0; stop = t.1 }) (λ _. refl)
+    code_by (Queues × (Stop × SyncReport))
+    (coded× queues_code (coded× stop_code reported.the_row.coded))
+    (λ s. (s.queues, (s.stop, s.so_far)))
+    (λ t. record { queues = t.0; stop = t.1.0; so_far = t.1.1 }) (λ _. refl)

@@ -1,19 +1,29 @@
 -- What is said of a refusal.
 use Rattle.std.specs.Prelude.{ℕ, Result, Ok, Err}
 use Rattle.ent_alloc.specs.declared.refused.Refused.{Refused}
-use Rattle.ent_alloc.specs.declared.refused.Refused.TheVariants.{Space, Quota}
+use Rattle.ent_alloc.specs.declared.refused.Refused.TheVariants as refused
+use Rattle.ent_alloc.specs.declared.reserve_error.ReserveError.{ReserveError}
+use Rattle.ent_alloc.specs.declared.reserve_error.ReserveError.TheVariants as failed
 
 -- it was refused, and this is true of the refusal
 abbrev pub IsErrWith : {A E : Type 0} → Result A E → (E → Type 0) → Type 0
 IsErrWith (Ok a) P = ⊥
 IsErrWith (Err e) P = P e
 
--- this is true if the pool had too few
-abbrev pub IfSpace : Refused → Type 0 → Type 0
-IfSpace (Space wanted left) P = P
-IfSpace (Quota left) P = Unit {0}
+-- the pool had too few
+abbrev pub IsSpace : ReserveError → Type 0
+IsSpace (failed.Space wanted left) = Unit {0}
+IsSpace (failed.Quota left) = ⊥
+IsSpace failed.Memory = ⊥
 
--- this is true of the credit that was left, if it was too little
-abbrev pub IfQuota : Refused → (ℕ → Type 0) → Type 0
-IfQuota (Space wanted left) P = Unit {0}
-IfQuota (Quota left) P = P left
+-- this is true of the refusal, if the pool had too few
+abbrev pub IfSpace : ReserveError → (Refused → Type 0) → Type 0
+IfSpace (failed.Space wanted left) P = P (refused.Space wanted left)
+IfSpace (failed.Quota left) P = Unit {0}
+IfSpace failed.Memory P = Unit {0}
+
+-- this is true of the quota that was left, if it was too little
+abbrev pub IfQuota : ReserveError → (ℕ → Type 0) → Type 0
+IfQuota (failed.Space wanted left) P = Unit {0}
+IfQuota (failed.Quota left) P = P left
+IfQuota failed.Memory P = Unit {0}

@@ -1,21 +1,17 @@
 -- Why a phase of a world was not closed.
 use Rattle.std.specs.Prelude.{ℕ}
-use Rattle.ent_total.specs.declared.unfinished.FinishFault.{FinishFault}
-use Rattle.ent_total.specs.declared.unfinished.FinishFault.TheVariants.{OtherPhase, Missing}
-use Rattle.ent_total.specs.declared.unfinished.FinishFault.TheVariants.{TooMany, Memory, InUse}
+use Rattle.ent_total.specs.declared.unfinished.FinishError.{FinishError}
+use Rattle.ent_total.specs.declared.unfinished.FinishError.TheVariants.{OtherPhase, Missing}
+use Rattle.ent_total.specs.declared.unfinished.FinishError.TheVariants.{InUse}
 
 -- queues are missing
-abbrev pub AreMissing : FinishFault → Type 0
+abbrev pub AreMissing : FinishError → Type 0
 AreMissing (Missing count) = Unit {0}
 AreMissing OtherPhase = ⊥
-AreMissing TooMany = ⊥
-AreMissing Memory = ⊥
 AreMissing InUse = ⊥
 
 -- how many, if that is why
-abbrev pub queues_missing : FinishFault → ℕ
+abbrev pub queues_missing : FinishError → ℕ
 queues_missing (Missing count) = count
 queues_missing OtherPhase = 0
-queues_missing TooMany = 0
-queues_missing Memory = 0
 queues_missing InUse = 0

@@ -1,5 +1,5 @@
 -- What contracts see of a world in a phase, and of a system that issues commands in it.
-use Rattle.std.specs.Prelude.{◌≡◌, ◌≢◌, ◌↔◌, ◌⊎◌, ◌+◌, ◌*◌, ◌≤◌, ◌≤ℤ◌, ◌<ℤ◌, ℕ, List, ◌++◌}
+use Rattle.std.specs.Prelude.{◌≡◌, ◌≢◌, ◌↔◌, ◌⊎◌, ◌+◌, ◌*◌, ◌≤◌, ◌≤ℤ◌, ◌<ℤ◌, ℕ, List, [], ◌++◌}
 use Rattle.std.specs.Prelude.{Err, refl, All, AllPairs, Contains, length, map, sum_by}
 use Rattle.std.specs.Coded.{Coded, code_by, coded×, coded_ℕ, coded_list}
 use Rattle.ent_handle.specs.Handle.{Handle}
@@ -12,62 +12,81 @@ use Rattle.ent_alloc.specs.declared.refused.Refused.TheVariants.{Space, Quota}
 use Rattle.ent_shared.specs.Record.{requested_by}
 use Rattle.ent_shared.specs.Phase.{Shared, Reserver, reserver_code, IsOf, records_of, after_loss}
 use Rattle.ent_queue.specs.Command.{Command}
-use Rattle.ent_alloc.specs.declared.reserve_error.ReserveError.{ReserveError as QueueFault}
+use Rattle.ent_alloc.specs.declared.reserve_error.ReserveError.{ReserveError}
 use Rattle.ent_alloc.specs.declared.reserve_error.ReserveError.TheVariants as fault
 use Rattle.ent_queue.specs.Reserving.{Gains, IsReturned}
 use Rattle.ent_queue.specs.contracts.queue.CommandQueue as queued
-use Rattle.ent_world.specs.OpenWorld.{OpenWorld, open_world_code}
+use Rattle.ent_world.specs.OpenWorld.{OpenWorld as Opened, open_world_code as opened_code}
 use Rattle.ent_world.specs.World.{World, IsWorld}
 
--- the number of the world, the world that is open, and all its reservers
+-- the number of the world and how many entities were spawned in it since the last flush, the world
+-- that is open, and all its reservers
 pub record WorldOpening : Type 0 where
   pub of_world : ℕ
-  pub world : OpenWorld
+  pub spawned : ℕ
+  pub world : Opened
   pub home : List Reserver
 
--- the number by which phases are told apart, the number of the world, the world that is open, the
--- reservers that no issuer has, and the queues that came home
-pub record WorldPhase : Type 0 where
+-- the number by which phases are told apart, the number of the world and how many entities were
+-- spawned in it since the last flush, the world that is open, the reservers that no system has, and
+-- the queues that came home
+pub record OpenWorld : Type 0 where
   pub number : ℕ
   pub of_world : ℕ
-  pub world : OpenWorld
+  pub spawned : ℕ
+  pub world : Opened
   pub home : List Reserver
   pub queues : List (List Command)
 
 -- the number of its phase, the world that it views, its reserver, and its commands so far
-pub record Issuer : Type 0 where
+pub record Commands : Type 0 where
   pub number : ℕ
-  pub world : OpenWorld
+  pub world : Opened
   pub reserver : Reserver
   pub queue : List Command
 
+-- a system that has issued nothing
+abbrev pub new_commands : ℕ → Opened → Reserver → Commands
+new_commands number world reserver =
+    record { number = number; world = world; reserver = reserver; queue = [] }
+
+-- all of them are of this phase, and have issued nothing
+abbrev pub AreNew : ℕ → Opened → List Commands → Type 0
+AreNew number world systems =
+    All (λ (c : Commands). c ≡ new_commands number world c.reserver) systems
+
 -- all of them are of the phase of this number
-abbrev pub AreIssuersOf : ℕ → List Issuer → Type 0
-AreIssuersOf number issuers = All (λ (i : Issuer). i.number ≡ number) issuers
+abbrev pub AreCommandsOf : ℕ → List Commands → Type 0
+AreCommandsOf number all = All (λ (i : Commands). i.number ≡ number) all
 
--- the reservers of these issuers, and their queues
-abbrev pub issuing : List Issuer → List Reserver
-issuing issuers = map (λ (i : Issuer). i.reserver) issuers
+-- the reservers of these systems, and their queues
+abbrev pub issuing : List Commands → List Reserver
+issuing all = map (λ (i : Commands). i.reserver) all
 
-abbrev pub issued : List Issuer → List (List Command)
-issued issuers = map (λ (i : Issuer). i.queue) issuers
+abbrev pub issued : List Commands → List (List Command)
+issued all = map (λ (i : Commands). i.queue) all
 
 -- what is at home and what these bring, behind it
-abbrev pub reservers_home : WorldPhase → List Issuer → List Reserver
-reservers_home p issuers = p.home ++ issuing issuers
+abbrev pub reservers_home : OpenWorld → List Commands → List Reserver
+reservers_home p all = p.home ++ issuing all
 
-abbrev pub queues_home : WorldPhase → List Issuer → List (List Command)
-queues_home p issuers = p.queues ++ issued issuers
+abbrev pub queues_home : OpenWorld → List Commands → List (List Command)
+queues_home p all = p.queues ++ issued all
 
-abbrev pub with_home : WorldPhase → List Issuer → WorldPhase
-with_home p issuers = record p {
-  home = reservers_home p issuers;
-  queues = queues_home p issuers;
+-- They are all of this phase, and with those at home no more than it has.
+abbrev pub MayComeHome : OpenWorld → List Commands → Type 0
+MayComeHome p all =
+    AreCommandsOf p.number all × (length (reservers_home p all) ≤ p.world.shared.count)
+
+abbrev pub with_home : OpenWorld → List Commands → OpenWorld
+with_home p all = record p {
+  home = reservers_home p all;
+  queues = queues_home p all;
 }
 
 -- Commands were added, and the reserver has gained their reservations and no others. Nothing else
 -- has changed.
-pub record Extends (before after : Issuer) : Type 0 where
+pub record Extends (before after : Commands) : Type 0 where
   pub number : after.number ≡ before.number
   pub world : after.world ≡ before.world
   pub ready : IsOf after.world.shared after.reserver
@@ -76,7 +95,7 @@ pub record Extends (before after : Issuer) : Type 0 where
   pub gains : Gains before.reserver.own added after.reserver.own
 
 -- A refusal is the result of a request for n handles, unless memory ran out before.
-abbrev pub IsRefused : Shared → Reserver → Reserver → ℕ → QueueFault → Type 0
+abbrev pub IsRefused : Shared → Reserver → Reserver → ℕ → ReserveError → Type 0
 IsRefused shared before after n (fault.Space wanted left) =
     IsReturned shared before after n (Err (Space wanted left))
 IsRefused shared before after n (fault.Quota left) =
@@ -96,7 +115,7 @@ pub record AreTaken (a : Allocator) (reservers : List Reserver) : Type 0 where
 -- reserved. The reservations stand in one history that is legal and respects each reserver; each
 -- stands there once. No handle was given twice, and none was alive. A flush brings to life just
 -- what was given.
-pub record IsClosed (opened : OpenWorld) (home : List Reserver) (after : World) : Type 0 where
+pub record IsClosed (opened : Opened) (home : List Reserver) (after : World) : Type 0 where
   pub phase : after.phase ≡ opened.phase
   pub entities : after.entities ≡ opened.entities
   pub world : IsWorld after
@@ -117,7 +136,7 @@ pub record IsClosed (opened : OpenWorld) (home : List Reserver) (after : World) 
 -- opened, and a front of the pool is reserved. It counts what these have requested, and of the
 -- others no more than their credit. It has all handles that these got. If all are at home, it counts
 -- exactly what they have requested, and the cursor is where their history leaves it.
-pub record IsClosedLost (opened : OpenWorld) (home : List Reserver) (after : World) : Type 0 where
+pub record IsClosedLost (opened : Opened) (home : List Reserver) (after : World) : Type 0 where
   pub phase : after.phase ≡ opened.phase
   pub entities : after.entities ≡ opened.entities
   pub world : IsWorld after
@@ -136,28 +155,29 @@ pub record IsClosedLost (opened : OpenWorld) (home : List Reserver) (after : Wor
 -- each is stored as the tuple of its parts
 abbrev pub world_opening_code : Coded WorldOpening
 world_opening_code =
-    code_by (ℕ × (OpenWorld × List Reserver))
-    (coded× coded_ℕ (coded× open_world_code (coded_list reserver_code)))
-    (λ o. (o.of_world, (o.world, o.home)))
-    (λ t. record { of_world = t.0; world = t.1.0; home = t.1.1 }) (λ _. refl)
+    code_by (ℕ × (ℕ × (Opened × List Reserver)))
+    (coded× coded_ℕ (coded× coded_ℕ (coded× opened_code (coded_list reserver_code))))
+    (λ o. (o.of_world, (o.spawned, (o.world, o.home))))
+    (λ t. record { of_world = t.0; spawned = t.1.0; world = t.1.1.0; home = t.1.1.1 }) (λ _. refl)
 
-abbrev pub world_phase_code : Coded WorldPhase
-world_phase_code =
-    code_by (ℕ × (ℕ × (OpenWorld × (List Reserver × List (List Command)))))
-    (coded× coded_ℕ (coded× coded_ℕ (coded× open_world_code
-    (coded× (coded_list reserver_code) (coded_list queued.the_row.coded)))))
-    (λ p. (p.number, (p.of_world, (p.world, (p.home, p.queues)))))
+abbrev pub open_world_code : Coded OpenWorld
+open_world_code =
+    code_by (ℕ × (ℕ × (ℕ × (Opened × (List Reserver × List (List Command))))))
+    (coded× coded_ℕ (coded× coded_ℕ (coded× coded_ℕ (coded× opened_code
+    (coded× (coded_list reserver_code) (coded_list queued.the_row.coded))))))
+    (λ p. (p.number, (p.of_world, (p.spawned, (p.world, (p.home, p.queues))))))
     (λ t. record {
       number = t.0;
       of_world = t.1.0;
-      world = t.1.1.0;
-      home = t.1.1.1.0;
-      queues = t.1.1.1.1;
+      spawned = t.1.1.0;
+      world = t.1.1.1.0;
+      home = t.1.1.1.1.0;
+      queues = t.1.1.1.1.1;
     }) (λ _. refl)
 
-abbrev pub issuer_code : Coded Issuer
-issuer_code =
-    code_by (ℕ × (OpenWorld × (Reserver × List Command)))
-    (coded× coded_ℕ (coded× open_world_code (coded× reserver_code queued.the_row.coded)))
+abbrev pub commands_code : Coded Commands
+commands_code =
+    code_by (ℕ × (Opened × (Reserver × List Command)))
+    (coded× coded_ℕ (coded× opened_code (coded× reserver_code queued.the_row.coded)))
     (λ i. (i.number, (i.world, (i.reserver, i.queue))))
     (λ t. record { number = t.0; world = t.1.0; reserver = t.1.1.0; queue = t.1.1.1 }) (λ _. refl)

@@ -1,5 +1,6 @@
 pub mod Applying
 pub mod Batch
+pub mod Births
 pub mod Closing
 pub mod Faults
 pub mod Finishing

@@ -1,52 +1,61 @@
--- What contracts see of a phase and of its callers.
-use Rattle.std.specs.Prelude.{◌≡◌, ℕ, List, ◌++◌, length, map, Result, Ok, refl}
+-- What contracts see of a phase and of its reservers.
+use Rattle.std.specs.Prelude.{◌≡◌, ℕ, ◌≤◌, List, ◌++◌, length, map, Result, Ok, refl}
 use Rattle.std.specs.List.{All}
 use Rattle.std.specs.Coded.{Coded, code_by, coded×, coded_ℕ, coded_list}
 use Rattle.ent_handle.specs.Handle.{Handle}
 use Rattle.ent_alloc.specs.declared.refused.Refused.{Refused}
-use Rattle.ent_shared.specs.Phase.{Shared, shared_code, Reserver, reserver_code}
+use Rattle.ent_shared.specs.Phase as inner
 use Rattle.ent_shared.specs.Order.{handles_given}
 use Rattle.ent_shared.specs.Replies.{Reserves}
 
 -- the allocator that is shared, and all its reservers
 pub record Opening : Type 0 where
-  pub shared : Shared
-  pub home : List Reserver
+  pub shared : inner.Shared
+  pub home : List inner.Reserver
 
 -- the number by which phases are told apart, the allocator that is shared, and the reservers that
--- no caller has
-pub record Phase : Type 0 where
+-- are at home
+pub record Shared : Type 0 where
   pub number : ℕ
-  pub shared : Shared
-  pub home : List Reserver
+  pub shared : inner.Shared
+  pub home : List inner.Reserver
 
 -- the number of its phase, the allocator that it reserves from, and its reserver
-pub record Caller : Type 0 where
+pub record Reserver : Type 0 where
   pub number : ℕ
-  pub shared : Shared
-  pub reserver : Reserver
+  pub shared : inner.Shared
+  pub reserver : inner.Reserver
 
--- the reservers of these callers
-abbrev pub reservers_of : List Caller → List Reserver
-reservers_of callers = map (λ (c : Caller). c.reserver) callers
+-- what these reservers reserve with
+abbrev pub reservers_of : List Reserver → List inner.Reserver
+reservers_of reservers = map (λ (r : Reserver). r.reserver) reservers
 
 -- all of them are of the phase of this number
-abbrev pub AreOf : ℕ → List Caller → Type 0
-AreOf number callers = All (λ (c : Caller). c.number ≡ number) callers
+abbrev pub AreOf : ℕ → List Reserver → Type 0
+AreOf number reservers = All (λ (r : Reserver). r.number ≡ number) reservers
 
--- the reservers at home and those of these callers, behind them
-abbrev pub all_home : Phase → List Caller → List Reserver
-all_home p callers = p.home ++ reservers_of callers
+-- the reservers at home, and these behind them
+abbrev pub all_home : Shared → List Reserver → List inner.Reserver
+all_home s reservers = s.home ++ reservers_of reservers
 
--- The caller has made one more reservation, of n handles, and nothing else has changed.
-pub record MakesReservation (before after : Caller) (n : ℕ)
+-- They are all of this phase, and with those at home no more than it has.
+abbrev pub MayComeHome : Shared → List Reserver → Type 0
+MayComeHome s reservers =
+    AreOf s.number reservers × (length (all_home s reservers) ≤ s.shared.count)
+
+-- The quota has so many handles, and the pool had so many when the phase was opened.
+abbrev pub MayBeServed : Reserver → ℕ → Type 0
+MayBeServed r n = (n ≤ r.reserver.own.left) × (n ≤ length r.shared.start.pool)
+
+-- The reserver has made one more reservation, of n handles, and nothing else has changed.
+pub record MakesReservation (before after : Reserver) (n : ℕ)
     (returned : Result (List Handle) Refused) : Type 0 where
   pub same : after ≡ record before { reserver = after.reserver }
   pub reserves : Reserves before.shared before.reserver after.reserver n returned
 
--- So many handles were reserved. The sink has them after those that it had before, and the caller's
--- record after those that the caller got before.
-pub record GivesReply (before after : Caller) (n : ℕ) (old new : List Handle) : Type 0 where
+-- So many handles were reserved. The list has them after those that it had before, and the
+-- reserver's record after those that the reserver was given before.
+pub record GivesReply (before after : Reserver) (n : ℕ) (old new : List Handle) : Type 0 where
   pub given : List Handle
   pub behind : new ≡ old ++ given
   pub reserves : MakesReservation before after n (Ok given)
@@ -56,18 +65,20 @@ pub record GivesReply (before after : Caller) (n : ℕ) (old new : List Handle) 
 -- each is stored as the tuple of its parts
 abbrev pub opening_code : Coded Opening
 opening_code =
-    code_by (Shared × List Reserver) (coded× shared_code (coded_list reserver_code))
+    code_by (inner.Shared × List inner.Reserver)
+    (coded× inner.shared_code (coded_list inner.reserver_code))
     (λ o. (o.shared, o.home)) (λ t. record { shared = t.0; home = t.1 }) (λ _. refl)
 
-abbrev pub phase_code : Coded Phase
-phase_code =
-    code_by (ℕ × (Shared × List Reserver))
-    (coded× coded_ℕ (coded× shared_code (coded_list reserver_code)))
-    (λ p. (p.number, (p.shared, p.home)))
+abbrev pub shared_code : Coded Shared
+shared_code =
+    code_by (ℕ × (inner.Shared × List inner.Reserver))
+    (coded× coded_ℕ (coded× inner.shared_code (coded_list inner.reserver_code)))
+    (λ s. (s.number, (s.shared, s.home)))
     (λ t. record { number = t.0; shared = t.1.0; home = t.1.1 }) (λ _. refl)
 
-abbrev pub caller_code : Coded Caller
-caller_code =
-    code_by (ℕ × (Shared × Reserver)) (coded× coded_ℕ (coded× shared_code reserver_code))
-    (λ c. (c.number, (c.shared, c.reserver)))
+abbrev pub reserver_code : Coded Reserver
+reserver_code =
+    code_by (ℕ × (inner.Shared × inner.Reserver))
+    (coded× coded_ℕ (coded× inner.shared_code inner.reserver_code))
+    (λ r. (r.number, (r.shared, r.reserver)))
     (λ t. record { number = t.0; shared = t.1.0; reserver = t.1.1 }) (λ _. refl)

@@ -1,6 +1,6 @@
 //! A phase ends, and gives the allocator back.
 ghost use Rattle.std.specs.Prelude.{◌≡◌, ◌≢◌, ◌↔◌, ◌⊎◌, ◌+◌, ◌*◌, ◌<◌, ◌≤◌, ◌≤ℤ◌, ◌<ℤ◌, [], ◌∷◌};
-ghost use Rattle.std.specs.Prelude.{length, sum_by, All, AllPairs, Contains, IfOk, OnOk, IfErr};
+ghost use Rattle.std.specs.Prelude.{length, sum_by, All, AllPairs, Contains, IfOk, OnOk, IfErr, IsSome, IfSome};
 ghost use Rattle.ent_handle.specs.Handle.{Handle as HandleValue};
 ghost use Rattle.ent_alloc.specs.Limits.{credit};
 ghost use Rattle.ent_alloc.specs.Sequential.{cursor, after_flush};
@@ -11,202 +11,221 @@ ghost use Rattle.ent_shared.specs.Record.{requested_by};
 ghost use Rattle.ent_shared.specs.Phase.{IsOf, records_of, after_loss};
 ghost use Rattle.ent_shared.specs.Order.{reservations_of, history_of, handles_given, Respects};
 ghost use Rattle.ent_total.specs.Faults.{IsErrWith};
-ghost use Rattle.ent_total.specs.Sharing.{AreOf, all_home};
+ghost use Rattle.ent_total.specs.Sharing.{MayComeHome, all_home};
 ghost use Rattle.ent_total.specs.Closing.{IsMissing, count_missing};
-ghost use Rattle.ent_total.specs.declared.unclosed.CloseFault.TheVariants.{OtherPhase, TooMany, InUse};
+ghost use Rattle.ent_total.specs.declared.unclosed.CloseError.TheVariants.{OtherPhase, InUse};
 
-use crate::caller::Caller;
 use crate::homecoming::are_of;
 use crate::numbering::Numbering;
-use crate::phase::Phase;
-use crate::unclosed::{CloseFault, Unclosed};
+use crate::reserver::Reserver;
+use crate::shared::Shared;
+use crate::unclosed::{CloseError, Unclosed};
 use ent_alloc::Entities;
-use ent_shared::{Reserver, Shared};
 
-impl<J: Numbering> Phase<J> {
-    /// Ends the phase with all its callers: those that are at home, and these. The allocator is as
-    /// if their reservations had been made one by one, in the order of their atomic steps, and a
-    /// flush brings to life what they were given. It takes no memory.
+impl<J: Numbering> Shared<J> {
+    /// Ends the phase with all its reservers: those that are at home, and these. The allocator is as
+    /// if their reservations had been made one by one, in the order of their atomic steps, and
+    /// [`flush`](Entities::flush) brings to life what they were given. It takes no memory.
+    ///
+    /// ```
+    /// use forgeni::Entities;
+    ///
+    /// let (shared, mut reservers) = Entities::new().share(2)?;
+    /// let handle = reservers[1].reserve()?;
+    /// let mut entities = shared.close(reservers)?;
+    /// assert!(!entities.is_alive(handle));
+    /// entities.flush(&mut Vec::new())?;
+    /// assert!(entities.is_alive(handle));
+    /// # Ok::<(), Box<dyn std::error::Error + Send + Sync>>(())
+    /// ```
+    ///
+    /// ```compile_fail
+    /// let (shared, mut reservers) = forgeni::Entities::new().share(1).unwrap();
+    /// let entities = shared.close(reservers).unwrap();
+    /// reservers[0].reserve(); // they were moved
+    /// ```
     ///
     /// # Errors
     ///
-    /// [`Unclosed`] says why, and has the phase, which goes on. It is the first of these that
-    /// holds: [`CloseFault::OtherPhase`], [`CloseFault::TooMany`], [`CloseFault::Missing`], and
-    /// then all callers are handed back; [`CloseFault::InUse`], and then they are at home.
-    pub fn close(mut self, callers: Vec<Caller<J>>) -> Result<Entities, Unclosed<J>>
-        // All reservations stand in one history that is legal and respects every caller.
+    /// [`Unclosed`] has the error, and the `Shared`, which goes on. The error is the first of these
+    /// that holds: [`CloseError::OtherPhase`] and [`CloseError::Missing`], with all reservers
+    /// handed back; [`CloseError::InUse`], and then those that came are at home.
+    pub fn close(mut self, reservers: Vec<Reserver<J>>) -> Result<Entities, Unclosed<J>>
+        // All reservations stand in one history that is legal and respects every reserver.
         ensures legal { OnOk result (IsLegal self.shared.start
-            (history_of (records_of (all_home self callers.items)))) }
-        ensures respects { OnOk result (let records = records_of (all_home self callers.items) in
+            (history_of (records_of (all_home self reservers.items)))) }
+        ensures respects { OnOk result (let records = records_of (all_home self reservers.items) in
             All (Respects (reservations_of records)) records) }
         ensures after { IfOk result (λ entities. entities.allocator ≡ after_history
-            self.shared.start (history_of (records_of (all_home self callers.items)))) }
+            self.shared.start (history_of (records_of (all_home self reservers.items)))) }
         ensures rows { IfOk result (λ entities. entities.rows ≡ self.shared.rows) }
         ensures rows_of_living { IfOk result HasRowsOfLiving }
 
         // Each reservation stands once, where its step came: the cursor falls with each.
         ensures falls { OnOk result (AllPairs (λ earlier later. later.high <ℤ earlier.high)
-            (reservations_of (records_of (all_home self callers.items)))) }
+            (reservations_of (records_of (all_home self reservers.items)))) }
 
-        // Each caller has a number of its own.
+        // Each reserver has a number of its own.
         ensures numbers { OnOk result (AllPairs (λ r s. r.number ≢ s.number)
-            (records_of (all_home self callers.items))) }
+            (records_of (all_home self reservers.items))) }
 
         // No handle was given twice, and none was alive.
         ensures distinct { OnOk result (AllPairs (λ g h. g ≢ h)
-            (given_in (history_of (records_of (all_home self callers.items))))) }
+            (given_in (history_of (records_of (all_home self reservers.items))))) }
         ensures not_live { OnOk result (All (λ h. ¬ (IsLive self.shared.start h))
-            (given_in (history_of (records_of (all_home self callers.items))))) }
+            (given_in (history_of (records_of (all_home self reservers.items))))) }
 
         // A flush brings to life exactly what was given.
         ensures brings_to_life { IfOk result (λ entities. (h : HandleValue) →
             IsLive (after_flush entities.allocator) h ↔ (IsLive self.shared.start h
-            ⊎ Contains (given_in (history_of (records_of (all_home self callers.items)))) h)) }
+            ⊎ Contains (given_in (history_of (records_of (all_home self reservers.items)))) h)) }
 
-        // When it is refused, and what stands then.
-        ensures other_phase { IsErrWith result (λ u. u.why ≡ OtherPhase)
-            ↔ ¬ (AreOf self.number callers.items) }
-        ensures too_many { IsErrWith result (λ u. u.why ≡ TooMany)
-            ↔ (AreOf self.number callers.items
-            × (self.shared.count < length (all_home self callers.items))) }
-        ensures missing { IsErrWith result (λ u. IsMissing u.why)
-            ↔ (AreOf self.number callers.items
-            × (length (all_home self callers.items) < self.shared.count)) }
-        ensures how_many { IfErr result (λ u. IsMissing u.why
-            → length (all_home self callers.items) + count_missing u.why ≡ self.shared.count) }
-        ensures handed_back { IfErr result (λ u. u.why ≢ InUse
-            → (u.phase ≡ self) × (u.callers.items ≡ callers.items)) }
-        ensures at_home { IfErr result (λ u. u.why ≡ InUse
-            → (u.phase ≡ record self { home = all_home self callers.items })
-            × (u.callers.items ≡ [])) }
+        // When it succeeds, when it is refused, and what stands then.
+        ensures home { OnOk result (MayComeHome self reservers.items) }
+        ensures all { OnOk result (length (all_home self reservers.items) ≡ self.shared.count) }
+        ensures other_phase { IsErrWith result (λ u. u.error ≡ OtherPhase)
+            ↔ ¬ (MayComeHome self reservers.items) }
+        ensures missing { IsErrWith result (λ u. IsMissing u.error)
+            ↔ (MayComeHome self reservers.items
+            × (length (all_home self reservers.items) < self.shared.count)) }
+        ensures how_many { IfErr result (λ u. IsMissing u.error
+            → length (all_home self reservers.items) + count_missing u.error ≡ self.shared.count) }
+        ensures handed_back { IfErr result (λ u. u.error ≢ InUse
+            → (u.shared ≡ self) × (u.reservers.items ≡ reservers.items)) }
+        ensures at_home { IfErr result (λ u. u.error ≡ InUse
+            → (u.shared ≡ record self { home = all_home self reservers.items })
+            × (u.reservers.items ≡ [])) }
     {
-        let missing = match self.missing(&callers) {
-            Ok(missing) => missing,
-            Err(why) => {
-                return Err(Unclosed {
-                    phase: self,
-                    callers,
-                    why,
-                });
-            }
+        let Some(missing) = self.missing(&reservers) else {
+            return Err(self.unclosed(reservers, CloseError::OtherPhase));
         };
         if missing > 0 {
-            return Err(Unclosed {
-                phase: self,
-                callers,
-                why: CloseFault::Missing { count: missing },
-            });
+            return Err(self.unclosed(reservers, CloseError::Missing { count: missing }));
         }
-        self.take_home(callers);
+        self.take_home(reservers);
         match self.end() {
             Ok((shared, home)) => Ok(shared.close(home)),
-            Err(phase) => Err(phase.in_use()),
+            Err(shared) => Err(shared.in_use()),
         }
     }
 
-    /// Ends the phase although some callers are lost: with those that are at home, and these.
+    /// Ends the phase although some reservers are lost: they were dropped, as by a thread that
+    /// panicked. It takes no memory.
     ///
-    /// The cursor tells how many handles were requested in all, but not which of the lost callers'
-    /// requests were refused. So the front of the pool counts as reserved, as far as it goes, also
-    /// those handles that nobody got. It takes no memory.
+    /// Which of their requests were refused is lost too. So the front of the pool counts as
+    /// reserved, as far as requests went, and [`flush`](Entities::flush) also brings to life those
+    /// handles that nobody got.
+    ///
+    /// ```
+    /// use forgeni::{CloseError, Entities};
+    ///
+    /// let (shared, mut reservers) = Entities::new().share(2)?;
+    /// let lost = reservers.pop();
+    /// drop(lost);
+    /// let (shared, reservers, error) = shared.close(reservers).unwrap_err().into_parts();
+    /// assert_eq!(error, CloseError::Missing { count: 1 });
+    /// let entities = shared.close_lost(reservers)?;
+    /// # Ok::<(), Box<dyn std::error::Error + Send + Sync>>(())
+    /// ```
     ///
     /// # Errors
     ///
-    /// [`Unclosed`] says why, and has the phase, which goes on. It is the first of these that
-    /// holds: [`CloseFault::OtherPhase`], [`CloseFault::TooMany`], and then all callers are handed
-    /// back; [`CloseFault::InUse`], and then they are at home.
-    pub fn close_lost(mut self, callers: Vec<Caller<J>>) -> Result<Entities, Unclosed<J>>
+    /// [`Unclosed`] has the error, and the `Shared`, which goes on. The error is the first of these
+    /// that holds: [`CloseError::OtherPhase`], with all reservers handed back;
+    /// [`CloseError::InUse`], and then those that came are at home. As long as a reserver that
+    /// wasn't handed in exists, it is `InUse`. One that was given to [`core::mem::forget`] exists
+    /// for good.
+    pub fn close_lost(mut self, reservers: Vec<Reserver<J>>) -> Result<Entities, Unclosed<J>>
         ensures after { IfOk result (λ entities.
             entities.allocator ≡ after_loss self.shared.start entities.allocator.asked) }
         ensures rows { IfOk result (λ entities. entities.rows ≡ self.shared.rows) }
         ensures rows_of_living { IfOk result HasRowsOfLiving }
 
-        // It counts what the callers that are here have requested, and of the others no more than
+        // It counts what the reservers that are here have requested, and of the others no more than
         // their credit.
         ensures least { IfOk result (λ entities.
-            sum_by (λ r. requested_by r.own) (all_home self callers.items)
+            sum_by (λ r. requested_by r.own) (all_home self reservers.items)
             ≤ entities.allocator.asked) }
         ensures most { IfOk result (λ entities.
-            sum_by (λ r. r.own.left) (all_home self callers.items) + entities.allocator.asked
+            sum_by (λ r. r.own.left) (all_home self reservers.items) + entities.allocator.asked
             ≤ self.shared.count * credit) }
         ensures reached { IfOk result (λ entities.
-            All (λ r. cursor entities.allocator ≤ℤ r.own.mark) (all_home self callers.items)) }
+            All (λ r. cursor entities.allocator ≤ℤ r.own.mark) (all_home self reservers.items)) }
 
         // If all are here, it counts what they have requested, and the cursor is where `close`
         // leaves it.
         ensures asked { IfOk result (λ entities.
-            length (all_home self callers.items) ≡ self.shared.count
-            → sum_by (λ r. requested_by r.own) (all_home self callers.items)
+            length (all_home self reservers.items) ≡ self.shared.count
+            → sum_by (λ r. requested_by r.own) (all_home self reservers.items)
             ≡ entities.allocator.asked) }
         ensures whole { IfOk result (λ entities.
-            length (all_home self callers.items) ≡ self.shared.count
+            length (all_home self reservers.items) ≡ self.shared.count
             → cursor entities.allocator ≡ cursor (after_history self.shared.start
-            (history_of (records_of (all_home self callers.items))))) }
+            (history_of (records_of (all_home self reservers.items))))) }
 
-        // What the callers that are here were given is reserved.
+        // What the reservers that are here were given is reserved.
         ensures given { IfOk result (λ entities.
             All (λ r. All (Contains entities.allocator.taken) (handles_given r.own))
-            (all_home self callers.items)) }
+            (all_home self reservers.items)) }
 
-        // When it is refused, and what stands then.
-        ensures other_phase { IsErrWith result (λ u. u.why ≡ OtherPhase)
-            ↔ ¬ (AreOf self.number callers.items) }
-        ensures too_many { IsErrWith result (λ u. u.why ≡ TooMany)
-            ↔ (AreOf self.number callers.items
-            × (self.shared.count < length (all_home self callers.items))) }
-        ensures no_missing { IfErr result (λ u. ¬ (IsMissing u.why)) }
-        ensures handed_back { IfErr result (λ u. u.why ≢ InUse
-            → (u.phase ≡ self) × (u.callers.items ≡ callers.items)) }
-        ensures at_home { IfErr result (λ u. u.why ≡ InUse
-            → (u.phase ≡ record self { home = all_home self callers.items })
-            × (u.callers.items ≡ [])) }
+        // When it succeeds, when it is refused, and what stands then.
+        ensures home { OnOk result (MayComeHome self reservers.items) }
+        ensures other_phase { IsErrWith result (λ u. u.error ≡ OtherPhase)
+            ↔ ¬ (MayComeHome self reservers.items) }
+        ensures no_missing { IfErr result (λ u. ¬ (IsMissing u.error)) }
+        ensures handed_back { IfErr result (λ u. u.error ≢ InUse
+            → (u.shared ≡ self) × (u.reservers.items ≡ reservers.items)) }
+        ensures at_home { IfErr result (λ u. u.error ≡ InUse
+            → (u.shared ≡ record self { home = all_home self reservers.items })
+            × (u.reservers.items ≡ [])) }
     {
-        if let Err(why) = self.missing(&callers) {
-            return Err(Unclosed {
-                phase: self,
-                callers,
-                why,
-            });
+        if self.missing(&reservers).is_none() {
+            return Err(self.unclosed(reservers, CloseError::OtherPhase));
         }
-        self.take_home(callers);
+        self.take_home(reservers);
         match self.end() {
             Ok((shared, home)) => Ok(shared.close_lost(home)),
-            Err(phase) => Err(phase.in_use()),
+            Err(shared) => Err(shared.in_use()),
         }
     }
 
-    /// How many callers are missing beside those at home and these, if these may come home.
-    fn missing(&self, callers: &[Caller<J>]) -> Result<usize, CloseFault>
-        ensures own { OnOk result (AreOf self.now.number callers.now) }
-        ensures count { IfOk result (λ missing.
-            length (all_home self.now callers.now) + missing ≡ self.now.shared.count) }
-        ensures why { IfErr result (λ why. ((why ≡ OtherPhase)
-            × ¬ (AreOf self.now.number callers.now))
-            ⊎ ((why ≡ TooMany) × AreOf self.now.number callers.now
-            × (self.now.shared.count < length (all_home self.now callers.now)))) }
+    /// How many reservers are missing beside those at home and these, if these may come home.
+    fn missing(&self, reservers: &[Reserver<J>]) -> Option<usize>
+        ensures home { IsSome result ↔ MayComeHome self.now reservers.now }
+        ensures count { IfSome result (λ missing.
+            length (all_home self.now reservers.now) + missing ≡ self.now.shared.count) }
     {
-        if !are_of(self.number(), callers) {
-            return Err(CloseFault::OtherPhase);
+        if !are_of(self.number(), reservers) {
+            return None;
         }
         let most = self.count();
         let home = self.at_home();
-        if home > most || callers.len() > most - home {
-            return Err(CloseFault::TooMany);
+        if home > most || reservers.len() > most - home {
+            return None;
         }
-        Ok(most - home - callers.len())
+        Some(most - home - reservers.len())
     }
 
-    /// That somebody else has a part of the phase.
-    fn in_use(self) -> Unclosed<J>
-        ensures phase { result.phase ≡ self }
-        ensures callers { result.callers.items ≡ [] }
-        ensures why { result.why ≡ InUse }
+    /// The phase goes on, and hands these back.
+    fn unclosed(self, reservers: Vec<Reserver<J>>, error: CloseError) -> Unclosed<J>
+        ensures shared { result.shared ≡ self }
+        ensures reservers { result.reservers.items ≡ reservers.items }
+        ensures error { result.error ≡ error }
     {
-        let callers = self.no_callers();
         Unclosed {
-            phase: self,
-            callers,
-            why: CloseFault::InUse,
+            shared: self,
+            reservers,
+            error,
         }
+    }
+
+    /// Somebody else owns a part of the phase.
+    fn in_use(self) -> Unclosed<J>
+        ensures shared { result.shared ≡ self }
+        ensures reservers { result.reservers.items ≡ [] }
+        ensures error { result.error ≡ InUse }
+    {
+        let none = self.no_reservers();
+        self.unclosed(none, CloseError::InUse)
     }
 }

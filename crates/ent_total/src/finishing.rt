@@ -1,175 +1,174 @@
 //! A phase of a world ends, and gives the world back, with the queues of its systems.
-ghost use Rattle.std.specs.Prelude.{◌≡◌, ◌≢◌, ◌↔◌, ◌⊎◌, ◌+◌, ◌<◌, ◌≤◌, [], All, IfOk, OnOk, IfErr, length};
+ghost use Rattle.std.specs.Prelude.{◌≡◌, ◌≢◌, ◌↔◌, ◌+◌, ◌<◌, ◌≤◌, ◌^◌, [], All, IfOk, IfErr, length};
+ghost use Rattle.std.specs.Prelude.{IfSome, IsSome, OnOk};
 ghost use Rattle.ent_shared.specs.Phase.{IsOf};
 ghost use Rattle.ent_total.specs.Faults.{IsErrWith};
-ghost use Rattle.ent_total.specs.Issuing.{AreIssuersOf, reservers_home, queues_home, with_home};
+ghost use Rattle.ent_total.specs.Issuing.{MayComeHome, reservers_home, queues_home, with_home};
 ghost use Rattle.ent_total.specs.Issuing.{IsClosed, IsClosedLost};
 ghost use Rattle.ent_total.specs.Finishing.{AreMissing, queues_missing};
-ghost use Rattle.ent_total.specs.declared.unfinished.FinishFault.TheVariants.{OtherPhase, TooMany};
-ghost use Rattle.ent_total.specs.declared.unfinished.FinishFault.TheVariants.{InUse, Memory};
+ghost use Rattle.ent_total.specs.declared.unfinished.FinishError.TheVariants.{OtherPhase, InUse};
 
-use crate::issued::Issued;
-use crate::numbered_world::NumberedWorld;
+use crate::command_queue::CommandQueue;
 use crate::numbering::Numbering;
+use crate::open_world::{OpenWorld, Parts};
 use crate::queues::Queues;
-use crate::unfinished::{FinishFault, Unfinished};
+use crate::unfinished::{FinishError, Unfinished};
+use crate::world::World;
 use crate::world_homecoming::are_of;
-use crate::world_phase::{Parts, WorldPhase};
 use ent_shared::Reserver;
-use ent_world::{OpenWorld, World};
 
-impl<J: Numbering> WorldPhase<J> {
-    /// Ends the phase with all its systems: those that are at home, and these. The queues stand in
-    /// this order, which is that of their effect. Nothing of the world has changed but that handles
-    /// are reserved.
+impl<J: Numbering> OpenWorld<J> {
+    /// Ends the phase with the queues of all its systems. Their order here is the order in which
+    /// they will take effect, and numbers their systems in births and faults. Nothing of the world
+    /// has changed, except that handles are reserved. It takes no memory, and the time of a look at
+    /// each queue, however many commands a queue has.
     ///
     /// # Errors
     ///
-    /// [`Unfinished`] says why, and has the phase, which goes on. It is the first of these that
-    /// holds: [`FinishFault::OtherPhase`], [`FinishFault::TooMany`], [`FinishFault::Missing`],
-    /// [`FinishFault::Memory`], and then all queues are handed back; [`FinishFault::InUse`], and
-    /// then they are at home.
-    pub fn close(mut self, queues: Vec<Issued<J>>) -> Result<(NumberedWorld, Queues), Unfinished<J>>
+    /// [`Unfinished`] has the phase. It is the first of these that holds:
+    /// [`FinishError::OtherPhase`], [`FinishError::Missing`], and then all queues come back, in
+    /// their order; [`FinishError::InUse`], and then the phase keeps them, as
+    /// [`close_lost`](OpenWorld::close_lost) does.
+    pub fn close(mut self, queues: Vec<CommandQueue<J>>) -> Result<(World, Queues), Unfinished<J>>
         ensures world { IfOk result (λ made.
             IsClosed self.world (reservers_home self queues.items) made.0.world) }
         ensures number { IfOk result (λ made. made.0.number ≡ self.of_world) }
+        ensures spawned { IfOk result (λ made. made.0.spawned ≡ self.spawned) }
         ensures queues { IfOk result (λ made.
             made.1 ≡ record { world = self.of_world; queues = queues_home self queues.items }) }
 
-        // When it is refused, and what stands then.
-        ensures other_phase { IsErrWith result (λ u. u.why ≡ OtherPhase)
-            ↔ ¬ (AreIssuersOf self.number queues.items) }
-        ensures too_many { IsErrWith result (λ u. u.why ≡ TooMany)
-            ↔ (AreIssuersOf self.number queues.items
-            × (self.world.shared.count < length (reservers_home self queues.items))) }
-        ensures missing { IsErrWith result (λ u. AreMissing u.why)
-            ↔ (AreIssuersOf self.number queues.items
+        // When it succeeds, when it is refused, and what stands then.
+        ensures home { OnOk result (MayComeHome self queues.items) }
+        ensures all { OnOk result
+            (length (reservers_home self queues.items) ≡ self.world.shared.count) }
+        ensures other_phase { IsErrWith result (λ u. u.error ≡ OtherPhase)
+            ↔ ¬ (MayComeHome self queues.items) }
+        ensures missing { IsErrWith result (λ u. AreMissing u.error)
+            ↔ (MayComeHome self queues.items
             × (length (reservers_home self queues.items) < self.world.shared.count)) }
-        ensures how_many { IfErr result (λ u. AreMissing u.why
-            → length (reservers_home self queues.items) + queues_missing u.why
+        ensures how_many { IfErr result (λ u. AreMissing u.error
+            → length (reservers_home self queues.items) + queues_missing u.error
             ≡ self.world.shared.count) }
-        ensures memory { IfErr result (λ u. u.why ≡ Memory → 0 < length queues.items) }
-        ensures handed_back { IfErr result (λ u. u.why ≢ InUse
-            → (u.phase ≡ self) × (u.queues.items ≡ queues.items)) }
-        ensures at_home { IfErr result (λ u. u.why ≡ InUse
-            → (u.phase ≡ with_home self queues.items) × (u.queues.items ≡ [])) }
+        ensures handed_back { IfErr result (λ u. u.error ≢ InUse
+            → (u.open ≡ self) × (u.queues.items ≡ queues.items)) }
+        ensures at_home { IfErr result (λ u. u.error ≡ InUse
+            → (u.open ≡ with_home self queues.items) × (u.queues.items ≡ [])) }
     {
-        let missing = match self.missing(&queues) {
-            Ok(missing) => missing,
-            Err(why) => return Err(self.unfinished(queues, why)),
+        let Some(missing) = self.missing(&queues) else {
+            return Err(self.unfinished(queues, FinishError::OtherPhase));
         };
         if missing > 0 {
-            return Err(self.unfinished(queues, FinishFault::Missing { count: missing }));
+            return Err(self.unfinished(queues, FinishError::Missing { count: missing }));
         }
-        if let Err(queues) = self.take_home(queues) {
-            return Err(self.unfinished(queues, FinishFault::Memory));
-        }
+        self.take_home(queues);
         match self.end() {
             Ok(parts) => Ok(close_all(parts)),
-            Err(phase) => Err(phase.in_use()),
+            Err(open) => Err(open.in_use()),
         }
     }
 
-    /// Ends the phase although some systems are lost: with those that are at home, and these. The
-    /// queues stand in this order, which is that of their effect.
+    /// Ends the phase although some systems are lost: their [`Commands`](crate::Commands) or queues
+    /// were dropped, as by a thread that panicked. The queues of the others take effect in their
+    /// order here, which also numbers their systems in births and faults. What a lost system issued
+    /// is gone.
     ///
-    /// Which of the lost systems' requests were refused is lost too. So the front of the pool
-    /// counts as reserved, as far as it goes, also those handles that nobody got.
+    /// Which of its requests were refused is lost too. So the front of the pool counts as reserved,
+    /// as far as requests went, and the next sync point or flush also brings to life those handles
+    /// that nobody got, and those of the lost system, all without components.
     ///
     /// # Errors
     ///
-    /// [`Unfinished`] says why, and has the phase, which goes on. It is the first of these that
-    /// holds: [`FinishFault::OtherPhase`], [`FinishFault::TooMany`], [`FinishFault::Memory`], and
-    /// then all queues are handed back; [`FinishFault::InUse`], and then they are at home.
+    /// As of [`close`](OpenWorld::close), without `Missing`. With [`FinishError::InUse`] the
+    /// `Commands` or the queue of a system exists that wasn't handed in. The phase keeps those that
+    /// were, and they stay before those that the next close is given. One that was given to
+    /// `core::mem::forget` exists for good.
     pub fn close_lost(
         mut self,
-        queues: Vec<Issued<J>>,
-    ) -> Result<(NumberedWorld, Queues), Unfinished<J>>
+        queues: Vec<CommandQueue<J>>,
+    ) -> Result<(World, Queues), Unfinished<J>>
         ensures world { IfOk result (λ made.
             IsClosedLost self.world (reservers_home self queues.items) made.0.world) }
         ensures number { IfOk result (λ made. made.0.number ≡ self.of_world) }
+        ensures spawned { IfOk result (λ made. made.0.spawned ≡ self.spawned) }
         ensures queues { IfOk result (λ made.
             made.1 ≡ record { world = self.of_world; queues = queues_home self queues.items }) }
 
-        // When it is refused, and what stands then.
-        ensures other_phase { IsErrWith result (λ u. u.why ≡ OtherPhase)
-            ↔ ¬ (AreIssuersOf self.number queues.items) }
-        ensures too_many { IsErrWith result (λ u. u.why ≡ TooMany)
-            ↔ (AreIssuersOf self.number queues.items
-            × (self.world.shared.count < length (reservers_home self queues.items))) }
-        ensures no_missing { IfErr result (λ u. ¬ (AreMissing u.why)) }
-        ensures memory { IfErr result (λ u. u.why ≡ Memory → 0 < length queues.items) }
-        ensures handed_back { IfErr result (λ u. u.why ≢ InUse
-            → (u.phase ≡ self) × (u.queues.items ≡ queues.items)) }
-        ensures at_home { IfErr result (λ u. u.why ≡ InUse
-            → (u.phase ≡ with_home self queues.items) × (u.queues.items ≡ [])) }
+        // When it succeeds, when it is refused, and what stands then.
+        ensures home { OnOk result (MayComeHome self queues.items) }
+        ensures other_phase { IsErrWith result (λ u. u.error ≡ OtherPhase)
+            ↔ ¬ (MayComeHome self queues.items) }
+        ensures no_missing { IfErr result (λ u. ¬ (AreMissing u.error)) }
+        ensures handed_back { IfErr result (λ u. u.error ≢ InUse
+            → (u.open ≡ self) × (u.queues.items ≡ queues.items)) }
+        ensures at_home { IfErr result (λ u. u.error ≡ InUse
+            → (u.open ≡ with_home self queues.items) × (u.queues.items ≡ [])) }
     {
-        if let Err(why) = self.missing(&queues) {
-            return Err(self.unfinished(queues, why));
+        if self.missing(&queues).is_none() {
+            return Err(self.unfinished(queues, FinishError::OtherPhase));
         }
-        if let Err(queues) = self.take_home(queues) {
-            return Err(self.unfinished(queues, FinishFault::Memory));
-        }
+        self.take_home(queues);
         match self.end() {
             Ok(parts) => Ok(close_some(parts)),
-            Err(phase) => Err(phase.in_use()),
+            Err(open) => Err(open.in_use()),
         }
     }
 
     /// How many systems are missing beside those at home and these, if these may come home.
-    fn missing(&self, queues: &[Issued<J>]) -> Result<usize, FinishFault>
-        ensures own { OnOk result (AreIssuersOf self.now.number queues.now) }
-        ensures count { IfOk result (λ missing. length (reservers_home self.now queues.now) + missing
+    fn missing(&self, queues: &[CommandQueue<J>]) -> Option<usize>
+        ensures home { IsSome result ↔ MayComeHome self.now queues.now }
+        ensures count { IfSome result (λ missing.
+            length (reservers_home self.now queues.now) + missing
             ≡ self.now.world.shared.count) }
-        ensures why { IfErr result (λ why. ((why ≡ OtherPhase)
-            × ¬ (AreIssuersOf self.now.number queues.now))
-            ⊎ ((why ≡ TooMany) × AreIssuersOf self.now.number queues.now
-            × (self.now.world.shared.count < length (reservers_home self.now queues.now)))) }
     {
         if !are_of(self.number(), queues) {
-            return Err(FinishFault::OtherPhase);
+            return None;
         }
         let most = self.count();
         let home = self.at_home();
         if home > most || queues.len() > most - home {
-            return Err(FinishFault::TooMany);
+            return None;
         }
-        Ok(most - home - queues.len())
+        Some(most - home - queues.len())
     }
 
     /// That it was not closed, and these queues are handed back.
-    fn unfinished(self, queues: Vec<Issued<J>>, why: FinishFault) -> Unfinished<J>
-        ensures { result ≡ record { phase = self; queues = queues; why = why } }
+    fn unfinished(self, queues: Vec<CommandQueue<J>>, error: FinishError) -> Unfinished<J>
+        ensures phase { result.open ≡ self }
+        ensures queues { result.queues.items ≡ queues.items }
+        ensures error { result.error ≡ error }
     {
         Unfinished {
-            phase: self,
+            open: self,
             queues,
-            why,
+            error,
         }
     }
 
     /// That somebody else has a part of the phase.
     fn in_use(self) -> Unfinished<J>
-        ensures phase { result.phase ≡ self }
+        ensures phase { result.open ≡ self }
         ensures queues { result.queues.items ≡ [] }
-        ensures why { result.why ≡ InUse }
+        ensures error { result.error ≡ InUse }
     {
-        let none = self.no_issued();
-        self.unfinished(none, FinishFault::InUse)
+        let none = self.no_queues();
+        self.unfinished(none, FinishError::InUse)
     }
 }
 
 /// `OpenWorld::close`, with all that it ensures as one fact.
-fn close_all(parts: Parts) -> (NumberedWorld, Queues)
+fn close_all(parts: Parts) -> (World, Queues)
     requires all { length parts.home.items ≡ parts.world.shared.count }
     requires own { All (IsOf parts.world.shared) parts.home.items }
+    requires few { length parts.queues.items ≤ 2 ^ 16 }
     ensures world { IsClosed parts.world parts.home.items result.0.world }
     ensures number { result.0.number ≡ parts.of_world }
+    ensures spawned { result.0.spawned ≡ parts.spawned }
     ensures queues { result.1
         ≡ record { world = parts.of_world; queues = parts.queues.items } }
 {
     let Parts {
         of_world,
+        spawned,
         world,
         home,
         queues,
@@ -177,24 +176,28 @@ fn close_all(parts: Parts) -> (NumberedWorld, Queues)
     let world = closed_world(world, home);
     let queues = Queues::new(of_world, queues);
     (
-        NumberedWorld {
+        World {
             world,
             number: of_world,
+            spawned,
         },
         queues,
     )
 }
 
 /// `OpenWorld::close_lost`, with all that it ensures as one fact.
-fn close_some(parts: Parts) -> (NumberedWorld, Queues)
-    requires { All (IsOf parts.world.shared) parts.home.items }
+fn close_some(parts: Parts) -> (World, Queues)
+    requires own { All (IsOf parts.world.shared) parts.home.items }
+    requires few { length parts.queues.items ≤ 2 ^ 16 }
     ensures world { IsClosedLost parts.world parts.home.items result.0.world }
     ensures number { result.0.number ≡ parts.of_world }
+    ensures spawned { result.0.spawned ≡ parts.spawned }
     ensures queues { result.1
         ≡ record { world = parts.of_world; queues = parts.queues.items } }
 {
     let Parts {
         of_world,
+        spawned,
         world,
         home,
         queues,
@@ -202,15 +205,16 @@ fn close_some(parts: Parts) -> (NumberedWorld, Queues)
     let world = lost_world(world, home);
     let queues = Queues::new(of_world, queues);
     (
-        NumberedWorld {
+        World {
             world,
             number: of_world,
+            spawned,
         },
         queues,
     )
 }
 
-fn closed_world(opened: OpenWorld, home: Vec<Reserver>) -> World
+fn closed_world(opened: ent_world::OpenWorld, home: Vec<Reserver>) -> ent_world::World
     requires all { length home.items ≡ opened.shared.count }
     requires own { All (IsOf opened.shared) home.items }
     ensures { IsClosed opened home.items result }
@@ -218,7 +222,7 @@ fn closed_world(opened: OpenWorld, home: Vec<Reserver>) -> World
     opened.close(home)
 }
 
-fn lost_world(opened: OpenWorld, home: Vec<Reserver>) -> World
+fn lost_world(opened: ent_world::OpenWorld, home: Vec<Reserver>) -> ent_world::World
     requires { All (IsOf opened.shared) home.items }
     ensures { IsClosedLost opened home.items result }
 {

@@ -1,41 +1,40 @@
-//! Callers come home: their reservers go back to the phase.
+//! Reservers come home: what they reserve with goes back to the phase.
 ghost use Rattle.std.specs.Prelude.{◌≡◌, ◌+◌, ◌≤◌, ◌↔◌, ◌++◌, All, IsTrue, length};
 ghost use Rattle.std.specs.Vec.{vec_capacity, vec_len};
 ghost use Rattle.ent_shared.specs.Phase.{IsOf};
 ghost use Rattle.ent_total.specs.Sharing.{AreOf, reservers_of};
 
-use crate::caller::Caller;
 use crate::numbering::Numbering;
-use ent_shared::{Reserver, Shared};
+use crate::reserver::Reserver;
 
-/// Whether all callers are of the phase of this number.
-pub(crate) fn are_of<J: Numbering>(number: u64, callers: &[Caller<J>]) -> bool
-    ensures { IsTrue result ↔ AreOf number callers.now }
+/// Whether all reservers are of the phase of this number.
+pub(crate) fn are_of<J: Numbering>(number: u64, reservers: &[Reserver<J>]) -> bool
+    ensures { IsTrue result ↔ AreOf number reservers.now }
 {
-    for caller in callers {
-        if caller.number != number {
+    for reserver in reservers {
+        if reserver.number != number {
             return false;
         }
     }
     true
 }
 
-/// Adds the reservers of the callers to those at home, behind them. There is room for them.
+/// Adds the reservers of the reservers to those at home, behind them. There is room for them.
 pub(crate) fn bring_home<J: Numbering>(
-    home: &mut Vec<Reserver>,
-    shared: &Shared,
+    home: &mut Vec<ent_shared::Reserver>,
+    shared: &ent_shared::Shared,
     number: u64,
-    callers: Vec<Caller<J>>,
+    reservers: Vec<Reserver<J>>,
 )
     requires stands_for { J.shared_of number ≡ shared.now }
-    requires of { AreOf number callers.items }
+    requires of { AreOf number reservers.items }
     requires own { All (IsOf shared.now) home.old.items }
-    requires room { vec_len home.old + length callers.items ≤ vec_capacity home.old }
-    ensures items { home.new.items ≡ home.old.items ++ reservers_of callers.items }
+    requires room { vec_len home.old + length reservers.items ≤ vec_capacity home.old }
+    ensures items { home.new.items ≡ home.old.items ++ reservers_of reservers.items }
     ensures own { All (IsOf shared.now) home.new.items }
     ensures room { vec_capacity home.new ≡ vec_capacity home.old }
 {
-    for caller in callers {
-        home.push_reserved(caller.reserver);
+    for reserver in reservers {
+        home.push_reserved(reserver.reserver);
     }
 }

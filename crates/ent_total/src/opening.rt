@@ -1,54 +1,34 @@
-ghost use Rattle.std.specs.Prelude.{◌≡◌, ◌<◌, ◌≤◌, ◌↔◌, ◌⊎◌, IfOk, IfErr};
+//! An allocator is shared.
+ghost use Rattle.std.specs.Prelude.{◌≡◌, ◌<◌, ◌≤◌, ◌↔◌, ◌⊎◌, ◌++◌, IfOk, IfErr, reverse};
 ghost use Rattle.ent_shared.specs.Phase.{records_of};
 ghost use Rattle.ent_shared.specs.Record.{opened_records};
 ghost use Rattle.ent_total.specs.Faults.{IsErrWith};
-ghost use Rattle.ent_total.specs.declared.opening.ShareFault.TheVariants.{NeedsFlush, Count};
+ghost use Rattle.ent_total.specs.Sharing.{AreOf, reservers_of};
+ghost use Rattle.ent_total.specs.declared.unshared.ShareError.TheVariants.{NeedsFlush, Count};
 
 use crate::numbering::Numbering;
-use crate::phase::Phase;
+use crate::reserver::Reserver;
+use crate::shared::Shared;
+use crate::unshared::{ShareError, Unshared};
 use ent_alloc::Entities;
-use ent_shared::{Reserver, Shared};
 use std::alloc::Global;
 use std::marker::Model;
 use std::sync::Arc;
-use thiserror::Error;
 
 /// How many callers a phase may have.
 pub(crate) const CALLERS: usize = 1024;
 
-/// Why an allocator or a world was not shared.
-#[derive(Clone, Copy, Debug, PartialEq, Eq, Error)]
-pub enum ShareFault {
-    /// Handles were requested since the last flush, even if the request was refused.
-    #[error("a flush is needed first")]
-    NeedsFlush,
-    /// The number of callers isn't one from 1 to 1,024.
-    #[error("an allocator is shared among 1 to 1,024 callers")]
-    Count,
-    /// Memory ran out.
-    #[error("out of memory")]
-    Memory,
-}
-
-/// An allocator that was not shared.
-#[derive(Drop)]
-pub struct Unshared {
-    /// The allocator as it was.
-    pub entities: Entities,
-    /// Why it was not shared.
-    pub why: ShareFault,
-}
-
 /// A phase that has no number yet, with all its reservers.
 #[derive(Drop)]
-pub struct Opening {
+pub struct Opening<J: Numbering> {
     alloc: Global,
-    shared: Arc<Shared, Global>,
-    home: Vec<Reserver>,
+    shared: Arc<ent_shared::Shared, Global>,
+    home: Vec<ent_shared::Reserver>,
+    reservers: Vec<Reserver<J>>,
 }
 
-impl Model for Opening {
-    ghost use Rattle.std.specs.Prelude.{All, ◌≤◌};
+impl<J: Numbering> Model for Opening<J> {
+    ghost use Rattle.std.specs.Prelude.{All, ◌≡◌, ◌≤◌, [], length};
     ghost use Rattle.std.specs.Vec.{vec_capacity};
     ghost use Rattle.std.specs.Arc.{arc_value};
     ghost use Rattle.ent_shared.specs.Phase.{IsOf};
@@ -60,50 +40,57 @@ impl Model for Opening {
 
     ghost view = { λ o. record { shared = arc_value o.shared; home = o.home.items } };
 
-    // The reservers at home came with this allocator, and there is room for all of them.
+    // The reservers at home came with this allocator, and there is room for all of them, at home
+    // and where they are given out.
     ghost invariant = { λ o. All (IsOf (arc_value o.shared)) o.home.items
-        × ((arc_value o.shared).count ≤ vec_capacity o.home) };
+        × ((arc_value o.shared).count ≤ vec_capacity o.home)
+        × (o.reservers.items ≡ [])
+        × (length o.home.items ≤ vec_capacity o.reservers) };
 }
 
 /// Shares an allocator among `count` callers, 1 to 1,024.
 ///
 /// # Errors
 ///
-/// [`Unshared`] says why, and has the allocator as it was. It is the first of these that holds:
-/// [`ShareFault::NeedsFlush`], [`ShareFault::Count`], [`ShareFault::Memory`].
-pub fn share(alloc: Global, entities: Entities, count: usize) -> Result<Opening, Unshared>
+/// [`Unshared`] has the error, and the allocator as it was. It is the first of these that holds:
+/// [`ShareError::NeedsFlush`], [`ShareError::Count`], [`ShareError::Memory`].
+pub fn share<J: Numbering>(
+    alloc: Global,
+    entities: Entities,
+    count: usize,
+) -> Result<Opening<J>, Unshared>
     ensures start { IfOk result (λ o. o.shared.start ≡ entities.allocator) }
     ensures rows { IfOk result (λ o. o.shared.rows ≡ entities.rows) }
     ensures count { IfOk result (λ o. o.shared.count ≡ count) }
     ensures home { IfOk result (λ o. records_of o.home ≡ opened_records entities.allocator 0 count) }
-    ensures needs_flush { IsErrWith result (λ u. u.why ≡ NeedsFlush)
+    ensures needs_flush { IsErrWith result (λ u. u.error ≡ NeedsFlush)
         ↔ (0 < entities.allocator.asked) }
-    ensures no_count { IsErrWith result (λ u. u.why ≡ Count)
+    ensures no_count { IsErrWith result (λ u. u.error ≡ Count)
         ↔ ((entities.allocator.asked ≡ 0) × ((count ≡ 0) ⊎ (1024 < count))) }
     ensures handed_back { IfErr result (λ u. u.entities ≡ entities) }
 {
     if entities.needs_flush() {
         return Err(Unshared {
             entities,
-            why: ShareFault::NeedsFlush,
+            error: ShareError::NeedsFlush,
         });
     }
     if count == 0 || count > CALLERS {
         return Err(Unshared {
             entities,
-            why: ShareFault::Count,
+            error: ShareError::Count,
         });
     }
     match Opening::new(alloc, entities, count) {
         Ok(opening) => Ok(opening),
         Err(entities) => Err(Unshared {
             entities,
-            why: ShareFault::Memory,
+            error: ShareError::Memory,
         }),
     }
 }
 
-impl Opening {
+impl<J: Numbering> Opening<J> {
     /// Shares a flushed allocator. If memory runs out, it comes back.
     fn new(alloc: Global, entities: Entities, count: usize) -> Result<Self, Entities>
         requires flushed { entities.allocator.asked ≡ 0 }
@@ -116,6 +103,9 @@ impl Opening {
             records_of o.home ≡ opened_records entities.allocator 0 count) }
         ensures err { IfErr result (λ refused. refused ≡ entities) }
     {
+        let Ok(reservers) = Vec::with_capacity(alloc, count) else {
+            return Err(entities);
+        };
         let (shared, home) = match ent_shared::share(alloc, entities, count) {
             Ok(made) => made,
             Err((entities, _)) => return Err(entities),
@@ -125,21 +115,33 @@ impl Opening {
                 alloc,
                 shared,
                 home,
+                reservers,
             }),
             Err(refused) => Err(refused.value.close(home)),
         }
     }
 
-    /// The phase, under a number by which it is told from all others. All its reservers are at home.
-    pub fn numbered<J: Numbering>(self, number: u64) -> Phase<J>
+    /// The phase, under a number by which it is told from all others, and all its reservers, in the
+    /// order of their numbers. It takes no memory.
+    ///
+    /// A reserver whose owner can't be counted stays at home, with those after it. That takes more
+    /// owners than there can be, but no contract of `Arc` says so.
+    pub fn numbered(self, number: u64) -> (Shared<J>, Vec<Reserver<J>>)
         requires stands_for { J.shared_of number ≡ self.shared }
-        ensures { result ≡ record { number = number; shared = self.shared; home = self.home } }
+        ensures number { result.0.number ≡ number }
+        ensures shared { result.0.shared ≡ self.shared }
+        ensures of { AreOf number result.1.items }
+        ensures given { reservers_of result.1.items ++ reverse result.0.home ≡ self.home }
     {
         let Opening {
             alloc,
             shared,
-            home,
+            mut home,
+            mut reservers,
         } = self;
-        Phase::new(alloc, shared, home, number)
+        home.reverse();
+        let mut shared = Shared::new(alloc, shared, home, number);
+        shared.give_out(&mut reservers);
+        (shared, reservers)
     }
 }

@@ -1,16 +1,18 @@
-ghost use Rattle.std.specs.Prelude.{◌≡◌, length};
+ghost use Rattle.std.specs.Prelude.{◌≡◌, ◌≤◌, ◌^◌, ◌↔◌, [], IsTrue, length};
 
-use ent_queue::CommandQueue;
 use std::marker::Model;
 
-/// The queues of a phase, in the order of their effect, and the number of its world.
+/// The queues of a phase or of a frame, in the order of their effect, for one
+/// [`apply`](crate::World::apply) of the world whose phase it was.
+#[must_use]
 #[derive(Drop)]
 pub struct Queues {
     world: u64,
-    queues: Vec<CommandQueue>,
+    queues: Vec<ent_queue::CommandQueue>,
 }
 
 impl Model for Queues {
+    ghost use Rattle.std.specs.Prelude.{◌≤◌, ◌^◌, length};
     ghost use Rattle.ent_total.specs.Batch.{Queues, queues_code};
 
     ghost Value = { Queues };
@@ -18,32 +20,46 @@ impl Model for Queues {
     ghost coded = { queues_code };
 
     ghost view = { λ q. record { world = q.world; queues = q.queues.items } };
+
+    // A sync point takes no more.
+    ghost invariant = { λ q. length q.queues.items ≤ 2 ^ 16 };
 }
 
 impl Queues {
-    pub(crate) fn new(world: u64, queues: Vec<CommandQueue>) -> Self
+    pub(crate) fn new(world: u64, queues: Vec<ent_queue::CommandQueue>) -> Self
+        requires { length queues.items ≤ 2 ^ 16 }
         ensures { result ≡ record { world = world; queues = queues.items } }
     {
         Queues { world, queues }
     }
 
     /// How many queues there are.
+    #[must_use]
     pub fn len(&self) -> usize
         ensures { result ≡ length self.now.queues }
     {
         self.queues.len()
     }
 
+    /// Whether there is none.
+    #[must_use]
+    pub fn is_empty(&self) -> bool
+        ensures { IsTrue result ↔ (self.now.queues ≡ []) }
+    {
+        self.queues.is_empty()
+    }
+
     /// The number of their world.
-    pub fn world(&self) -> u64
+    pub(crate) fn world(&self) -> u64
         ensures { result ≡ self.now.world }
     {
         self.world
     }
 
     /// The queues themselves.
-    pub(crate) fn list(&self) -> &[CommandQueue]
-        ensures { result.now ≡ self.now.queues }
+    pub(crate) fn list(&self) -> &[ent_queue::CommandQueue]
+        ensures list { result.now ≡ self.now.queues }
+        ensures few { length self.now.queues ≤ 2 ^ 16 }
     {
         &self.queues
     }

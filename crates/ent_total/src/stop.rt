@@ -1,10 +1,10 @@
-/// Where a sync point stopped for want of memory. All births stand, and of the commands just those
-/// before.
-#[derive(Clone, Copy, Debug, PartialEq, Eq)]
+/// Where a sync point stopped because memory ran out. All births have taken effect, and of the
+/// commands just those before.
+#[derive(Clone, Copy, Debug, PartialEq, Eq, Hash)]
 pub struct Stop {
-    /// The number of the queue, from 0.
+    /// The number of the queue among those that are applied, from 0.
     pub system: usize,
-    /// The number of the command in it, from 0.
+    /// The number of the command in that queue, from 0.
     pub command: usize,
     /// How many handles of that command are done. It is 0 except at a spawn of many.
     pub done: usize,

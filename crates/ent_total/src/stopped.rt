@@ -3,13 +3,19 @@ ghost use Rattle.ent_world.specs.Sync.{IsStop};
 
 use crate::queues::Queues;
 use crate::stop::Stop;
+use ent_world::SyncReport;
 use std::marker::Model;
 
-/// Queues whose sync point stopped, and where. They can go on from there.
+/// A sync point that stopped because memory ran out at a command: where, what was done so far, and
+/// the queues, which [`go_on`](Stopped::go_on) takes up from there.
+///
+/// All births have taken effect, and of the commands just those before the one that is named.
+#[must_use]
 #[derive(Drop)]
 pub struct Stopped {
     queues: Queues,
     stop: Stop,
+    so_far: SyncReport,
 }
 
 impl Model for Stopped {
@@ -20,29 +26,42 @@ impl Model for Stopped {
 
     ghost coded = { stopped_code };
 
-    ghost view = { λ s. record { queues = s.queues; stop = s.stop } };
+    ghost view = { λ s. record { queues = s.queues; stop = s.stop; so_far = s.so_far } };
 
     // The stop is one of the queues.
     ghost invariant = { λ s. IsStop s.stop.system s.stop.command s.stop.done s.queues.queues };
 }
 
 impl Stopped {
-    pub(crate) fn new(queues: Queues, stop: Stop) -> Self
+    pub(crate) fn new(queues: Queues, stop: Stop, so_far: SyncReport) -> Self
         requires { IsStop stop.system stop.command stop.done queues.queues }
-        ensures { result ≡ record { queues = queues; stop = stop } }
+        ensures { result ≡ record { queues = queues; stop = stop; so_far = so_far } }
     {
-        Stopped { queues, stop }
+        Stopped {
+            queues,
+            stop,
+            so_far,
+        }
     }
 
     /// Where it stopped.
+    #[must_use]
     pub fn stop(&self) -> Stop
         ensures { result ≡ self.now.stop }
     {
         self.stop
     }
 
+    /// What was done before it stopped, since the sync point began or went on.
+    #[must_use]
+    pub fn so_far(&self) -> &SyncReport
+        ensures { result.now ≡ self.now.so_far }
+    {
+        &self.so_far
+    }
+
     /// The number of the world of the queues.
-    pub fn world(&self) -> u64
+    pub(crate) fn world(&self) -> u64
         ensures { result ≡ self.now.queues.world }
     {
         self.queues.world()
@@ -54,7 +73,11 @@ impl Stopped {
         ensures stop { IsStop self.stop.system self.stop.command self.stop.done
             self.queues.queues }
     {
-        let Stopped { queues, stop } = self;
+        let Stopped {
+            queues,
+            stop,
+            so_far: _,
+        } = self;
         (queues, stop)
     }
 }

@@ -1,28 +1,26 @@
-use crate::issued::Issued;
+ghost use Rattle.std.specs.Prelude.{◌≡◌};
+
+use crate::command_queue::CommandQueue;
 use crate::numbering::Numbering;
-use crate::world_phase::WorldPhase;
+use crate::open_world::OpenWorld;
 use thiserror::Error;
 
 /// Why a phase of a world was not closed.
-#[derive(Clone, Copy, Debug, PartialEq, Eq, Error)]
-pub enum FinishFault {
-    /// One of the queues is of another phase. All of them are handed back.
+#[non_exhaustive]
+#[derive(Clone, Copy, Debug, PartialEq, Eq, Hash, Error)]
+pub enum FinishError {
+    /// One of the queues is of another phase, or there are more of them than the phase has systems.
+    /// All of them are handed back.
     #[error("a queue is of another phase")]
     OtherPhase,
-    /// Queues are missing. Those that came are handed back.
+    /// The queues of some systems are missing. Those that came are handed back.
     #[error("missing queues: {count}")]
     Missing {
         /// How many.
         count: usize,
     },
-    /// More queues came than the phase has systems. All of them are handed back. No contract says
-    /// that this can't be, since none counts the systems that exist.
-    #[error("too many queues")]
-    TooMany,
-    /// Memory ran out. All queues are handed back.
-    #[error("out of memory")]
-    Memory,
-    /// A system that was not handed in still exists. Those that came are at home in the phase now.
+    /// The [`Commands`](crate::Commands) or the queue of a system that wasn't handed in still
+    /// exists. The phase keeps the queues that came.
     #[error("a system is still in use")]
     InUse,
 }
@@ -30,10 +28,22 @@ pub enum FinishFault {
 /// A phase of a world that was not closed, and goes on.
 #[derive(Drop)]
 pub struct Unfinished<J: Numbering> {
-    /// The phase.
-    pub phase: WorldPhase<J>,
-    /// The queues that are handed back.
-    pub queues: Vec<Issued<J>>,
+    /// The phase, which goes on.
+    pub open: OpenWorld<J>,
+    /// The queues that are handed back, in their order.
+    pub queues: Vec<CommandQueue<J>>,
     /// Why it was not closed.
-    pub why: FinishFault,
+    pub error: FinishError,
+}
+
+impl<J: Numbering> Unfinished<J> {
+    /// The phase, the queues that are handed back, and why it was not closed.
+    #[must_use]
+    pub fn into_parts(self) -> (OpenWorld<J>, Vec<CommandQueue<J>>, FinishError)
+        ensures phase { result.0 ≡ self.open }
+        ensures queues { result.1 ≡ self.queues }
+        ensures error { result.2 ≡ self.error }
+    {
+        (self.open, self.queues, self.error)
+    }
 }

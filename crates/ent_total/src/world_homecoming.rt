@@ -2,21 +2,19 @@
 ghost use Rattle.std.specs.Prelude.{◌≡◌, ◌+◌, ◌≤◌, ◌↔◌, ◌++◌, All, IsTrue, length};
 ghost use Rattle.std.specs.Vec.{vec_capacity, vec_len};
 ghost use Rattle.ent_shared.specs.Phase.{IsOf};
-ghost use Rattle.ent_total.specs.Issuing.{AreIssuersOf, issued, issuing};
+ghost use Rattle.ent_total.specs.Issuing.{AreCommandsOf, issued, issuing};
 
-use crate::issued::Issued;
-use crate::issuer::Issuer;
+use crate::command_queue::CommandQueue;
+use crate::commands::Commands;
 use crate::numbering::Numbering;
-use ent_queue::CommandQueue;
 use ent_shared::Reserver;
-use ent_world::OpenWorld;
 
 /// Whether all of them are of the phase of this number.
-pub(crate) fn are_of<J: Numbering>(number: u64, queues: &[Issued<J>]) -> bool
-    ensures { IsTrue result ↔ AreIssuersOf number queues.now }
+pub(crate) fn are_of<J: Numbering>(number: u64, queues: &[CommandQueue<J>]) -> bool
+    ensures { IsTrue result ↔ AreCommandsOf number queues.now }
 {
     for one in queues {
-        if one.issuer.number != number {
+        if one.commands.number != number {
             return false;
         }
     }
@@ -26,13 +24,13 @@ pub(crate) fn are_of<J: Numbering>(number: u64, queues: &[Issued<J>]) -> bool
 /// Adds the reservers and the queues to those at home, behind them. There is room for them.
 pub(crate) fn bring_home<J: Numbering>(
     home: &mut Vec<Reserver>,
-    queues_home: &mut Vec<CommandQueue>,
-    world: &OpenWorld,
+    queues_home: &mut Vec<ent_queue::CommandQueue>,
+    world: &ent_world::OpenWorld,
     number: u64,
-    queues: Vec<Issued<J>>,
+    queues: Vec<CommandQueue<J>>,
 )
     requires stands_for { J.world_of number ≡ world.now }
-    requires of { AreIssuersOf number queues.items }
+    requires of { AreCommandsOf number queues.items }
     requires own { All (IsOf world.now.shared) home.old.items }
     requires room { vec_len home.old + length queues.items ≤ vec_capacity home.old }
     requires queue_room { vec_len queues_home.old + length queues.items
@@ -40,13 +38,15 @@ pub(crate) fn bring_home<J: Numbering>(
     ensures home { home.new.items ≡ home.old.items ++ issuing queues.items }
     ensures queues { queues_home.new.items ≡ queues_home.old.items ++ issued queues.items }
     ensures own { All (IsOf world.now.shared) home.new.items }
+    ensures room { vec_capacity home.new ≡ vec_capacity home.old }
+    ensures queue_room { vec_capacity queues_home.new ≡ vec_capacity queues_home.old }
 {
     for one in queues {
-        let Issuer {
+        let Commands {
             reserver,
             queue,
             ..
-        } = one.issuer;
+        } = one.commands;
         home.push_reserved(reserver);
         queues_home.push_reserved(queue);
     }

@@ -1,41 +1,40 @@
-ghost use Rattle.std.specs.Prelude.{◌≡◌, ◌<◌, ◌≤◌, ◌↔◌, ◌⊎◌, [], IfOk, IfErr};
+//! A world is opened.
+ghost use Rattle.std.specs.Prelude.{◌≡◌, ◌<◌, ◌≤◌, ◌↔◌, ◌⊎◌, ◌++◌, [], All, IfOk, IfErr, reverse};
 ghost use Rattle.ent_shared.specs.Phase.{records_of};
 ghost use Rattle.ent_shared.specs.Record.{opened_records};
 ghost use Rattle.ent_total.specs.Faults.{IsErrWith};
-ghost use Rattle.ent_total.specs.declared.opening.ShareFault.TheVariants.{NeedsFlush, Count};
+ghost use Rattle.ent_total.specs.Issuing.{AreNew, issuing};
+ghost use Rattle.ent_total.specs.declared.unshared.ShareError.TheVariants.{NeedsFlush, Count};
 
-use crate::numbered_world::NumberedWorld;
+use crate::commands::Commands;
 use crate::numbering::Numbering;
-use crate::opening::{CALLERS, ShareFault};
-use crate::world_phase::WorldPhase;
-use ent_queue::CommandQueue;
+use crate::open_world::OpenWorld;
+use crate::opening::CALLERS;
+use crate::unopened::Unopened;
+use crate::unshared::ShareError;
+use crate::world::World;
 use ent_shared::Reserver;
-use ent_world::{OpenWorld, World};
 use std::alloc::Global;
 use std::marker::Model;
 use std::sync::Arc;
 
-/// A world that was not opened.
+/// A world that is open for its systems, and has no number yet. It has all memory that its phase
+/// needs.
 #[derive(Drop)]
-pub struct Unopened {
-    /// The world as it was.
-    pub world: NumberedWorld,
-    /// Why it was not opened.
-    pub why: ShareFault,
-}
-
-/// A phase of a world that has no number yet, with all its reservers.
-#[derive(Drop)]
-pub struct WorldOpening {
+pub struct WorldOpening<J: Numbering> {
     alloc: Global,
     of_world: u64,
-    world: Arc<OpenWorld, Global>,
+    spawned: u32,
+    world: Arc<ent_world::OpenWorld, Global>,
     home: Vec<Reserver>,
+    queues: Vec<ent_queue::CommandQueue>,
+    systems: Vec<Commands<J>>,
 }
 
-impl Model for WorldOpening {
-    ghost use Rattle.std.specs.Prelude.{All};
+impl<J: Numbering> Model for WorldOpening<J> {
+    ghost use Rattle.std.specs.Prelude.{◌≡◌, ◌≤◌, [], All, length};
     ghost use Rattle.std.specs.Arc.{arc_value};
+    ghost use Rattle.std.specs.Vec.{vec_capacity};
     ghost use Rattle.ent_shared.specs.Phase.{IsOf};
     ghost use Rattle.ent_total.specs.Issuing.{WorldOpening, world_opening_code};
 
@@ -45,63 +44,93 @@ impl Model for WorldOpening {
 
     ghost view = { λ o. record {
       of_world = o.of_world;
+      spawned = o.spawned;
       world = arc_value o.world;
       home = o.home.items;
     } };
 
-    // The reservers at home came with this world.
-    ghost invariant = { λ o. All (IsOf (arc_value o.world).shared) o.home.items };
+    ghost invariant = { λ o. record {
+      -- the reservers came with this world
+      own : All (IsOf (arc_value o.world).shared) o.home.items;
+      -- there are at most 1,024 systems, and there is room for all of them
+      few : (arc_value o.world).shared.count ≤ 1024;
+      home_room : (arc_value o.world).shared.count ≤ vec_capacity o.home;
+      queue_room : (arc_value o.world).shared.count ≤ vec_capacity o.queues;
+      room : length o.home.items ≤ vec_capacity o.systems;
+      no_queue : o.queues.items ≡ [];
+      no_system : o.systems.items ≡ [];
+    } };
 }
 
 /// Opens a world for `count` systems, 1 to 1,024.
 ///
 /// # Errors
 ///
-/// [`Unopened`] says why, and has the world as it was. It is the first of these that holds:
-/// [`ShareFault::NeedsFlush`], [`ShareFault::Count`], [`ShareFault::Memory`].
-pub fn open(alloc: Global, world: NumberedWorld, count: usize) -> Result<WorldOpening, Unopened>
+/// [`Unopened`] has the error, and the world as it was. It is the first of these that holds:
+/// [`ShareError::NeedsFlush`], [`ShareError::Count`], [`ShareError::Memory`].
+pub fn open<J: Numbering>(
+    alloc: Global,
+    world: World,
+    count: usize,
+) -> Result<WorldOpening<J>, Unopened>
     ensures of_world { IfOk result (λ o. o.of_world ≡ world.number) }
+    ensures spawned { IfOk result (λ o. o.spawned ≡ world.spawned) }
     ensures shared { IfOk result (λ o. (o.world.shared.start ≡ world.world.allocator)
         × (o.world.shared.count ≡ count)) }
     ensures world { IfOk result (λ o. (o.world.phase ≡ world.world.phase)
         × (o.world.entities ≡ world.world.entities)) }
     ensures home { IfOk result (λ o.
         records_of o.home ≡ opened_records world.world.allocator 0 count) }
-    ensures needs_flush { IsErrWith result (λ u. u.why ≡ NeedsFlush)
+    ensures needs_flush { IsErrWith result (λ u. u.error ≡ NeedsFlush)
         ↔ (0 < world.world.allocator.asked) }
-    ensures no_count { IsErrWith result (λ u. u.why ≡ Count)
+    ensures no_count { IsErrWith result (λ u. u.error ≡ Count)
         ↔ ((world.world.allocator.asked ≡ 0) × ((count ≡ 0) ⊎ (1024 < count))) }
     ensures handed_back { IfErr result (λ u. u.world ≡ world) }
 {
-    if world.world.needs_flush() {
+    if world.needs_flush() {
         return Err(Unopened {
             world,
-            why: ShareFault::NeedsFlush,
+            error: ShareError::NeedsFlush,
         });
     }
     if count == 0 || count > CALLERS {
         return Err(Unopened {
             world,
-            why: ShareFault::Count,
+            error: ShareError::Count,
         });
     }
-    let NumberedWorld { world, number } = world;
-    match WorldOpening::new(alloc, world, count, number) {
+    let World {
+        world,
+        number,
+        spawned,
+    } = world;
+    match WorldOpening::new(alloc, world, count, number, spawned) {
         Ok(opening) => Ok(opening),
         Err(world) => Err(Unopened {
-            world: NumberedWorld { world, number },
-            why: ShareFault::Memory,
+            world: World {
+                world,
+                number,
+                spawned,
+            },
+            error: ShareError::Memory,
         }),
     }
 }
 
-impl WorldOpening {
+impl<J: Numbering> WorldOpening<J> {
     /// Opens a flushed world. If memory runs out, it comes back.
-    fn new(alloc: Global, world: World, count: usize, of_world: u64) -> Result<Self, World>
+    fn new(
+        alloc: Global,
+        world: ent_world::World,
+        count: usize,
+        of_world: u64,
+        spawned: u32,
+    ) -> Result<Self, ent_world::World>
         requires flushed { world.allocator.asked ≡ 0 }
         requires some { 0 < count }
         requires few { count ≤ 1024 }
         ensures of_world { IfOk result (λ o. o.of_world ≡ of_world) }
+        ensures spawned { IfOk result (λ o. o.spawned ≡ spawned) }
         ensures shared { IfOk result (λ o. (o.world.shared.start ≡ world.allocator)
             × (o.world.shared.count ≡ count)) }
         ensures world { IfOk result (λ o. (o.world.phase ≡ world.phase)
@@ -110,6 +139,12 @@ impl WorldOpening {
             records_of o.home ≡ opened_records world.allocator 0 count) }
         ensures err { IfErr result (λ refused. refused ≡ world) }
     {
+        let Ok(queues) = Vec::with_capacity(alloc, count) else {
+            return Err(world);
+        };
+        let Ok(systems) = Vec::with_capacity(alloc, count) else {
+            return Err(world);
+        };
         let (opened, home) = match world.open(count) {
             Ok(made) => made,
             Err((world, _)) => return Err(world),
@@ -118,32 +153,46 @@ impl WorldOpening {
             Ok(world) => Ok(WorldOpening {
                 alloc,
                 of_world,
+                spawned,
                 world,
                 home,
+                queues,
+                systems,
             }),
             Err(refused) => Err(refused.value.close(home)),
         }
     }
 
-    /// The phase, under a number by which it is told from all others. All its reservers are at home,
-    /// and no queue is.
-    pub fn numbered<J: Numbering>(self, number: u64) -> WorldPhase<J>
+    /// The phase, under a number by which it is told from all others, and all its systems, in the
+    /// order of their numbers. It takes no memory.
+    ///
+    /// A system whose owner can't be counted stays at home, with those after it. That takes more
+    /// owners than there can be, but no contract of `Arc` says so.
+    pub fn numbered(self, number: u64) -> (OpenWorld<J>, Vec<Commands<J>>)
         requires stands_for { J.world_of number ≡ self.world }
-        ensures { result ≡ record {
+        ensures phase { result.0 ≡ record {
           number = number;
           of_world = self.of_world;
+          spawned = self.spawned;
           world = self.world;
-          home = self.home;
+          home = result.0.home;
           queues = [];
         } }
+        ensures systems { AreNew number self.world result.1.items }
+        ensures given { issuing result.1.items ++ reverse result.0.home ≡ self.home }
     {
         let WorldOpening {
             alloc,
             of_world,
+            spawned,
             world,
-            home,
+            mut home,
+            queues,
+            mut systems,
         } = self;
-        let none = Vec::new(alloc);
-        WorldPhase::new(alloc, of_world, world, home, none, number)
+        home.reverse();
+        let mut open = OpenWorld::new(alloc, of_world, spawned, world, home, queues, number);
+        open.give_out(&mut systems);
+        (open, systems)
     }
 }

@@ -2,30 +2,29 @@
 use Rattle.std.proofs.Common.{rules, ◌≡◌, ℕ, ◌+◌, List, [], ◌∷◌, ◌++◌, length, Option, Some, None}
 use Rattle.std.proofs.Common.{Result, Ok, Err, sym, ap, ◌∙◌, arith}
 use Rattle.std.proofs.lemmas.Grind.{common_steps}
-use Rattle.ent_replay.specs.Checker.{Checked, Follows}
+use Rattle.ent_replay.specs.Checker.{AllFollow, Checked, Follows}
 use Rattle.ent_replay.specs.Text.{line_of, words_of}
-use Rattle.ent_replay.specs.declared.trace.line.Line.{Line}
+use Rattle.ent_replay.specs.declared.trace.call.Call.{Call}
 use Rattle.ent_replay.specs.declared.trace.read_fault.Cause.{Cause}
 use Rattle.tracecheck.specs.Calls.{Refused, calls_from, goes_on}
-use Rattle.tracecheck.specs.Checking.{AllFollow}
 
 -- these calls, and then what is read after them
-abbrev pub with_front : List Line → Result (List Line) Refused → Result (List Line) Refused
+abbrev pub with_front : List Call → Result (List Call) Refused → Result (List Call) Refused
 with_front front (Ok calls) = Ok (front ++ calls)
 with_front front (Err refused) = Err refused
 
-abbrev read : List Line → Result (List Line) Refused
+abbrev read : List Call → Result (List Call) Refused
 read calls = Ok calls
 
-front_of_none : (r : Result (List Line) Refused) → with_front [] r ≡ r
+front_of_none : (r : Result (List Call) Refused) → with_front [] r ≡ r
 front_of_none it = search rules
 
-one_more : (number : ℕ) (l : Line) (front : List Line) (r : Result (List Line) Refused)
+one_more : (number : ℕ) (l : Call) (front : List Call) (r : Result (List Call) Refused)
     → goes_on number (Ok (Some l)) (with_front front r) ≡ with_front (l ∷ front) r
 one_more number l front it = search rules
 
-step : (number : ℕ) (r : Result (Option Line) Cause) (others all rest : Result (List Line) Refused)
-    (calls : List Line) → ((front : List Line) → others ≡ Ok front → all ≡ with_front front rest)
+step : (number : ℕ) (r : Result (Option Call) Cause) (others all rest : Result (List Call) Refused)
+    (calls : List Call) → ((front : List Call) → others ≡ Ok front → all ≡ with_front front rest)
     → goes_on number r others ≡ Ok calls → goes_on number r all ≡ with_front calls rest
 step number (Err c) others all rest calls later e = absurd cc
 step number (Ok None) others all rest calls later e = later calls e
@@ -33,7 +32,7 @@ step number (Ok (Some l)) (Err refused) all rest calls later e = absurd cc
 step number (Ok (Some l)) (Ok front) all rest calls later e =
     search (rules, one_more number l front rest)
 
-pub calls_from-append : (number : ℕ) (texts more : List (List ℕ)) (calls : List Line)
+pub calls_from-append : (number : ℕ) (texts more : List (List ℕ)) (calls : List Call)
     → calls_from number texts ≡ Ok calls
     → calls_from number (texts ++ more) ≡ with_front calls (calls_from (number + length texts) more)
 calls_from-append number [] more calls e =
@@ -42,7 +41,7 @@ calls_from-append number [] more calls e =
     let here : number ≡ number + length {A = List ℕ} [] = omega arith in
     ap (λ n. calls_from n more) here ∙ sym
     (front_of_none (calls_from (number + length {A = List ℕ} []) more))
-    ∙ ap (λ (ls : List Line). with_front ls (calls_from (number + length {A = List ℕ} []) more))
+    ∙ ap (λ (ls : List Call). with_front ls (calls_from (number + length {A = List ℕ} []) more))
     same
 calls_from-append number (text ∷ texts) more calls e =
     let later : number + 1 + length texts ≡ number + length (text ∷ texts) = omega arith in
@@ -54,6 +53,6 @@ calls_from-append number (text ∷ texts) more calls e =
 
 -- ---- one more call
 
-pub AllFollow-call : (old middle new : Checked) (calls : List Line) (l : Line)
+pub AllFollow-call : (old middle new : Checked) (calls : List Call) (l : Call)
     → AllFollow old calls middle → Follows middle l new → AllFollow old (calls ++ l ∷ []) new
 AllFollow-call old middle new calls l follow next = grind (arith, common_steps)

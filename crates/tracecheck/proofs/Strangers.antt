@@ -8,9 +8,9 @@ use Rattle.ent_alloc.specs.declared.space.Space.{Space}
 use Rattle.ent_alloc.specs.Limits.{Limits}
 use Rattle.ent_alloc.specs.Sequential.{Allocator, cursor, listed, opening}
 use Rattle.ent_replay.specs.declared.trace.difference.Difference.{Difference}
-use Rattle.ent_replay.specs.declared.trace.line.Line.{Line}
-use Rattle.ent_replay.specs.declared.trace.line.Line.TheVariants as line
-use Rattle.ent_replay.specs.declared.trace.line.Reservation.{Reservation}
+use Rattle.ent_replay.specs.declared.trace.call.Call.{Call}
+use Rattle.ent_replay.specs.declared.trace.call.Call.TheVariants as line
+use Rattle.ent_replay.specs.declared.trace.reservation.Reservation.{Reservation}
 use Rattle.ent_replay.specs.declared.trace.reply.ReserveReply.TheVariants as reserve
 use Rattle.ent_replay.specs.Trace.{AreAnswered, Fits, FitsReserved, IsOrderOf, MayPass, after_line}
 use Rattle.ent_replay.specs.Text.{line_of, words_of}
@@ -21,11 +21,11 @@ use Rattle.tracecheck.specs.declared.checking.Checking.{Checking}
 use Rattle.tracecheck.specs.declared.verdict.Verdict.TheVariants as verdict
 use Rattle.tracecheck.specs.declared.verdict.Refusal.TheVariants as refusal
 
-abbrev first_of : Line → List Line → Line
+abbrev first_of : Call → List Call → Call
 first_of d [] = d
 first_of d (x ∷ xs) = x
 
-abbrev IsCons : List Line → Type 0
+abbrev IsCons : List Call → Type 0
 IsCons [] = ⊥
 IsCons (x ∷ xs) = Unit {0}
 
@@ -45,14 +45,14 @@ never_fits number caller s fits =
     (record { wanted = 0; left = length s.pool }) some fits
 
 -- a line that fits nowhere stands in no trace that agrees
-dead : (l : Line) → ((s : Allocator) → Fits s l → ⊥) → (order rest : List Line) (s : Allocator)
+dead : (l : Call) → ((s : Allocator) → Fits s l → ⊥) → (order rest : List Call) (s : Allocator)
     → IsOrderOf (l ∷ rest) order → AreAnswered s order → ⊥
 dead l unfit [] rest s is answered = subst IsCons is tt
 dead l unfit (k ∷ order) rest s ([], after, parts, passes, more) answered =
     unfit s (subst (Fits s) (sym (ap (first_of l) parts)) answered.0)
 dead l unfit (k ∷ order) rest s (x ∷ before, after, parts, passes, more) answered =
     dead l unfit order (before ++ after) (after_line s k)
-    (subst (λ (y : Line). IsOrderOf (y ∷ (before ++ after)) order) (sym (ap (first_of l) parts)) more)
+    (subst (λ (y : Call). IsOrderOf (y ∷ (before ++ after)) order) (sym (ap (first_of l) parts)) more)
     answered.1
 
 -- the first line of the trace, and the line that is named
@@ -62,17 +62,17 @@ first = never 1 1
 abbrev named : Reservation
 named = never 1 1
 
-no_order : (s : Allocator) (order : List Line) → IsOrderOf (line.Reserve named ∷ []) order
+no_order : (s : Allocator) (order : List Call) → IsOrderOf (line.Reserve named ∷ []) order
     → AreAnswered s order → ⊥
 no_order s order is answered =
     dead (line.Reserve named) (never_fits named.number named.caller) order [] s is answered
 
-abbrev rest_of : List Line → List Line
+abbrev rest_of : List Call → List Call
 rest_of [] = []
 rest_of (x ∷ xs) = xs
 
 -- of the two lines only the first may come next
-only_first : (s : Allocator) (next : Line) (left : List Line)
+only_first : (s : Allocator) (next : Call) (left : List Call)
     → IsOrderOf (line.Reserve named ∷ line.Flush None ∷ []) (next ∷ left) → Fits s next → ⊥
 only_first s next left ([], after, parts, passes, more) fits =
     never_fits named.number named.caller s
@@ -83,13 +83,13 @@ only_first s next left (b ∷ [], after, parts, passes, more) fits =
     let pass = passes.0 in
     flush_stays b next (sym one) pass
   where
-    flush_stays : (b next : Line) → next ≡ line.Flush None → MayPass next b → ⊥
-    flush_stays b next is pass = subst (λ (l : Line). MayPass l b) is pass
+    flush_stays : (b next : Call) → next ≡ line.Flush None → MayPass next b → ⊥
+    flush_stays b next is pass = subst (λ (l : Call). MayPass l b) is pass
 only_first s next left (b ∷ d ∷ before, after, parts, passes, more) fits =
     let no : [] ≡ before ++ next ∷ after = ap (λ ls. rest_of (rest_of ls)) parts in
     none_in before after next no
   where
-    none_in : (before after : List Line) (l : Line) → [] ≡ before ++ l ∷ after → ⊥
+    none_in : (before after : List Call) (l : Call) → [] ≡ before ++ l ∷ after → ⊥
     none_in [] after l is = cc
     none_in (x ∷ before) after l is = cc
 
@@ -165,7 +165,7 @@ refuses_too_many limits texts after text r old h named many = asks_too_many (len
     read = h.read;
     named = named;
   };
-  checked = old.checker;
+  checked = old.comparer;
   reached = h.reached;
   few = h.few;
   many = many;

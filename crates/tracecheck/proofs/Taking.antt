@@ -7,7 +7,7 @@ use Rattle.std.proofs.lemmas.List.{append-nil}
 use Rattle.std.proofs.lemmas.List.Sums.{sum_by_push}
 use Rattle.ent_alloc.specs.Limits.{Limits}
 use Rattle.ent_replay.specs.Checker.{AgreesWith, Checked, Follows, IsTooMany, NoneFollows, Reaches}
-use Rattle.ent_replay.specs.Checker.{ReachesAll, Shows, requested_in}
+use Rattle.ent_replay.specs.Checker.{AllFollow, ReachesAll, Shows, opened, requested_in}
 use Rattle.ent_replay.proofs.Requested.{ReachesAll-next, requested_by, requested-reserve}
 use Rattle.ent_replay.proofs.Requested.{requested-flush, requested-alloc, requested-free}
 use Rattle.ent_replay.proofs.Requested.{requested-state, requested-len}
@@ -15,20 +15,20 @@ use Rattle.tracecheck.specs.Verdict.{IsVerdict, StandsAt, agrees, asks_too_many,
 use Rattle.tracecheck.specs.Verdict.{differs_in_all, is_none}
 use Rattle.ent_replay.specs.Text.{line_of, words_of}
 use Rattle.ent_replay.specs.declared.trace.difference.Difference.{Difference}
-use Rattle.ent_replay.specs.declared.trace.line.Line.{Line}
-use Rattle.ent_replay.specs.declared.trace.line.Line.TheVariants as line
+use Rattle.ent_replay.specs.declared.trace.call.Call.{Call}
+use Rattle.ent_replay.specs.declared.trace.call.Call.TheVariants as line
 use Rattle.ent_replay.specs.declared.trace.read_fault.Cause.{Cause}
 use Rattle.tracecheck.specs.Calls.{Refused, calls_from, goes_on, given_in, requested_after}
 use Rattle.tracecheck.specs.Calls.{requested_from}
-use Rattle.tracecheck.specs.Checking.{AllFollow, HasTaken, opened}
+use Rattle.tracecheck.specs.Checking.{HasTaken}
 use Rattle.tracecheck.specs.declared.checking.Checking.{Checking}
 use Rattle.tracecheck.specs.declared.verdict.Verdict.TheVariants as verdict
 use Rattle.tracecheck.specs.declared.verdict.Refusal.TheVariants as refusal
 use Rattle.tracecheck.proofs.Joined.{AllFollow-call, calls_from-append, with_front}
 
-next_call : (texts : List (List ℕ)) (text : List ℕ) (calls : List Line)
-    (r : Result (Option Line) Cause)
-    (more : Result (List Line) Refused)
+next_call : (texts : List (List ℕ)) (text : List ℕ) (calls : List Call)
+    (r : Result (Option Call) Cause)
+    (more : Result (List Call) Refused)
     → calls_from 1 texts ≡ Ok calls → line_of (1 + length texts) (words_of text) ≡ r
     → goes_on (1 + length texts) r (Ok []) ≡ more
     → calls_from 1 (texts ++ text ∷ []) ≡ with_front calls more
@@ -38,7 +38,7 @@ next_call texts text calls r more read named gives =
 -- a line without words
 pub HasTaken-none : (limits : Limits) (texts : List (List ℕ)) (text : List ℕ) (old new : Checking)
     (number : ℕ) → number ≡ old.lines + 1 → new.lines ≡ number → new.given ≡ old.given
-    → new.checker ≡ old.checker → line_of number (words_of text) ≡ Ok None
+    → new.comparer ≡ old.comparer → line_of number (words_of text) ≡ Ok None
     → HasTaken limits texts old → HasTaken limits (texts ++ text ∷ []) new
 HasTaken-none limits texts text old new number next lines given same named h =
     let here : number ≡ 1 + length texts = omega (arith, h.lines) in
@@ -46,7 +46,7 @@ HasTaken-none limits texts text old new number next lines given same named h =
       calls = h.calls;
       read = next_call texts text h.calls (Ok None) (Ok []) h.read
           (ap (λ n. line_of n (words_of text)) (sym here) ∙ named) refl
-          ∙ ap (λ (ls : List Line). Ok ls) (append-nil h.calls);
+          ∙ ap (λ (ls : List Call). Ok ls) (append-nil h.calls);
       follow = subst (AllFollow (opened limits) h.calls) (sym same) h.follow;
       reached = subst (ReachesAll (opened limits) h.calls) (sym same) h.reached;
       requested = ap requested_by same ∙ h.requested;
@@ -56,12 +56,12 @@ HasTaken-none limits texts text old new number next lines given same named h =
     }
 
 -- what is requested with one more call
-requested_from-append : (n : ℕ) (calls : List Line) (l : Line) → requested_from n (calls ++ l ∷ [])
+requested_from-append : (n : ℕ) (calls : List Call) (l : Call) → requested_from n (calls ++ l ∷ [])
     ≡ requested_after (requested_from n calls) l
 requested_from-append n [] l = refl
 requested_from-append n (x ∷ calls) l = requested_from-append (requested_after n x) calls l
 
-requested_next : (old new : Checked) (l : Line) → Reaches old l new → requested_by new
+requested_next : (old new : Checked) (l : Call) → Reaches old l new → requested_by new
     ≡ requested_after (requested_by old) l
 requested_next old new (line.Reserve r) reaches = requested-reserve old new r reaches
 requested_next old new (line.Flush told) reaches = requested-flush old new told reaches
@@ -70,7 +70,7 @@ requested_next old new (line.Free h told) reaches = requested-free old new h tol
 requested_next old new (line.State h told) reaches = requested-state old new h told reaches
 requested_next old new (line.Len told) reaches = requested-len old new told reaches
 
-few_next : (old : Checked) (l : Line) → requested_by old ≤ 2 ^ 50 → (IsTooMany old l → ⊥)
+few_next : (old : Checked) (l : Call) → requested_by old ≤ 2 ^ 50 → (IsTooMany old l → ⊥)
     → requested_after (requested_by old) l ≤ 2 ^ 50
 few_next old (line.Reserve r) few more = elim
     (cases_lt (2 ^ 50) (old.allocator.asked + requested_in old.run + r.requested)) [
@@ -83,7 +83,7 @@ few_next old (line.Free h told) few more = few
 few_next old (line.State h told) few more = few
 few_next old (line.Len told) few more = few
 
-many_next : (old : Checked) (l : Line) → IsTooMany old l → 2 ^ 50
+many_next : (old : Checked) (l : Call) → IsTooMany old l → 2 ^ 50
     < requested_after (requested_by old) l
 many_next old (line.Reserve r) many = many
 many_next old (line.Flush told) many = absurd many
@@ -93,10 +93,10 @@ many_next old (line.State h told) many = absurd many
 many_next old (line.Len told) many = absurd many
 
 -- a call
-pub HasTaken-call : (limits : Limits) (texts : List (List ℕ)) (text : List ℕ) (l : Line)
+pub HasTaken-call : (limits : Limits) (texts : List (List ℕ)) (text : List ℕ) (l : Call)
     (old new : Checking) (number : ℕ) → number ≡ old.lines + 1 → new.lines ≡ number
-    → new.given ≡ old.given + given_in l → Follows old.checker l new.checker
-    → Reaches old.checker l new.checker → (IsTooMany old.checker l → ⊥)
+    → new.given ≡ old.given + given_in l → Follows old.comparer l new.comparer
+    → Reaches old.comparer l new.comparer → (IsTooMany old.comparer l → ⊥)
     → line_of number (words_of text) ≡ Ok (Some l)
     → HasTaken limits texts old → HasTaken limits (texts ++ text ∷ []) new
 HasTaken-call limits texts text l old new number next lines given follows reaches more named h =
@@ -105,53 +105,53 @@ HasTaken-call limits texts text l old new number next lines given follows reache
       calls = h.calls ++ l ∷ [];
       read = next_call texts text h.calls (Ok (Some l)) (Ok (l ∷ [])) h.read
           (ap (λ n. line_of n (words_of text)) (sym here) ∙ named) refl;
-      follow = AllFollow-call (opened limits) old.checker new.checker h.calls l h.follow follows;
-      reached = ReachesAll-next (opened limits) old.checker new.checker h.calls l h.reached reaches;
-      requested = requested_next old.checker new.checker l reaches
+      follow = AllFollow-call (opened limits) old.comparer new.comparer h.calls l h.follow follows;
+      reached = ReachesAll-next (opened limits) old.comparer new.comparer h.calls l h.reached reaches;
+      requested = requested_next old.comparer new.comparer l reaches
           ∙ ap (λ n. requested_after n l) h.requested ∙ sym (requested_from-append 0 h.calls l);
       few = subst (λ n. n ≤ 2 ^ 50)
           (ap (λ n. requested_after n l) h.requested ∙ sym (requested_from-append 0 h.calls l))
-          (few_next old.checker l (subst (λ n. n ≤ 2 ^ 50) (sym h.requested) h.few) more);
+          (few_next old.comparer l (subst (λ n. n ≤ 2 ^ 50) (sym h.requested) h.few) more);
       lines = omega (arith, h.lines, length-append texts (text ∷ []));
       given = omega (arith, h.given, given, sum_by_push given_in h.calls l);
     }
 
-stands : (limits : Limits) (texts after : List (List ℕ)) (text : List ℕ) (l : Line) (old : Checking)
+stands : (limits : Limits) (texts after : List (List ℕ)) (text : List ℕ) (l : Call) (old : Checking)
     (number : ℕ) → number ≡ old.lines + 1 → line_of number (words_of text) ≡ Ok (Some l)
     → (h : HasTaken limits texts old) → StandsAt (texts ++ text ∷ after) number h.calls l
 stands limits texts after text l old number next named h = search (rules)
 
-pub differs_here : (limits : Limits) (texts after : List (List ℕ)) (text : List ℕ) (l : Line)
+pub differs_here : (limits : Limits) (texts after : List (List ℕ)) (text : List ℕ) (l : Call)
     (old : Checking) (number : ℕ) (d : Difference) → number ≡ old.lines + 1
-    → line_of number (words_of text) ≡ Ok (Some l) → Shows old.checker number (l ∷ []) d
-    → NoneFollows old.checker l → HasTaken limits texts old
+    → line_of number (words_of text) ≡ Ok (Some l) → Shows old.comparer number (l ∷ []) d
+    → NoneFollows old.comparer l → HasTaken limits texts old
     → IsVerdict limits (texts ++ text ∷ after) (verdict.Differs d)
 differs_here limits texts after text l old number d next named shows none h = differs d (record {
   number = number;
   calls = h.calls;
   next = l;
   stands = stands limits texts after text l old number next named h;
-  checked = old.checker;
+  checked = old.comparer;
   reached = h.reached;
   shows = shows;
   none = λ rest a. none rest (h.follow.complete (l ∷ rest) a);
 })
 
-pub asks_here : (limits : Limits) (texts after : List (List ℕ)) (text : List ℕ) (l : Line)
+pub asks_here : (limits : Limits) (texts after : List (List ℕ)) (text : List ℕ) (l : Call)
     (old : Checking) (number : ℕ) → number ≡ old.lines + 1
-    → line_of number (words_of text) ≡ Ok (Some l) → IsTooMany old.checker l
+    → line_of number (words_of text) ≡ Ok (Some l) → IsTooMany old.comparer l
     → HasTaken limits texts old
     → IsVerdict limits (texts ++ text ∷ after) (verdict.Refused number refusal.Requests)
 asks_here limits texts after text l old number next named many h = asks_too_many number (record {
   calls = h.calls;
   next = l;
   stands = stands limits texts after text l old number next named h;
-  checked = old.checker;
+  checked = old.comparer;
   reached = h.reached;
   few = h.few;
   many = subst (λ n. 2 ^ 50 < n)
       (ap (λ n. requested_after n l) h.requested ∙ sym (requested_from-append 0 h.calls l))
-      (many_next old.checker l many);
+      (many_next old.comparer l many);
 })
 
 pub none_here : (limits : Limits) (texts after : List (List ℕ)) (text : List ℕ) (c : Cause)
@@ -168,14 +168,14 @@ none_here limits texts after text c old number next named h =
       number_is = omega (arith, h.lines);
       calls = h.calls;
       read = h.read;
-      checked = old.checker;
+      checked = old.comparer;
       reached = h.reached;
     })
 
 -- ---- the end
 
 pub agrees_in_all : (limits : Limits) (texts : List (List ℕ)) (old : Checking)
-    → AgreesWith old.checker [] → HasTaken limits texts old
+    → AgreesWith old.comparer [] → HasTaken limits texts old
     → IsVerdict limits texts (verdict.Agrees old.lines old.given)
 agrees_in_all limits texts old a h =
     subst (λ n. IsVerdict limits texts (verdict.Agrees n old.given)) (sym h.lines)
@@ -183,12 +183,12 @@ agrees_in_all limits texts old a h =
     (agrees h.calls h.read (search (rules, append-nil))))
 
 pub differs_at_end : (limits : Limits) (texts : List (List ℕ)) (old : Checking) (d : Difference)
-    → Shows old.checker 0 [] d → (AgreesWith old.checker [] → ⊥) → HasTaken limits texts old
+    → Shows old.comparer 0 [] d → (AgreesWith old.comparer [] → ⊥) → HasTaken limits texts old
     → IsVerdict limits texts (verdict.Differs d)
 differs_at_end limits texts old d shows none h = differs_in_all d (record {
   calls = h.calls;
   read = h.read;
-  checked = old.checker;
+  checked = old.comparer;
   reached = h.reached;
   shows = shows;
   none = search (rules, append-nil);

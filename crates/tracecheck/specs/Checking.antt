@@ -2,29 +2,19 @@
 use Rattle.std.specs.Prelude.{◌≡◌, ◌≢◌, ℕ, ◌+◌, ◌^◌, ◌≤◌, List, [], ◌++◌, length, All, Ok}
 use Rattle.std.specs.List.{sum_by}
 use Rattle.ent_alloc.specs.Limits.{Limits}
-use Rattle.ent_alloc.specs.Sequential.{opening}
-use Rattle.ent_replay.specs.Checker.{Checked, AgreesWith, ReachesAll, requested_in}
+use Rattle.ent_replay.specs.Checker.{AllFollow, ReachesAll, opened, requested_in}
 use Rattle.ent_replay.specs.Text.{lines_of}
-use Rattle.ent_replay.specs.declared.trace.line.Line.{Line}
+use Rattle.ent_replay.specs.declared.trace.call.Call.{Call}
 use Rattle.tracecheck.specs.Calls.{calls_from, given_in, requested_from}
 use Rattle.tracecheck.specs.declared.checking.Checking.{Checking}
 
--- no line is checked yet
-abbrev pub opened : Limits → Checked
-opened limits = record { allocator = opening limits; run = [] }
-
--- before and after these calls: the same calls may follow
-pub record AllFollow (old : Checked) (calls : List Line) (new : Checked) : Type 0 where
-  pub sound : (rest : List Line) → AgreesWith new rest → AgreesWith old (calls ++ rest)
-  pub complete : (rest : List Line) → AgreesWith old (calls ++ rest) → AgreesWith new rest
-
 -- these lines were taken, from the first on
 pub record HasTaken (limits : Limits) (texts : List (List ℕ)) (c : Checking) : Type 0 where
-  pub calls : List Line
+  pub calls : List Call
   pub read : calls_from 1 texts ≡ Ok calls
-  pub follow : AllFollow (opened limits) calls c.checker
-  pub reached : ReachesAll (opened limits) calls c.checker
-  pub requested : c.checker.allocator.asked + requested_in c.checker.run ≡ requested_from 0 calls
+  pub follow : AllFollow (opened limits) calls c.comparer
+  pub reached : ReachesAll (opened limits) calls c.comparer
+  pub requested : c.comparer.allocator.asked + requested_in c.comparer.run ≡ requested_from 0 calls
   pub few : requested_from 0 calls ≤ 2 ^ 50
   pub lines : c.lines ≡ length texts
   pub given : c.given ≡ sum_by given_in calls

@@ -7,17 +7,16 @@ use Rattle.ent_handle.specs.Handle.{Handle}
 use Rattle.ent_handle.specs.Text.{handle_text}
 use Rattle.ent_alloc.specs.Limits.{Limits}
 use Rattle.ent_alloc.specs.Sequential.{opening}
-use Rattle.ent_replay.specs.Checker.{Checked, ReachesAll, Shows}
+use Rattle.ent_replay.specs.Checker.{Checked, ReachesAll, Shows, opened}
 use Rattle.ent_replay.specs.Trace.{Agrees}
-use Rattle.ent_replay.specs.Text.{Word, answer_words, cause_text, line_of, line_text, spaced}
+use Rattle.ent_replay.specs.Text.{Word, cause_text, difference_text, line_of, spaced}
 use Rattle.ent_replay.specs.Text.{words_of}
 use Rattle.ent_replay.specs.declared.trace.difference.Difference.{Difference}
-use Rattle.ent_replay.specs.declared.trace.difference.Stop.{Stop}
-use Rattle.ent_replay.specs.declared.trace.difference.Stop.TheVariants as stop
-use Rattle.ent_replay.specs.declared.trace.line.Line.{Line}
+use Rattle.ent_replay.specs.declared.trace.check_error.CheckError.{CheckError}
+use Rattle.ent_replay.specs.declared.trace.check_error.CheckError.TheVariants as stop
+use Rattle.ent_replay.specs.declared.trace.call.Call.{Call}
 use Rattle.ent_replay.specs.declared.trace.read_fault.Cause.{Cause}
 use Rattle.tracecheck.specs.Calls.{calls_from, given_in, requested_from}
-use Rattle.tracecheck.specs.Checking.{opened}
 use Rattle.tracecheck.specs.declared.checking.End.{End}
 use Rattle.tracecheck.specs.declared.checking.End.TheVariants as end
 use Rattle.tracecheck.specs.declared.verdict.Refusal.{Refusal}
@@ -26,7 +25,7 @@ use Rattle.tracecheck.specs.declared.verdict.Verdict.{Verdict}
 use Rattle.tracecheck.specs.declared.verdict.Verdict.TheVariants as verdict
 
 -- The lines before this one have these calls, and this one has a call too.
-pub record StandsAt (lines : List (List ℕ)) (number : ℕ) (calls : List Line) (next : Line)
+pub record StandsAt (lines : List (List ℕ)) (number : ℕ) (calls : List Call) (next : Call)
     : Type 0 where
   pub before : List (List ℕ)
   pub text : List ℕ
@@ -42,7 +41,7 @@ pub record AreTaken (limits : Limits) (lines : List (List ℕ)) (number : ℕ) :
   pub after : List (List ℕ)
   pub is : lines ≡ before ++ after
   pub number_is : number ≡ length before + 1
-  pub calls : List Line
+  pub calls : List Call
   pub read : calls_from 1 before ≡ Ok calls
   pub checked : Checked
   pub reached : ReachesAll (opened limits) calls checked
@@ -51,17 +50,17 @@ pub record AreTaken (limits : Limits) (lines : List (List ℕ)) (number : ℕ) :
 -- after it agrees.
 pub record DiffersAt (limits : Limits) (lines : List (List ℕ)) (d : Difference) : Type 0 where
   pub number : ℕ
-  pub calls : List Line
-  pub next : Line
+  pub calls : List Call
+  pub next : Call
   pub stands : StandsAt lines number calls next
   pub checked : Checked
   pub reached : ReachesAll (opened limits) calls checked
   pub shows : Shows checked number (next ∷ []) d
-  pub none : (rest : List Line) → Agrees (opening limits) (calls ++ next ∷ rest) → ⊥
+  pub none : (rest : List Call) → Agrees (opening limits) (calls ++ next ∷ rest) → ⊥
 
 -- All calls were taken. At the end of the trace the difference shows.
 pub record DiffersInAll (limits : Limits) (lines : List (List ℕ)) (d : Difference) : Type 0 where
-  pub calls : List Line
+  pub calls : List Call
   pub read : calls_from 1 lines ≡ Ok calls
   pub checked : Checked
   pub reached : ReachesAll (opened limits) calls checked
@@ -71,8 +70,8 @@ pub record DiffersInAll (limits : Limits) (lines : List (List ℕ)) (d : Differe
 -- The calls before this line were taken. Only with its call more was requested since the last flush than
 -- an allocator counts.
 pub record AsksAt (limits : Limits) (lines : List (List ℕ)) (number : ℕ) : Type 0 where
-  pub calls : List Line
-  pub next : Line
+  pub calls : List Call
+  pub next : Call
   pub stands : StandsAt lines number calls next
   pub checked : Checked
   pub reached : ReachesAll (opened limits) calls checked
@@ -82,7 +81,7 @@ pub record AsksAt (limits : Limits) (lines : List (List ℕ)) (number : ℕ) : T
 -- what may be said of the trace of these lines
 pub data IsVerdict (limits : Limits) (lines : List (List ℕ)) : Verdict → Type 0 where
   -- they are a trace, and it agrees
-  agrees : (calls : List Line) → calls_from 1 lines ≡ Ok calls → Agrees (opening limits) calls
+  agrees : (calls : List Call) → calls_from 1 lines ≡ Ok calls → Agrees (opening limits) calls
       → IsVerdict limits lines (verdict.Agrees (length lines) (sum_by given_in calls))
   differs : (d : Difference) → DiffersAt limits lines d → IsVerdict limits lines (verdict.Differs d)
   differs_in_all : (d : Difference) → DiffersInAll limits lines d
@@ -100,7 +99,7 @@ MayEnd limits lines (end.Verdict v) = IsVerdict limits lines v
 MayEnd limits lines end.Memory = ⊤
 
 -- what a stop at the line of this number says
-abbrev pub end_of : ℕ → Stop → End
+abbrev pub end_of : ℕ → CheckError → End
 end_of number (stop.Differs d) = end.Verdict (verdict.Differs d)
 end_of number stop.TooMany = end.Verdict (verdict.Refused number refusal.Requests)
 end_of number stop.Memory = end.Memory
@@ -122,16 +121,13 @@ abbrev pub state_text : List Handle → ℤ → List ℕ
 state_text front at =
     codes "pool" ++ spaced (pool_words front) ++ codes ", cursor " ++ signed_decimal at ++ codes "\n"
 
-abbrev pub difference_text : Difference → List ℕ
-difference_text d =
-    codes "differs line " ++ decimal d.number ++ codes ": " ++ line_text d.told
-    ++ codes ", expected" ++ spaced (answer_words d.expected) ++ codes "\n"
-    ++ state_text d.front d.cursor
+abbrev pub difference_lines : Difference → List ℕ
+difference_lines d = difference_text d ++ codes "\n" ++ state_text d.front d.cursor
 
 abbrev pub verdict_text : Verdict → List ℕ
 verdict_text (verdict.Agrees lines given) =
     codes "agrees: " ++ decimal lines ++ codes " lines, " ++ decimal given
     ++ codes " handles given\n"
-verdict_text (verdict.Differs d) = difference_text d
+verdict_text (verdict.Differs d) = difference_lines d
 verdict_text (verdict.Refused line r) =
     codes "refused line " ++ decimal line ++ codes " " ++ refusal_text r ++ codes "\n"

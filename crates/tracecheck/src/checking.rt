@@ -3,7 +3,7 @@ ghost use Rattle.std.specs.Prelude.{◌≡◌, ◌∷◌, ◌++◌, ◌+◌, [],
 ghost use Rattle.std.specs.Prelude.{Some, Ok};
 ghost use Rattle.ent_alloc.specs.Limits.{Limits as LimitsValue};
 ghost use Rattle.ent_replay.specs.Text.{line_of, words_of};
-ghost use Rattle.ent_replay.specs.declared.trace.line.Line.{Line as LineValue};
+ghost use Rattle.ent_replay.specs.declared.trace.call.Call.{Call as CallValue};
 ghost use Rattle.tracecheck.specs.Calls.{given_in, listed_in};
 ghost use Rattle.tracecheck.specs.Checking.{HasTaken};
 ghost use Rattle.tracecheck.specs.Verdict.{MayEnd, end_of};
@@ -11,7 +11,9 @@ ghost use Rattle.tracecheck.specs.declared.checking.End.TheVariants.{Memory as E
 
 use crate::verdict::{Refusal, Verdict};
 use ent_alloc::Limits;
-use ent_replay::trace::{AllocReply, Checker, Line, ReadFault, ReserveReply, Stop, read_line};
+use ent_replay::trace::{
+    AllocReply, Call, CheckError, Comparer, ReadFault, ReserveReply, read_line,
+};
 use std::alloc::{AllocError, Global};
 
 /// Why the lines of a trace are not taken any further.
@@ -31,12 +33,12 @@ impl From<AllocError> for End {
     }
 }
 
-/// Takes the lines of a trace as texts, one after the other. It holds the checker, and nothing of
-/// the lines.
+/// Takes the lines of a trace as texts, one after the other. It holds what compares them, and nothing
+/// of the lines.
 #[derive(Drop)]
 pub struct Checking {
     alloc: Global,
-    checker: Checker,
+    comparer: Comparer,
     lines: u64,
     given: u64,
 }
@@ -48,7 +50,7 @@ impl Checking {
     {
         Checking {
             alloc,
-            checker: Checker::new(alloc, limits),
+            comparer: Comparer::new(alloc, limits),
             lines: 0,
             given: 0,
         }
@@ -94,20 +96,20 @@ impl Checking {
     {
         let Checking {
             alloc,
-            checker,
+            comparer,
             lines: _,
             given,
         } = self;
         Checking {
             alloc,
-            checker,
+            comparer,
             lines: number,
             given,
         }
     }
 
     // Takes the call of the line that has this number.
-    fn take_call(self, number: u64, line: Line) -> Result<Self, End>
+    fn take_call(self, number: u64, line: Call) -> Result<Self, End>
         requires { number ≡ self.lines + 1 }
         ensures taken { IfOk result (λ next. (limits : LimitsValue) (texts : List (List ℕ))
             (text : List ℕ) → line_of number (words_of text) ≡ Ok (Some line)
@@ -119,21 +121,21 @@ impl Checking {
     {
         let Checking {
             alloc,
-            checker,
+            comparer,
             lines: _,
             given,
         } = self;
         let Some(given) = given.checked_add(given_in(&line)) else {
             return Err(End::Memory);
         };
-        match checker.take(number, line) {
-            Ok(checker) => Ok(Checking {
+        match comparer.take(number, line) {
+            Ok(comparer) => Ok(Checking {
                 alloc,
-                checker,
+                comparer,
                 lines: number,
                 given,
             }),
-            Err(stop) => Err(end_of(number, stop)),
+            Err(error) => Err(end_of(number, error)),
         }
     }
 
@@ -144,39 +146,39 @@ impl Checking {
     {
         let Checking {
             alloc: _,
-            checker,
+            comparer,
             lines,
             given,
         } = self;
-        match checker.finish() {
+        match comparer.finish() {
             Ok(_) => End::Verdict(Verdict::Agrees { lines, given }),
-            Err(Stop::Differs(difference)) => End::Verdict(Verdict::Differs(difference)),
+            Err(CheckError::Differs(difference)) => End::Verdict(Verdict::Differs(difference)),
             Err(_) => End::Memory,
         }
     }
 }
 
-// What a stop at the line of this number says of the trace.
-fn end_of(number: u64, stop: Stop) -> End
-    ensures { result ≡ end_of number stop }
+// What an error at the line of this number says of the trace.
+fn end_of(number: u64, error: CheckError) -> End
+    ensures { result ≡ end_of number error }
 {
-    match stop {
-        Stop::Differs(difference) => End::Verdict(Verdict::Differs(difference)),
-        Stop::TooMany => End::Verdict(Verdict::Refused {
+    match error {
+        CheckError::Differs(difference) => End::Verdict(Verdict::Differs(difference)),
+        CheckError::TooMany => End::Verdict(Verdict::Refused {
             line: number,
             refusal: Refusal::Requests,
         }),
-        Stop::Memory => End::Memory,
+        _ => End::Memory,
     }
 }
 
 // How many handles a call says were given out.
-fn given_in(line: &Line) -> u64
+fn given_in(line: &Call) -> u64
     ensures { result ≡ given_in line.now }
 {
     match line {
-        Line::Alloc(Some(AllocReply::Handle(_))) => 1,
-        Line::Reserve(reservation) => listed_in(&reservation.reply),
+        Call::Alloc(Some(AllocReply::Handle(_))) => 1,
+        Call::Reserve(reservation) => listed_in(&reservation.reply),
         _ => 0,
     }
 }

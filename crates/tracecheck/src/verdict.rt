@@ -1,11 +1,11 @@
 //! What is said of a trace.
 ghost use Rattle.std.specs.Prelude.{◌≡◌, ◌++◌, codes, IfOk, OnOk};
 ghost use Rattle.ent_replay.specs.Text.{spaced};
-ghost use Rattle.tracecheck.specs.Verdict.{difference_text, pool_words, refusal_text};
+ghost use Rattle.tracecheck.specs.Verdict.{difference_lines, pool_words, refusal_text};
 ghost use Rattle.tracecheck.specs.Verdict.{state_text, verdict_text};
 
 use ent_handle::{Handle, Memory};
-use ent_replay::trace::{Cause, Difference, append_answer, append_handles, write_line};
+use ent_replay::trace::{Cause, Difference, append_handles, write_difference};
 use std::alloc::Global;
 
 // A difference shows at most this many handles of a pool.
@@ -64,7 +64,7 @@ impl Verdict {
     {
         match self {
             Verdict::Agrees { lines, given } => agrees_text(alloc, *lines, *given),
-            Verdict::Differs(difference) => difference_text(alloc, difference),
+            Verdict::Differs(difference) => difference_lines(alloc, difference),
             Verdict::Refused { line, refusal } => refused_text(alloc, *line, *refusal),
         }
     }
@@ -85,14 +85,11 @@ fn refused_text(alloc: Global, line: u64, refusal: Refusal) -> Result<Vec<u8>, M
     Ok(text.into_bytes())
 }
 
-fn difference_text(alloc: Global, difference: &Difference) -> Result<Vec<u8>, Memory>
-    ensures { IfOk result (λ text. text.items ≡ difference_text difference.now) }
+fn difference_lines(alloc: Global, difference: &Difference) -> Result<Vec<u8>, Memory>
+    ensures { IfOk result (λ text. text.items ≡ difference_lines difference.now) }
 {
-    let number = difference.number;
-    let mut text = format!(in alloc; "differs line {number}: ")?.into_bytes();
-    write_line(alloc, &mut text, &difference.told)?;
-    text.extend_from_slice(b", expected")?;
-    append_answer(alloc, &mut text, &difference.expected)?;
+    let mut text = Vec::new(alloc);
+    write_difference(alloc, &mut text, difference)?;
     text.push(b'\n')?;
     append_state(
         alloc,

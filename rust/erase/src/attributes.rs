@@ -69,7 +69,9 @@ impl Walk<'_> {
             return Ok(false);
         }
         let text: String = (name..end - 1).map(|at| self.source.at(at)).collect();
-        if forms::KEPT_ATTRIBUTES.contains(&text.as_str()) {
+        // `must_use` may say why.
+        let says_why = self.source.at(name) == "must_use" && self.source.at(name + 1) == "=";
+        if forms::KEPT_ATTRIBUTES.contains(&text.as_str()) || says_why {
             return Ok(false);
         }
         Err(self

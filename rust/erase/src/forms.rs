@@ -195,7 +195,7 @@ pub fn is_of_std(name: &str) -> bool {
 pub const OWN_CALLS: &[(&str, &[&str])] = &[
     ("and", &["requests"]),
     ("end", &["progress", "self"]),
-    ("flush", &["allocator", "entities", "self"]),
+    ("flush", &["allocator", "entities", "self", "world"]),
     ("lines", &["checking"]),
     ("read", &["applying"]),
     ("replace", &["calls"]),
@@ -331,6 +331,7 @@ pub const BARE: &[&str] = &[
     "FnMut",
     "FnOnce",
     "From",
+    "Into",
     "Hash",
     "Item",
     "Iterator",
@@ -413,13 +414,22 @@ pub struct Layout {
     pub attribute: &'static str,
 }
 
-/// The types with a layout of their own: Rust promises that an `Option` of a word that is never 0 takes no more
-/// room than the word, and by this attribute it promises it of a handle.
-pub const LAYOUTS: &[Layout] = &[Layout {
-    krate: "ent_handle",
-    name: "Handle",
-    attribute: "#[repr(transparent)]",
-}];
+/// The types with a layout of their own.
+pub const LAYOUTS: &[Layout] = &[
+    // Rust promises that an `Option` of a word that is never 0 takes no more room than the word, and by this
+    // attribute it promises it of a handle.
+    Layout {
+        krate: "ent_handle",
+        name: "Handle",
+        attribute: "#[repr(transparent)]",
+    },
+    // A reservation writes the reserver, so two of them in a list share no line of a processor's cache.
+    Layout {
+        krate: "ent_total",
+        name: "Reserver",
+        attribute: "#[repr(align(128))]",
+    },
+];
 
 /// The layout of the type of this crate, if it has one of its own.
 pub fn layout_of(krate: &str, name: &str) -> Option<&'static Layout> {
@@ -668,6 +678,7 @@ const METHODS: &[&str] = &[
     "any",
     "as_bytes",
     "as_chunks",
+    "as_mut_slice",
     "as_ref",
     "as_slice",
     "binary_search",

@@ -285,9 +285,13 @@ impl Names {
             let no_file = || BTreeSet::from([String::new()]);
             let files = self.types.get(header.of).cloned().unwrap_or_else(no_file);
             let is_here = files.contains(source.path);
+            // A type of this crate hides those of the same name of the crates below.
+            let of_crate = |file: &String| file.split('/').nth(1) == Some(krate(source));
+            let is_of_crate = files.iter().any(of_crate);
             let meant = files
                 .into_iter()
-                .filter(|file| !is_here || file == source.path);
+                .filter(|file| !is_here || file == source.path)
+                .filter(|file| !is_of_crate || of_crate(file));
             self.blocks.extend(meant.map(|file| Block {
                 of: (file, header.of.to_owned()),
                 implemented: header.implemented.map(str::to_owned),

@@ -203,6 +203,43 @@ fn who_may_call_a_function_with_a_condition() {
 }
 
 #[test]
+fn all_may_call_a_function_that_only_requires_a_closure() {
+    gives(
+        "pub fn a<F: FnMut(u8)>(keep: F)\n    requires { F.IsAlwaysCallable keep }\n    ensures { b }\n{\n}\n",
+        "#[inline]\npub fn a<F: FnMut(u8)>(keep: F)\n    // requires { F.IsAlwaysCallable keep }\n    \
+         // ensures { b }\n{\n}\n",
+    );
+    gives(
+        "pub fn a<F: FnMut(u8)>(keep: F)\n    requires { F.IsAlwaysCallable keep × b }\n{\n}\n",
+        "#[inline]\npub(crate) fn a<F: FnMut(u8)>(keep: F)\n    // requires { F.IsAlwaysCallable keep × b }\n{\n}\n",
+    );
+    gives(
+        "pub fn a<F: FnMut(u8)>(keep: F)\n    requires { F.IsAlwaysCallable keep }\n    requires { b }\n{\n}\n",
+        "#[inline]\npub(crate) fn a<F: FnMut(u8)>(keep: F)\n    // requires { F.IsAlwaysCallable keep }\n    \
+         // requires { b }\n{\n}\n",
+    );
+}
+
+#[test]
+fn a_clone_that_is_refused_no_memory() {
+    gives(
+        "struct A;\n\nimpl A {\n    fn again(&self) -> Self {\n        A\n    }\n}\n\nimpl Clone for A {\n    \
+         ghost is_infallible = { λ _. ⊤ };\n\n    fn clone(&self) -> Result<Self, std::alloc::AllocError> {\n        \
+         Ok(self.again())\n    }\n}\n",
+        "struct A;\n\nimpl A {\n    #[inline]\n    fn again(&self) -> Self {\n        A\n    }\n}\n\n\
+         impl Clone for A {\n    #[inline]\n    fn clone(&self) -> Self {\n        self.again()\n    }\n}\n",
+    );
+}
+
+#[test]
+fn links_to_the_package() {
+    gives(
+        "/// [`A`](forgeni::A), [`B`](crate::B).\nstruct B;\n",
+        "/// [`A`](crate::A), [`B`](crate::proved::ent_here::B).\nstruct B;\n",
+    );
+}
+
+#[test]
 fn attributes_for_the_prover() {
     gives(
         "//! A.\n#![tactic(auto)]\n\nmod b;\n\n/// C.\n#[tactic(auto, using(crate::d::e))]\nfn c() {\n    \

@@ -120,6 +120,13 @@ const REFUSED: &[(&str, usize, &str)] = &[
         3,
         "an unknown clause: `promises`",
     ),
+    // Clones.
+    (
+        "struct A;\n\nimpl Clone for A {\n    fn clone(&self) -> Result<Self, std::alloc::AllocError> {\n        \
+         Ok(A)\n    }\n}\n",
+        4,
+        "another `clone` than by `again`",
+    ),
     // Functions with a condition.
     (
         "pub use b::{a, C};\n\nmod b {\n    pub fn a()\n        requires { c }\n    {\n    }\n\n    pub struct C;\n}\n",
@@ -196,9 +203,9 @@ const REFUSED: &[(&str, usize, &str)] = &[
         "an impl of an unknown trait: `Drop`",
     ),
     (
-        "impl Clone for A {}\n",
+        "impl AsMut for A {}\n",
         1,
-        "an impl of an unknown trait: `Clone`",
+        "an impl of an unknown trait: `AsMut`",
     ),
     (
         "mod a {\n    pub(crate) fn b() {}\n}\n",

@@ -293,8 +293,8 @@ impl Crew {
             }
             let mut allocator = self.allocator.write().expect("no panic");
             let born = allocator.flush();
-            checker.flush(&born[..])?;
-            living.extend(born);
+            living.extend(&born);
+            checker.flush(born)?;
             use_alone(&mut allocator, &mut checker, &mut living, &mut random)?;
         }
         let calls = checker.calls();

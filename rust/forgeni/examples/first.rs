@@ -18,7 +18,9 @@ fn main() -> Result<(), Box<dyn std::error::Error>> {
         }
     });
     let mut entities = shared.close(reservers)?;
-    println!("{} born", entities.flush()?.len());
+    let mut born = Vec::new();
+    entities.flush(&mut born)?;
+    println!("{} born", born.len());
     println!("{} alive", entities.len());
     Ok(())
 }

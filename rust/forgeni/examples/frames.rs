@@ -36,7 +36,7 @@
 //! 1 thread and 4 threads agree
 //! ```
 
-use forgeni::{CommandQueue, Commands, ComponentId, Handle, OutOfMemory, SpawnError, World};
+use forgeni::{CommandQueue, Commands, ComponentId, Handle, OutOfMemory, ReserveError, World};
 use std::error::Error;
 use std::fmt::Write;
 use std::thread;
@@ -74,11 +74,10 @@ const SYSTEMS: [System; 6] = [
 impl System {
     fn run(self, commands: &mut Commands) -> Result<(), OutOfMemory> {
         match self {
-            System::Launch(count) => match commands.spawn_many(count, &[(AGE, 0)]) {
-                Err(SpawnError::Memory) => Err(OutOfMemory),
-                // A refusal stands in the queue, and the sync point reports it.
-                _ => Ok(()),
-            },
+            // The queue keeps a refusal, and the sync point reports it.
+            System::Launch(count) => commands
+                .spawn_many(count, &[(AGE, 0)])
+                .map_or_else(ReserveError::or_memory, |_| Ok(())),
             System::Age => projectiles(commands)?
                 .into_iter()
                 .try_for_each(|one| age_one(commands, one)),
@@ -92,16 +91,13 @@ impl System {
 
 /// The projectiles, by birth.
 fn projectiles(commands: &Commands) -> Result<Vec<Handle>, OutOfMemory> {
-    let mut all = commands.by_birth()?;
-    all.retain(|one| commands.get(*one, AGE).is_some());
-    Ok(all)
+    commands.view().with(AGE)
 }
 
 fn age_one(commands: &mut Commands, one: Handle) -> Result<(), OutOfMemory> {
     match commands.get(one, AGE) {
         Some(age) if age < LIMIT => commands.insert(one, &[(AGE, age + 1)]),
-        Some(_) => commands.despawn(one),
-        None => Ok(()),
+        _ => commands.despawn(one),
     }
 }
 
@@ -139,13 +135,12 @@ fn play(threads: usize) -> Result<String, Box<dyn Error>> {
         let (closed, queues) = open.close(queues)?;
         world = closed;
         let report = world.apply(queues)?;
-        let (born, faults) = (report.born().len(), report.faults());
-        let (alive, count) = (world.len(), faults.len());
+        let (born, alive, faults) = (report.born.len(), world.len(), report.faults.len());
         writeln!(
             story,
-            "frame {frame}: born {born}, alive {alive}, faults {count}"
+            "frame {frame}: born {born}, alive {alive}, faults {faults}"
         )?;
-        for fault in faults {
+        for fault in report.faults {
             let (system, command) = (fault.system, fault.command);
             writeln!(
                 story,

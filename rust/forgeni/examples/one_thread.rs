@@ -4,7 +4,7 @@
 //!
 //! ```text
 //! 0v1 and 1v1 are alive: 2 of 3
-//! 1v1 is Gone, its slot gives Some("1v2")
+//! 1v1 is Gone, its slot gives Some(1v2)
 //! 1v2 is Alive
 //! 1v2 was the last of its slot: None
 //! 2v1 is of a new slot
@@ -29,7 +29,7 @@ fn main() -> Result<(), Box<dyn Error>> {
     println!(
         "{sword} is {:?}, its slot gives {:?}",
         entities.state(sword),
-        freed.next.map(|h| h.to_string())
+        freed.next
     );
 
     let shield = entities.alloc()?;

@@ -13,7 +13,7 @@
 //! 9 are alive
 //! ```
 
-use forgeni::{run_frame, ComponentId, OutOfMemory, SpawnError, SystemCommands, View, World};
+use forgeni::{run_frame, ComponentId, OutOfMemory, ReserveError, SystemCommands, View, World};
 use std::error::Error;
 use std::fmt::Write;
 use std::panic::{catch_unwind, resume_unwind, AssertUnwindSafe};
@@ -27,17 +27,17 @@ const TARGET: ComponentId = ComponentId(1);
 /// At this age a projectile is taken out.
 const LIMIT: i64 = 2;
 
-type System = fn(View<'_>, &mut SystemCommands<'_, '_>) -> Result<(), OutOfMemory>;
+type System = fn(&View<'_>, &mut SystemCommands<'_>) -> Result<(), OutOfMemory>;
 
-/// Launches three projectiles. A refusal stands in the queue, and the sync point reports it.
-fn launch(_: View<'_>, commands: &mut SystemCommands<'_, '_>) -> Result<(), OutOfMemory> {
+/// Launches three projectiles. The queue keeps a refusal, and the sync point reports it.
+fn launch(_: &View<'_>, commands: &mut SystemCommands<'_>) -> Result<(), OutOfMemory> {
     commands
         .spawn_many(3, &[(AGE, 0)])
-        .map_or_else(SpawnError::or_memory, |_| Ok(()))
+        .map_or_else(ReserveError::or_memory, |_| Ok(()))
 }
 
 /// Makes each projectile a frame older, and takes out those that are old enough.
-fn age(view: View<'_>, commands: &mut SystemCommands<'_, '_>) -> Result<(), OutOfMemory> {
+fn age(view: &View<'_>, commands: &mut SystemCommands<'_>) -> Result<(), OutOfMemory> {
     for one in view.with(AGE)? {
         match view.get(one, AGE) {
             Some(age) if age < LIMIT => commands.insert(one, &[(AGE, age + 1)])?,
@@ -49,14 +49,14 @@ fn age(view: View<'_>, commands: &mut SystemCommands<'_, '_>) -> Result<(), OutO
 
 /// Aims at the oldest projectile. If `age` takes it out in the same frame, that command comes first
 /// and this one is a fault.
-fn aim(view: View<'_>, commands: &mut SystemCommands<'_, '_>) -> Result<(), OutOfMemory> {
+fn aim(view: &View<'_>, commands: &mut SystemCommands<'_>) -> Result<(), OutOfMemory> {
     match view.with(AGE)?.first() {
         Some(oldest) => commands.insert(*oldest, &[(TARGET, 1)]),
         None => Ok(()),
     }
 }
 
-fn breaks(_: View<'_>, _: &mut SystemCommands<'_, '_>) -> Result<(), OutOfMemory> {
+fn breaks(_: &View<'_>, _: &mut SystemCommands<'_>) -> Result<(), OutOfMemory> {
     // As `panic!`, without its message.
     resume_unwind(Box::new("out of arrows"))
 }
@@ -69,7 +69,7 @@ fn play(workers: usize) -> Result<(World, String), Box<dyn Error>> {
     let (mut world, mut story) = (World::new(), String::new());
     for frame in 0..4 {
         let report = run_frame(&mut world, &SYSTEMS, workers)?;
-        let (born, alive, faults) = (report.born().len(), world.len(), report.faults().len());
+        let (born, alive, faults) = (report.born.len(), world.len(), report.faults.len());
         writeln!(
             story,
             "frame {frame}: born {born}, alive {alive}, faults {faults}"

@@ -7,7 +7,7 @@
 //! 1024 born
 //! ```
 
-use forgeni::{Entities, Handle, Refused, Reserver};
+use forgeni::{Entities, Handle, Refused, ReserveError, Reserver};
 use std::collections::HashSet;
 use std::error::Error;
 use std::thread;
@@ -30,12 +30,14 @@ fn main() -> Result<(), Box<dyn Error>> {
         println!("{} handles, none of them twice", given.len());
     }
     let mut entities = shared.close(reservers)?;
-    println!("{} born", entities.flush()?.len());
+    let mut born = Vec::new();
+    entities.flush(&mut born)?;
+    println!("{} born", born.len());
     Ok(())
 }
 
 /// One thread reserves one by one, the other at once.
-fn side_by_side(a: &mut Reserver, b: &mut Reserver) -> Result<Vec<Handle>, Refused> {
+fn side_by_side(a: &mut Reserver, b: &mut Reserver) -> Result<Vec<Handle>, ReserveError> {
     thread::scope(|scope| {
         let bulk = scope.spawn(|| b.reserve_many(400));
         let mut given = (0..600)

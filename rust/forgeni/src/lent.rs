@@ -1,8 +1,7 @@
 //! A reserver that is lent.
 
-use crate::errors::{OtherPhase, Refused};
-use crate::handle::Handle;
-use crate::sharing::Reserver;
+use crate::sharing::{OtherPhase, Reserver};
+use crate::{Handle, Refused, ReserveError};
 use alloc::vec::Vec;
 use core::fmt;
 use core::ops::Deref;
@@ -43,7 +42,7 @@ impl<'a> Lent<'a> {
     ///
     /// As there.
     #[inline]
-    pub fn reserve_many(&mut self, n: u32) -> Result<Vec<Handle>, Refused> {
+    pub fn reserve_many(&mut self, n: u32) -> Result<Vec<Handle>, ReserveError> {
         self.reserver.reserve_many(n)
     }
 
@@ -53,7 +52,7 @@ impl<'a> Lent<'a> {
     ///
     /// As there.
     #[inline]
-    pub fn reserve_into(&mut self, handles: &mut Vec<Handle>, n: u32) -> Result<(), Refused> {
+    pub fn reserve_into(&mut self, handles: &mut Vec<Handle>, n: u32) -> Result<(), ReserveError> {
         self.reserver.reserve_into(handles, n)
     }
 
@@ -68,7 +67,7 @@ impl<'a> Lent<'a> {
     }
 }
 
-/// What can be told of the reserver.
+/// What can be read of the reserver.
 impl Deref for Lent<'_> {
     type Target = Reserver;
 

@@ -1,9 +1,9 @@
 //! Entity handles from a proved allocator.
 //!
 //! [`Entities`] gives out the handles of entities and knows which are alive, like the allocators of
-//! Bevy and hecs. Each call of it goes to code that was proved in Rattle: what a call does to the
-//! allocator's state is a theorem about its source. That source is Rust with contracts, and stands
-//! in this package without them, as plain Rust.
+//! Bevy and hecs. It was proved in Rattle, which is Rust with contracts: what a call does to the
+//! allocator's state is a theorem about its source. This package is that source in plain Rust, and
+//! the contract of each proved call is below its docs.
 //!
 //! ```
 //! use forgeni::Entities;
@@ -44,17 +44,17 @@
 //! });
 //! let mut entities = shared.close(reservers)?;
 //! assert_eq!(entities.len(), 0);
-//! entities.flush()?;
+//! entities.flush(&mut Vec::new())?;
 //! assert_eq!(entities.len(), 44);
 //! # Ok::<(), Box<dyn std::error::Error>>(())
 //! ```
 //!
 //! While the allocator is shared it is inside the [`Shared`], so nothing but reservations can
-//! happen: `alloc`, `free` and `state` don't compile. What lived as the phase was opened is told all
-//! the while ([`Shared::is_alive`], [`Shared::row`]).
+//! happen: `alloc`, `free` and `state` don't compile. [`Shared::is_alive`], [`Shared::row`] and
+//! [`Shared::iter`] still say what was alive when the phase was opened.
 //!
-//! [`Entities::phase`] does both on a borrow: it lends the allocator to a closure, and has it back at
-//! the end. Task systems, where it isn't known before who runs a task, lend reservers from a pool
+//! [`Entities::phase`] does both on a borrow: it lends reservers to a closure, and at the end the
+//! allocator is back. A task system, where any thread may run any task, takes reservers from a pool
 //! (`Reservers`).
 //!
 //! # Components
@@ -80,12 +80,37 @@
 //! knows when each entity was born, and reports what a frame did. `run_frame` runs systems on workers; its
 //! docs say what depends on their number. Each system reads the world and issues commands, and the commands
 //! take effect in the order of the systems. With threads of your own, use [`World::open`], [`Commands`],
-//! [`OpenWorld::close`] and [`World::apply`].
+//! [`OpenWorld::close`] and [`World::apply`]:
+//!
+//! ```
+//! use forgeni::{ComponentId, World};
+//!
+//! const SPEED: ComponentId = ComponentId(0);
+//!
+//! let mut world = World::new();
+//! let cart = world.spawn(&[(SPEED, 3)])?;
+//!
+//! let (open, mut systems) = world.open(2)?;
+//! std::thread::scope(|scope| {
+//!     for commands in &mut systems {
+//!         scope.spawn(move || {
+//!             let speed = commands.get(cart, SPEED).unwrap_or(0);
+//!             commands.spawn(&[(SPEED, speed + 1)])
+//!         });
+//!     }
+//! });
+//! let queues = systems.into_iter().map(|one| one.finish()).collect();
+//! let (mut world, queues) = open.close(queues)?;
+//! let report = world.apply(queues)?;
+//! assert_eq!(world.get(report.born[0], SPEED), Some(4));
+//! assert_eq!(world.len(), 3);
+//! # Ok::<(), Box<dyn std::error::Error>>(())
+//! ```
 //!
 //! # An allocator of your own
 //!
-//! A [`trace::Checker`] is fed what another allocator was asked and what it answered, and says where its
-//! answers aren't those of the proved one. Reservations of threads may be handed in in any order.
+//! A [`trace::Checker`] takes the calls of another allocator with their answers, and finds the first answer
+//! that isn't the proved one's. It takes the reservations of threads in any order.
 //!
 //! # What may go wrong
 //!
@@ -109,36 +134,36 @@
 //! - The `Shared` is dropped: its reservers still reserve, and the allocator goes with the last of
 //!   them.
 //! - Queues are applied to another world than that of their phase: [`SyncError::OtherWorld`].
-//! - Memory runs out: an `Err`. Nothing has changed then, but where a sync point stopped
+//! - Memory runs out: an `Err`. Nothing has changed then, unless a sync point stopped
 //!   ([`Stopped`]) or a frame is lost.
 //!
 //! Only two calls panic: `Reservers::with` of a pool without reservers, and a map that is indexed by a
 //! handle without a value. A panic of the caller's own code is handed on. Where Rust has no form that
 //! returns an error if memory runs out, the process ends, as with `Vec` and `Arc`:
 //!
-//! - [`Storage::items`] and [`World::items`] make a list.
 //! - [`Entities::share`], [`Entities::phase`] and [`World::open`] make an `Arc`. They ask for as much memory before, and
 //!   say so if it is refused. So only another thread can take it in between.
-//! - Handles of a slice or an array become an answer of a [`trace::Call`], or a [`trace::Checker`]
-//!   returns an error, which it copies.
+//! - Handles of a slice or an array become an answer of a [`trace::Call`].
 //! - A [`trace::Checker`] notes the first reservation of a caller in a run. It asks for as much memory
 //!   before, as for an `Arc`.
 //! - A [`HandleMap`] is cloned, extended, collected, or used up by an iterator. `Reservers::into_inner`
 //!   makes a list.
-//! - A close after one that was refused with [`CloseError::InUse`] may make a list.
 //! - `run_frame` with more than one worker starts threads.
 //!
 //! # Proved, trusted, tested
 //!
-//! Proved is the source, call by call. Below the docs of a call stand the clauses of its contract,
-//! with the words of the folders `specs/` of this repository. The proofs are made by Rattle's kit,
-//! before what is ghost is taken out of the source.
+//! Proved is the source, call by call: [`Entities`], [`Shared`], [`Reserver`], [`HandleMap`], [`Storage`],
+//! [`World`], [`Commands`], [`trace::Checker`] and their parts are the proved types. The clauses of a
+//! contract use the words of the folders `specs/` of this repository. Rattle's kit makes the proofs,
+//! before what only they need is taken out of the source.
 //!
 //! Trusted are the program that takes it out (`rust/erase`), the module `kit`, which has Rust's own
 //! types in place of those of Rattle's kit, rustc and its libraries, and that no number is given to
 //! two phases or worlds. The proofs know no unwinding: trusted is that none goes through a call.
 //!
-//! Tested is the rest: what a caller sees of each call, beside models in plain Rust.
+//! By hand, and tested, are the impls of Rust's traits, the calls that take a closure, the pool, and
+//! the threads of a frame. No code by hand decides what an allocator, a world or a frame does.
+//! All calls are tested too, beside models in plain Rust.
 //!
 //! # Features
 //!
@@ -168,8 +193,8 @@ mod handle;
 pub mod handle_map;
 #[allow(dead_code, missing_docs, unreachable_pub)]
 mod kit;
+mod lending;
 mod lent;
-mod limits;
 mod numbers;
 mod open_world;
 mod phase;
@@ -202,20 +227,18 @@ mod world;
 pub use commands::{CommandQueue, Commands, SpawnError};
 pub use component::{Birth, ComponentId};
 pub use entities::{Entities, Freed, Living, State};
-pub use errors::{Absent, AllocError, CloseError, FreeError, OtherPhase};
-pub use errors::{OutOfMemory, Refused, RequestError, RequestManyError, ShareError};
-pub use errors::{Unallocated, Unclosed, Unshared};
+pub use errors::{Absent, AllocError, FreeError, OutOfMemory, Refused, ReserveError};
 #[cfg(feature = "std")]
 pub use frames::{run_frame, FrameError};
 pub use handle::{Handle, ParseHandleError};
 pub use handle_map::{HandleMap, InsertError, Uninserted};
 pub use lent::Lent;
-pub use limits::Limits;
 pub use open_world::{FinishError, OpenError, OpenWorld, Unfinished, Unopened};
+pub use proved::ent_alloc::Limits;
 pub use report::{Fault, FaultKind, Report};
 #[cfg(feature = "std")]
 pub use reservers::{Lends, Reservers, Unpooled};
-pub use sharing::{Reserver, Shared};
+pub use sharing::{CloseError, OtherPhase, Reserver, ShareError, Shared, Unclosed, Unshared};
 pub use storage::{Bundle, Items, Storage, StorageError};
 pub use sync::{GoOnError, Queues, Stopped, SyncError, SyncErrorKind};
 #[cfg(feature = "std")]

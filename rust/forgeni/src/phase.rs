@@ -1,11 +1,10 @@
 //! A phase on a borrow of the allocator.
 
-use crate::entities::Entities;
-use crate::errors::ShareError;
+use crate::lending::Lending;
 use crate::lent::Lent;
-use crate::sharing::{Reserver, Shared};
+use crate::sharing::{Reserver, ShareError, Shared, Unshared};
+use crate::Entities;
 use alloc::vec::Vec;
-use core::mem;
 
 impl Entities {
     /// Shares the allocator among `callers` reservers, 1 to 1,024, for as long as `run` takes. After
@@ -28,7 +27,7 @@ impl Entities {
     ///     })
     /// })?;
     /// assert!(told.iter().all(Result::is_ok));
-    /// entities.flush()?;
+    /// entities.flush(&mut Vec::new())?;
     /// assert_eq!(entities.len(), 41);
     /// assert!(entities.is_alive(first));
     /// # Ok::<(), Box<dyn std::error::Error + Send + Sync>>(())
@@ -37,14 +36,14 @@ impl Entities {
     /// What `run` returns is handed on, so it may end early by `?`:
     ///
     /// ```
-    /// use forgeni::{Entities, Refused};
+    /// use forgeni::{Entities, ReserveError};
     ///
     /// let mut entities = Entities::new();
-    /// let ended: Result<(), Refused> = entities.phase(1, |_, reservers| {
+    /// let ended: Result<(), ReserveError> = entities.phase(1, |_, reservers| {
     ///     reservers[0].reserve()?;
-    ///     Err(Refused::Memory)
+    ///     Err(ReserveError::Memory)
     /// })?;
-    /// assert_eq!(ended, Err(Refused::Memory));
+    /// assert_eq!(ended, Err(ReserveError::Memory));
     /// assert_eq!(entities.reserved(), 1);
     /// # Ok::<(), forgeni::ShareError>(())
     /// ```
@@ -65,50 +64,22 @@ impl Entities {
         callers: usize,
         run: impl FnOnce(&Shared, &mut [Lent<'_>]) -> T,
     ) -> Result<T, ShareError> {
-        let mut lending = Lending::begin(self, callers)?;
+        let mut lending = Lending::begin(
+            self,
+            |entities| entities.share(callers).map_err(Unshared::into_parts),
+            back,
+        )?;
+        let (shared, reservers) = lending.parts();
         let mut lent = Vec::new();
-        if lent.try_reserve_exact(callers).is_err() {
-            return Err(ShareError::Memory);
-        }
-        let Some((shared, reservers)) = &mut lending.parts else {
-            unreachable!("it was just shared")
-        };
+        lent.try_reserve_exact(callers)
+            .map_err(|_| ShareError::Memory)?;
         lent.extend(reservers.iter_mut().map(Lent::of));
         Ok(run(shared, &mut lent))
     }
 }
 
-/// An allocator that is away. It comes back when this is dropped, whatever for.
-struct Lending<'a> {
-    home: &'a mut Entities,
-    parts: Option<(Shared, Vec<Reserver>)>,
-}
-
-impl<'a> Lending<'a> {
-    /// Shares the allocator. If that is refused, it is back at once.
-    fn begin(home: &'a mut Entities, callers: usize) -> Result<Self, ShareError> {
-        match mem::take(home).share(callers) {
-            Ok(parts) => Ok(Self {
-                home,
-                parts: Some(parts),
-            }),
-            Err(refused) => {
-                let (entities, error) = refused.into_parts();
-                *home = entities;
-                Err(error)
-            }
-        }
-    }
-}
-
-impl Drop for Lending<'_> {
-    fn drop(&mut self) {
-        let Some((shared, reservers)) = self.parts.take() else {
-            return;
-        };
-        match shared.close(reservers) {
-            Ok(entities) => *self.home = entities,
-            Err(_) => unreachable!("all reservers of the phase are here, and nobody else has one"),
-        }
-    }
+/// The allocator, after a phase that had all its reservers.
+fn back((shared, reservers): (Shared, Vec<Reserver>)) -> Entities {
+    let closed = shared.close(reservers);
+    closed.expect("all reservers of the phase are here, and nobody else has one")
 }

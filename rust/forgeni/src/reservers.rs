@@ -1,9 +1,9 @@
 //! A pool of reservers, for threads that come and go.
 
-use crate::errors::OutOfMemory;
 use crate::lent::Lent;
 use crate::sharing::Reserver;
 use crate::waiting::Waiting;
+use crate::OutOfMemory;
 use alloc::vec::Vec;
 use core::error::Error;
 use core::fmt;
@@ -29,7 +29,7 @@ use std::thread_local;
 ///     }
 /// });
 /// let mut entities = shared.close(pool.into_inner())?;
-/// entities.flush()?;
+/// entities.flush(&mut Vec::new())?;
 /// assert_eq!(entities.len(), 100);
 /// # Ok::<(), Box<dyn std::error::Error + Send + Sync>>(())
 /// ```

@@ -52,7 +52,7 @@ pub use reply::{AllocReply, FlushReply, FreeReply, ReserveReply};
 use crate::entities::State;
 use crate::errors::OutOfMemory;
 use crate::handle::Handle;
-use crate::limits::Limits;
+use crate::proved::ent_alloc::Limits;
 use crate::proved::ent_replay::trace::{self, Line};
 use core::fmt;
 use core::mem;

@@ -5,9 +5,9 @@ use crate::component::{Birth, ComponentId};
 use crate::entities::Freed;
 use crate::errors::{AllocError, FreeError, OutOfMemory};
 use crate::handle::Handle;
-use crate::limits::Limits;
 use crate::numbers::next_number;
 use crate::open_world::{OpenWorld, Unopened};
+use crate::proved::ent_alloc::Limits;
 use crate::proved::ent_queue::Bundle;
 use crate::proved::ent_total::NumberedWorld;
 use crate::proved::ent_world;
@@ -73,7 +73,7 @@ impl World {
     #[must_use]
     pub fn with_limits(limits: Limits) -> Self {
         let proved = NumberedWorld {
-            world: ent_world::World::new(limits.proved()),
+            world: ent_world::World::new(limits.keeping_placeholder()),
             number: next_number(),
         };
         Self::of(proved, first_birth(0))
@@ -148,7 +148,7 @@ impl World {
     /// `NeedsFlush`, `NotAlive` or `Memory`, and then nothing has changed.
     #[inline]
     pub fn despawn(&mut self, handle: Handle) -> Result<Freed, FreeError> {
-        Ok(Freed::of(self.proved.world.despawn(handle)?))
+        Ok(self.proved.world.despawn(handle)?)
     }
 
     /// The value of the entity's component, if the entity is alive and has it.

@@ -6,7 +6,7 @@ mod common;
 #[path = "../../../.ci/refusing_allocator.rs"]
 mod refusing;
 
-use common::handle;
+use common::{flushed, handle};
 use forgeni::trace::{Checker, Log, Recorder, Reservation, ReserveReply};
 use forgeni::{
     Birth, CommandQueue, Commands, ComponentId, Entities, Handle, HandleMap, Limits, Storage, World,
@@ -137,9 +137,7 @@ fn slots_and_lists() {
     exactly(HANDLE * BYTES, || {
         entities.request_many(N).expect("handles")
     });
-    exactly((HANDLE + SLOT) * BYTES, || {
-        entities.flush().expect("memory")
-    });
+    exactly((HANDLE + SLOT) * BYTES, || flushed(&mut entities));
 
     let mut into = Vec::new();
     for before in 0..2 {
@@ -148,7 +146,7 @@ fn slots_and_lists() {
         into.clear();
         into.resize(before, handle(9, 9));
         into.reserve_exact(BYTES);
-        let flush = || entities.flush_into(&mut into).expect("memory");
+        let flush = || entities.flush(&mut into).expect("memory");
         exactly(SLOT * BYTES, flush);
         assert_eq!(into.len(), before + BYTES);
     }
@@ -172,7 +170,7 @@ fn phases() {
         let mut list = Vec::with_capacity(BYTES);
         exactly(0, || one.reserve_into(&mut list, N).expect("handles"));
         entities = exactly(0, || shared.close(reservers).expect("closed"));
-        entities.flush().expect("memory");
+        flushed(&mut entities);
     }
 
     let (shared, mut reservers) = entities.share(10).expect("memory");

@@ -79,7 +79,7 @@ fn births_that_fill_the_index() {
 fn one_by_one(entities: &mut Entities, born: &mut Vec<Handle>, count: u32) {
     for _ in 0..count {
         entities.request().expect("a handle");
-        entities.flush_into(born).expect("memory is ample");
+        entities.flush(born).expect("memory is ample");
     }
 }
 

@@ -4,9 +4,8 @@ use forgeni::{
     Absent, AllocError, CloseError, CommandQueue, Commands, ComponentId, Entities, Fault,
     FinishError, FreeError, Freed, GoOnError, Handle, HandleMap, InsertError, Lent, Limits,
     OpenError, OpenWorld, OtherPhase, OutOfMemory, ParseHandleError, Queues, Refused, Report,
-    RequestError, RequestManyError, Reserver, ShareError, Shared, SpawnError, State, Stopped,
-    Storage, StorageError, SyncError, SyncErrorKind, Unallocated, Unclosed, Unfinished, Uninserted,
-    Unopened, Unshared, World,
+    ReserveError, Reserver, ShareError, Shared, SpawnError, State, Stopped, Storage, StorageError,
+    SyncError, SyncErrorKind, Unclosed, Unfinished, Uninserted, Unopened, Unshared, World,
 };
 use std::error::Error;
 
@@ -30,14 +29,12 @@ fn each_error_travels() {
     travels::<OutOfMemory>();
     travels::<ParseHandleError>();
     travels::<Refused>();
-    travels::<RequestError>();
-    travels::<RequestManyError>();
+    travels::<ReserveError>();
     travels::<ShareError>();
     travels::<StorageError>();
     travels::<SpawnError>();
     travels::<SyncError>();
     travels::<SyncErrorKind>();
-    travels::<Unallocated>();
     travels::<Unclosed>();
     travels::<Unfinished>();
     travels::<Unopened>();
@@ -147,7 +144,6 @@ fn the_parts_of_each() {
 
     let mut entities = Entities::with_limits(Limits::new(2, 1).expect("limits"));
     let refused = entities.alloc_many(3).expect_err("there are two");
-    assert_eq!(refused.to_string(), AllocError::Space.to_string());
-    assert_eq!(refused.into_parts(), (vec![], AllocError::Space));
+    assert_eq!(refused, AllocError::Space);
     assert!(entities.is_empty() && !entities.needs_flush());
 }

@@ -2,7 +2,7 @@
 //! worlds that reserve), asked of this one. Above each test stands which behaviour of Bevy it shows,
 //! and where this allocator is meant to differ.
 
-use crate::common::{handle, small};
+use crate::common::{flushed, handle, small};
 use forgeni::{ComponentId, Entities, Freed, Handle, Limits, State, World};
 use std::collections::hash_map::RandomState;
 use std::collections::HashSet;
@@ -120,7 +120,7 @@ fn reserved_and_flushed() {
     let mut entities = Entities::new();
     entities.request().expect("a handle");
     assert_eq!(entities.len(), 0);
-    entities.flush().expect("memory");
+    flushed(&mut entities);
     assert_eq!(entities.len(), 1);
 }
 
@@ -133,7 +133,7 @@ fn reserved_is_contained() {
     assert!(entities.contains(one) && entities.row(one).is_none());
     entities.flush_with(|_| ()).expect("memory");
     assert!(entities.contains(one) && entities.row(one).is_none());
-    entities.set_row(one, 12).expect("alive");
+    entities.try_set_row(one, 12).expect("alive");
     assert_eq!(entities.row(one), Some(12));
     entities.free(one).expect("alive");
     assert!(!entities.contains(one) && entities.row(one).is_none());
@@ -156,7 +156,7 @@ fn many_reserved_at_once() {
     assert!(told
         .iter()
         .all(|one| entities.state(*one) == State::Reserved));
-    entities.flush().expect("memory");
+    flushed(&mut entities);
     assert_eq!(entities.len(), 15);
 }
 

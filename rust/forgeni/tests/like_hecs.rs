@@ -1,7 +1,7 @@
 //! What the tests of hecs ask of its own allocator, asked of this one. Above each test stands which
 //! behaviour of hecs it shows, and where this allocator is meant to differ.
 
-use crate::common::{handle, small, Numbers};
+use crate::common::{flushed, handle, small, Numbers};
 use forgeni::{Entities, FreeError, Handle, State};
 use std::collections::{HashMap, HashSet};
 
@@ -115,7 +115,7 @@ fn a_flush_is_needed_first() {
     let reserved = entities.request().expect("a handle");
     assert_eq!(entities.free(reserved), Err(FreeError::NeedsFlush));
     assert_eq!(entities.free(one), Err(FreeError::NeedsFlush));
-    entities.flush().expect("memory");
+    flushed(&mut entities);
     assert!(entities.free(one).is_ok() && entities.free(reserved).is_ok());
 }
 
@@ -138,9 +138,9 @@ fn places() {
     let mut entities = Entities::new();
     let all = entities.alloc_many(5).expect("memory");
     for (row, one) in (0..).zip(&all) {
-        entities.set_row(*one, row).expect("alive");
+        entities.try_set_row(*one, row).expect("alive");
     }
-    entities.set_row(all[3], 30).expect("alive");
+    entities.try_set_row(all[3], 30).expect("alive");
     let rows: Vec<_> = all.iter().map(|one| entities.row(*one)).collect();
     assert_eq!(rows, [Some(0), Some(1), Some(2), Some(30), Some(4)]);
     entities.free(all[2]).expect("alive");
@@ -164,7 +164,7 @@ fn reserving_on_threads() {
     });
     let told: HashSet<Handle> = told.expect("shared");
     assert_eq!(told.len(), 4000);
-    entities.flush().expect("memory");
+    flushed(&mut entities);
     assert!(told.iter().all(|one| entities.is_alive(*one)));
 }
 

@@ -1,9 +1,9 @@
 //! How far an allocator and a world go: their limits, the defaults, and the quotas of a phase.
 
-use crate::common::{handle, small};
+use crate::common::{flushed, handle, small};
 use forgeni::{
     AllocError, Commands, ComponentId, Entities, Fault, FaultKind, Freed, Handle, HandleMap,
-    Limits, Refused, SpawnError, Storage, World,
+    Limits, Refused, ReserveError, SpawnError, Storage, World,
 };
 
 fn limits(slots: u32, generations: u32) -> Limits {
@@ -22,13 +22,11 @@ fn each_way_to_make_an_allocator() {
     }
     for slots in [1, 2, u32::MAX] {
         let limits = limits(slots, 1);
-        let made = Entities::try_with_limits(limits).expect("it takes no memory");
-        for mut entities in [made, Entities::with_limits(limits)] {
-            assert_eq!(entities.room(), slots);
-            assert_eq!(entities.alloc(), Ok(handle(0, 1)));
-            assert_eq!(entities.free(handle(0, 1)), Ok(Freed { next: None }));
-            assert_eq!((entities.retired(), entities.room()), (1, slots - 1));
-        }
+        let mut entities = Entities::with_limits(limits);
+        assert_eq!(entities.room(), slots);
+        assert_eq!(entities.alloc(), Ok(handle(0, 1)));
+        assert_eq!(entities.free(handle(0, 1)), Ok(Freed { next: None }));
+        assert_eq!((entities.retired(), entities.room()), (1, slots - 1));
     }
 }
 
@@ -104,19 +102,19 @@ fn one_is_not_none() {
 fn a_row_of_a_reserved_handle() {
     let mut entities = small(3, 2);
     let one = entities.request().expect("a handle");
-    assert_eq!(entities.set_row(one, 5), Err(forgeni::Absent));
+    assert_eq!(entities.try_set_row(one, 5), Err(forgeni::Absent));
     assert_eq!(entities.row(one), None);
-    entities.flush().expect("memory");
+    flushed(&mut entities);
     assert_eq!(entities.row(one), None);
-    assert_eq!(entities.set_row(one, 6), Ok(()));
+    assert_eq!(entities.try_set_row(one, 6), Ok(()));
     assert_eq!(entities.row(one), Some(6));
 
     // Nor has a reserved handle of an old slot a row yet.
     let next = entities.free(one).expect("alive").next;
     assert_eq!(entities.request().ok(), next);
     let again = next.expect("a generation");
-    assert_eq!(entities.set_row(again, 7), Err(forgeni::Absent));
-    entities.flush().expect("memory");
+    assert_eq!(entities.try_set_row(again, 7), Err(forgeni::Absent));
+    flushed(&mut entities);
     assert_eq!((entities.row(again), entities.len()), (None, 1));
 }
 
@@ -136,23 +134,23 @@ fn the_end_of_a_quota() {
             u64::from(TIMES - times) * u64::from(WANTED)
         );
         let left = u32::from(times == 0);
-        let refused = Refused::Space {
+        let refused = ReserveError::Space {
             wanted: WANTED,
             left,
         };
         assert_eq!(only.reserve_many(WANTED), Err(refused));
     }
-    let none = Refused::Quota { left: 0 };
+    let none = ReserveError::Quota { left: 0 };
     assert_eq!(only.reserve_many(WANTED), Err(none));
-    assert_eq!(only.reserve(), Err(none));
+    assert_eq!(only.reserve(), Err(Refused::Quota { left: 0 }));
     assert_eq!(only.reserve_many(0), Ok(vec![]));
     // Each reserver has a quota of its own: 256 times 2^32.
     let other = &mut reservers[1];
-    let space = |wanted| Err(Refused::Space { wanted, left: 0 });
+    let space = |wanted| Err(ReserveError::Space { wanted, left: 0 });
     for _ in 0..256 {
         assert_eq!(other.reserve_many(u32::MAX), space(u32::MAX));
     }
-    let few = Refused::Quota { left: 256 };
+    let few = ReserveError::Quota { left: 256 };
     assert_eq!(
         (other.reserve_many(257), other.quota_left()),
         (Err(few), 256)
@@ -199,6 +197,30 @@ fn the_end_of_a_credit() {
 }
 
 /// The placeholder is of no allocator, and no call takes it for one of its own.
+/// Both greatest limits together have a generation less, and no others do. No run of public calls
+/// gets that far.
+#[test]
+fn one_generation_less_for_the_placeholder() {
+    const SLOTS: u32 = u32::MAX;
+    const GENERATIONS: u32 = (1 << 31) - 1;
+    for (slots, generations, kept) in [
+        (SLOTS, GENERATIONS, GENERATIONS - 1),
+        (SLOTS, GENERATIONS - 1, GENERATIONS - 1),
+        (SLOTS, 1, 1),
+        (SLOTS - 1, GENERATIONS, GENERATIONS),
+        (1, GENERATIONS, GENERATIONS),
+        (1, 1, 1),
+    ] {
+        let limits = limits(slots, generations);
+        let keeping = limits.keeping_placeholder();
+        assert_eq!((keeping.slots(), keeping.generations()), (slots, kept));
+        assert_eq!((limits.slots(), limits.generations()), (slots, generations));
+    }
+    for (slots, generations) in [(0, 1), (1, 0), (1, GENERATIONS + 1), (SLOTS, u32::MAX)] {
+        assert_eq!(Limits::new(slots, generations), None);
+    }
+}
+
 #[test]
 fn the_placeholder_is_nobody() {
     let mut entities = Entities::new();
@@ -207,7 +229,7 @@ fn the_placeholder_is_nobody() {
     assert!(!entities.contains(nobody) && entities.row(nobody).is_none());
     assert_eq!(entities.free(nobody), Err(forgeni::FreeError::NotAlive));
     assert_eq!(
-        small(1, 1).alloc_many(2).expect_err("one").error,
+        small(1, 1).alloc_many(2).expect_err("one"),
         AllocError::Space
     );
 }

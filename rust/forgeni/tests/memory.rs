@@ -4,7 +4,7 @@
 
 mod common;
 
-use common::this_program;
+use common::{flushed, this_program};
 use forgeni::{Commands, ComponentId, Entities, Fault, GoOnError, Handle, Limits};
 use forgeni::{OpenError, Queues, Report, ShareError, SpawnError};
 use forgeni::{Stopped, SyncError, SyncErrorKind, World};
@@ -205,7 +205,7 @@ fn share_again_and_again() {
                 assert_eq!(reservers.len(), 1024);
                 reservers[1023].reserve().expect("a handle");
                 entities = shared.close(reservers).expect("closed");
-                assert_eq!(entities.flush().expect("memory").len(), 1);
+                assert_eq!(flushed(&mut entities).len(), 1);
                 return;
             }
             Err(refused) => {

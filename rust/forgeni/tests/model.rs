@@ -1,8 +1,8 @@
 //! Random calls by one caller, compared with a model in plain Rust. `FORGENI_SEEDS` sets how many
 //! seeds are run, `FORGENI_SEED` runs one alone.
 
-use crate::common::{handle, seeds, small, Model, Numbers};
-use forgeni::{AllocError, Handle, Refused, RequestError, RequestManyError, State};
+use crate::common::{flushed, handle, seeds, small, Model, Numbers};
+use forgeni::{AllocError, Handle, Refused, ReserveError, State};
 
 fn run(seed: u64) {
     let mut numbers = Numbers::of(seed);
@@ -21,7 +21,7 @@ fn run(seed: u64) {
                 assert_eq!(entities.free(one), model.free(one), "{place}: free {one}");
             }
             6 | 7 => assert_eq!(entities.request(), request(&mut model), "{place}: request"),
-            _ => assert_eq!(entities.flush(), Ok(model.flush()), "{place}: flush"),
+            _ => assert_eq!(flushed(&mut entities), model.flush(), "{place}: flush"),
         }
         assert_eq!(
             entities.state(any),
@@ -32,10 +32,10 @@ fn run(seed: u64) {
     }
 }
 
-fn request(model: &mut Model) -> Result<Handle, RequestError> {
+fn request(model: &mut Model) -> Result<Handle, Refused> {
     match model.reserve(1) {
         Ok(given) => Ok(given[0]),
-        Err(Refused::Space { .. }) => Err(RequestError::Space),
+        Err(ReserveError::Space { wanted, left }) => Err(Refused::Space { wanted, left }),
         Err(other) => panic!("{other}"),
     }
 }
@@ -55,36 +55,43 @@ fn run_bulks(seed: u64) {
     for step in 0..40 {
         let place = format!("seed {seed}, step {step}");
         let n = numbers.below(5) as u32;
-        match numbers.below(10) {
+        match numbers.below(12) {
             0 | 1 => match entities.alloc_many(n) {
                 Ok(given) => {
                     let wanted: Result<Vec<_>, _> = (0..n).map(|_| model.alloc()).collect();
                     assert_eq!(Ok(given), wanted, "{place}: alloc_many");
                 }
-                Err(refused) => {
-                    let (none, error) = refused.into_parts();
+                Err(error) => {
                     let wanted = if model.asked > 0 {
                         AllocError::NeedsFlush
                     } else {
                         assert!((model.pool().len() as u32) < n, "{place}: alloc_many");
                         AllocError::Space
                     };
-                    assert_eq!((none, error), (vec![], wanted), "{place}: alloc_many");
+                    assert_eq!(error, wanted, "{place}: alloc_many");
                 }
             },
             2..=4 => {
-                let left = model.pool().len() as u32;
-                let wanted = if n <= left {
-                    Ok(model.reserve(n).expect("there are as many"))
-                } else {
-                    Err(RequestManyError::Space { wanted: n, left })
-                };
+                assert_eq!(
+                    entities.left() as usize,
+                    model.pool().len(),
+                    "{place}: left"
+                );
+                let wanted = model.reserve(n);
                 assert_eq!(entities.request_many(n), wanted, "{place}: request_many");
             }
             5 => assert_eq!(entities.request(), request(&mut model), "{place}: request"),
+            10 | 11 => {
+                let before = list.clone();
+                let told = entities.request_into(&mut list, n);
+                let wanted = model.reserve(n);
+                assert_eq!(list[..before.len()], before, "{place}: request_into");
+                let listed = list[before.len()..].to_vec();
+                assert_eq!(told.map(|()| listed), wanted, "{place}: request_into");
+            }
             6 => {
                 let before = list.len();
-                entities.flush_into(&mut list).expect("memory");
+                entities.flush(&mut list).expect("memory");
                 assert_eq!(list[before..], model.flush(), "{place}: flush_into");
             }
             7 => {

@@ -1,7 +1,7 @@
 //! A caller's code panics in the middle of a call, or beside one. The panic is handed on, and what
 //! it found half done is a state that the package speaks of, with nothing lost.
 
-use crate::common::{handle, small};
+use crate::common::{flushed, handle, small};
 use forgeni::{Commands, ComponentId, Entities, FinishError, World};
 use std::fmt::{self, Write};
 use std::panic::{catch_unwind, resume_unwind, AssertUnwindSafe};
@@ -251,10 +251,7 @@ fn a_reserver_in_a_drop() {
     }));
     assert!(ran.is_err());
     let mut entities = shared.close(reservers).expect("closed");
-    assert_eq!(
-        entities.flush().expect("memory"),
-        [handle(0, 1), handle(1, 1)]
-    );
+    assert_eq!(flushed(&mut entities), [handle(0, 1), handle(1, 1)]);
 }
 
 /// A writer that panics after some bytes, in the middle of what prints itself.

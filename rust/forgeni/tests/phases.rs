@@ -1,8 +1,8 @@
 //! A phase on a borrow of the allocator, and pools of reservers: whatever its closure does, the
 //! allocator is back at the end, with all that was reserved.
 
-use crate::common::{handle, seeds, small, Model, Numbers};
-use forgeni::{Entities, Handle, OtherPhase, Refused, ShareError};
+use crate::common::{flushed, handle, seeds, small, Model, Numbers};
+use forgeni::{Entities, Handle, OtherPhase, ReserveError, ShareError};
 use std::collections::HashSet;
 use std::mem;
 use std::panic::{catch_unwind, resume_unwind, AssertUnwindSafe};
@@ -25,7 +25,7 @@ fn the_allocator_is_back() {
     );
     assert_eq!((entities.reserved(), entities.asked()), (3, 3));
     assert!(entities.is_alive(first) && entities.contains(handle(3, 1)));
-    assert_eq!(entities.flush().expect("memory").len(), 3);
+    assert_eq!(flushed(&mut entities).len(), 3);
     assert_eq!(entities.alloc(), Ok(handle(4, 1)));
 }
 
@@ -50,7 +50,7 @@ fn what_lives_in_a_phase() {
     let mut entities = small(300, 9);
     let all = entities.alloc_many(200).expect("memory");
     for (row, one) in (0..).zip(&all) {
-        entities.set_row(*one, row).expect("alive");
+        entities.try_set_row(*one, row).expect("alive");
     }
     for one in all.iter().step_by(2) {
         entities.free(*one).expect("alive");
@@ -78,7 +78,7 @@ fn what_lives_in_a_phase() {
             });
         })
         .expect("shared");
-    entities.flush().expect("memory");
+    flushed(&mut entities);
     assert_eq!(entities.len() as usize, living.len() + 160);
     assert!(living.iter().all(|one| entities.is_alive(*one)));
     assert_eq!(entities.row(all[5]), Some(5));
@@ -91,12 +91,12 @@ fn an_early_end() {
     let ran = entities.phase(1, |_, reservers| {
         reservers[0].reserve_many(2)?;
         reservers[0].reserve_many(2)?;
-        Ok::<(), Refused>(())
+        Ok::<(), ReserveError>(())
     });
-    assert_eq!(ran, Ok(Err(Refused::Space { wanted: 2, left: 1 })));
+    assert_eq!(ran, Ok(Err(ReserveError::Space { wanted: 2, left: 1 })));
     // All reservers are there, so it is known that the second one was refused.
     assert_eq!((entities.asked(), entities.reserved()), (4, 2));
-    assert_eq!(entities.flush().expect("memory").len(), 2);
+    assert_eq!(flushed(&mut entities).len(), 2);
 }
 
 /// The closure panics, on its thread or on another one.
@@ -119,7 +119,7 @@ fn a_panic() {
     }));
     assert!(ran.is_err());
     assert_eq!((entities.asked(), entities.reserved()), (6, 6));
-    entities.flush().expect("memory");
+    flushed(&mut entities);
     assert_eq!(entities.len(), 6);
     let ran = catch_unwind(AssertUnwindSafe(|| {
         entities.phase(1, |_, reservers| {
@@ -171,7 +171,7 @@ fn phases_side_by_side() {
                             }
                         })
                         .expect("shared");
-                    entities.flush().expect("memory");
+                    flushed(entities);
                 }
             });
         }
@@ -200,7 +200,7 @@ fn random_phases() {
                 })
                 .expect("shared");
             model.expect(&entities, &format!("seed {seed}"));
-            assert_eq!(entities.flush(), Ok(model.flush()));
+            assert_eq!(flushed(&mut entities), model.flush());
             for one in model.live.clone() {
                 if numbers.below(2) == 0 {
                     assert_eq!(entities.free(one), model.free(one));
@@ -220,7 +220,7 @@ fn a_list_is_appended_to() {
         reservers[0].reserve_into(&mut list, 1).expect("one");
         let wanted = [handle(9, 9), handle(0, 1), handle(1, 1), handle(2, 1)];
         assert_eq!(list, wanted);
-        let refused = Refused::Space { wanted: 2, left: 1 };
+        let refused = ReserveError::Space { wanted: 2, left: 1 };
         assert_eq!(reservers[0].reserve_into(&mut list, 2), Err(refused));
         assert_eq!(list, wanted);
     });
@@ -261,7 +261,7 @@ mod pools {
             let told: Vec<Handle> = told;
             let once: HashSet<Handle> = told.iter().copied().collect();
             assert_eq!((told.len(), once.len()), (400 * threads, 400 * threads));
-            entities.flush().expect("memory");
+            flushed(&mut entities);
             assert_eq!(entities.len() as usize, told.len());
             assert!(told.iter().all(|one| entities.is_alive(*one)));
         }

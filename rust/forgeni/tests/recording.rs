@@ -50,9 +50,9 @@ mod bevy {
         }
 
         pub fn flush(&mut self, mut init: impl FnMut(Entity, &mut Location)) {
-            for one in self.0.get_mut().flush().expect("memory") {
-                init(Entity(one), &mut Location);
-            }
+            let entities = self.0.get_mut();
+            let flushed = entities.flush_with(|one| init(Entity(one), &mut Location));
+            flushed.expect("memory");
         }
     }
 }

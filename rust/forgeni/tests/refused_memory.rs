@@ -11,7 +11,7 @@ use forgeni::trace::{Call, CheckError, Checker, FreeReply, Log, Reservation};
 use forgeni::{
     AllocError, Birth, CommandQueue, Commands, ComponentId, Entities, Fault, FinishError,
     FreeError, GoOnError, Handle, HandleMap, InsertError, Limits, OpenError, OpenWorld,
-    OutOfMemory, Queues, Refused, Report, RequestManyError, ShareError, SpawnError, State, Storage,
+    OutOfMemory, Queues, Report, ReserveError, ShareError, SpawnError, State, Storage,
     StorageError, SyncError, SyncErrorKind, World,
 };
 use refusing::{refusing, Refusal};
@@ -110,7 +110,7 @@ fn alloc_and_free() {
         let one = entities.alloc().expect("memory");
         let (freed, refused) = insist(refusal, FreeError::Memory, || entities.free(one));
         assert_eq!(freed.next, Some(handle(0, 2)));
-        assert_eq!((entities.len(), entities.waiting()), (0, 1));
+        assert_eq!((entities.len(), entities.top()), (0, 1));
         refused
     });
 }
@@ -123,12 +123,13 @@ fn a_flush_of_requests() {
         for _ in 0..98 {
             entities.request().expect("a handle");
         }
-        let (born, refused) = refusing(refusal, || entities.flush());
-        let born = born.unwrap_or_else(|OutOfMemory| {
-            assert!(refused > 0);
+        let mut born = vec![];
+        let (flushed, refused) = refusing(refusal, || entities.flush(&mut born));
+        flushed.unwrap_or_else(|OutOfMemory| {
+            assert!(refused > 0 && born.is_empty());
             assert_eq!((entities.asked(), entities.reserved()), (98, 98));
             assert_eq!(entities.state(handle(50, 1)), State::Reserved);
-            entities.flush().expect("memory")
+            entities.flush(&mut born).expect("memory");
         });
         assert_eq!(born[..97], wanted);
         assert_eq!(born[97], handle(1, 2));
@@ -145,7 +146,7 @@ fn a_flush_into_a_list() {
         let mut entities = three();
         entities.request_many(98).expect("handles");
         let mut list = vec![handle(7, 7)];
-        let into = || entities.flush_into(&mut list);
+        let into = || entities.flush(&mut list);
         let (_, refused) = insist(refusal, OutOfMemory, into);
         assert_eq!(
             (list.len(), list[0], list[98]),
@@ -158,8 +159,7 @@ fn a_flush_into_a_list() {
         }
         entities.request_many(98).expect("handles");
         list.clear();
-        let (flushed, none) =
-            refusing(Refusal::All { after: 0 }, || entities.flush_into(&mut list));
+        let (flushed, none) = refusing(Refusal::All { after: 0 }, || entities.flush(&mut list));
         assert_eq!((flushed, none, list.len()), (Ok(()), 0, 98));
         refused
     });
@@ -188,16 +188,16 @@ fn many_at_once() {
     each_in_turn(|refusal| {
         let mut entities = three();
         let (given, refused) = refusing(refusal, || entities.alloc_many(98));
-        let mut all = given.unwrap_or_else(|left| {
+        let all = given.unwrap_or_else(|error| {
             assert!(refused > 0);
-            let (some, error) = left.into_parts();
             assert_eq!(error, AllocError::Memory);
-            assert_eq!(entities.len() as usize, 2 + some.len());
-            some
+            assert_eq!(
+                (entities.len(), entities.total(), entities.top()),
+                (2, 3, 1)
+            );
+            entities.alloc_many(98).expect("memory")
         });
         assert!(all.iter().all(|one| entities.is_alive(*one)));
-        let rest = 98 - all.len() as u32;
-        all.extend(entities.alloc_many(rest).expect("memory"));
         let wanted: Vec<Handle> = (3..100).map(|index| handle(index, 1)).collect();
         assert_eq!((all[0], &all[1..]), (handle(1, 2), &wanted[..]));
         refused
@@ -205,7 +205,7 @@ fn many_at_once() {
     each_in_turn(|refusal| {
         let mut entities = three();
         let call = || entities.request_many(98);
-        let (given, refused) = insist(refusal, RequestManyError::Memory, call);
+        let (given, refused) = insist(refusal, ReserveError::Memory, call);
         assert_eq!((given.len(), entities.asked()), (98, 98));
         refused
     });
@@ -221,7 +221,7 @@ fn a_phase_on_a_borrow() {
         let ran = ran.unwrap_or_else(|error| {
             assert!(refused > 0);
             assert_eq!(error, ShareError::Memory);
-            assert_eq!((entities.len(), entities.waiting()), (2, 1));
+            assert_eq!((entities.len(), entities.top()), (2, 1));
             assert!(!entities.needs_flush());
             let phase = entities.phase(5, |_, reservers| reservers[4].reserve());
             phase.expect("memory")
@@ -266,7 +266,7 @@ fn share_gives_the_allocator_back() {
             assert!(refused > 0);
             assert_eq!(unshared.error, ShareError::Memory);
             let entities = unshared.entities;
-            assert_eq!((entities.len(), entities.waiting()), (2, 1));
+            assert_eq!((entities.len(), entities.top()), (2, 1));
             assert!(!entities.needs_flush());
             entities.share(5).expect("memory")
         });
@@ -282,7 +282,7 @@ fn reserving_many() {
     each_in_turn(|refusal| {
         let (shared, mut reservers) = three().share(1).expect("shared");
         let only = &mut reservers[0];
-        let (given, refused) = insist(refusal, Refused::Memory, || only.reserve_many(3));
+        let (given, refused) = insist(refusal, ReserveError::Memory, || only.reserve_many(3));
         assert_eq!(given, [handle(1, 2), handle(3, 1), handle(4, 1)]);
         assert_eq!(only.quota_left(), (1 << 40) - 3);
         shared.close(reservers).expect("closed");
@@ -300,13 +300,13 @@ fn reserving_too_many() {
     let only = &mut reservers[0];
     // For no more than the pool had, the list comes first. If its allocation fails, nothing has changed.
     let (given, refused) = refusing(none, || only.reserve_many(left));
-    assert_eq!((given, refused), (Err(Refused::Memory), 1));
+    assert_eq!((given, refused), (Err(ReserveError::Memory), 1));
     assert_eq!(only.quota_left(), 1 << 40);
 
     let mut quota = only.quota_left();
     for (wanted, left) in [(left + 1, left), (u32::MAX, 0), (left + 1, 0)] {
         let (given, refused) = refusing(none, || only.reserve_many(wanted));
-        let space = Refused::Space { wanted, left };
+        let space = ReserveError::Space { wanted, left };
         assert_eq!((given, refused), (Err(space), 0));
         quota -= u64::from(wanted);
         assert_eq!(only.quota_left(), quota);
@@ -318,14 +318,14 @@ fn reserving_too_many() {
     let wanted = left + 1;
     assert_eq!(
         (given, refused),
-        (Err(Refused::Space { wanted, left: 0 }), 0)
+        (Err(ReserveError::Space { wanted, left: 0 }), 0)
     );
     let kept = missing.shared.close(vec![reservers.pop().expect("two")]);
     let mut back = kept.expect_err("one is missing").reservers;
     let (given, refused) = refusing(none, || back[0].reserve_many(wanted));
     assert_eq!(
         (given, refused),
-        (Err(Refused::Space { wanted, left: 0 }), 0)
+        (Err(ReserveError::Space { wanted, left: 0 }), 0)
     );
 }
 

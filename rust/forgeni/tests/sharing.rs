@@ -1,8 +1,9 @@
 //! Worked examples of phases, written by hand, and what stands after each misuse.
 
-use crate::common::{handle, small};
+use crate::common::{flushed, handle, small};
 use forgeni::{
-    AllocError, CloseError, Entities, OtherPhase, Refused, Reserver, ShareError, Shared,
+    AllocError, CloseError, Entities, OtherPhase, Refused, ReserveError, Reserver, ShareError,
+    Shared,
 };
 use std::sync::Mutex;
 
@@ -34,7 +35,7 @@ fn requests_by_two_callers() {
     assert_eq!(both[0].reserve_many(0), Ok(vec![]));
     assert_eq!(
         both[0].reserve_many(2),
-        Err(Refused::Space { wanted: 2, left: 1 })
+        Err(ReserveError::Space { wanted: 2, left: 1 })
     );
     // The pool is shut now.
     assert_eq!(
@@ -43,7 +44,7 @@ fn requests_by_two_callers() {
     );
     assert_eq!(
         both[1].reserve_many(3),
-        Err(Refused::Space { wanted: 3, left: 0 })
+        Err(ReserveError::Space { wanted: 3, left: 0 })
     );
     assert_eq!(both[0].quota_left(), (1 << 40) - 3);
     assert_eq!(both[1].quota_left(), (1 << 40) - 6);
@@ -56,8 +57,8 @@ fn requests_by_two_callers() {
     assert_eq!(entities.alloc(), Err(AllocError::NeedsFlush));
     // The handles of new slots come first.
     assert_eq!(
-        entities.flush(),
-        Ok(vec![handle(3, 1), handle(1, 2), handle(0, 2)])
+        flushed(&mut entities),
+        vec![handle(3, 1), handle(1, 2), handle(0, 2)]
     );
     assert_eq!(entities.alloc(), Ok(handle(4, 1)));
 }
@@ -72,11 +73,11 @@ fn a_list_over_old_and_new_slots() {
     assert_eq!(list, [vec![handle(7, 7)], all.to_vec()].concat());
     assert_eq!(
         one[0].reserve_into(&mut list, 2),
-        Err(Refused::Space { wanted: 2, left: 1 })
+        Err(ReserveError::Space { wanted: 2, left: 1 })
     );
     assert_eq!(list.len(), 4);
     let mut entities = shared.close(one).expect("closed");
-    assert_eq!(entities.flush().expect("memory").len(), 3);
+    assert_eq!(flushed(&mut entities).len(), 3);
 }
 
 #[test]
@@ -94,7 +95,7 @@ fn a_phase_of_nothing_changes_nothing() {
     let mut entities = shared.close(reservers).expect("closed");
     assert!(!entities.needs_flush());
     assert_eq!(
-        (entities.len(), entities.total(), entities.waiting()),
+        (entities.len(), entities.total(), entities.top()),
         (1, 3, 2)
     );
     assert_eq!(entities.alloc(), Ok(handle(0, 2)));
@@ -107,14 +108,14 @@ fn a_refused_share_gives_the_allocator_back() {
         let refused = entities.share(count).expect_err("refused");
         assert_eq!(refused.error, ShareError::Count);
         entities = refused.entities;
-        assert_eq!((entities.len(), entities.waiting()), (1, 2));
+        assert_eq!((entities.len(), entities.top()), (1, 2));
     }
     entities.request().expect("a handle");
     let refused = entities.share(1).expect_err("refused");
     assert_eq!(refused.error, ShareError::NeedsFlush);
     assert_eq!(refused.to_string(), "a flush is needed first");
     entities = refused.entities;
-    assert_eq!(entities.flush(), Ok(vec![handle(0, 2)]));
+    assert_eq!(flushed(&mut entities), vec![handle(0, 2)]);
 }
 
 #[test]
@@ -207,7 +208,7 @@ fn a_lost_reserver() {
         .close_lost(refused.reservers)
         .expect("closed");
     assert_eq!((entities.asked(), entities.reserved()), (2, 2));
-    assert_eq!(entities.flush(), Ok(vec![handle(1, 2), handle(0, 2)]));
+    assert_eq!(flushed(&mut entities), vec![handle(1, 2), handle(0, 2)]);
 }
 
 /// A request that was refused counts as far as the pool goes if its reserver was lost.
@@ -218,12 +219,12 @@ fn a_lost_refusal() {
     assert_eq!(reservers[0].reserve(), Ok(handle(0, 1)));
     assert_eq!(
         lost.reserve_many(9),
-        Err(Refused::Space { wanted: 9, left: 2 })
+        Err(ReserveError::Space { wanted: 9, left: 2 })
     );
     drop(lost);
     let mut entities = shared.close_lost(reservers).expect("closed");
     assert_eq!((entities.asked(), entities.reserved()), (10, 3));
-    assert_eq!(entities.flush().expect("memory").len(), 3);
+    assert_eq!(flushed(&mut entities).len(), 3);
 }
 
 #[test]
@@ -301,7 +302,7 @@ fn a_panic_in_the_middle() {
         .close_lost(refused.reservers)
         .expect("closed");
     assert_eq!((entities.asked(), entities.reserved()), (15, 15));
-    entities.flush().expect("memory");
+    flushed(&mut entities);
     assert_eq!(entities.len(), 15);
     assert!(told.iter().all(|one| entities.is_alive(*one)));
 }

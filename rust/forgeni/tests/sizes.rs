@@ -6,7 +6,9 @@
 
 use forgeni::trace::{Call, Checker, FreeReply, Recorder, Reservation};
 use forgeni::{Birth, CommandQueue, Commands, ComponentId, Entities, Fault, FaultKind};
-use forgeni::{Freed, Handle, HandleMap, Limits, OpenError, Queues, Refused, ShareError, State};
+use forgeni::{
+    Freed, Handle, HandleMap, Limits, OpenError, Queues, ReserveError, ShareError, State,
+};
 use forgeni::{Storage, World};
 
 /// How many there are of most things.
@@ -16,6 +18,13 @@ const HP: ComponentId = ComponentId(0);
 
 fn handle(index: u32, generation: u32) -> Handle {
     Handle::new(index, generation).expect("a handle")
+}
+
+/// What a flush brings to life.
+fn flushed(entities: &mut Entities) -> Vec<Handle> {
+    let mut born = vec![];
+    entities.flush(&mut born).expect("memory is ample");
+    born
 }
 
 fn nth_birth(frame: u64, system: u32, ordinal: u32) -> Birth {
@@ -45,12 +54,12 @@ fn slots_and_waiting_slots() {
         let next = Some(handle(index, 2));
         assert_eq!(entities.free(handle(index, 1)), Ok(Freed { next }));
     }
-    assert_eq!((entities.len(), entities.waiting()), (0, count));
+    assert_eq!((entities.len(), entities.top()), (0, count));
     // The slot that was freed last comes first.
     for index in (0..count).rev() {
         assert_eq!(entities.alloc(), Ok(handle(index, 2)));
     }
-    assert_eq!((entities.len(), entities.waiting()), (count, 0));
+    assert_eq!((entities.len(), entities.top()), (count, 0));
 }
 
 #[test]
@@ -200,7 +209,7 @@ fn generations_and_retired_slots() {
         assert_eq!(one, handle(index, 1));
         assert_eq!(entities.free(one), Ok(Freed { next: None }));
     }
-    assert_eq!((entities.retired(), entities.waiting()), (MANY, 0));
+    assert_eq!((entities.retired(), entities.top()), (MANY, 0));
     assert_eq!(entities.alloc(), Ok(handle(MANY, 1)));
 }
 
@@ -218,11 +227,11 @@ fn reserved_at_one_flush() {
         entities.request().expect("the pool is ample");
     }
     assert_eq!(entities.reserved(), waiting + fresh);
-    let born = entities.flush().expect("memory is ample");
+    let born = flushed(&mut entities);
     let new = (waiting..waiting + fresh).map(|index| handle(index, 1));
     let old = (0..waiting).map(|index| handle(index, 2));
     assert!(born.into_iter().eq(new.chain(old)));
-    assert_eq!((entities.len(), entities.waiting()), (waiting + fresh, 0));
+    assert_eq!((entities.len(), entities.top()), (waiting + fresh, 0));
 }
 
 /// A list of 2^24 handles, whose room is given back before the flush makes one of its own.
@@ -239,10 +248,7 @@ fn one_reservation_of_2_to_the_24() {
     drop(given);
     let mut entities = shared.close(reservers).expect("all are there");
     assert_eq!(entities.state(handle(count - 1, 1)), State::Reserved);
-    assert_eq!(
-        entities.flush().expect("memory is ample").len(),
-        count as usize
-    );
+    assert_eq!(flushed(&mut entities).len(), count as usize);
     assert_eq!((entities.len(), entities.total()), (count, count));
 }
 
@@ -253,14 +259,14 @@ fn one_reservation_of_2_to_the_31() {
     let (wanted, left) = (1 << 31, MANY);
     let entities = Entities::with_limits(Limits::new(left, 1).expect("limits"));
     let (shared, mut reservers) = entities.share(1).expect("memory is ample");
-    let refused = Refused::Space { wanted, left };
+    let refused = ReserveError::Space { wanted, left };
     assert_eq!(reservers[0].reserve_many(wanted), Err(refused));
     assert_eq!(reservers[0].quota_left(), (1 << 40) - u64::from(wanted));
     // The pool is shut.
-    let refused = Refused::Space { wanted: 1, left: 0 };
+    let refused = ReserveError::Space { wanted: 1, left: 0 };
     assert_eq!(reservers[0].reserve_many(1), Err(refused));
     let mut entities = shared.close(reservers).expect("all are there");
-    assert_eq!(entities.flush(), Ok(vec![]));
+    assert_eq!(flushed(&mut entities), vec![]);
 }
 
 /// Births come in another order than handles.
@@ -420,7 +426,7 @@ fn reservers_of_a_phase() {
             assert_eq!(reserver.reserve(), Ok(handle(total + number as u32, 1)));
         }
         entities = shared.close(reservers).expect("all are there");
-        assert_eq!(entities.flush().expect("memory is ample").len(), count);
+        assert_eq!(flushed(&mut entities).len(), count);
         total += count as u32;
     }
     assert_eq!(entities.len(), total);

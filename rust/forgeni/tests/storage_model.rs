@@ -70,7 +70,7 @@ fn run(seed: u64) {
             items,
             "{place}: items of {one}"
         );
-        let with: Vec<Handle> = storage.with(id).expect("memory").to_vec();
+        let with: Vec<Handle> = storage.with(id).expect("memory");
         let wanted = model.iter().filter(|(_, (_, held))| held.contains_key(&id));
         assert_eq!(with.len(), wanted.clone().count(), "{place}: with {id:?}");
         assert!(wanted.into_iter().all(|(one, _)| with.contains(one)));

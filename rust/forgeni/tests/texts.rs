@@ -6,8 +6,8 @@ use forgeni::trace::{Log, Recorder, Reservation, ReserveReply};
 use forgeni::{
     Absent, AllocError, Birth, CloseError, Commands, ComponentId, Entities, Fault, FaultKind,
     FinishError, FreeError, Freed, Handle, HandleMap, InsertError, Limits, OpenError, OtherPhase,
-    OutOfMemory, ParseHandleError, Refused, RequestError, RequestManyError, ShareError, SpawnError,
-    State, Storage, StorageError, SyncError, SyncErrorKind, Unallocated, World,
+    OutOfMemory, ParseHandleError, Refused, ReserveError, ShareError, SpawnError, State, Storage,
+    StorageError, SyncError, SyncErrorKind, World,
 };
 use std::fmt::{Debug, Display};
 
@@ -42,17 +42,12 @@ fn errors_of_an_allocator() {
         (&FreeError::NeedsFlush, NEEDS_FLUSH),
         (&FreeError::NotAlive, "the entity is not alive"),
         (&FreeError::Memory, MEMORY),
-        (&RequestError::Space, "no handle is left"),
-        (
-            &RequestError::Credit,
-            "no more may be requested before a flush",
-        ),
-        (&RequestManyError::Space { wanted, left }, WANTED),
-        (&RequestManyError::Memory, MEMORY),
         (&OutOfMemory, MEMORY),
         (&Refused::Space { wanted, left }, WANTED),
         (&Refused::Quota { left: 7 }, "the quota left is 7"),
-        (&Refused::Memory, MEMORY),
+        (&ReserveError::Space { wanted, left }, WANTED),
+        (&ReserveError::Quota { left: 7 }, "the quota left is 7"),
+        (&ReserveError::Memory, MEMORY),
         (&ShareError::NeedsFlush, NEEDS_FLUSH),
         (
             &ShareError::Count,
@@ -69,14 +64,6 @@ fn errors_of_an_allocator() {
         ),
         (&ParseHandleError::Range, "no handle has these numbers"),
     ]);
-    let handles = vec![handle(0, 1)];
-    let error = AllocError::Memory;
-    let refused = Unallocated { handles, error };
-    displays([(&refused as &dyn Display, MEMORY)]);
-    debugs([(
-        &refused as &dyn Debug,
-        "Unallocated { handles: [0v1], error: Memory }",
-    )]);
 }
 
 #[test]
@@ -150,7 +137,7 @@ fn errors_with_parts() {
     debugs([
         (
             &unshared as &dyn Debug,
-            "Unshared { entities: Entities { len: 0, total: 0, waiting: 0, retired: 0, reserved: 0, .. }, \
+            "Unshared { entities: Entities { len: 0, total: 0, top: 0, retired: 0, reserved: 0, .. }, \
              error: Count }",
         ),
         (
@@ -188,7 +175,7 @@ fn values_of_an_allocator() {
     debugs([
         (
             &entities as &dyn Debug,
-            "Entities { len: 3, total: 4, waiting: 0, retired: 1, reserved: 2, .. }",
+            "Entities { len: 3, total: 4, top: 0, retired: 1, reserved: 2, .. }",
         ),
         (&entities.iter(), "Living { len: 3, .. }"),
         (

@@ -2,8 +2,8 @@
 //! pool, and a sequential allocator that serves the requests in that order says the same.
 //! `FORGENI_SEEDS` sets how many seeds are run, `FORGENI_SEED` runs one alone.
 
-use crate::common::{seeds, small, Model, Numbers};
-use forgeni::{Entities, Handle, Refused, Reserver, State};
+use crate::common::{flushed, seeds, small, Model, Numbers};
+use forgeni::{Entities, Handle, ReserveError, Reserver, State};
 use std::collections::{HashMap, HashSet};
 use std::sync::Barrier;
 
@@ -12,7 +12,7 @@ use std::sync::Barrier;
 struct Call {
     caller: usize,
     requested: u32,
-    reply: Result<Vec<Handle>, Refused>,
+    reply: Result<Vec<Handle>, ReserveError>,
 }
 
 /// Makes a caller's requests, one after the other. A request for one handle is a single one, or a
@@ -23,7 +23,8 @@ fn reserve_all(reserver: &mut Reserver, requests: &[u32], singly: bool) -> Vec<C
         caller,
         requested: *n,
         reply: if *n == 1 && singly {
-            reserver.reserve().map(|handle| vec![handle])
+            let one = reserver.reserve().map_err(ReserveError::from);
+            one.map(|handle| vec![handle])
         } else {
             reserver.reserve_many(*n)
         },
@@ -61,7 +62,7 @@ fn in_order(pool: &[Handle], calls: &[Call]) -> Vec<Call> {
     let mut calls: Vec<Call> = calls.iter().filter(|c| c.requested > 0).cloned().collect();
     calls.sort_by_key(|call| match &call.reply {
         Ok(handles) => (0, handles.iter().map(|h| position[h]).min().expect("some")),
-        Err(Refused::Space { left, .. }) => (1, usize::from(*left == 0)),
+        Err(ReserveError::Space { left, .. }) => (1, usize::from(*left == 0)),
         Err(other) => panic!("{other}"),
     });
     calls
@@ -174,7 +175,7 @@ fn expect_flushed(entities: &mut Entities, model: &mut Model, told: &[Vec<Call>]
     for one in &given {
         assert_eq!(entities.state(*one), State::Reserved, "{place}: {one}");
     }
-    assert_eq!(entities.flush(), Ok(model.flush()), "{place}: flush");
+    assert_eq!(flushed(entities), model.flush(), "{place}: flush");
     for one in &model.live {
         assert_eq!(entities.state(*one), State::Alive, "{place}: {one}");
     }
@@ -253,7 +254,7 @@ fn many_handles() {
     let all: HashSet<Handle> = given.iter().copied().collect();
     let count = 2 * each + 2 * (each / 16 * 16);
     assert_eq!((given.len(), all.len()), (count, count));
-    assert_eq!(entities.flush().expect("memory").len(), count);
+    assert_eq!(flushed(&mut entities).len(), count);
     assert_eq!(entities.len() as usize, count);
     assert!(all.iter().all(|one| entities.is_alive(*one)));
 }

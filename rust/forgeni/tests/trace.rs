@@ -1,7 +1,7 @@
 //! Traces by hand: what the checker says of the faults that people have made, of each form of a reply, and
 //! of its own bounds. The replies that are expected are worked out by the rules of the allocator.
 
-use crate::common::handle;
+use crate::common::{flushed, handle};
 use forgeni::trace::{AllocReply, Call, CheckError, Checker, FlushReply, FreeReply};
 use forgeni::trace::{Difference, Log, Recorder, Reservation, ReserveReply};
 use forgeni::{Entities, Handle, Limits, State};
@@ -429,7 +429,7 @@ fn the_package_agrees_with_itself() {
                 });
             })
             .expect("memory");
-        let born = entities.flush().expect("memory");
+        let born = flushed(&mut entities);
         recorder.flush(&born[..]).expect("it agrees");
         for one in born.into_iter().skip(phase as usize % 5) {
             let next = entities.free(one).expect("it lives").next;

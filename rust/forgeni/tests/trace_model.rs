@@ -5,7 +5,7 @@
 use crate::common::{handle, seeds, Model, Numbers};
 use forgeni::trace::{AllocReply, Call, CheckError, Checker, FlushReply, FreeReply};
 use forgeni::trace::{Reservation, ReserveReply};
-use forgeni::{AllocError, FreeError, Freed, Handle, Limits, Refused, State};
+use forgeni::{AllocError, FreeError, Freed, Handle, Limits, ReserveError, State};
 use std::sync::atomic::{AtomicU32, Ordering::Relaxed};
 
 // ---- what the model answers
@@ -32,7 +32,7 @@ fn free_reply(model: &mut Model, given: Handle) -> FreeReply {
 fn reserve_reply(model: &mut Model, requested: u32) -> ReserveReply {
     match model.reserve(requested) {
         Ok(handles) => ReserveReply::Handles(handles),
-        Err(Refused::Space { left, .. }) => ReserveReply::SpaceLeft(left),
+        Err(ReserveError::Space { left, .. }) => ReserveReply::SpaceLeft(left),
         Err(other) => unreachable!("{other}"),
     }
 }

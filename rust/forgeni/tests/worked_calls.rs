@@ -1,8 +1,18 @@
 //! Worked examples, written by hand.
 
-use forgeni::{AllocError, Entities, FreeError, Freed, Handle, Limits, RequestError, State};
+use forgeni::{AllocError, Entities, FreeError, Freed, Handle, Limits, Refused, State};
 use std::collections::HashSet;
 use std::mem::size_of;
+
+/// The refusal of a request for one handle.
+const NONE_LEFT: Refused = Refused::Space { wanted: 1, left: 0 };
+
+/// What a flush brings to life.
+fn flushed(entities: &mut Entities) -> Vec<Handle> {
+    let mut born = vec![];
+    entities.flush(&mut born).expect("memory");
+    born
+}
 
 fn handle(index: u32, generation: u32) -> Handle {
     Handle::new(index, generation).expect("a handle")
@@ -34,7 +44,7 @@ fn slots_are_used_again_last_freed_first() {
     );
     assert_eq!(entities.free(all[2]), Err(FreeError::NotAlive));
     assert_eq!(
-        (entities.len(), entities.total(), entities.waiting()),
+        (entities.len(), entities.total(), entities.top()),
         (1, 3, 2)
     );
     assert_eq!(entities.alloc(), Ok(handle(2, 2)));
@@ -68,9 +78,9 @@ fn the_last_generation_retires_its_slot() {
     assert_eq!(entities.free(only), Ok(Freed { next: None }));
     assert_eq!(entities.retired(), 1);
     assert_eq!(entities.alloc(), Err(AllocError::Space));
-    assert_eq!(entities.request(), Err(RequestError::Space));
+    assert_eq!(entities.request(), Err(NONE_LEFT));
     assert_eq!(entities.alloc(), Err(AllocError::NeedsFlush));
-    assert_eq!(entities.flush(), Ok(vec![]));
+    assert_eq!(flushed(&mut entities), vec![]);
     assert_eq!(entities.alloc(), Err(AllocError::Space));
 }
 
@@ -93,8 +103,8 @@ fn requests_live_after_a_flush() {
     assert_eq!(entities.free(first), Err(FreeError::NeedsFlush));
     // The handles of new slots come first.
     assert_eq!(
-        entities.flush(),
-        Ok(vec![handle(1, 1), handle(2, 1), handle(0, 2)])
+        flushed(&mut entities),
+        vec![handle(1, 1), handle(2, 1), handle(0, 2)]
     );
     assert!(!entities.needs_flush());
     assert_eq!(
@@ -107,9 +117,9 @@ fn requests_live_after_a_flush() {
 fn a_refused_request_shuts_the_pool_until_the_flush() {
     let mut entities = small(1, 9);
     assert_eq!(entities.request(), Ok(handle(0, 1)));
-    assert_eq!(entities.request(), Err(RequestError::Space));
+    assert_eq!(entities.request(), Err(NONE_LEFT));
     assert_eq!((entities.asked(), entities.reserved()), (2, 1));
-    assert_eq!(entities.flush(), Ok(vec![handle(0, 1)]));
+    assert_eq!(flushed(&mut entities), vec![handle(0, 1)]);
     assert!(!entities.needs_flush());
 }
 
@@ -160,9 +170,45 @@ fn limits() {
 fn errors_say_why() {
     assert_eq!(AllocError::Space.to_string(), "no slot is free");
     assert_eq!(FreeError::NotAlive.to_string(), "the entity is not alive");
-    assert_eq!(RequestError::Space.to_string(), "no handle is left");
+    assert_eq!(NONE_LEFT.to_string(), "1 wanted and 0 left");
     let boxed: Box<dyn std::error::Error> = Box::new(AllocError::NeedsFlush);
     assert_eq!(boxed.to_string(), "a flush is needed first");
+}
+
+#[test]
+fn places_in_the_pool() {
+    let mut entities = small(4, 9);
+    let all = entities.alloc_many(3).expect("handles");
+    for one in &all[..2] {
+        entities.free(*one).expect("alive");
+    }
+    assert_eq!((entities.left(), entities.cursor()), (3, 2));
+    let pool = [handle(1, 2), handle(0, 2), handle(3, 1)];
+    // A request moves the cursor. The places stay until the flush.
+    for (given, left) in pool.iter().zip([3, 2, 1]) {
+        assert_eq!(entities.left(), left);
+        assert_eq!(
+            pool.map(|one| entities.place(one)),
+            [Some(0), Some(1), Some(2)]
+        );
+        assert_eq!(entities.request(), Ok(*given));
+    }
+    assert_eq!((entities.left(), entities.cursor()), (0, -1));
+    for other in [all[0], all[2], handle(3, 2)] {
+        assert_eq!(entities.place(other), None);
+    }
+}
+
+#[test]
+fn an_iterator_goes_on_where_its_clone_does() {
+    let mut entities = small(9, 1);
+    let all = entities.alloc_many(3).expect("handles");
+    let mut living = entities.iter();
+    assert_eq!(living.next(), Some(all[0]));
+    let mut other = living.clone();
+    assert!(other.by_ref().eq([all[1], all[2]]));
+    assert_eq!((other.next(), living.len()), (None, 2));
+    assert!(living.eq([all[1], all[2]]));
 }
 
 /// Each allocator has its own state, in whatever order they are dropped.

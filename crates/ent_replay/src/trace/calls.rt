@@ -5,8 +5,8 @@ ghost use Rattle.ent_replay.specs.Trace.{alloc_reply, free_reply, freed_reply, a
 ghost use Rattle.ent_replay.specs.Trace.{IsAlone, answered_line};
 
 use crate::handle_list::HandleList;
+use crate::trace::call::Call;
 use crate::trace::fitting::{fits_born, fits_freed};
-use crate::trace::line::Line;
 use crate::trace::reply::{AllocReply, FlushReply, FreeReply};
 use ent_alloc::{AllocFault, Entities, FreeFault};
 use ent_handle::{Handle, Memory};
@@ -17,8 +17,8 @@ use std::alloc::Global;
 pub(super) fn answered(
     alloc: Global,
     entities: &mut Entities,
-    line: &Line,
-) -> Result<Option<Line>, Memory>
+    line: &Call,
+) -> Result<Option<Call>, Memory>
     requires { IsAlone line.now }
     ensures fits { IfOk result (λ expected. IfNone expected (Fits entities.old.allocator line.now)) }
     ensures differs { IfOk result (λ expected. IfSome expected (λ other.
@@ -28,59 +28,59 @@ pub(super) fn answered(
         ≡ after_line entities.old.allocator line.now) }
 {
     match line {
-        Line::Alloc(told) => {
+        Call::Alloc(told) => {
             let given = allocated(entities)?;
             let fits = told.is_none_or(|told| told == given);
             Ok(if fits {
                 None
             } else {
-                Some(Line::Alloc(Some(given)))
+                Some(Call::Alloc(Some(given)))
             })
         }
-        Line::Free(handle, told) => {
+        Call::Free(handle, told) => {
             let given = freed(entities, *handle)?;
             let fits = told.is_none_or(|told| fits_freed(told, given));
             Ok(if fits {
                 None
             } else {
-                Some(Line::Free(*handle, Some(given)))
+                Some(Call::Free(*handle, Some(given)))
             })
         }
-        Line::Flush(told) => {
+        Call::Flush(told) => {
             let given = flushed(alloc, entities)?;
             match told {
-                Some(told) if !fits_born(told, &given) => Ok(Some(Line::Flush(Some(FlushReply::Born(
+                Some(told) if !fits_born(told, &given) => Ok(Some(Call::Flush(Some(FlushReply::Born(
                     given,
                 ))))),
                 _ => Ok(None),
             }
         }
-        Line::State(handle, told) => {
+        Call::State(handle, told) => {
             let given = entities.state(*handle);
             let fits = told.is_none_or(|told| told == given);
             Ok(if fits {
                 None
             } else {
-                Some(Line::State(*handle, Some(given)))
+                Some(Call::State(*handle, Some(given)))
             })
         }
-        Line::Len(told) => {
+        Call::Len(told) => {
             let given = entities.len();
             let fits = told.is_none_or(|told| told == given);
             Ok(if fits {
                 None
             } else {
-                Some(Line::Len(Some(given)))
+                Some(Call::Len(Some(given)))
             })
         }
-        Line::Reserve(_) => unreachable!(),
+        Call::Reserve(_) => unreachable!(),
     }
 }
 
 fn allocated(entities: &mut Entities) -> Result<AllocReply, Memory>
     ensures reply { IfOk result (λ reply. reply ≡ alloc_reply entities.old.allocator) }
     ensures after { OnOk result (entities.new.allocator
-        ≡ after_line entities.old.allocator (Line.Alloc None)) }
+        ≡ after_line entities.old.allocator (Call.Alloc None)) }
 {
     match entities.alloc() {
         Ok(handle) => Ok(AllocReply::Handle(handle)),
@@ -93,7 +93,7 @@ fn allocated(entities: &mut Entities) -> Result<AllocReply, Memory>
 fn freed(entities: &mut Entities, handle: Handle) -> Result<FreeReply, Memory>
     ensures reply { IfOk result (λ reply. reply ≡ free_reply entities.old.allocator handle) }
     ensures after { OnOk result (entities.new.allocator
-        ≡ after_line entities.old.allocator (Line.Free handle None)) }
+        ≡ after_line entities.old.allocator (Call.Free handle None)) }
 {
     match entities.free(handle) {
         Ok(freed) => Ok(freed_reply(freed.next)),

@@ -1,234 +1,300 @@
-//! The checker: one line of a trace after the other.
-ghost use Rattle.std.specs.Prelude.{◌≡◌, ◌+◌, ◌^◌, ◌<◌, ℕ, ◌∷◌, ◌++◌, [], IfOk, IfErr, OnOk};
-ghost use Rattle.ent_alloc.specs.Sequential.{opening, available};
-ghost use Rattle.ent_replay.specs.Trace.{Fits, IsAlone, after_line};
-ghost use Rattle.ent_replay.specs.Checker.{Follows, Reaches, AgreesWith, IsSettled};
-ghost use Rattle.ent_replay.specs.Checker.{OnDiffers, Differs, Shows, KeyOf};
-ghost use Rattle.ent_replay.specs.Checker.{HasNoOrder, NoneFollows};
-ghost use Rattle.ent_replay.specs.Checker.{OnTooMany, IsTooMany, IsTooManyIn};
+//! A checker that is fed call by call, and keeps what it found.
+ghost use Rattle.std.specs.Prelude.{◌≡◌, [], Some, Ok, Err, IfOk, IfErr, option_copied};
+ghost use Rattle.ent_alloc.specs.Sequential.{opening};
+ghost use Rattle.ent_replay.specs.Checker.{reserve_lines};
+ghost use Rattle.ent_replay.specs.Logs.{emptied};
+ghost use Rattle.ent_replay.specs.Recording.{Takes, TakesAll, TakesRun, EndsRun, Closes};
+ghost use Rattle.ent_replay.specs.Recording.{Answers, error_in, reservation_of};
+ghost use Rattle.ent_replay.specs.declared.trace.reply.AllocReply.{AllocReply};
+ghost use Rattle.ent_replay.specs.declared.trace.reply.FlushReply.{FlushReply};
+ghost use Rattle.ent_replay.specs.declared.trace.reply.ReserveReply.{ReserveReply};
 
-use crate::by_caller::ByCaller;
-use crate::trace::calls::answered;
-use crate::trace::difference::{Difference, Stop};
-use crate::trace::front::front_at;
-use crate::trace::key::own_key;
-use crate::trace::line::{Line, Reservation};
-use crate::trace::lineup::{Lineup, make_all};
-use crate::trace::placed::Placed;
-use ent_alloc::{Entities, Limits};
+use crate::trace::call::Call;
+use crate::trace::check_error::CheckError;
+use crate::trace::comparer::Comparer;
+use crate::trace::log::Log;
+use crate::trace::reply::{AllocReply, FlushReply, FreeReply, ReserveReply};
+use crate::trace::reservation::Reservation;
+use ent_alloc::{Limits, State};
+use ent_handle::Handle;
 use std::alloc::Global;
-use std::marker::Model;
+use std::mem;
 
-/// How many handles may be requested between two flushes.
-const MOST: u64 = 1 << 50;
-
-/// Takes the lines of a trace one after the other, and compares each reply with the allocator's.
+/// Takes the calls of an allocator one after the other, and compares each answer with that of the
+/// proved one.
 ///
-/// It holds the allocator and the reservations since the last other line, which are compared
-/// together. Contracts see just these two.
+/// It holds the allocator and the reservations since the last other call, and nothing else. A call
+/// that fails is the last one: each later call returns the same error. So the first difference stays,
+/// and no call is compared after it.
+///
+/// ```
+/// use forgeni::trace::{AllocReply, Checker, FreeReply, FlushReply, Reservation};
+/// use forgeni::{Handle, Limits};
+///
+/// let one = |text: &str| text.parse::<Handle>();
+/// let mut checker = Checker::new(Limits::GREATEST);
+/// checker.alloc(one("0v1")?.into())?;
+/// checker.free(one("0v1")?, FreeReply::Freed)?;
+///
+/// // Two threads reserved. Their logs come one after the other.
+/// checker.run(vec![
+///     Reservation::new(1, 1, one("1v1")?.into()),
+///     Reservation::new(2, 1, one("0v2")?.into()),
+/// ])?;
+///
+/// // New slots come to life first.
+/// let differs = checker.flush([one("0v2")?, one("1v1")?].into()).unwrap_err();
+/// assert_eq!(
+///     differs.to_string(),
+///     "differs line 5: flush => born 0v2 1v1, expected born 1v1 0v2",
+/// );
+/// # Ok::<(), Box<dyn std::error::Error>>(())
+/// ```
 #[derive(Drop)]
 pub struct Checker {
     alloc: Global,
-    entities: Entities,
-    run: Vec<Placed>,
-    latest: ByCaller<u64>,
-    wanted: u64,
-}
-
-impl Model for Checker {
-    ghost use Rattle.ent_replay.specs.Checker.{Checked, checked_code};
-
-    ghost Value = { Checked };
-
-    ghost coded = { checked_code };
-
-    ghost use Rattle.ent_replay.specs.Checker.{reservations_of, IsChecking};
-
-    ghost view = { λ c. record {
-      allocator = c.entities.allocator;
-      run = reservations_of c.run.items;
-    } };
-
-    ghost invariant = { λ c.
-        IsChecking c.entities.allocator c.wanted c.run.items c.latest };
+    // What compares the calls, or why it has stopped.
+    comparer: Result<Comparer, CheckError>,
+    calls: u64,
 }
 
 impl Checker {
-    /// A checker that has taken no line. It takes no memory.
+    /// A checker of an allocator that has given nothing. It takes no memory.
+    ///
+    /// The limits are those of the allocator that is checked: how many slots it may make, and after
+    /// which generation it gives a slot no more. The greatest ones go as far as handles do.
     pub fn new(alloc: Global, limits: Limits) -> Self
-        ensures { result ≡ record { allocator = opening limits; run = [] } }
+        ensures opens { result.comparer ≡ Ok (record { allocator = opening limits; run = [] }) }
+        ensures none { result.calls ≡ 0 }
     {
         Checker {
             alloc,
-            entities: Entities::new(alloc, limits),
-            run: Vec::new(alloc),
-            latest: ByCaller::new(alloc),
-            wanted: 0,
+            comparer: Ok(Comparer::new(alloc, limits)),
+            calls: 0,
         }
     }
 
-    /// Takes the next line of the trace, which has this number.
+    /// How many calls it has taken, up to the first that failed. It is the number of the last one.
+    ///
+    /// It counts to 2^64 − 1, and stays there.
+    pub fn calls(&self) -> u64
+        ensures { result ≡ self.now.calls }
+    {
+        self.calls
+    }
+
+    /// Why it has stopped, if it has.
+    pub fn error(&self) -> Option<&CheckError>
+        ensures { option_copied result ≡ error_in self.now.comparer }
+    {
+        match &self.comparer {
+            Ok(_) => None,
+            Err(error) => Some(error),
+        }
+    }
+
+    /// Takes the next call. Its number is that of the calls so far.
+    ///
+    /// A reservation is compared together with those before and after it, at the next other call or
+    /// at the end.
     ///
     /// # Errors
     ///
-    /// The checker is gone then, so that none goes on after a difference.
+    /// - `Differs`: an answer isn't the allocator's, of this call or of a reservation before it.
+    /// - `TooMany`: it is a reservation, and with it more than 2^50 handles were requested since the
+    ///   last flush.
+    /// - `Memory`: out of memory.
     ///
-    /// - `Differs`: a reply isn't the allocator's, of this line or of a reservation before it.
-    /// - `TooMany`: it is a reservation, and with it more than 2^50 handles were requested since
-    ///   the last flush.
-    /// - `Memory`: memory ran out.
-    pub fn take(self, number: u64, line: Line) -> Result<Self, Stop>
-        ensures follows { IfOk result (λ next. Follows self line next) }
-        ensures reaches { IfOk result (λ next. Reaches self line next) }
-        ensures differs { IfErr result (λ stop.
-            OnDiffers stop (Shows self number (line ∷ []))) }
-        ensures none { IfErr result (λ stop. OnDiffers stop (λ d. NoneFollows self line)) }
-        ensures too_many { IfErr result (λ stop. OnTooMany stop (IsTooMany self line)) }
-        ensures few { OnOk result (¬ (IsTooMany self line)) }
+    /// The first error is kept, and each later call returns a copy of it, or `Memory` if there is no
+    /// memory for a copy. [`error`](Self::error) returns the one that is kept.
+    pub fn call(&mut self, call: Call) -> Result<(), CheckError>
+        ensures takes { Takes self.old call self.new }
+        ensures answers { Answers self.new.comparer result }
     {
-        if let Line::Reserve(reservation) = line {
-            return self.add(reservation);
-        }
-        self.end_run(number, line)
+        self.take(call);
+        self.answer()
     }
 
-    /// Compares the reservations that are not compared yet: the trace ends here.
+    /// A handle was asked for, to be alive at once.
     ///
     /// # Errors
     ///
-    /// `Differs` or `Memory`, as `take`.
-    pub fn finish(self) -> Result<Self, Stop>
-        ensures settled { IfOk result (λ next. IsSettled self next.allocator × (next.run ≡ [])) }
-        ensures agrees { OnOk result (AgreesWith self []) }
-        ensures differs { IfErr result (λ stop. OnDiffers stop (Shows self 0 [])) }
-        ensures none { IfErr result (λ stop. OnDiffers stop (λ d. AgreesWith self [] → ⊥)) }
-        ensures counted { IfErr result (λ stop. OnTooMany stop ⊥) }
+    /// As of [`call`](Self::call).
+    pub fn alloc<R: Into<AllocReply>>(&mut self, reply: R) -> Result<(), CheckError>
+        ensures takes { (told : AllocReply) × R.converts reply told
+            × Takes self.old (Call.Alloc (Some told)) self.new }
+        ensures answers { Answers self.new.comparer result }
     {
-        self.settle()
+        self.call(Call::Alloc(Some(reply.into())))
     }
 
-    /// Compares the run, and then makes the call that ends it.
-    fn end_run(self, number: u64, line: Line) -> Result<Self, Stop>
-        requires { IsAlone line }
-        ensures follows { IfOk result (λ next. Follows self line next) }
-        ensures reaches { IfOk result (λ next. Reaches self line next) }
-        ensures differs { IfErr result (λ stop.
-            OnDiffers stop (Shows self number (line ∷ []))) }
-        ensures none { IfErr result (λ stop. OnDiffers stop (λ d. NoneFollows self line)) }
-        ensures counted { IfErr result (λ stop. OnTooMany stop ⊥) }
+    /// A handle was freed.
+    ///
+    /// # Errors
+    ///
+    /// As of [`call`](Self::call).
+    pub fn free(&mut self, handle: Handle, reply: FreeReply) -> Result<(), CheckError>
+        ensures takes { Takes self.old (Call.Free handle (Some reply)) self.new }
+        ensures answers { Answers self.new.comparer result }
     {
-        self.settle()?.call(number, line)
+        self.call(Call::Free(handle, Some(reply)))
     }
 
-    /// Makes the reservations of the run, in the order of their keys, and compares each.
-    fn settle(self) -> Result<Self, Stop>
-        ensures run { IfOk result (λ next. next.run ≡ []) }
-        ensures settled { IfOk result (λ next. IsSettled self next.allocator) }
-        ensures differs { IfErr result (λ stop.
-            OnDiffers stop (λ d. (n : ℕ) → Shows self n [] d)) }
-        ensures none { IfErr result (λ stop. OnDiffers stop (λ d. HasNoOrder self)) }
-        ensures counted { IfErr result (λ stop. OnTooMany stop ⊥) }
+    /// What is reserved was brought to life.
+    ///
+    /// # Errors
+    ///
+    /// As of [`call`](Self::call).
+    pub fn flush<R: Into<FlushReply>>(&mut self, reply: R) -> Result<(), CheckError>
+        ensures takes { (told : FlushReply) × R.converts reply told
+            × Takes self.old (Call.Flush (Some told)) self.new }
+        ensures answers { Answers self.new.comparer result }
+    {
+        self.call(Call::Flush(Some(reply.into())))
+    }
+
+    /// The state of a handle was read.
+    ///
+    /// # Errors
+    ///
+    /// As of [`call`](Self::call).
+    pub fn state(&mut self, handle: Handle, reply: State) -> Result<(), CheckError>
+        ensures takes { Takes self.old (Call.State handle (Some reply)) self.new }
+        ensures answers { Answers self.new.comparer result }
+    {
+        self.call(Call::State(handle, Some(reply)))
+    }
+
+    /// The living were counted.
+    ///
+    /// # Errors
+    ///
+    /// As of [`call`](Self::call).
+    pub fn len(&mut self, reply: u32) -> Result<(), CheckError>
+        ensures takes { Takes self.old (Call.Len (Some reply)) self.new }
+        ensures answers { Answers self.new.comparer result }
+    {
+        self.call(Call::Len(Some(reply)))
+    }
+
+    /// Handles were reserved, for the next flush to bring to life. Other reservations may overlap
+    /// this one: it may come before or after those of other callers.
+    ///
+    /// # Errors
+    ///
+    /// As of [`call`](Self::call). The answer is compared at the next other call, or at the end.
+    pub fn reserve<R: Into<ReserveReply>>(
+        &mut self,
+        caller: u32,
+        requested: u32,
+        reply: R,
+    ) -> Result<(), CheckError>
+        ensures takes { (told : ReserveReply) × R.converts reply told
+            × Takes self.old (Call.Reserve (reservation_of caller requested told)) self.new }
+        ensures answers { Answers self.new.comparer result }
+    {
+        self.call(Call::Reserve(Reservation::new(caller, requested, reply)))
+    }
+
+    /// Takes all that a log has, in its order. The log is empty then. It overlapped what was reserved
+    /// since the last other call.
+    ///
+    /// # Errors
+    ///
+    /// As of [`call`](Self::call). The log is emptied in any case.
+    pub fn join(&mut self, log: &mut Log) -> Result<(), CheckError>
+        ensures takes { TakesAll self.old (reserve_lines log.old.reservations) self.new }
+        ensures emptied { log.new ≡ emptied log.old }
+        ensures answers { Answers self.new.comparer result }
+    {
+        log.hand_over(self);
+        self.answer()
+    }
+
+    /// These reservations overlapped, with those that were taken since the last other call. They are
+    /// compared now, and what is reserved later came later.
+    ///
+    /// Those of one caller come in its order. Those of different callers come in no order.
+    ///
+    /// # Errors
+    ///
+    /// As of [`call`](Self::call).
+    pub fn run(&mut self, reservations: Vec<Reservation>) -> Result<(), CheckError>
+        ensures takes { TakesRun self.old reservations.items self.new }
+        ensures answers { Answers self.new.comparer result }
+    {
+        let mut reservations = reservations;
+        self.take_all(&mut reservations);
+        self.end_run();
+        self.answer()
+    }
+
+    /// There are no more calls. The last reservations are compared.
+    ///
+    /// # Errors
+    ///
+    /// `Differs` or `Memory`, as of [`call`](Self::call), or the error that was kept.
+    pub fn finish(self) -> Result<(), CheckError>
+        ensures closes { IfOk self.comparer (λ c. Closes c result) }
+        ensures stopped { IfErr self.comparer (λ e. result ≡ Err e) }
     {
         let Checker {
-            alloc,
-            mut entities,
-            mut run,
-            mut latest,
-            wanted,
+            alloc: _,
+            comparer,
+            calls: _,
         } = self;
-        run.sort_by_cached_key(|placed| placed.key)?;
-        let lineup = Lineup::new(alloc, run, &entities).settle(alloc, &entities)?;
-        if !lineup.rest.is_empty() {
-            return Err(Stop::Differs(lineup.difference(alloc, &entities)?));
+        match comparer {
+            Ok(comparer) => {
+                comparer.finish()?;
+                Ok(())
+            }
+            Err(error) => Err(error),
         }
-        let Lineup {
-            placed: mut run,
-            rest: _,
-            at: _,
-        } = lineup;
-        make_all(&mut entities, &run);
-        run.clear();
-        latest.clear();
-        Ok(Checker {
-            alloc,
-            entities,
-            run,
-            latest,
-            wanted,
-        })
     }
 
-    /// Makes a call that nothing overlaps, and compares.
-    fn call(self, number: u64, line: Line) -> Result<Self, Stop>
-        requires run { self.run ≡ [] }
-        requires alone { IsAlone line }
-        ensures fits { OnOk result (Fits self.allocator line) }
-        ensures next { IfOk result (λ next.
-            next ≡ record { allocator = after_line self.allocator line; run = [] }) }
-        ensures differs { IfErr result (λ stop.
-            OnDiffers stop (Differs self.allocator number line)) }
-        ensures counted { IfErr result (λ stop. OnTooMany stop ⊥) }
+    // Counts a call and compares it, unless the checker has stopped.
+    fn take(&mut self, call: Call)
+        ensures { Takes self.old call self.new }
     {
-        let Checker {
-            alloc,
-            mut entities,
-            run,
-            latest,
-            ..
-        } = self;
-        // No call can be undone, so what a difference shows is looked up before it.
-        let cursor = entities.cursor();
-        let front = front_at(alloc, &entities, cursor)?;
-        let expected = answered(alloc, &mut entities, &line)?;
-        if let Some(expected) = expected {
-            return Err(Stop::Differs(Difference {
-                number,
-                told: line,
-                expected,
-                front,
-                cursor,
-            }));
+        // What compares is taken by value, and comes back only if nothing is wrong.
+        match mem::replace(&mut self.comparer, Err(CheckError::Memory)) {
+            Ok(comparer) => {
+                self.calls = self.calls.saturating_add(1);
+                self.comparer = comparer.take(self.calls, call.numbered(self.calls));
+            }
+            Err(error) => self.comparer = Err(error),
         }
-        let wanted = entities.asked();
-        Ok(Checker {
-            alloc,
-            entities,
-            run,
-            latest,
-            wanted,
-        })
     }
 
-    /// Adds a reservation to the run.
-    fn add(self, reservation: Reservation) -> Result<Self, Stop>
-        ensures ok { IfOk result (λ next.
-            next ≡ record self { run = self.run ++ reservation ∷ [] }) }
-        ensures differs { IfErr result (λ stop. OnDiffers stop (λ d. ⊥)) }
-        ensures too_many { IfErr result (λ stop. OnTooMany stop (IsTooManyIn self reservation)) }
-        ensures few { OnOk result (¬ (IsTooManyIn self reservation)) }
+    // Takes all reservations of the list, in their order. The list is empty then, and keeps its
+    // memory.
+    pub(super) fn take_all(&mut self, reservations: &mut Vec<Reservation>)
+        ensures takes { TakesAll self.old (reserve_lines reservations.old.items) self.new }
+        ensures emptied { reservations.new.items ≡ [] }
     {
-        let Checker {
-            alloc,
-            entities,
-            mut run,
-            mut latest,
-            wanted,
-        } = self;
-        let wanted = wanted + u64::from(reservation.requested);
-        if wanted > MOST {
-            return Err(Stop::TooMany);
+        reservations.reverse();
+        while let Some(reservation) = reservations.pop() {
+            self.take(Call::Reserve(reservation));
         }
-        let caller = reservation.caller;
-        let before = latest.get(caller).unwrap_or(0);
-        let key = own_key(&entities, reservation.requested, &reservation.reply).max(before);
-        run.push(Placed { reservation, key })?;
-        latest.insert(caller, key)?;
-        Ok(Checker {
-            alloc,
-            entities,
-            run,
-            latest,
-            wanted,
-        })
+    }
+
+    // Compares the reservations since the last other call, unless the checker has stopped.
+    fn end_run(&mut self)
+        ensures { EndsRun self.old self.new }
+    {
+        match mem::replace(&mut self.comparer, Err(CheckError::Memory)) {
+            Ok(comparer) => self.comparer = comparer.finish(),
+            Err(stopped) => self.comparer = Err(stopped),
+        }
+    }
+
+    // What is answered to a call that was taken.
+    pub(super) fn answer(&self) -> Result<(), CheckError>
+        ensures { Answers self.now.comparer result }
+    {
+        match &self.comparer {
+            Ok(_) => Ok(()),
+            Err(error) => Err(error.copied(self.alloc)),
+        }
     }
 }

@@ -1,59 +1,43 @@
-//! Why a checker stops.
-ghost use Rattle.std.specs.Prelude.{◌≡◌};
-ghost use Rattle.ent_replay.specs.declared.trace.difference.Stop.TheVariants.{Memory as StopMemory};
+//! Where a trace differs.
+ghost use Rattle.std.specs.Prelude.{◌≡◌, IfOk};
 
 use crate::handle_list::HandleList;
-use crate::trace::line::Line;
+use crate::trace::call::Call;
 use ent_handle::Memory;
-use std::alloc::{AllocError, AllocFailed};
+use std::alloc::Global;
 
-/// The first line whose reply isn't the allocator's.
+/// The first call whose answer isn't the allocator's. No trace that begins so agrees.
+///
+/// Of reservations of threads it is the first one in the order in which the checker put them: in that
+/// order those before it agree.
+///
+/// `Display` writes it in one line, as `differs line 5: len => 3, expected 2`.
 #[derive(Debug, Drop)]
 pub struct Difference {
-    /// The number of the line.
+    /// The number of the call, from 1. In a trace with one call on each line it is the line.
     pub number: u64,
-    /// The line as it was taken.
-    pub told: Line,
-    /// The same call with the reply that the allocator gives there.
-    pub expected: Line,
-    /// The front of the allocator's pool there, before the call: its first 8 handles, or all if there
-    /// are fewer.
+    /// The call, with what was answered.
+    pub told: Call,
+    /// The same call with what the allocator answers there.
+    pub expected: Call,
+    /// The front of the allocator's pool before the call: its first 8 handles, or all if there are
+    /// fewer.
     pub front: HandleList,
-    /// The allocator's cursor there, before the call.
+    /// The allocator's cursor before the call.
     pub cursor: i64,
 }
 
-/// Why a checker stops.
-#[derive(Debug, Drop)]
-pub enum Stop {
-    /// The trace doesn't agree.
-    Differs(Difference),
-    /// More than 2^50 handles were requested since the last flush, which no allocator here counts.
-    TooMany,
-    /// Memory ran out.
-    Memory,
-}
-
-impl From<Memory> for Stop {
-    ghost from_gives = { λ _ stop. stop ≡ StopMemory };
-
-    fn from(_refused: Memory) -> Self {
-        Stop::Memory
-    }
-}
-
-impl From<AllocError> for Stop {
-    ghost from_gives = { λ _ stop. stop ≡ StopMemory };
-
-    fn from(_refused: AllocError) -> Self {
-        Stop::Memory
-    }
-}
-
-impl<T: Drop> From<AllocFailed<T>> for Stop {
-    ghost from_gives = { λ _ stop. stop ≡ StopMemory };
-
-    fn from(_refused: AllocFailed<T>) -> Self {
-        Stop::Memory
+impl Difference {
+    /// A copy.
+    pub(super) fn try_copy(&self, alloc: Global) -> Result<Self, Memory>
+        ensures { IfOk result (λ copy. copy ≡ self.now) }
+    {
+        Ok(Difference {
+            number: self.number,
+            told: self.told.try_copy(alloc)?,
+            expected: self.expected.try_copy(alloc)?,
+            front: self.front.try_copy(alloc)?,
+            cursor: self.cursor,
+        })
     }
 }

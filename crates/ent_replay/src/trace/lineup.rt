@@ -11,12 +11,13 @@ ghost use Rattle.ent_replay.specs.Trace.{AreAnswered, FitsReserved, after_lines,
 
 use crate::by_caller::ByCaller;
 use crate::handle_list::HandleList;
+use crate::trace::call::Call;
 use crate::trace::difference::Difference;
 use crate::trace::fitting::fits_reserved;
 use crate::trace::front::front_at;
-use crate::trace::line::{Line, Reservation};
 use crate::trace::placed::Placed;
 use crate::trace::reply::ReserveReply;
+use crate::trace::reservation::Reservation;
 use crate::trace::suspect::suspect;
 use ent_alloc::{Entities, Reserved, Space, Span};
 use ent_handle::Memory;
@@ -126,8 +127,8 @@ impl Lineup {
         let given = reply_at(alloc, entities, cursor, reservation.requested)?;
         Ok(Difference {
             number: reservation.number,
-            expected: Line::Reserve(with_reply(&reservation, reply_of(given))),
-            told: Line::Reserve(reservation),
+            expected: Call::Reserve(with_reply(&reservation, reply_of(given))),
+            told: Call::Reserve(reservation),
             front: front_at(alloc, entities, cursor)?,
             cursor,
         })

@@ -1,4 +1,4 @@
-use crate::trace::line::Reservation;
+use crate::trace::reservation::Reservation;
 
 /// A reservation of the run, and the key that says where in the run it comes.
 #[derive(Drop)]

@@ -7,8 +7,9 @@ ghost use Rattle.ent_replay.specs.Text.{len_line, call_of, line_of};
 use crate::trace::answers::{
     read_alloc, read_flush, read_free, read_len, read_reserved, read_state,
 };
-use crate::trace::line::{Line, Reservation};
+use crate::trace::call::Call;
 use crate::trace::read_fault::{Cause, ReadFault};
+use crate::trace::reservation::Reservation;
 use crate::trace::words::{before_comment, first_word, no_argument, one_argument, two_arguments};
 use ent_handle::{Handle, read_decimal};
 use std::alloc::Global;
@@ -26,39 +27,39 @@ fn read_handle(word: &[u8]) -> Result<Handle, Cause>
 }
 
 #[tactic(auto, unfolding(crate::specs::Text::alloc_line))]
-fn alloc_line(text: &[u8]) -> Result<Line, Cause>
+fn alloc_line(text: &[u8]) -> Result<Call, Cause>
     ensures { result ≡ alloc_line (words_in text.now) }
 {
     match no_argument(text)? {
-        None => Ok(Line::Alloc(None)),
-        Some(told) => Ok(Line::Alloc(Some(read_alloc(told)?))),
+        None => Ok(Call::Alloc(None)),
+        Some(told) => Ok(Call::Alloc(Some(read_alloc(told)?))),
     }
 }
 
 #[tactic(auto, unfolding(crate::specs::Text::free_line))]
-fn free_line(text: &[u8]) -> Result<Line, Cause>
+fn free_line(text: &[u8]) -> Result<Call, Cause>
     ensures { result ≡ free_line (words_in text.now) }
 {
     let (word, told) = one_argument(text)?;
     let handle = read_handle(word)?;
     match told {
-        None => Ok(Line::Free(handle, None)),
-        Some(told) => Ok(Line::Free(handle, Some(read_free(told)?))),
+        None => Ok(Call::Free(handle, None)),
+        Some(told) => Ok(Call::Free(handle, Some(read_free(told)?))),
     }
 }
 
 #[tactic(auto, unfolding(crate::specs::Text::flush_line))]
-fn flush_line(alloc: Global, text: &[u8]) -> Result<Line, ReadFault>
+fn flush_line(alloc: Global, text: &[u8]) -> Result<Call, ReadFault>
     ensures { ReadsAs result (flush_line (words_in text.now)) }
 {
     match no_argument(text)? {
-        None => Ok(Line::Flush(None)),
-        Some(told) => Ok(Line::Flush(Some(read_flush(alloc, told)?))),
+        None => Ok(Call::Flush(None)),
+        Some(told) => Ok(Call::Flush(Some(read_flush(alloc, told)?))),
     }
 }
 
 #[tactic(auto, unfolding(crate::specs::Text::reserve_line))]
-fn reserve_line(alloc: Global, number: u64, text: &[u8]) -> Result<Line, ReadFault>
+fn reserve_line(alloc: Global, number: u64, text: &[u8]) -> Result<Call, ReadFault>
     ensures { ReadsAs result (reserve_line number (words_in text.now)) }
 {
     let (caller, requested, told) = two_arguments(text)?;
@@ -66,7 +67,7 @@ fn reserve_line(alloc: Global, number: u64, text: &[u8]) -> Result<Line, ReadFau
     let requested = read_number(requested)?;
     let told = told.ok_or(Cause::Reply)?;
     let reply = read_reserved(alloc, told)?;
-    Ok(Line::Reserve(Reservation {
+    Ok(Call::Reserve(Reservation {
         number,
         caller,
         requested,
@@ -75,29 +76,29 @@ fn reserve_line(alloc: Global, number: u64, text: &[u8]) -> Result<Line, ReadFau
 }
 
 #[tactic(auto, unfolding(crate::specs::Text::state_line))]
-fn state_line(text: &[u8]) -> Result<Line, Cause>
+fn state_line(text: &[u8]) -> Result<Call, Cause>
     ensures { result ≡ state_line (words_in text.now) }
 {
     let (word, told) = one_argument(text)?;
     let handle = read_handle(word)?;
     match told {
-        None => Ok(Line::State(handle, None)),
-        Some(told) => Ok(Line::State(handle, Some(read_state(told)?))),
+        None => Ok(Call::State(handle, None)),
+        Some(told) => Ok(Call::State(handle, Some(read_state(told)?))),
     }
 }
 
 #[tactic(auto, unfolding(crate::specs::Text::len_line))]
-fn len_line(text: &[u8]) -> Result<Line, Cause>
+fn len_line(text: &[u8]) -> Result<Call, Cause>
     ensures { result ≡ len_line (words_in text.now) }
 {
     match no_argument(text)? {
-        None => Ok(Line::Len(None)),
-        Some(told) => Ok(Line::Len(Some(read_len(told)?))),
+        None => Ok(Call::Len(None)),
+        Some(told) => Ok(Call::Len(Some(read_len(told)?))),
     }
 }
 
 #[tactic(auto, unfolding(crate::specs::Text::call_of))]
-fn read_call(alloc: Global, number: u64, word: &[u8], text: &[u8]) -> Result<Line, ReadFault>
+fn read_call(alloc: Global, number: u64, word: &[u8], text: &[u8]) -> Result<Call, ReadFault>
     ensures { ReadsAs result (call_of number word.now (words_in text.now)) }
 {
     if word == b"reserve".as_slice() {
@@ -128,7 +129,7 @@ fn read_call(alloc: Global, number: u64, word: &[u8], text: &[u8]) -> Result<Lin
 ///
 /// `Cause` if the line is no call with its answer, with the first of the causes that it has;
 /// `Memory` if memory ran out.
-pub fn read_line(alloc: Global, number: u64, line: &[u8]) -> Result<Option<Line>, ReadFault>
+pub fn read_line(alloc: Global, number: u64, line: &[u8]) -> Result<Option<Call>, ReadFault>
     // All of it, as a function of the words.
     ensures exact { ReadsAs result (line_of number (words_of line.now)) }
 {

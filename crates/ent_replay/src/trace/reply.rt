@@ -1,9 +1,14 @@
-//! What a line of a trace says was answered.
+//! What an allocator answered.
+ghost use Rattle.std.specs.Prelude.{◌≡◌, IfOk};
+ghost use Rattle.ent_replay.specs.declared.trace.reply.AllocReply.TheVariants.{Handle as AllocHandle};
+ghost use Rattle.ent_replay.specs.declared.trace.reply.FlushReply.TheVariants.{Born as FlushBorn};
+ghost use Rattle.ent_replay.specs.declared.trace.reply.ReserveReply.TheVariants.{Handles as ReserveHandles};
 
 use crate::handle_list::HandleList;
-use ent_handle::Handle;
+use ent_handle::{Handle, Memory};
+use std::alloc::Global;
 
-/// What `alloc` answered.
+/// What was answered to a call for a handle that is alive at once.
 #[derive(Clone, Copy, Debug, PartialEq, Eq)]
 pub enum AllocReply {
     /// The handle that came to life.
@@ -14,10 +19,18 @@ pub enum AllocReply {
     NeedsFlush,
 }
 
-/// What `free` answered.
+impl From<Handle> for AllocReply {
+    ghost from_gives = { λ handle reply. reply ≡ AllocHandle handle };
+
+    fn from(handle: Handle) -> Self {
+        AllocReply::Handle(handle)
+    }
+}
+
+/// What was answered to a call that frees a handle.
 #[derive(Clone, Copy, Debug, PartialEq, Eq)]
 pub enum FreeReply {
-    /// The handle was freed. What its slot gives next isn't told.
+    /// The handle was freed. What its slot gives next isn't compared.
     Freed,
     /// The handle was freed, and its slot gives this one next.
     Next(Handle),
@@ -29,7 +42,7 @@ pub enum FreeReply {
     NeedsFlush,
 }
 
-/// What `flush` answered.
+/// What was answered to a flush.
 #[derive(Debug, Drop)]
 pub enum FlushReply {
     /// The handles that came to life, in their order.
@@ -38,13 +51,54 @@ pub enum FlushReply {
     Count(u32),
 }
 
-/// What a reservation was answered.
+impl FlushReply {
+    /// A copy.
+    pub(super) fn try_copy(&self, alloc: Global) -> Result<Self, Memory>
+        ensures { IfOk result (λ copy. copy ≡ self.now) }
+    {
+        Ok(match self {
+            FlushReply::Born(handles) => FlushReply::Born(handles.try_copy(alloc)?),
+            FlushReply::Count(count) => FlushReply::Count(*count),
+        })
+    }
+}
+
+impl From<Vec<Handle>> for FlushReply {
+    ghost from_gives = { λ born reply. reply ≡ FlushBorn born.items };
+
+    fn from(born: Vec<Handle>) -> Self {
+        FlushReply::Born(HandleList::new(born))
+    }
+}
+
+/// What was answered to a reservation.
 #[derive(Debug, Drop)]
 pub enum ReserveReply {
     /// The handles, in their order.
     Handles(HandleList),
-    /// Too few were left. How many isn't told.
+    /// Too few were left. How many isn't compared.
     Space,
     /// Too few were left, and this many.
     SpaceLeft(u32),
+}
+
+impl ReserveReply {
+    /// A copy.
+    pub(super) fn try_copy(&self, alloc: Global) -> Result<Self, Memory>
+        ensures { IfOk result (λ copy. copy ≡ self.now) }
+    {
+        Ok(match self {
+            ReserveReply::Handles(handles) => ReserveReply::Handles(handles.try_copy(alloc)?),
+            ReserveReply::Space => ReserveReply::Space,
+            ReserveReply::SpaceLeft(left) => ReserveReply::SpaceLeft(*left),
+        })
+    }
+}
+
+impl From<Vec<Handle>> for ReserveReply {
+    ghost from_gives = { λ handles reply. reply ≡ ReserveHandles handles.items };
+
+    fn from(handles: Vec<Handle>) -> Self {
+        ReserveReply::Handles(HandleList::new(handles))
+    }
 }

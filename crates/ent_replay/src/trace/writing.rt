@@ -4,9 +4,12 @@ ghost use Rattle.ent_handle.specs.Text.{handle_text};
 ghost use Rattle.std.specs.Fmt.{decimal};
 ghost use Rattle.ent_replay.specs.Text.{alloc_words, free_words, flush_words, reserve_words};
 ghost use Rattle.ent_replay.specs.Text.{state_words, spaced, answer_words, line_text};
+ghost use Rattle.ent_replay.specs.Text.{difference_text};
 
-use crate::trace::line::{Line, Reservation};
+use crate::trace::call::Call;
+use crate::trace::difference::Difference;
 use crate::trace::reply::{AllocReply, FlushReply, FreeReply, ReserveReply};
+use crate::trace::reservation::Reservation;
 use ent_alloc::State;
 use ent_handle::{Handle, Memory};
 use itoa::Buffer;
@@ -43,7 +46,7 @@ fn append_handle(out: &mut Vec<u8>, handle: Handle) -> Result<(), Memory>
 ///
 /// # Errors
 ///
-/// `Memory`: memory ran out. `out` is as it was.
+/// `Memory`: out of memory. `out` is as it was.
 pub fn append_handles(alloc: Global, out: &mut Vec<u8>, handles: &[Handle]) -> Result<(), Memory>
     ensures ok { OnOk result (out.new.items
         ≡ out.old.items ++ spaced (map handle_text handles.now)) }
@@ -128,7 +131,7 @@ fn write_state(out: &mut Vec<u8>, state: State) -> Result<(), Memory>
 
 fn write_reserve(out: &mut Vec<u8>, reservation: &Reservation) -> Result<(), Memory>
     ensures { OnOk result (out.new.items
-        ≡ out.old.items ++ line_text (Line.Reserve reservation.now)) }
+        ≡ out.old.items ++ line_text (Call.Reserve reservation.now)) }
 {
     append(out, b"reserve")?;
     append_number(out, reservation.caller)?;
@@ -142,8 +145,8 @@ fn write_reserve(out: &mut Vec<u8>, reservation: &Reservation) -> Result<(), Mem
 ///
 /// # Errors
 ///
-/// `Memory`: memory ran out. `out` is as it was.
-pub fn append_answer(alloc: Global, out: &mut Vec<u8>, line: &Line) -> Result<(), Memory>
+/// `Memory`: out of memory. `out` is as it was.
+pub fn append_answer(alloc: Global, out: &mut Vec<u8>, line: &Call) -> Result<(), Memory>
     ensures ok { OnOk result (out.new.items ≡ out.old.items ++ spaced (answer_words line.now)) }
     ensures err { OnErr result (out.new.items ≡ out.old.items) }
 {
@@ -152,16 +155,16 @@ pub fn append_answer(alloc: Global, out: &mut Vec<u8>, line: &Line) -> Result<()
     append(out, &text)
 }
 
-fn put_answer(out: &mut Vec<u8>, line: &Line) -> Result<(), Memory>
+fn put_answer(out: &mut Vec<u8>, line: &Call) -> Result<(), Memory>
     ensures ok { OnOk result (out.new.items ≡ out.old.items ++ spaced (answer_words line.now)) }
 {
     match line {
-        Line::Alloc(Some(reply)) => write_alloc(out, *reply),
-        Line::Free(_, Some(reply)) => write_free(out, *reply),
-        Line::Flush(Some(reply)) => write_flush(out, reply),
-        Line::Reserve(reservation) => write_reserved(out, &reservation.reply),
-        Line::State(_, Some(state)) => write_state(out, *state),
-        Line::Len(Some(len)) => append_number(out, *len),
+        Call::Alloc(Some(reply)) => write_alloc(out, *reply),
+        Call::Free(_, Some(reply)) => write_free(out, *reply),
+        Call::Flush(Some(reply)) => write_flush(out, reply),
+        Call::Reserve(reservation) => write_reserved(out, &reservation.reply),
+        Call::State(_, Some(state)) => write_state(out, *state),
+        Call::Len(Some(len)) => append_number(out, *len),
         _ => Ok(()),
     }
 }
@@ -171,8 +174,8 @@ fn put_answer(out: &mut Vec<u8>, line: &Line) -> Result<(), Memory>
 ///
 /// # Errors
 ///
-/// `Memory`: memory ran out. `out` is as it was.
-pub fn write_line(alloc: Global, out: &mut Vec<u8>, line: &Line) -> Result<(), Memory>
+/// `Memory`: out of memory. `out` is as it was.
+pub fn write_line(alloc: Global, out: &mut Vec<u8>, line: &Call) -> Result<(), Memory>
     ensures ok { OnOk result (out.new.items ≡ out.old.items ++ line_text line.now) }
     ensures err { OnErr result (out.new.items ≡ out.old.items) }
 {
@@ -181,11 +184,11 @@ pub fn write_line(alloc: Global, out: &mut Vec<u8>, line: &Line) -> Result<(), M
     append(out, &text)
 }
 
-fn put_line(out: &mut Vec<u8>, line: &Line) -> Result<(), Memory>
+fn put_line(out: &mut Vec<u8>, line: &Call) -> Result<(), Memory>
     ensures ok { OnOk result (out.new.items ≡ out.old.items ++ line_text line.now) }
 {
     match line {
-        Line::Alloc(told) => {
+        Call::Alloc(told) => {
             append(out, b"alloc")?;
             match told {
                 None => Ok(()),
@@ -195,7 +198,7 @@ fn put_line(out: &mut Vec<u8>, line: &Line) -> Result<(), Memory>
                 }
             }
         }
-        Line::Free(handle, told) => {
+        Call::Free(handle, told) => {
             append(out, b"free")?;
             append_handle(out, *handle)?;
             match told {
@@ -206,7 +209,7 @@ fn put_line(out: &mut Vec<u8>, line: &Line) -> Result<(), Memory>
                 }
             }
         }
-        Line::Flush(told) => {
+        Call::Flush(told) => {
             append(out, b"flush")?;
             match told {
                 None => Ok(()),
@@ -216,8 +219,8 @@ fn put_line(out: &mut Vec<u8>, line: &Line) -> Result<(), Memory>
                 }
             }
         }
-        Line::Reserve(reservation) => write_reserve(out, reservation),
-        Line::State(handle, told) => {
+        Call::Reserve(reservation) => write_reserve(out, reservation),
+        Call::State(handle, told) => {
             append(out, b"state")?;
             append_handle(out, *handle)?;
             match told {
@@ -228,7 +231,7 @@ fn put_line(out: &mut Vec<u8>, line: &Line) -> Result<(), Memory>
                 }
             }
         }
-        Line::Len(told) => {
+        Call::Len(told) => {
             append(out, b"len")?;
             match told {
                 None => Ok(()),
@@ -239,4 +242,34 @@ fn put_line(out: &mut Vec<u8>, line: &Line) -> Result<(), Memory>
             }
         }
     }
+}
+
+/// Appends the text of a difference: the number of the call, the call as it was, and what the
+/// allocator answers. It is one line, without a line feed.
+///
+/// # Errors
+///
+/// `Memory`: out of memory. `out` is as it was.
+pub fn write_difference(
+    alloc: Global,
+    out: &mut Vec<u8>,
+    difference: &Difference,
+) -> Result<(), Memory>
+    ensures ok { OnOk result (out.new.items ≡ out.old.items ++ difference_text difference.now) }
+    ensures err { OnErr result (out.new.items ≡ out.old.items) }
+{
+    let mut text = Vec::new(alloc);
+    put_difference(&mut text, difference)?;
+    append(out, &text)
+}
+
+fn put_difference(out: &mut Vec<u8>, difference: &Difference) -> Result<(), Memory>
+    ensures ok { OnOk result (out.new.items ≡ out.old.items ++ difference_text difference.now) }
+{
+    append(out, b"differs line ")?;
+    append(out, Buffer::new().format(difference.number).as_bytes())?;
+    append(out, b": ")?;
+    put_line(out, &difference.told)?;
+    append(out, b", expected")?;
+    put_answer(out, &difference.expected)
 }

@@ -18,7 +18,7 @@ pub enum InsertError {
 }
 
 /// A value that [`HandleMap::insert`](super::HandleMap::insert) hands back.
-#[derive(Drop)]
+#[derive(Clone, Copy, PartialEq, Eq, Drop)]
 pub struct Uninserted<T> {
     /// The value.
     pub value: T,

@@ -29,7 +29,7 @@ fn texts_of_refusals() {
     let quota = Refused::Quota {
         left: 1_099_511_627_775,
     };
-    assert_eq!(quota.to_string(), "the credit left is 1099511627775");
+    assert_eq!(quota.to_string(), "the quota left is 1099511627775");
 }
 
 #[test]
@@ -46,7 +46,7 @@ fn want_of_memory_ends_a_system() {
 #[test]
 fn texts_of_the_faults_of_a_queue() {
     assert_eq!(SPACE.to_string(), "3 wanted and 2 left");
-    assert_eq!(QUOTA.to_string(), "the credit left is 1");
+    assert_eq!(QUOTA.to_string(), "the quota left is 1");
     assert_eq!(QueueFault::Memory.to_string(), "out of memory");
 }
 

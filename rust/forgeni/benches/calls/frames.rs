@@ -19,7 +19,7 @@ const STEPS: u64 = 50_000;
 struct Computes(u64);
 
 impl System for Computes {
-    fn run(&self, _: View<'_>, _: &mut SystemCommands<'_, '_>) -> Result<(), OutOfMemory> {
+    fn run(&self, _: &View<'_>, _: &mut SystemCommands<'_>) -> Result<(), OutOfMemory> {
         black_box(computed(self.0));
         Ok(())
     }
@@ -54,7 +54,7 @@ fn here(workers: usize, steps: u64) -> Run {
     let mut world = World::new();
     timed(|| {
         let report = run_frame(&mut world, &systems, workers).expect("memory");
-        report.born().len() as u64
+        report.born.len() as u64
     })
 }
 

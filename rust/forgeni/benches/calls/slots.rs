@@ -281,7 +281,8 @@ fn requests<const PLACE: usize>() -> Run {
         let sum = (0..COUNT).fold(0, |sum, _| {
             sum ^ black_box(&mut entities).request().expect("room").to_bits()
         });
-        let born = entities.flush().expect("memory");
+        let mut born = Vec::new();
+        entities.flush(&mut born).expect("memory");
         sum ^ free_all(&mut entities, born)
     })
 }
@@ -306,7 +307,8 @@ fn phase<const PLACE: usize>() -> Run {
         let (shared, mut reservers) = share(entities);
         let sum = reserve_all(&mut reservers[0]);
         let mut entities = shared.close(reservers).expect("closed");
-        let born = entities.flush().expect("memory");
+        let mut born = Vec::new();
+        entities.flush(&mut born).expect("memory");
         sum ^ free_all(&mut entities, born)
     })
 }
@@ -332,7 +334,8 @@ fn bulks<const PLACE: usize>() -> Run {
         let (shared, mut reservers) = share(entities);
         let sum = reserve_bulks(&mut reservers[0], &mut list);
         let mut entities = shared.close(reservers).expect("closed");
-        let born = entities.flush().expect("memory");
+        let mut born = Vec::new();
+        entities.flush(&mut born).expect("memory");
         sum ^ free_all(&mut entities, born)
     })
 }

@@ -119,7 +119,7 @@ fn applied(step: u32) -> Run {
     let (mut world, queues) = open.close(queues).expect("closed");
     timed(|| {
         let report = black_box(&mut world).apply(queues).expect("memory");
-        (report.born().len() + report.faults().len()) as u64
+        (report.born.len() + report.faults.len()) as u64
     })
 }
 
@@ -193,7 +193,7 @@ fn of_kind<const KIND: usize, const STEP: u32, const PLACE: usize>() -> Run {
     let (mut world, queues) = open.close(queues).expect("closed");
     let run = timed(|| {
         let report = black_box(&mut world).apply(queues).expect("memory");
-        (report.born().len() + report.faults().len()) as u64
+        (report.born.len() + report.faults.len()) as u64
     });
     let left = all
         .iter()

@@ -41,7 +41,9 @@ fn living(threads: usize, request: fn(&mut Reserver)) -> Run {
             }
         });
         let mut entities = shared.close(reservers).expect("closed");
-        entities.flush().expect("memory").len() as u64
+        let mut born = Vec::new();
+        entities.flush(&mut born).expect("memory");
+        born.len() as u64
     });
     assert_eq!(run.sum, threads as u64 * u64::from(COUNT));
     run

@@ -6,7 +6,7 @@ use crate::entities::State;
 use crate::errors::OutOfMemory;
 use crate::handle::Handle;
 use crate::kit::vec::FallibleVec;
-use crate::limits::Limits;
+use crate::proved::ent_alloc::Limits;
 use crate::proved::ent_replay::trace::{self, Line};
 use crate::proved::ent_replay::HandleList;
 use crate::proved::{ent_alloc, ent_handle};
@@ -30,7 +30,7 @@ impl Call {
                 requested: reservation.requested,
                 reply: reservation.reply.proved()?,
             }),
-            Self::State(handle, state) => Line::State(*handle, Some(state.proved())),
+            Self::State(handle, state) => Line::State(*handle, Some(*state)),
             Self::Len(len) => Line::Len(Some(*len)),
         })
     }
@@ -48,7 +48,7 @@ impl Call {
                 requested: it.requested,
                 reply: ReserveReply::of(it.reply),
             }),
-            Line::State(handle, state) => Self::State(handle, state.map_or(State::Gone, State::of)),
+            Line::State(handle, state) => Self::State(handle, state.unwrap_or(State::Gone)),
             Line::Len(len) => Self::Len(len.unwrap_or(0)),
         }
     }

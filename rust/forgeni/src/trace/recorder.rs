@@ -7,7 +7,7 @@ use super::Checker;
 use crate::entities::State;
 use crate::errors::OutOfMemory;
 use crate::handle::Handle;
-use crate::limits::Limits;
+use crate::proved::ent_alloc::Limits;
 use alloc::vec::Vec;
 use core::fmt;
 
@@ -89,7 +89,9 @@ impl Log {
 ///     }
 /// });
 /// let mut entities = shared.close(reservers)?;
-/// recorder.flush(entities.flush()?)?;
+/// let mut born = Vec::new();
+/// entities.flush(&mut born)?;
+/// recorder.flush(born)?;
 /// recorder.len(400)?;
 /// recorder.finish()?;
 /// # Ok::<(), Box<dyn std::error::Error>>(())

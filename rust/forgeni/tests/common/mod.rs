@@ -1,7 +1,7 @@
 //! What several tests need: the allocator as its rules say it, and numbers from a seed.
 #![allow(dead_code)]
 
-use forgeni::{AllocError, Entities, FreeError, Freed, Handle, Limits, Refused, State};
+use forgeni::{AllocError, Entities, FreeError, Freed, Handle, Limits, ReserveError, State};
 use std::ffi::OsString;
 
 pub fn handle(index: u32, generation: u32) -> Handle {
@@ -10,6 +10,13 @@ pub fn handle(index: u32, generation: u32) -> Handle {
 
 pub fn small(slots: u32, generations: u32) -> Entities {
     Entities::with_limits(Limits::new(slots, generations).expect("limits"))
+}
+
+/// What a flush brings to life.
+pub fn flushed(entities: &mut Entities) -> Vec<Handle> {
+    let mut born = vec![];
+    entities.flush(&mut born).expect("memory");
+    born
 }
 
 /// The allocator as its rules say it, for one caller, with no care for speed.
@@ -90,7 +97,7 @@ impl Model {
     }
 
     /// A request for `n` handles. Old ones come first, and of them the one that waits longest.
-    pub fn reserve(&mut self, n: u32) -> Result<Vec<Handle>, Refused> {
+    pub fn reserve(&mut self, n: u32) -> Result<Vec<Handle>, ReserveError> {
         if n == 0 {
             return Ok(vec![]);
         }
@@ -99,7 +106,7 @@ impl Model {
         if (pool.len() as u32) < n {
             self.shut = true;
             let left = pool.len() as u32;
-            return Err(Refused::Space { wanted: n, left });
+            return Err(ReserveError::Space { wanted: n, left });
         }
         let old = self.waiting.len().min(n as usize);
         let given = &pool[..n as usize];
@@ -141,7 +148,7 @@ impl Model {
         let reserved = self.old.len() + self.fresh.len();
         assert_eq!(entities.reserved() as usize, reserved, "{place}: reserved");
         let waiting = self.waiting.len() + self.old.len();
-        assert_eq!(entities.waiting() as usize, waiting, "{place}: waiting");
+        assert_eq!(entities.top() as usize, waiting, "{place}: waiting");
         let retired = self.made as usize - self.live.len() - waiting;
         assert_eq!(entities.retired() as usize, retired, "{place}: retired");
         let mut living = self.live.clone();

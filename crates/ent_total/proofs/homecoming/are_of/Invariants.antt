@@ -2,5 +2,5 @@ use Rattle.std.proofs.Common.{take}
 use Rattle.ent_total.specs.Sharing.{AreOf}
 use Rattle.ent_total.proofs.homecoming.are_of.Given as goal
 
-abbrev pub invariant-loop-caller : goal.invariant-loop-caller
-invariant-loop-caller g l = AreOf l.number (take l.caller-index l.callers)
+abbrev pub invariant-loop-reserver : goal.invariant-loop-reserver
+invariant-loop-reserver g l = AreOf l.number (take l.reserver-index l.reservers)

@@ -1,37 +1,37 @@
 use Rattle.std.proofs.Common.{◌≡◌, ◌∙◌, [], ◌∷◌, ◌++◌, ap, subst, arith}
 use Rattle.std.proofs.lemmas.List.Elements.{All-push, All-same}
 use Rattle.ent_shared.specs.Phase.{Shared, IsOf}
-use Rattle.ent_total.specs.Sharing.{Caller}
+use Rattle.ent_total.specs.Sharing.{Reserver}
 use Rattle.ent_total.proofs.Walking.{stand_for_one, walked_on, first_has, left_have, one_less}
 use Rattle.ent_total.proofs.Walking.{moved_on}
 use Rattle.ent_total.proofs.homecoming.bring_home.Goals as goal
 
-pub loop-caller-preserved : goal.loop-caller-preserved
-loop-caller-preserved g c =
-    let i = c.loop-caller.invariant in
+pub loop-reserver-preserved : goal.loop-reserver-preserved
+loop-reserver-preserved g c =
+    let i = c.loop-reserver.invariant in
     let front = c.in-Some.ensures.steps.0 in
-    let yielded = c.loop-caller.yielded in
-    let old = c.loop-caller.caller-iterator.rest.items in
+    let yielded = c.loop-reserver.yielded in
+    let old = c.loop-reserver.reserver-iterator.rest.items in
     let rest = c.next.new.self.rest.items in
-    let x = c.in-Some.caller in
-    let home = c.loop-caller.home.items in
+    let x = c.in-Some.reserver in
+    let home = c.loop-reserver.home.items in
     let next = c.push_reserved.new.self.items in
-    let r = c.caller.inside.reserver in
+    let r = c.reserver.inside.reserver in
     let s = c.args.shared.now in
     let p = c.push_reserved.ensures in
-    let view_is = c.caller.view_is in
-    let P = λ (d : Caller). d.number ≡ c.args.number in
-    let same = stand_for_one g.J.Numbering.shared_of c.args.number c.caller.inside.number s _
-    c.requires.stands_for c.caller.invariant.0 (ap (λ (d : Caller). d.number) view_is
+    let view_is = c.reserver.view_is in
+    let P = λ (d : Reserver). d.number ≡ c.args.number in
+    let same = stand_for_one g.J.Numbering.shared_of c.args.number c.reserver.inside.number s _
+    c.requires.stands_for c.reserver.invariant.0 (ap (λ (d : Reserver). d.number) view_is
     ∙ first_has yielded old rest x front P i.of) in
     let less = one_less yielded old rest x front in
     record {
-      all = walked_on yielded old rest x front c.args.callers.items i.all;
-      items = moved_on yielded old rest x front (λ (d : Caller). d.reserver)
+      all = walked_on yielded old rest x front c.args.reservers.items i.all;
+      items = moved_on yielded old rest x front (λ (d : Reserver). d.reserver)
           c.args.home.now.items home next i.items
-          (p.items ∙ ap (λ (d : Caller). home ++ d.reserver ∷ []) view_is);
+          (p.items ∙ ap (λ (d : Reserver). home ++ d.reserver ∷ []) view_is);
       own = All-same (IsOf s) next (home ++ r ∷ []) p.items (All-push (IsOf s) home r i.own
-          (subst (λ (t : Shared). IsOf t r) same c.caller.invariant.1));
+          (subst (λ (t : Shared). IsOf t r) same c.reserver.invariant.1));
       of = left_have yielded old rest x front P i.of;
       room = omega (arith, less, p.len, p.capacity, i.room);
       capacity = p.capacity ∙ i.capacity;

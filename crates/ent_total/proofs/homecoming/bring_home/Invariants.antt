@@ -5,12 +5,12 @@ use Rattle.ent_total.specs.Sharing.{AreOf, reservers_of}
 use Rattle.ent_total.proofs.homecoming.bring_home.Given as goal
 
 -- those that came so far
-abbrev pub invariant-loop-caller : goal.invariant-loop-caller
-invariant-loop-caller g l = record {
-  all : l.yielded ++ l.caller-iterator.rest.items ≡ l.fn.callers.items;
+abbrev pub invariant-loop-reserver : goal.invariant-loop-reserver
+invariant-loop-reserver g l = record {
+  all : l.yielded ++ l.reserver-iterator.rest.items ≡ l.fn.reservers.items;
   items : l.home.items ≡ l.initial.home.items ++ reservers_of l.yielded;
   own : All (IsOf l.fn.shared) l.home.items;
-  of : AreOf l.fn.number l.caller-iterator.rest.items;
-  room : vec_len l.home + length l.caller-iterator.rest.items ≤ vec_capacity l.home;
+  of : AreOf l.fn.number l.reserver-iterator.rest.items;
+  room : vec_len l.home + length l.reserver-iterator.rest.items ≤ vec_capacity l.home;
   capacity : vec_capacity l.home ≡ vec_capacity l.initial.home;
 }

@@ -1,17 +1,17 @@
 use Rattle.std.proofs.Common.{rules, arith, refl, ◌≡◌}
 use Rattle.std.proofs.lemmas.List.{take_all}
 use Rattle.std.proofs.lemmas.List.Elements.{All-more}
-use Rattle.ent_total.specs.Issuing.{Issuer, AreIssuersOf}
+use Rattle.ent_total.specs.Issuing.{Commands, AreCommandsOf}
 use Rattle.ent_total.proofs.world_homecoming.are_of.Goals as goal
 
 pub loop-one-preserved : goal.loop-one-preserved
 loop-one-preserved g c =
-    All-more (λ (i : Issuer). i.number ≡ c.args.number) c.args.queues.now
+    All-more (λ (i : Commands). i.number ≡ c.args.number) c.args.queues.now
     c.loop-one.one-index c.one-item.result c.loop-one-test.true c.loop-one.invariant
     (search rules)
 
 pub returns : goal.returns
 returns g c =
-    let all : AreIssuersOf c.args.number c.args.queues.now =
+    let all : AreCommandsOf c.args.number c.args.queues.now =
     rw (take_all c.loop-one.one-index c.args.queues.now (omega arith)) at c.loop-one.invariant in
     (λ _. all, λ _. refl)

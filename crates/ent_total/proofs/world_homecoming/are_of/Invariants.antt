@@ -1,6 +1,6 @@
 use Rattle.std.proofs.Common.{take}
-use Rattle.ent_total.specs.Issuing.{AreIssuersOf}
+use Rattle.ent_total.specs.Issuing.{AreCommandsOf}
 use Rattle.ent_total.proofs.world_homecoming.are_of.Given as goal
 
 abbrev pub invariant-loop-one : goal.invariant-loop-one
-invariant-loop-one g l = AreIssuersOf l.number (take l.one-index l.queues)
+invariant-loop-one g l = AreCommandsOf l.number (take l.one-index l.queues)

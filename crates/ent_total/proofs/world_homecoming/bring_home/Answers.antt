@@ -2,7 +2,7 @@ use Rattle.std.proofs.Common.{◌≡◌, ◌∙◌, [], ◌∷◌, ◌++◌, ap,
 use Rattle.std.proofs.lemmas.List.Elements.{All-push, All-same}
 use Rattle.ent_shared.specs.Phase.{IsOf}
 use Rattle.ent_world.specs.OpenWorld.{OpenWorld}
-use Rattle.ent_total.specs.Issuing.{Issuer}
+use Rattle.ent_total.specs.Issuing.{Commands}
 use Rattle.ent_total.proofs.Walking.{stand_for_one, walked_on, first_has, left_have, one_less}
 use Rattle.ent_total.proofs.Walking.{moved_on}
 use Rattle.ent_total.proofs.world_homecoming.bring_home.Goals as goal
@@ -22,20 +22,20 @@ loop-one-preserved g c =
     let world = c.args.world.now in
     let p = c.push_reserved.ensures in
     let q = c.push_reserved-in-loop-one.ensures in
-    let view_is = ap (λ w. w.issuer) c.one-inside.view_is ∙ c.one.view_is in
-    let P = λ (i : Issuer). i.number ≡ c.args.number in
+    let view_is = ap (λ w. w.commands) c.one-inside.view_is ∙ c.one.view_is in
+    let P = λ (i : Commands). i.number ≡ c.args.number in
     let same = stand_for_one g.J.Numbering.world_of c.args.number inside.number world _
-    c.requires.stands_for c.one-inside.invariant.0 (ap (λ (i : Issuer). i.number) view_is
+    c.requires.stands_for c.one-inside.invariant.0 (ap (λ (i : Commands). i.number) view_is
     ∙ first_has yielded old rest x front P i.of) in
     let less = one_less yielded old rest x front in
     record {
       all = walked_on yielded old rest x front c.args.queues.items i.all;
-      home = moved_on yielded old rest x front (λ (i : Issuer). i.reserver)
+      home = moved_on yielded old rest x front (λ (i : Commands). i.reserver)
           c.args.home.now.items home next i.home
-          (p.items ∙ ap (λ (i : Issuer). home ++ i.reserver ∷ []) view_is);
-      queues = moved_on yielded old rest x front (λ (i : Issuer). i.queue)
+          (p.items ∙ ap (λ (i : Commands). home ++ i.reserver ∷ []) view_is);
+      queues = moved_on yielded old rest x front (λ (i : Commands). i.queue)
           c.args.queues_home.now.items queues c.push_reserved-in-loop-one.new.self.items i.queues
-          (q.items ∙ ap (λ (i : Issuer). queues ++ i.queue ∷ []) view_is);
+          (q.items ∙ ap (λ (i : Commands). queues ++ i.queue ∷ []) view_is);
       own = All-same (IsOf world.shared) next (home ++ inside.reserver ∷ []) p.items
           (All-push (IsOf world.shared) home inside.reserver i.own
           (subst (λ (w : OpenWorld). IsOf w.shared inside.reserver) same
@@ -43,4 +43,6 @@ loop-one-preserved g c =
       of = left_have yielded old rest x front P i.of;
       room = omega (arith, less, p.len, p.capacity, i.room);
       queue_room = omega (arith, less, q.len, q.capacity, i.queue_room);
+      capacity = p.capacity ∙ i.capacity;
+      queue_capacity = q.capacity ∙ i.queue_capacity;
     }

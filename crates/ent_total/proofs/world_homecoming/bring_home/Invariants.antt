@@ -1,7 +1,7 @@
 use Rattle.std.proofs.Common.{◌≡◌, ◌≤◌, ◌+◌, ◌++◌, length, vec_len}
 use Rattle.std.specs.Prelude.{All, vec_capacity}
 use Rattle.ent_shared.specs.Phase.{IsOf}
-use Rattle.ent_total.specs.Issuing.{AreIssuersOf, issued, issuing}
+use Rattle.ent_total.specs.Issuing.{AreCommandsOf, issued, issuing}
 use Rattle.ent_total.proofs.world_homecoming.bring_home.Given as goal
 
 -- those that came so far
@@ -11,8 +11,10 @@ invariant-loop-one g l = record {
   home : l.home.items ≡ l.initial.home.items ++ issuing l.yielded;
   queues : l.queues_home.items ≡ l.initial.queues_home.items ++ issued l.yielded;
   own : All (IsOf l.fn.world.shared) l.home.items;
-  of : AreIssuersOf l.fn.number l.one-iterator.rest.items;
+  of : AreCommandsOf l.fn.number l.one-iterator.rest.items;
   room : vec_len l.home + length l.one-iterator.rest.items ≤ vec_capacity l.home;
   queue_room : vec_len l.queues_home + length l.one-iterator.rest.items
       ≤ vec_capacity l.queues_home;
+  capacity : vec_capacity l.home ≡ vec_capacity l.initial.home;
+  queue_capacity : vec_capacity l.queues_home ≡ vec_capacity l.initial.queues_home;
 }

@@ -36,8 +36,9 @@ pub struct Entities {
 }
 
 impl Entities {
-    /// An allocator with no entities, which gives all handles within its limits. It takes no memory,
-    /// whatever the limits are.
+    /// An allocator with no entities, which gives all handles within its limits, also the greatest
+    /// one, which [`with_limits`](Self::with_limits) keeps back. It takes no memory, whatever the
+    /// limits are.
     ///
     /// <details><summary>Contract</summary>
     ///
@@ -50,6 +51,7 @@ impl Entities {
     /// ```
     ///
     /// </details>
+    #[must_use]
     #[inline]
     pub const fn with_exact_limits(limits: Limits) -> Self {
         Entities {

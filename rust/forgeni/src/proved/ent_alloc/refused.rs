@@ -25,7 +25,7 @@ impl core::fmt::Display for Refused {
     fn fmt(&self, f: &mut core::fmt::Formatter<'_>) -> core::fmt::Result {
         match self {
             Refused::Space { wanted, left } => write!(f, "{wanted} wanted and {left} left"),
-            Refused::Quota { left } => write!(f, "the credit left is {left}"),
+            Refused::Quota { left } => write!(f, "the quota left is {left}"),
         }
     }
 }

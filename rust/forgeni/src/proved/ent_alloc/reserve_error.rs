@@ -31,7 +31,7 @@ impl core::fmt::Display for ReserveError {
     fn fmt(&self, f: &mut core::fmt::Formatter<'_>) -> core::fmt::Result {
         match self {
             ReserveError::Space { wanted, left } => write!(f, "{wanted} wanted and {left} left"),
-            ReserveError::Quota { left } => write!(f, "the credit left is {left}"),
+            ReserveError::Quota { left } => write!(f, "the quota left is {left}"),
             ReserveError::Memory => write!(f, "out of memory"),
         }
     }

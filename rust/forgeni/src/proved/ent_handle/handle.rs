@@ -147,6 +147,16 @@ impl Handle {
         self.bits.get()
     }
 
+    /// Both numbers in one with the index above, which is a rotation of the bits: one comparison of
+    /// these orders handles by index, then by generation.
+    #[inline]
+    fn index_first(self) -> u64
+        // ensures word { result ≡ self.index * 2 ^ 32 + self.generation }
+        // ensures in_range { IsHandle self }
+    {
+        (u64::from(self.index()) << 32) + u64::from(self.generation())
+    }
+
     /// The order by bits, which is that of Bevy and hecs: by generation, then by index.
     ///
     /// ```
@@ -205,8 +215,7 @@ impl Hash for Handle {
 impl Ord for Handle {
     #[inline]
     fn cmp(&self, other: &Self) -> Ordering {
-        let by_index = self.index().cmp(&other.index());
-        by_index.then(self.generation().cmp(&other.generation()))
+        self.index_first().cmp(&other.index_first())
     }
 }
 

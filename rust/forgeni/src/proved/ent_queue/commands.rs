@@ -1,6 +1,7 @@
 // Made of crates/ent_queue/src/commands.rt by rust/erase. It isn't edited by hand.
 
 use alloc::vec::Vec;
+use crate::proved::ent_queue::bundle::Bundle as OwnBundle;
 use crate::proved::ent_queue::queue::CommandQueue;
 use crate::proved::ent_alloc::ReserveError as QueueFault;
 use crate::proved::ent_handle::{ComponentId, Handle, Memory};
@@ -80,6 +81,34 @@ impl<'a> Commands<'a> {
         self.queue.spawn(self.shared, self.reserver, bundle.items())
     }
 
+    /// Reserves a handle, which is to have these components, in any order. Of a component that
+    /// stands there twice the last value counts.
+    ///
+    /// # Errors
+    ///
+    /// As [`Commands::spawn`].
+    #[inline]
+    pub(crate) fn spawn_with(&mut self, components: &[(ComponentId, i64)]) -> Result<Handle, QueueFault>
+        // requires { IsReady self.old }
+        // ensures extends { Extends self.old self.new }
+        // ensures ok { IfOk result (λ handle. queue_of self.new
+        //     ≡ queue_of self.old ++ Spawn handle (bundle_of components.now) ∷ []) }
+        // ensures refused { IfErr result (λ fault.
+        //     queue_of self.new ≡ queue_of self.old ++ refused_by 1 fault) }
+        // ensures memory { IsErrOf result QueueFault.Memory
+        //     → reserver_of self.new ≡ reserver_of self.old }
+
+        // Anything but Memory is the result of a reservation.
+        // ensures replies { (reply : Result HandleValue Refusal) → result ≡ queued reply
+        //     → IsReturned (shared_of self.new) (reserver_of self.old) (reserver_of self.new) 1
+        //     (listed_alone reply) }
+    {
+        let Ok(bundle) = OwnBundle::of(components) else {
+            return Err(QueueFault::Memory);
+        };
+        self.spawn(&bundle)
+    }
+
     /// Reserves `n` handles at once, each of which is to have the components.
     ///
     /// # Errors
@@ -111,6 +140,40 @@ impl<'a> Commands<'a> {
             .spawn_many(self.shared, self.reserver, n, bundle.items())
     }
 
+    /// Reserves `n` handles at once, each of which is to have these components, in any order. Of a
+    /// component that stands there twice the last value counts.
+    ///
+    /// # Errors
+    ///
+    /// As [`Commands::spawn_many`].
+    #[inline]
+    pub(crate) fn spawn_many_with(
+        &mut self,
+        n: u32,
+        components: &[(ComponentId, i64)],
+    ) -> Result<Vec<Handle>, QueueFault>
+        // requires { IsReady self.old }
+        // ensures extends { Extends self.old self.new }
+        // ensures ok { IfOk result (λ handles. queue_of self.new
+        //     ≡ queue_of self.old ++ SpawnMany handles.items (bundle_of components.now) ∷ []) }
+        // ensures length { IfOk result (λ handles. length handles.items ≡ n) }
+        // ensures refused { IfErr result (λ fault.
+        //     queue_of self.new ≡ queue_of self.old ++ refused_by n fault) }
+        // ensures memory { IsErrOf result QueueFault.Memory
+        //     → reserver_of self.new ≡ reserver_of self.old }
+
+        // Anything but Memory is the result of a reservation.
+        // ensures replies { (reply : Result (List HandleValue) Refusal)
+        //     → as_list result ≡ queued reply
+        //     → IsReturned (shared_of self.new) (reserver_of self.old) (reserver_of self.new) n
+        //     reply }
+    {
+        let Ok(bundle) = OwnBundle::of(components) else {
+            return Err(QueueFault::Memory);
+        };
+        self.spawn_many(n, &bundle)
+    }
+
     /// Gives the entity the components, instead of those that it has under the same numbers.
     ///
     /// # Errors
@@ -130,6 +193,29 @@ impl<'a> Commands<'a> {
         // ensures err { OnErr result (queue_of self.new ≡ queue_of self.old) }
     {
         self.queue.insert(handle, bundle.items())
+    }
+
+    /// Gives the entity these components, in any order, instead of those that it has under the same
+    /// numbers. Of a component that stands there twice the last value counts.
+    ///
+    /// # Errors
+    ///
+    /// `Memory`, and then nothing has changed.
+    #[inline]
+    pub(crate) fn insert_with(
+        &mut self,
+        handle: Handle,
+        components: &[(ComponentId, i64)],
+    ) -> Result<(), Memory>
+        // requires { IsReady self.old }
+        // ensures extends { Extends self.old self.new }
+        // ensures reserver { reserver_of self.new ≡ reserver_of self.old }
+        // ensures ok { OnOk result (queue_of self.new
+        //     ≡ queue_of self.old ++ Insert handle (bundle_of components.now) ∷ []) }
+        // ensures err { OnErr result (queue_of self.new ≡ queue_of self.old) }
+    {
+        let bundle = OwnBundle::of(components)?;
+        self.insert(handle, &bundle)
     }
 
     /// Takes the component out of the entity, if it has it.

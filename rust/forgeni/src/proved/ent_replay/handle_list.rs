@@ -1,7 +1,8 @@
 // Made of crates/ent_replay/src/handle_list.rt by rust/erase. It isn't edited by hand.
 
 use alloc::vec::Vec;
-use crate::proved::ent_handle::Handle;
+use crate::kit::vec::FallibleVec;
+use crate::proved::ent_handle::{Handle, Memory};
 
 /// Handles in order.
 #[derive(Debug)]
@@ -74,6 +75,16 @@ impl HandleList {
         self.handles.is_empty()
     }
 
+    /// A copy.
+    #[inline]
+    pub(super) fn try_copy(&self) -> Result<HandleList, Memory>
+        // ensures { IfOk result (λ copy. copy ≡ self.now) }
+    {
+        let mut handles = Vec::new();
+        handles.extend_from_slice_fallibly(&self.handles)?;
+        Ok(HandleList { handles })
+    }
+
     /// Gives the handles back, with their memory.
     ///
     /// <details><summary>Contract</summary>
@@ -100,3 +111,10 @@ impl PartialEq for HandleList {
 }
 
 impl Eq for HandleList {}
+
+impl From<Vec<Handle>> for HandleList {
+    #[inline]
+    fn from(handles: Vec<Handle>) -> Self {
+        HandleList::new(handles)
+    }
+}

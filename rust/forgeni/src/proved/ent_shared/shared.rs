@@ -5,7 +5,7 @@ use crate::proved::ent_shared::reserver::Reserver;
 use crate::proved::ent_shared::seats::{merge, new_seat};
 use crate::proved::ent_shared::word;
 use crate::proved::ent_shared::word::Word;
-use crate::proved::ent_alloc::{Entities, Refused, Reserved, Span};
+use crate::proved::ent_alloc::{Entities, Living, Refused, Reserved, Span};
 use crate::proved::ent_handle::Handle;
 
 /// An allocator that many callers reserve from at once, each with a [`Reserver`] of its own.
@@ -65,6 +65,72 @@ impl Shared {
     #[inline]
     pub fn is_alive(&self, handle: Handle) -> bool {
         self.entities.is_alive(handle)
+    }
+
+    /// How many handles were alive when the phase was opened.
+    ///
+    /// <details><summary>Contract</summary>
+    ///
+    /// In the words of the folder `specs/` of crate `ent_shared`:
+    ///
+    /// ```text
+    /// ensures { result ≡ set.len self.now.start.live }
+    /// ```
+    ///
+    /// </details>
+    #[inline]
+    pub fn len(&self) -> u32 {
+        self.entities.len()
+    }
+
+    /// Whether no handle was alive when the phase was opened.
+    ///
+    /// <details><summary>Contract</summary>
+    ///
+    /// In the words of the folder `specs/` of crate `ent_shared`:
+    ///
+    /// ```text
+    /// ensures { IsTrue result ↔ (set.len self.now.start.live ≡ 0) }
+    /// ```
+    ///
+    /// </details>
+    #[inline]
+    pub fn is_empty(&self) -> bool {
+        self.entities.is_empty()
+    }
+
+    /// The handles that were alive when the phase was opened, by rising slot.
+    ///
+    /// <details><summary>Contract</summary>
+    ///
+    /// In the words of the folder `specs/` of crate `ent_shared`:
+    ///
+    /// ```text
+    /// ensures living { set.from_list result ≡ self.now.start.live }
+    /// ensures rising { AllPairs (λ g h. g.index < h.index) result }
+    /// ensures count { length result ≡ set.len self.now.start.live }
+    /// ```
+    ///
+    /// </details>
+    #[inline]
+    pub fn iter(&self) -> Living<'_> {
+        self.entities.iter()
+    }
+
+    /// How many handles the pool had when the phase was opened. It never has more.
+    ///
+    /// <details><summary>Contract</summary>
+    ///
+    /// In the words of the folder `specs/` of crate `ent_shared`:
+    ///
+    /// ```text
+    /// ensures { result ≡ length self.now.start.pool }
+    /// ```
+    ///
+    /// </details>
+    #[inline]
+    pub fn pool(&self) -> u64 {
+        u64::from(self.entities.top()) + u64::from(self.entities.room())
     }
 
     /// The row that the program kept with the entity when the phase was opened. `None` if the
@@ -141,6 +207,7 @@ impl Shared {
         // ensures gains { 0 < n → n ≤ reserver.old.own.left
         //     → Reserves self.now reserver.old reserver.new n result }
         // ensures length { IfOk result (λ handles. length handles ≡ n) }
+        // ensures enough { OnOk result (n ≤ length self.now.start.pool) }
 
         // What was given is recorded.
         // ensures given { IfOk result (λ handles.

@@ -2,48 +2,41 @@
 
 //! The sync point: queues take effect on their world.
 
-use crate::proved::ent_total::numbered_world::NumberedWorld;
+use crate::proved::ent_total::go_on_error::GoOnError;
 use crate::proved::ent_total::queues::Queues;
 use crate::proved::ent_total::stop::Stop;
 use crate::proved::ent_total::stopped::Stopped;
-use crate::proved::ent_queue::CommandQueue;
-use crate::proved::ent_world::{SyncFault, SyncReport, World};
+use crate::proved::ent_total::sync_error::SyncError;
+use crate::proved::ent_total::world::World;
+use crate::proved::ent_world::{SyncFault, SyncReport};
 
-/// How many queues may be applied at once.
-const QUEUES: usize = 65_536;
-
-/// Why a sync point didn't do all.
-pub enum Unapplied {
-    /// The queues are of another world. Nothing was done.
-    OtherWorld(Queues),
-    /// There are more than 65,536 queues. Nothing was done.
-    TooMany(Queues),
-    /// There was no memory to begin. Nothing was done.
-    Memory(Queues),
-    /// Memory ran out at a command. All births stand, and of the commands just those before. The
-    /// report has what was done.
-    Stopped(Stopped, SyncReport),
-}
-
-/// Why a sync point that went on didn't do all.
-pub enum Ungone {
-    /// It stopped in another world. Nothing has changed.
-    OtherWorld(Stopped),
-    /// The world needs a flush first. Nothing has changed.
-    NeedsFlush(Stopped),
-    /// Memory ran out at a command, there or later. The report has what was done since it went on.
-    Stopped(Stopped, SyncReport),
-}
-
-impl NumberedWorld {
+impl World {
     /// The sync point: brings to life what is reserved, and then lets the queues take effect, one
-    /// after the other, in their order.
+    /// after the other, in their order. A command on an entity that is not alive at its turn has no
+    /// effect and is a fault of the report, and so is a refused spawn.
     ///
     /// # Errors
     ///
-    /// It is the first of these that holds: [`Unapplied::OtherWorld`], [`Unapplied::TooMany`],
-    /// [`Unapplied::Memory`], and then the queues come back, and nothing was done;
-    /// [`Unapplied::Stopped`], from where it may go on.
+    /// - [`SyncError::OtherWorld`]: the queues are of a phase of another world. Nothing was done.
+    /// - [`SyncError::Memory`]: nothing was done, and the call may be made again with the queues.
+    /// - [`SyncError::Stopped`]: memory ran out at a command. All births have taken effect, and of
+    ///   the commands just those before. It may [go on](Stopped::go_on).
+    ///
+    /// ```
+    /// use forgeni::{ComponentId, World};
+    ///
+    /// let mut world = World::new();
+    /// let cart = world.spawn(&[(ComponentId(0), 1)])?;
+    /// let (open, mut systems) = world.open(1)?;
+    /// systems[0].despawn(cart)?;
+    /// systems[0].insert(cart, &[(ComponentId(0), 2)])?;
+    /// let queues = systems.into_iter().map(|one| one.finish()).collect();
+    /// let (mut world, queues) = open.close(queues)?;
+    /// let report = world.apply(queues)?;
+    /// // It was gone when the second command's turn came.
+    /// assert_eq!((report.faults.len(), report.faults[0].command), (1, 1));
+    /// # Ok::<(), Box<dyn std::error::Error>>(())
+    /// ```
     ///
     /// <details><summary>Contract</summary>
     ///
@@ -52,47 +45,53 @@ impl NumberedWorld {
     /// ```text
     /// ensures applied { IfOk result (λ report.
     ///     IsSynced queues.queues self.old.world self.new.world report) }
-    /// ensures stopped { IfErr result (λ why. IfStopped why (λ stopped so_far.
-    ///     IsSyncedUntil stopped.stop queues.queues self.old.world self.new.world so_far)) }
-    /// ensures stays { IfErr result (λ why. queues_in why ≡ queues) }
+    /// ensures stopped { IfErr result (λ error. IfStopped error (λ stopped.
+    ///     IsSyncedUntil stopped.stop queues.queues self.old.world self.new.world
+    ///     stopped.so_far)) }
+    /// ensures stays { IfErr result (λ error. queues_in error ≡ queues) }
     /// ensures other_world { IsErrWith result IsOtherWorld ↔ (queues.world ≢ self.old.number) }
-    /// ensures too_many { IsErrWith result IsTooMany
-    ///     ↔ ((queues.world ≡ self.old.number) × (2 ^ 16 < length queues.queues)) }
     /// ensures reserved { IsErrWith result IsMemory
     ///     → 0 < length self.old.world.allocator.taken }
-    /// ensures nothing { IfErr result (λ why. IsUnbegun why → self.new ≡ self.old) }
+    /// ensures nothing { IfErr result (λ error. IsUnbegun error → self.new ≡ self.old) }
     /// ensures number { self.new.number ≡ self.old.number }
+    /// ensures counted { IsCounted result self.old.spawned self.new.spawned }
     /// ```
     ///
     /// </details>
     #[inline]
-    pub fn apply(&mut self, queues: Queues) -> Result<SyncReport, Unapplied> {
+    pub fn apply(&mut self, queues: Queues) -> Result<SyncReport, SyncError> {
         if queues.world() != self.number {
-            return Err(Unapplied::OtherWorld(queues));
+            return Err(SyncError::OtherWorld(queues));
         }
-        if queues.len() > QUEUES {
-            return Err(Unapplied::TooMany(queues));
+        match sync(&mut self.world, queues) {
+            Ok(report) => {
+                self.spawned = 0;
+                Ok(report)
+            }
+            Err(SyncError::Stopped(stopped)) => {
+                self.spawned = 0;
+                Err(SyncError::Stopped(stopped))
+            }
+            Err(error) => Err(error),
         }
-        sync(&mut self.world, queues)
     }
 }
 
 /// `World::apply`, with what it ensures as one fact.
 #[inline]
-fn sync(world: &mut World, queues: Queues) -> Result<SyncReport, Unapplied>
-    // requires { length queues.queues ≤ 2 ^ 16 }
+fn sync(world: &mut crate::proved::ent_world::World, queues: Queues) -> Result<SyncReport, SyncError>
     // ensures applied { IfOk result (λ report.
     //     IsSynced queues.queues world.old world.new report) }
-    // ensures stopped { IfErr result (λ why. IfStopped why (λ stopped so_far.
-    //     IsSyncedUntil stopped.stop queues.queues world.old world.new so_far)) }
-    // ensures stays { IfErr result (λ why. queues_in why ≡ queues) }
-    // ensures why { IfErr result (λ why. ¬ (IsOtherWorld why) × ¬ (IsTooMany why)) }
+    // ensures stopped { IfErr result (λ error. IfStopped error (λ stopped.
+    //     IsSyncedUntil stopped.stop queues.queues world.old world.new stopped.so_far)) }
+    // ensures stays { IfErr result (λ error. queues_in error ≡ queues) }
+    // ensures error { IfErr result (λ error. ¬ (IsOtherWorld error)) }
     // ensures reserved { IsErrWith result IsMemory → 0 < length world.old.allocator.taken }
-    // ensures nothing { IfErr result (λ why. IsUnbegun why → world.new ≡ world.old) }
+    // ensures nothing { IfErr result (λ error. IsUnbegun error → world.new ≡ world.old) }
 {
     match world.apply(queues.list()) {
         Ok(report) => Ok(report),
-        Err(SyncFault::FlushMemory) => Err(Unapplied::Memory(queues)),
+        Err(SyncFault::FlushMemory) => Err(SyncError::Memory(queues)),
         Err(
             SyncFault::Memory {
                 system,
@@ -106,7 +105,7 @@ fn sync(world: &mut World, queues: Queues) -> Result<SyncReport, Unapplied>
                 command,
                 done,
             };
-            Err(Unapplied::Stopped(Stopped::new(queues, stop), so_far))
+            Err(SyncError::Stopped(Stopped::new(queues, stop, so_far)))
         }
     }
 }
@@ -118,8 +117,10 @@ impl Stopped {
     ///
     /// # Errors
     ///
-    /// It is the first of these that holds: [`Ungone::OtherWorld`], [`Ungone::NeedsFlush`], and
-    /// then nothing has changed; [`Ungone::Stopped`], from where it may go on.
+    /// - [`GoOnError::OtherWorld`]: it stopped in another world. Nothing has changed.
+    /// - [`GoOnError::NeedsFlush`]: handles were requested in the world since then. Nothing has
+    ///   changed.
+    /// - [`GoOnError::Stopped`]: memory ran out again, there or later. It may go on from there.
     ///
     /// <details><summary>Contract</summary>
     ///
@@ -128,32 +129,33 @@ impl Stopped {
     /// ```text
     /// ensures applied { IfOk result (λ report.
     ///     IsFinished self.stop self.queues.queues world.old.world world.new.world report) }
-    /// ensures stopped { IfErr result (λ why. IfStoppedAgain why (λ later so_far.
+    /// ensures stopped { IfErr result (λ error. IfStoppedAgain error (λ later.
     ///     IsLeftUntil self.stop later.stop self.queues.queues world.old.world world.new.world
-    ///     so_far)) }
-    /// ensures stays { IfErr result (λ why. (stopped_in why).queues ≡ self.queues) }
+    ///     later.so_far)) }
+    /// ensures stays { IfErr result (λ error. (stopped_in error).queues ≡ self.queues) }
     /// ensures other_world { IsErrWith result IsOfOtherWorld
     ///     ↔ (self.queues.world ≢ world.old.number) }
     /// ensures needs_flush { IsErrWith result IsUnflushed
     ///     ↔ ((self.queues.world ≡ world.old.number) × (0 < world.old.world.allocator.asked)) }
-    /// ensures nothing { IfErr result (λ why. IsUnmoved why
-    ///     → (stopped_in why ≡ self) × (world.new ≡ world.old)) }
+    /// ensures nothing { IfErr result (λ error. IsUnmoved error
+    ///     → (stopped_in error ≡ self) × (world.new ≡ world.old)) }
     /// ensures number { world.new.number ≡ world.old.number }
+    /// ensures spawned { world.new.spawned ≡ world.old.spawned }
     /// ```
     ///
     /// </details>
     #[inline]
-    pub fn go_on(self, world: &mut NumberedWorld) -> Result<SyncReport, Ungone> {
+    pub fn go_on(self, world: &mut World) -> Result<SyncReport, GoOnError> {
         if self.world() != world.number {
-            return Err(Ungone::OtherWorld(self));
+            return Err(GoOnError::OtherWorld(self));
         }
-        if world.world.needs_flush() {
-            return Err(Ungone::NeedsFlush(self));
+        if world.needs_flush() {
+            return Err(GoOnError::NeedsFlush(self));
         }
         let (queues, stop) = self.into_parts();
         match apply_left(&mut world.world, queues.list(), stop) {
             Ok(report) => Ok(report),
-            Err((later, so_far)) => Err(Ungone::Stopped(Stopped::new(queues, later), so_far)),
+            Err((later, so_far)) => Err(GoOnError::Stopped(Stopped::new(queues, later, so_far))),
         }
     }
 }
@@ -161,8 +163,8 @@ impl Stopped {
 /// `World::apply_from`, with a stop as one value.
 #[inline]
 fn apply_left(
-    world: &mut World,
-    queues: &[CommandQueue],
+    world: &mut crate::proved::ent_world::World,
+    queues: &[crate::proved::ent_queue::CommandQueue],
     from: Stop,
 ) -> Result<SyncReport, (Stop, SyncReport)>
     // requires flushed { world.old.allocator.asked ≡ 0 }

@@ -3,26 +3,26 @@
 //! A phase of a world ends, and gives the world back, with the queues of its systems.
 
 use alloc::vec::Vec;
-use crate::proved::ent_total::issued::Issued;
-use crate::proved::ent_total::numbered_world::NumberedWorld;
+use crate::proved::ent_total::command_queue::CommandQueue;
+use crate::proved::ent_total::open_world::{OpenWorld, Parts};
 use crate::proved::ent_total::queues::Queues;
-use crate::proved::ent_total::unfinished::{FinishFault, Unfinished};
+use crate::proved::ent_total::unfinished::{FinishError, Unfinished};
+use crate::proved::ent_total::world::World;
 use crate::proved::ent_total::world_homecoming::are_of;
-use crate::proved::ent_total::world_phase::{Parts, WorldPhase};
 use crate::proved::ent_shared::Reserver;
-use crate::proved::ent_world::{OpenWorld, World};
 
-impl WorldPhase {
-    /// Ends the phase with all its systems: those that are at home, and these. The queues stand in
-    /// this order, which is that of their effect. Nothing of the world has changed but that handles
-    /// are reserved.
+impl OpenWorld {
+    /// Ends the phase with the queues of all its systems. Their order here is the order in which
+    /// they will take effect, and numbers their systems in births and faults. Nothing of the world
+    /// has changed, except that handles are reserved. It takes no memory, and the time of a look at
+    /// each queue, however many commands a queue has.
     ///
     /// # Errors
     ///
-    /// [`Unfinished`] says why, and has the phase, which goes on. It is the first of these that
-    /// holds: [`FinishFault::OtherPhase`], [`FinishFault::TooMany`], [`FinishFault::Missing`],
-    /// [`FinishFault::Memory`], and then all queues are handed back; [`FinishFault::InUse`], and
-    /// then they are at home.
+    /// [`Unfinished`] has the phase. It is the first of these that holds:
+    /// [`FinishError::OtherPhase`], [`FinishError::Missing`], and then all queues come back, in
+    /// their order; [`FinishError::InUse`], and then the phase keeps them, as
+    /// [`close_lost`](OpenWorld::close_lost) does.
     ///
     /// <details><summary>Contract</summary>
     ///
@@ -32,58 +32,59 @@ impl WorldPhase {
     /// ensures world { IfOk result (λ made.
     ///     IsClosed self.world (reservers_home self queues.items) made.0.world) }
     /// ensures number { IfOk result (λ made. made.0.number ≡ self.of_world) }
+    /// ensures spawned { IfOk result (λ made. made.0.spawned ≡ self.spawned) }
     /// ensures queues { IfOk result (λ made.
     ///     made.1 ≡ record { world = self.of_world; queues = queues_home self queues.items }) }
     ///
-    /// // When it is refused, and what stands then.
-    /// ensures other_phase { IsErrWith result (λ u. u.why ≡ OtherPhase)
-    ///     ↔ ¬ (AreIssuersOf self.number queues.items) }
-    /// ensures too_many { IsErrWith result (λ u. u.why ≡ TooMany)
-    ///     ↔ (AreIssuersOf self.number queues.items
-    ///     × (self.world.shared.count < length (reservers_home self queues.items))) }
-    /// ensures missing { IsErrWith result (λ u. AreMissing u.why)
-    ///     ↔ (AreIssuersOf self.number queues.items
+    /// // When it succeeds, when it is refused, and what stands then.
+    /// ensures home { OnOk result (MayComeHome self queues.items) }
+    /// ensures all { OnOk result
+    ///     (length (reservers_home self queues.items) ≡ self.world.shared.count) }
+    /// ensures other_phase { IsErrWith result (λ u. u.error ≡ OtherPhase)
+    ///     ↔ ¬ (MayComeHome self queues.items) }
+    /// ensures missing { IsErrWith result (λ u. AreMissing u.error)
+    ///     ↔ (MayComeHome self queues.items
     ///     × (length (reservers_home self queues.items) < self.world.shared.count)) }
-    /// ensures how_many { IfErr result (λ u. AreMissing u.why
-    ///     → length (reservers_home self queues.items) + queues_missing u.why
+    /// ensures how_many { IfErr result (λ u. AreMissing u.error
+    ///     → length (reservers_home self queues.items) + queues_missing u.error
     ///     ≡ self.world.shared.count) }
-    /// ensures memory { IfErr result (λ u. u.why ≡ Memory → 0 < length queues.items) }
-    /// ensures handed_back { IfErr result (λ u. u.why ≢ InUse
-    ///     → (u.phase ≡ self) × (u.queues.items ≡ queues.items)) }
-    /// ensures at_home { IfErr result (λ u. u.why ≡ InUse
-    ///     → (u.phase ≡ with_home self queues.items) × (u.queues.items ≡ [])) }
+    /// ensures handed_back { IfErr result (λ u. u.error ≢ InUse
+    ///     → (u.open ≡ self) × (u.queues.items ≡ queues.items)) }
+    /// ensures at_home { IfErr result (λ u. u.error ≡ InUse
+    ///     → (u.open ≡ with_home self queues.items) × (u.queues.items ≡ [])) }
     /// ```
     ///
     /// </details>
     #[inline]
-    pub fn close(mut self, queues: Vec<Issued>) -> Result<(NumberedWorld, Queues), Unfinished> {
-        let missing = match self.missing(&queues) {
-            Ok(missing) => missing,
-            Err(why) => return Err(self.unfinished(queues, why)),
+    pub fn close(mut self, queues: Vec<CommandQueue>) -> Result<(World, Queues), Unfinished> {
+        let Some(missing) = self.missing(&queues) else {
+            return Err(self.unfinished(queues, FinishError::OtherPhase));
         };
         if missing > 0 {
-            return Err(self.unfinished(queues, FinishFault::Missing { count: missing }));
+            return Err(self.unfinished(queues, FinishError::Missing { count: missing }));
         }
-        if let Err(queues) = self.take_home(queues) {
-            return Err(self.unfinished(queues, FinishFault::Memory));
-        }
+        self.take_home(queues);
         match self.end() {
             Ok(parts) => Ok(close_all(parts)),
-            Err(phase) => Err(phase.in_use()),
+            Err(open) => Err(open.in_use()),
         }
     }
 
-    /// Ends the phase although some systems are lost: with those that are at home, and these. The
-    /// queues stand in this order, which is that of their effect.
+    /// Ends the phase although some systems are lost: their [`Commands`](crate::proved::ent_total::Commands) or queues
+    /// were dropped, as by a thread that panicked. The queues of the others take effect in their
+    /// order here, which also numbers their systems in births and faults. What a lost system issued
+    /// is gone.
     ///
-    /// Which of the lost systems' requests were refused is lost too. So the front of the pool
-    /// counts as reserved, as far as it goes, also those handles that nobody got.
+    /// Which of its requests were refused is lost too. So the front of the pool counts as reserved,
+    /// as far as requests went, and the next sync point or flush also brings to life those handles
+    /// that nobody got, and those of the lost system, all without components.
     ///
     /// # Errors
     ///
-    /// [`Unfinished`] says why, and has the phase, which goes on. It is the first of these that
-    /// holds: [`FinishFault::OtherPhase`], [`FinishFault::TooMany`], [`FinishFault::Memory`], and
-    /// then all queues are handed back; [`FinishFault::InUse`], and then they are at home.
+    /// As of [`close`](OpenWorld::close), without `Missing`. With [`FinishError::InUse`] the
+    /// `Commands` or the queue of a system exists that wasn't handed in. The phase keeps those that
+    /// were, and they stay before those that the next close is given. One that was given to
+    /// `core::mem::forget` exists for good.
     ///
     /// <details><summary>Contract</summary>
     ///
@@ -93,99 +94,97 @@ impl WorldPhase {
     /// ensures world { IfOk result (λ made.
     ///     IsClosedLost self.world (reservers_home self queues.items) made.0.world) }
     /// ensures number { IfOk result (λ made. made.0.number ≡ self.of_world) }
+    /// ensures spawned { IfOk result (λ made. made.0.spawned ≡ self.spawned) }
     /// ensures queues { IfOk result (λ made.
     ///     made.1 ≡ record { world = self.of_world; queues = queues_home self queues.items }) }
     ///
-    /// // When it is refused, and what stands then.
-    /// ensures other_phase { IsErrWith result (λ u. u.why ≡ OtherPhase)
-    ///     ↔ ¬ (AreIssuersOf self.number queues.items) }
-    /// ensures too_many { IsErrWith result (λ u. u.why ≡ TooMany)
-    ///     ↔ (AreIssuersOf self.number queues.items
-    ///     × (self.world.shared.count < length (reservers_home self queues.items))) }
-    /// ensures no_missing { IfErr result (λ u. ¬ (AreMissing u.why)) }
-    /// ensures memory { IfErr result (λ u. u.why ≡ Memory → 0 < length queues.items) }
-    /// ensures handed_back { IfErr result (λ u. u.why ≢ InUse
-    ///     → (u.phase ≡ self) × (u.queues.items ≡ queues.items)) }
-    /// ensures at_home { IfErr result (λ u. u.why ≡ InUse
-    ///     → (u.phase ≡ with_home self queues.items) × (u.queues.items ≡ [])) }
+    /// // When it succeeds, when it is refused, and what stands then.
+    /// ensures home { OnOk result (MayComeHome self queues.items) }
+    /// ensures other_phase { IsErrWith result (λ u. u.error ≡ OtherPhase)
+    ///     ↔ ¬ (MayComeHome self queues.items) }
+    /// ensures no_missing { IfErr result (λ u. ¬ (AreMissing u.error)) }
+    /// ensures handed_back { IfErr result (λ u. u.error ≢ InUse
+    ///     → (u.open ≡ self) × (u.queues.items ≡ queues.items)) }
+    /// ensures at_home { IfErr result (λ u. u.error ≡ InUse
+    ///     → (u.open ≡ with_home self queues.items) × (u.queues.items ≡ [])) }
     /// ```
     ///
     /// </details>
     #[inline]
     pub fn close_lost(
         mut self,
-        queues: Vec<Issued>,
-    ) -> Result<(NumberedWorld, Queues), Unfinished> {
-        if let Err(why) = self.missing(&queues) {
-            return Err(self.unfinished(queues, why));
+        queues: Vec<CommandQueue>,
+    ) -> Result<(World, Queues), Unfinished> {
+        if self.missing(&queues).is_none() {
+            return Err(self.unfinished(queues, FinishError::OtherPhase));
         }
-        if let Err(queues) = self.take_home(queues) {
-            return Err(self.unfinished(queues, FinishFault::Memory));
-        }
+        self.take_home(queues);
         match self.end() {
             Ok(parts) => Ok(close_some(parts)),
-            Err(phase) => Err(phase.in_use()),
+            Err(open) => Err(open.in_use()),
         }
     }
 
     /// How many systems are missing beside those at home and these, if these may come home.
     #[inline]
-    fn missing(&self, queues: &[Issued]) -> Result<usize, FinishFault>
-        // ensures own { OnOk result (AreIssuersOf self.now.number queues.now) }
-        // ensures count { IfOk result (λ missing. length (reservers_home self.now queues.now) + missing
+    fn missing(&self, queues: &[CommandQueue]) -> Option<usize>
+        // ensures home { IsSome result ↔ MayComeHome self.now queues.now }
+        // ensures count { IfSome result (λ missing.
+        //     length (reservers_home self.now queues.now) + missing
         //     ≡ self.now.world.shared.count) }
-        // ensures why { IfErr result (λ why. ((why ≡ OtherPhase)
-        //     × ¬ (AreIssuersOf self.now.number queues.now))
-        //     ⊎ ((why ≡ TooMany) × AreIssuersOf self.now.number queues.now
-        //     × (self.now.world.shared.count < length (reservers_home self.now queues.now)))) }
     {
         if !are_of(self.number(), queues) {
-            return Err(FinishFault::OtherPhase);
+            return None;
         }
         let most = self.count();
         let home = self.at_home();
         if home > most || queues.len() > most - home {
-            return Err(FinishFault::TooMany);
+            return None;
         }
-        Ok(most - home - queues.len())
+        Some(most - home - queues.len())
     }
 
     /// That it was not closed, and these queues are handed back.
     #[inline]
-    fn unfinished(self, queues: Vec<Issued>, why: FinishFault) -> Unfinished
-        // ensures { result ≡ record { phase = self; queues = queues; why = why } }
+    fn unfinished(self, queues: Vec<CommandQueue>, error: FinishError) -> Unfinished
+        // ensures phase { result.open ≡ self }
+        // ensures queues { result.queues.items ≡ queues.items }
+        // ensures error { result.error ≡ error }
     {
         Unfinished {
-            phase: self,
+            open: self,
             queues,
-            why,
+            error,
         }
     }
 
     /// That somebody else has a part of the phase.
     #[inline]
     fn in_use(self) -> Unfinished
-        // ensures phase { result.phase ≡ self }
+        // ensures phase { result.open ≡ self }
         // ensures queues { result.queues.items ≡ [] }
-        // ensures why { result.why ≡ InUse }
+        // ensures error { result.error ≡ InUse }
     {
-        let none = self.no_issued();
-        self.unfinished(none, FinishFault::InUse)
+        let none = self.no_queues();
+        self.unfinished(none, FinishError::InUse)
     }
 }
 
 /// `OpenWorld::close`, with all that it ensures as one fact.
 #[inline]
-fn close_all(parts: Parts) -> (NumberedWorld, Queues)
+fn close_all(parts: Parts) -> (World, Queues)
     // requires all { length parts.home.items ≡ parts.world.shared.count }
     // requires own { All (IsOf parts.world.shared) parts.home.items }
+    // requires few { length parts.queues.items ≤ 2 ^ 16 }
     // ensures world { IsClosed parts.world parts.home.items result.0.world }
     // ensures number { result.0.number ≡ parts.of_world }
+    // ensures spawned { result.0.spawned ≡ parts.spawned }
     // ensures queues { result.1
     //     ≡ record { world = parts.of_world; queues = parts.queues.items } }
 {
     let Parts {
         of_world,
+        spawned,
         world,
         home,
         queues,
@@ -193,9 +192,10 @@ fn close_all(parts: Parts) -> (NumberedWorld, Queues)
     let world = closed_world(world, home);
     let queues = Queues::new(of_world, queues);
     (
-        NumberedWorld {
+        World {
             world,
             number: of_world,
+            spawned,
         },
         queues,
     )
@@ -203,15 +203,18 @@ fn close_all(parts: Parts) -> (NumberedWorld, Queues)
 
 /// `OpenWorld::close_lost`, with all that it ensures as one fact.
 #[inline]
-fn close_some(parts: Parts) -> (NumberedWorld, Queues)
-    // requires { All (IsOf parts.world.shared) parts.home.items }
+fn close_some(parts: Parts) -> (World, Queues)
+    // requires own { All (IsOf parts.world.shared) parts.home.items }
+    // requires few { length parts.queues.items ≤ 2 ^ 16 }
     // ensures world { IsClosedLost parts.world parts.home.items result.0.world }
     // ensures number { result.0.number ≡ parts.of_world }
+    // ensures spawned { result.0.spawned ≡ parts.spawned }
     // ensures queues { result.1
     //     ≡ record { world = parts.of_world; queues = parts.queues.items } }
 {
     let Parts {
         of_world,
+        spawned,
         world,
         home,
         queues,
@@ -219,16 +222,17 @@ fn close_some(parts: Parts) -> (NumberedWorld, Queues)
     let world = lost_world(world, home);
     let queues = Queues::new(of_world, queues);
     (
-        NumberedWorld {
+        World {
             world,
             number: of_world,
+            spawned,
         },
         queues,
     )
 }
 
 #[inline]
-fn closed_world(opened: OpenWorld, home: Vec<Reserver>) -> World
+fn closed_world(opened: crate::proved::ent_world::OpenWorld, home: Vec<Reserver>) -> crate::proved::ent_world::World
     // requires all { length home.items ≡ opened.shared.count }
     // requires own { All (IsOf opened.shared) home.items }
     // ensures { IsClosed opened home.items result }
@@ -237,7 +241,7 @@ fn closed_world(opened: OpenWorld, home: Vec<Reserver>) -> World
 }
 
 #[inline]
-fn lost_world(opened: OpenWorld, home: Vec<Reserver>) -> World
+fn lost_world(opened: crate::proved::ent_world::OpenWorld, home: Vec<Reserver>) -> crate::proved::ent_world::World
     // requires { All (IsOf opened.shared) home.items }
     // ensures { IsClosedLost opened home.items result }
 {

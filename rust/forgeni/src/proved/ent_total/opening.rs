@@ -1,57 +1,30 @@
 // Made of crates/ent_total/src/opening.rt by rust/erase. It isn't edited by hand.
 
+//! An allocator is shared.
 use alloc::vec::Vec;
-use crate::proved::ent_total::phase::Phase;
+use crate::kit::vec::FallibleVec;
+use crate::proved::ent_total::reserver::Reserver;
+use crate::proved::ent_total::shared::Shared;
+use crate::proved::ent_total::unshared::{ShareError, Unshared};
 use crate::proved::ent_alloc::Entities;
-use crate::proved::ent_shared::{Reserver, Shared};
 use crate::kit::sync::Arc;
 
 /// How many callers a phase may have.
 pub(super) const CALLERS: usize = 1024;
 
-/// Why an allocator or a world was not shared.
-#[derive(Clone, Copy, Debug, PartialEq, Eq)]
-pub enum ShareFault {
-    /// Handles were requested since the last flush, even if the request was refused.
-    NeedsFlush,
-    /// The number of callers isn't one from 1 to 1,024.
-    Count,
-    /// Memory ran out.
-    Memory,
-}
-
-impl core::fmt::Display for ShareFault {
-    fn fmt(&self, f: &mut core::fmt::Formatter<'_>) -> core::fmt::Result {
-        match self {
-            ShareFault::NeedsFlush => write!(f, "a flush is needed first"),
-            ShareFault::Count => write!(f, "an allocator is shared among 1 to 1,024 callers"),
-            ShareFault::Memory => write!(f, "out of memory"),
-        }
-    }
-}
-
-impl core::error::Error for ShareFault {}
-
-/// An allocator that was not shared.
-pub struct Unshared {
-    /// The allocator as it was.
-    pub entities: Entities,
-    /// Why it was not shared.
-    pub why: ShareFault,
-}
-
 /// A phase that has no number yet, with all its reservers.
 pub struct Opening {
-    shared: Arc<Shared>,
-    home: Vec<Reserver>,
+    shared: Arc<crate::proved::ent_shared::Shared>,
+    home: Vec<crate::proved::ent_shared::Reserver>,
+    reservers: Vec<Reserver>,
 }
 
 /// Shares an allocator among `count` callers, 1 to 1,024.
 ///
 /// # Errors
 ///
-/// [`Unshared`] says why, and has the allocator as it was. It is the first of these that holds:
-/// [`ShareFault::NeedsFlush`], [`ShareFault::Count`], [`ShareFault::Memory`].
+/// [`Unshared`] has the error, and the allocator as it was. It is the first of these that holds:
+/// [`ShareError::NeedsFlush`], [`ShareError::Count`], [`ShareError::Memory`].
 ///
 /// <details><summary>Contract</summary>
 ///
@@ -62,33 +35,36 @@ pub struct Opening {
 /// ensures rows { IfOk result (λ o. o.shared.rows ≡ entities.rows) }
 /// ensures count { IfOk result (λ o. o.shared.count ≡ count) }
 /// ensures home { IfOk result (λ o. records_of o.home ≡ opened_records entities.allocator 0 count) }
-/// ensures needs_flush { IsErrWith result (λ u. u.why ≡ NeedsFlush)
+/// ensures needs_flush { IsErrWith result (λ u. u.error ≡ NeedsFlush)
 ///     ↔ (0 < entities.allocator.asked) }
-/// ensures no_count { IsErrWith result (λ u. u.why ≡ Count)
+/// ensures no_count { IsErrWith result (λ u. u.error ≡ Count)
 ///     ↔ ((entities.allocator.asked ≡ 0) × ((count ≡ 0) ⊎ (1024 < count))) }
 /// ensures handed_back { IfErr result (λ u. u.entities ≡ entities) }
 /// ```
 ///
 /// </details>
 #[inline]
-pub fn share(entities: Entities, count: usize) -> Result<Opening, Unshared> {
+pub fn share(
+    entities: Entities,
+    count: usize,
+) -> Result<Opening, Unshared> {
     if entities.needs_flush() {
         return Err(Unshared {
             entities,
-            why: ShareFault::NeedsFlush,
+            error: ShareError::NeedsFlush,
         });
     }
     if count == 0 || count > CALLERS {
         return Err(Unshared {
             entities,
-            why: ShareFault::Count,
+            error: ShareError::Count,
         });
     }
     match Opening::new(entities, count) {
         Ok(opening) => Ok(opening),
         Err(entities) => Err(Unshared {
             entities,
-            why: ShareFault::Memory,
+            error: ShareError::Memory,
         }),
     }
 }
@@ -107,6 +83,9 @@ impl Opening {
         //     records_of o.home ≡ opened_records entities.allocator 0 count) }
         // ensures err { IfErr result (λ refused. refused ≡ entities) }
     {
+        let Ok(reservers) = Vec::with_capacity_fallibly(count) else {
+            return Err(entities);
+        };
         let (shared, home) = match crate::proved::ent_shared::share(entities, count) {
             Ok(made) => made,
             Err((entities, _)) => return Err(entities),
@@ -115,21 +94,33 @@ impl Opening {
             Ok(shared) => Ok(Opening {
                 shared,
                 home,
+                reservers,
             }),
             Err(refused) => Err(refused.value.close(home)),
         }
     }
 
-    /// The phase, under a number by which it is told from all others. All its reservers are at home.
+    /// The phase, under a number by which it is told from all others, and all its reservers, in the
+    /// order of their numbers. It takes no memory.
+    ///
+    /// A reserver whose owner can't be counted stays at home, with those after it. That takes more
+    /// owners than there can be, but no contract of `Arc` says so.
     #[inline]
-    pub(crate) fn numbered(self, number: u64) -> Phase
+    pub(crate) fn numbered(self, number: u64) -> (Shared, Vec<Reserver>)
         // requires stands_for { J.shared_of number ≡ self.shared }
-        // ensures { result ≡ record { number = number; shared = self.shared; home = self.home } }
+        // ensures number { result.0.number ≡ number }
+        // ensures shared { result.0.shared ≡ self.shared }
+        // ensures of { AreOf number result.1.items }
+        // ensures given { reservers_of result.1.items ++ reverse result.0.home ≡ self.home }
     {
         let Opening {
             shared,
-            home,
+            mut home,
+            mut reservers,
         } = self;
-        Phase::new(shared, home, number)
+        home.reverse();
+        let mut shared = Shared::new(shared, home, number);
+        shared.give_out(&mut reservers);
+        (shared, reservers)
     }
 }

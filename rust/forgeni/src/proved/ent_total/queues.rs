@@ -1,17 +1,19 @@
 // Made of crates/ent_total/src/queues.rt by rust/erase. It isn't edited by hand.
 
 use alloc::vec::Vec;
-use crate::proved::ent_queue::CommandQueue;
 
-/// The queues of a phase, in the order of their effect, and the number of its world.
+/// The queues of a phase or of a frame, in the order of their effect, for one
+/// [`apply`](crate::proved::ent_total::World::apply) of the world whose phase it was.
+#[must_use]
 pub struct Queues {
     world: u64,
-    queues: Vec<CommandQueue>,
+    queues: Vec<crate::proved::ent_queue::CommandQueue>,
 }
 
 impl Queues {
     #[inline]
-    pub(super) fn new(world: u64, queues: Vec<CommandQueue>) -> Self
+    pub(super) fn new(world: u64, queues: Vec<crate::proved::ent_queue::CommandQueue>) -> Self
+        // requires { length queues.items ≤ 2 ^ 16 }
         // ensures { result ≡ record { world = world; queues = queues.items } }
     {
         Queues { world, queues }
@@ -28,31 +30,42 @@ impl Queues {
     /// ```
     ///
     /// </details>
+    #[must_use]
     #[inline]
     pub fn len(&self) -> usize {
         self.queues.len()
     }
 
-    /// The number of their world.
+    /// Whether there is none.
     ///
     /// <details><summary>Contract</summary>
     ///
     /// In the words of the folder `specs/` of crate `ent_total`:
     ///
     /// ```text
-    /// ensures { result ≡ self.now.world }
+    /// ensures { IsTrue result ↔ (self.now.queues ≡ []) }
     /// ```
     ///
     /// </details>
+    #[must_use]
     #[inline]
-    pub fn world(&self) -> u64 {
+    pub fn is_empty(&self) -> bool {
+        self.queues.is_empty()
+    }
+
+    /// The number of their world.
+    #[inline]
+    pub(super) fn world(&self) -> u64
+        // ensures { result ≡ self.now.world }
+    {
         self.world
     }
 
     /// The queues themselves.
     #[inline]
-    pub(super) fn list(&self) -> &[CommandQueue]
-        // ensures { result.now ≡ self.now.queues }
+    pub(super) fn list(&self) -> &[crate::proved::ent_queue::CommandQueue]
+        // ensures list { result.now ≡ self.now.queues }
+        // ensures few { length self.now.queues ≤ 2 ^ 16 }
     {
         &self.queues
     }

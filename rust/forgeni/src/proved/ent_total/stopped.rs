@@ -2,20 +2,30 @@
 
 use crate::proved::ent_total::queues::Queues;
 use crate::proved::ent_total::stop::Stop;
+use crate::proved::ent_world::SyncReport;
 
-/// Queues whose sync point stopped, and where. They can go on from there.
+/// A sync point that stopped because memory ran out at a command: where, what was done so far, and
+/// the queues, which [`go_on`](Stopped::go_on) takes up from there.
+///
+/// All births have taken effect, and of the commands just those before the one that is named.
+#[must_use]
 pub struct Stopped {
     queues: Queues,
     stop: Stop,
+    so_far: SyncReport,
 }
 
 impl Stopped {
     #[inline]
-    pub(super) fn new(queues: Queues, stop: Stop) -> Self
+    pub(super) fn new(queues: Queues, stop: Stop, so_far: SyncReport) -> Self
         // requires { IsStop stop.system stop.command stop.done queues.queues }
-        // ensures { result ≡ record { queues = queues; stop = stop } }
+        // ensures { result ≡ record { queues = queues; stop = stop; so_far = so_far } }
     {
-        Stopped { queues, stop }
+        Stopped {
+            queues,
+            stop,
+            so_far,
+        }
     }
 
     /// Where it stopped.
@@ -29,24 +39,34 @@ impl Stopped {
     /// ```
     ///
     /// </details>
+    #[must_use]
     #[inline]
     pub fn stop(&self) -> Stop {
         self.stop
     }
 
-    /// The number of the world of the queues.
+    /// What was done before it stopped, since the sync point began or went on.
     ///
     /// <details><summary>Contract</summary>
     ///
     /// In the words of the folder `specs/` of crate `ent_total`:
     ///
     /// ```text
-    /// ensures { result ≡ self.now.queues.world }
+    /// ensures { result.now ≡ self.now.so_far }
     /// ```
     ///
     /// </details>
+    #[must_use]
     #[inline]
-    pub fn world(&self) -> u64 {
+    pub fn so_far(&self) -> &SyncReport {
+        &self.so_far
+    }
+
+    /// The number of the world of the queues.
+    #[inline]
+    pub(super) fn world(&self) -> u64
+        // ensures { result ≡ self.now.queues.world }
+    {
         self.queues.world()
     }
 
@@ -57,7 +77,11 @@ impl Stopped {
         // ensures stop { IsStop self.stop.system self.stop.command self.stop.done
         //     self.queues.queues }
     {
-        let Stopped { queues, stop } = self;
+        let Stopped {
+            queues,
+            stop,
+            so_far: _,
+        } = self;
         (queues, stop)
     }
 }

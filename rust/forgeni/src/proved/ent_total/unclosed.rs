@@ -1,45 +1,66 @@
 // Made of crates/ent_total/src/unclosed.rt by rust/erase. It isn't edited by hand.
 
 use alloc::vec::Vec;
-use crate::proved::ent_total::caller::Caller;
-use crate::proved::ent_total::phase::Phase;
+use crate::proved::ent_total::reserver::Reserver;
+use crate::proved::ent_total::shared::Shared;
 
 /// Why a phase was not closed.
-#[derive(Clone, Copy, Debug, PartialEq, Eq)]
-pub enum CloseFault {
-    /// One of the callers is of another phase. All of them are handed back.
+#[derive(Clone, Copy, Debug, PartialEq, Eq, Hash)]
+#[non_exhaustive]
+pub enum CloseError {
+    /// One of the reservers is of another phase. All of them are handed back. If there are more
+    /// than the phase has, not all of them are of it.
     OtherPhase,
-    /// Callers are missing. Those that came are handed back.
+    /// Reservers are missing. Those that came are handed back.
     Missing {
         /// How many.
         count: usize,
     },
-    /// More callers came than the phase has. All of them are handed back. No contract says that
-    /// this can't be, since none counts the callers that exist.
-    TooMany,
-    /// A caller that was not handed in still exists. Those that came are at home in the phase now.
+    /// A reserver that was not handed in still exists. Those that came are at home in the
+    /// [`Shared`] now: [`Shared::reserver`] gives them out again, and the next close has them.
     InUse,
 }
 
-impl core::fmt::Display for CloseFault {
+impl core::fmt::Display for CloseError {
     fn fmt(&self, f: &mut core::fmt::Formatter<'_>) -> core::fmt::Result {
         match self {
-            CloseFault::OtherPhase => write!(f, "a caller is of another phase"),
-            CloseFault::Missing { count } => write!(f, "missing callers: {count}"),
-            CloseFault::TooMany => write!(f, "too many callers"),
-            CloseFault::InUse => write!(f, "a caller is still in use"),
+            CloseError::OtherPhase => write!(f, "a reserver is of another phase"),
+            CloseError::Missing { count } => write!(f, "missing reservers: {count}"),
+            CloseError::InUse => write!(f, "a reserver is still in use"),
         }
     }
 }
 
-impl core::error::Error for CloseFault {}
+impl core::error::Error for CloseError {}
 
 /// A phase that was not closed, and goes on.
 pub struct Unclosed {
-    /// The phase.
-    pub phase: Phase,
-    /// The callers that are handed back.
-    pub callers: Vec<Caller>,
+    /// The allocator, which is still shared.
+    pub shared: Shared,
+    /// The reservers that are handed back.
+    pub reservers: Vec<Reserver>,
     /// Why it was not closed.
-    pub why: CloseFault,
+    pub error: CloseError,
+}
+
+impl Unclosed {
+    /// The allocator, which is still shared, the reservers that are handed back, and why it was not
+    /// closed.
+    ///
+    /// <details><summary>Contract</summary>
+    ///
+    /// In the words of the folder `specs/` of crate `ent_total`:
+    ///
+    /// ```text
+    /// ensures shared { result.0 ≡ self.shared }
+    /// ensures reservers { result.1.items ≡ self.reservers.items }
+    /// ensures error { result.2 ≡ self.error }
+    /// ```
+    ///
+    /// </details>
+    #[must_use]
+    #[inline]
+    pub fn into_parts(self) -> (Shared, Vec<Reserver>, CloseError) {
+        (self.shared, self.reservers, self.error)
+    }
 }

@@ -1,48 +1,65 @@
 // Made of crates/ent_total/src/unfinished.rt by rust/erase. It isn't edited by hand.
 
 use alloc::vec::Vec;
-use crate::proved::ent_total::issued::Issued;
-use crate::proved::ent_total::world_phase::WorldPhase;
+use crate::proved::ent_total::command_queue::CommandQueue;
+use crate::proved::ent_total::open_world::OpenWorld;
 
 /// Why a phase of a world was not closed.
-#[derive(Clone, Copy, Debug, PartialEq, Eq)]
-pub enum FinishFault {
-    /// One of the queues is of another phase. All of them are handed back.
+#[non_exhaustive]
+#[derive(Clone, Copy, Debug, PartialEq, Eq, Hash)]
+pub enum FinishError {
+    /// One of the queues is of another phase, or there are more of them than the phase has systems.
+    /// All of them are handed back.
     OtherPhase,
-    /// Queues are missing. Those that came are handed back.
+    /// The queues of some systems are missing. Those that came are handed back.
     Missing {
         /// How many.
         count: usize,
     },
-    /// More queues came than the phase has systems. All of them are handed back. No contract says
-    /// that this can't be, since none counts the systems that exist.
-    TooMany,
-    /// Memory ran out. All queues are handed back.
-    Memory,
-    /// A system that was not handed in still exists. Those that came are at home in the phase now.
+    /// The [`Commands`](crate::proved::ent_total::Commands) or the queue of a system that wasn't handed in still
+    /// exists. The phase keeps the queues that came.
     InUse,
 }
 
-impl core::fmt::Display for FinishFault {
+impl core::fmt::Display for FinishError {
     fn fmt(&self, f: &mut core::fmt::Formatter<'_>) -> core::fmt::Result {
         match self {
-            FinishFault::OtherPhase => write!(f, "a queue is of another phase"),
-            FinishFault::Missing { count } => write!(f, "missing queues: {count}"),
-            FinishFault::TooMany => write!(f, "too many queues"),
-            FinishFault::Memory => write!(f, "out of memory"),
-            FinishFault::InUse => write!(f, "a system is still in use"),
+            FinishError::OtherPhase => write!(f, "a queue is of another phase"),
+            FinishError::Missing { count } => write!(f, "missing queues: {count}"),
+            FinishError::InUse => write!(f, "a system is still in use"),
         }
     }
 }
 
-impl core::error::Error for FinishFault {}
+impl core::error::Error for FinishError {}
 
 /// A phase of a world that was not closed, and goes on.
 pub struct Unfinished {
-    /// The phase.
-    pub phase: WorldPhase,
-    /// The queues that are handed back.
-    pub queues: Vec<Issued>,
+    /// The phase, which goes on.
+    pub open: OpenWorld,
+    /// The queues that are handed back, in their order.
+    pub queues: Vec<CommandQueue>,
     /// Why it was not closed.
-    pub why: FinishFault,
+    pub error: FinishError,
+}
+
+impl Unfinished {
+    /// The phase, the queues that are handed back, and why it was not closed.
+    ///
+    /// <details><summary>Contract</summary>
+    ///
+    /// In the words of the folder `specs/` of crate `ent_total`:
+    ///
+    /// ```text
+    /// ensures phase { result.0 ≡ self.open }
+    /// ensures queues { result.1 ≡ self.queues }
+    /// ensures error { result.2 ≡ self.error }
+    /// ```
+    ///
+    /// </details>
+    #[must_use]
+    #[inline]
+    pub fn into_parts(self) -> (OpenWorld, Vec<CommandQueue>, FinishError) {
+        (self.open, self.queues, self.error)
+    }
 }

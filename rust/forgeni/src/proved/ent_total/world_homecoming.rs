@@ -4,19 +4,17 @@
 
 use alloc::vec::Vec;
 use crate::kit::vec::FallibleVec;
-use crate::proved::ent_total::issued::Issued;
-use crate::proved::ent_total::issuer::Issuer;
-use crate::proved::ent_queue::CommandQueue;
+use crate::proved::ent_total::command_queue::CommandQueue;
+use crate::proved::ent_total::commands::Commands;
 use crate::proved::ent_shared::Reserver;
-use crate::proved::ent_world::OpenWorld;
 
 /// Whether all of them are of the phase of this number.
 #[inline]
-pub(super) fn are_of(number: u64, queues: &[Issued]) -> bool
-    // ensures { IsTrue result ↔ AreIssuersOf number queues.now }
+pub(super) fn are_of(number: u64, queues: &[CommandQueue]) -> bool
+    // ensures { IsTrue result ↔ AreCommandsOf number queues.now }
 {
     for one in queues {
-        if one.issuer.number != number {
+        if one.commands.number != number {
             return false;
         }
     }
@@ -27,13 +25,13 @@ pub(super) fn are_of(number: u64, queues: &[Issued]) -> bool
 #[inline]
 pub(super) fn bring_home(
     home: &mut Vec<Reserver>,
-    queues_home: &mut Vec<CommandQueue>,
-    world: &OpenWorld,
+    queues_home: &mut Vec<crate::proved::ent_queue::CommandQueue>,
+    world: &crate::proved::ent_world::OpenWorld,
     number: u64,
-    queues: Vec<Issued>,
+    queues: Vec<CommandQueue>,
 )
     // requires stands_for { J.world_of number ≡ world.now }
-    // requires of { AreIssuersOf number queues.items }
+    // requires of { AreCommandsOf number queues.items }
     // requires own { All (IsOf world.now.shared) home.old.items }
     // requires room { vec_len home.old + length queues.items ≤ vec_capacity home.old }
     // requires queue_room { vec_len queues_home.old + length queues.items
@@ -41,13 +39,15 @@ pub(super) fn bring_home(
     // ensures home { home.new.items ≡ home.old.items ++ issuing queues.items }
     // ensures queues { queues_home.new.items ≡ queues_home.old.items ++ issued queues.items }
     // ensures own { All (IsOf world.now.shared) home.new.items }
+    // ensures room { vec_capacity home.new ≡ vec_capacity home.old }
+    // ensures queue_room { vec_capacity queues_home.new ≡ vec_capacity queues_home.old }
 {
     for one in queues {
-        let Issuer {
+        let Commands {
             reserver,
             queue,
             ..
-        } = one.issuer;
+        } = one.commands;
         home.push_reserved(reserver);
         queues_home.push_reserved(queue);
     }

@@ -1,35 +1,35 @@
 // Made of crates/ent_total/src/world_opening.rt by rust/erase. It isn't edited by hand.
 
+//! A world is opened.
+
 use alloc::vec::Vec;
-use crate::proved::ent_total::numbered_world::NumberedWorld;
-use crate::proved::ent_total::opening::{CALLERS, ShareFault};
-use crate::proved::ent_total::world_phase::WorldPhase;
-use crate::proved::ent_queue::CommandQueue;
+use crate::kit::vec::FallibleVec;
+use crate::proved::ent_total::commands::Commands;
+use crate::proved::ent_total::open_world::OpenWorld;
+use crate::proved::ent_total::opening::CALLERS;
+use crate::proved::ent_total::unopened::Unopened;
+use crate::proved::ent_total::unshared::ShareError;
+use crate::proved::ent_total::world::World;
 use crate::proved::ent_shared::Reserver;
-use crate::proved::ent_world::{OpenWorld, World};
 use crate::kit::sync::Arc;
 
-/// A world that was not opened.
-pub struct Unopened {
-    /// The world as it was.
-    pub world: NumberedWorld,
-    /// Why it was not opened.
-    pub why: ShareFault,
-}
-
-/// A phase of a world that has no number yet, with all its reservers.
+/// A world that is open for its systems, and has no number yet. It has all memory that its phase
+/// needs.
 pub struct WorldOpening {
     of_world: u64,
-    world: Arc<OpenWorld>,
+    spawned: u32,
+    world: Arc<crate::proved::ent_world::OpenWorld>,
     home: Vec<Reserver>,
+    queues: Vec<crate::proved::ent_queue::CommandQueue>,
+    systems: Vec<Commands>,
 }
 
 /// Opens a world for `count` systems, 1 to 1,024.
 ///
 /// # Errors
 ///
-/// [`Unopened`] says why, and has the world as it was. It is the first of these that holds:
-/// [`ShareFault::NeedsFlush`], [`ShareFault::Count`], [`ShareFault::Memory`].
+/// [`Unopened`] has the error, and the world as it was. It is the first of these that holds:
+/// [`ShareError::NeedsFlush`], [`ShareError::Count`], [`ShareError::Memory`].
 ///
 /// <details><summary>Contract</summary>
 ///
@@ -37,40 +37,52 @@ pub struct WorldOpening {
 ///
 /// ```text
 /// ensures of_world { IfOk result (λ o. o.of_world ≡ world.number) }
+/// ensures spawned { IfOk result (λ o. o.spawned ≡ world.spawned) }
 /// ensures shared { IfOk result (λ o. (o.world.shared.start ≡ world.world.allocator)
 ///     × (o.world.shared.count ≡ count)) }
 /// ensures world { IfOk result (λ o. (o.world.phase ≡ world.world.phase)
 ///     × (o.world.entities ≡ world.world.entities)) }
 /// ensures home { IfOk result (λ o.
 ///     records_of o.home ≡ opened_records world.world.allocator 0 count) }
-/// ensures needs_flush { IsErrWith result (λ u. u.why ≡ NeedsFlush)
+/// ensures needs_flush { IsErrWith result (λ u. u.error ≡ NeedsFlush)
 ///     ↔ (0 < world.world.allocator.asked) }
-/// ensures no_count { IsErrWith result (λ u. u.why ≡ Count)
+/// ensures no_count { IsErrWith result (λ u. u.error ≡ Count)
 ///     ↔ ((world.world.allocator.asked ≡ 0) × ((count ≡ 0) ⊎ (1024 < count))) }
 /// ensures handed_back { IfErr result (λ u. u.world ≡ world) }
 /// ```
 ///
 /// </details>
 #[inline]
-pub fn open(world: NumberedWorld, count: usize) -> Result<WorldOpening, Unopened> {
-    if world.world.needs_flush() {
+pub fn open(
+    world: World,
+    count: usize,
+) -> Result<WorldOpening, Unopened> {
+    if world.needs_flush() {
         return Err(Unopened {
             world,
-            why: ShareFault::NeedsFlush,
+            error: ShareError::NeedsFlush,
         });
     }
     if count == 0 || count > CALLERS {
         return Err(Unopened {
             world,
-            why: ShareFault::Count,
+            error: ShareError::Count,
         });
     }
-    let NumberedWorld { world, number } = world;
-    match WorldOpening::new(world, count, number) {
+    let World {
+        world,
+        number,
+        spawned,
+    } = world;
+    match WorldOpening::new(world, count, number, spawned) {
         Ok(opening) => Ok(opening),
         Err(world) => Err(Unopened {
-            world: NumberedWorld { world, number },
-            why: ShareFault::Memory,
+            world: World {
+                world,
+                number,
+                spawned,
+            },
+            error: ShareError::Memory,
         }),
     }
 }
@@ -78,11 +90,17 @@ pub fn open(world: NumberedWorld, count: usize) -> Result<WorldOpening, Unopened
 impl WorldOpening {
     /// Opens a flushed world. If memory runs out, it comes back.
     #[inline]
-    fn new(world: World, count: usize, of_world: u64) -> Result<Self, World>
+    fn new(
+        world: crate::proved::ent_world::World,
+        count: usize,
+        of_world: u64,
+        spawned: u32,
+    ) -> Result<Self, crate::proved::ent_world::World>
         // requires flushed { world.allocator.asked ≡ 0 }
         // requires some { 0 < count }
         // requires few { count ≤ 1024 }
         // ensures of_world { IfOk result (λ o. o.of_world ≡ of_world) }
+        // ensures spawned { IfOk result (λ o. o.spawned ≡ spawned) }
         // ensures shared { IfOk result (λ o. (o.world.shared.start ≡ world.allocator)
         //     × (o.world.shared.count ≡ count)) }
         // ensures world { IfOk result (λ o. (o.world.phase ≡ world.phase)
@@ -91,6 +109,12 @@ impl WorldOpening {
         //     records_of o.home ≡ opened_records world.allocator 0 count) }
         // ensures err { IfErr result (λ refused. refused ≡ world) }
     {
+        let Ok(queues) = Vec::with_capacity_fallibly(count) else {
+            return Err(world);
+        };
+        let Ok(systems) = Vec::with_capacity_fallibly(count) else {
+            return Err(world);
+        };
         let (opened, home) = match world.open(count) {
             Ok(made) => made,
             Err((world, _)) => return Err(world),
@@ -98,32 +122,46 @@ impl WorldOpening {
         match Arc::new(opened) {
             Ok(world) => Ok(WorldOpening {
                 of_world,
+                spawned,
                 world,
                 home,
+                queues,
+                systems,
             }),
             Err(refused) => Err(refused.value.close(home)),
         }
     }
 
-    /// The phase, under a number by which it is told from all others. All its reservers are at home,
-    /// and no queue is.
+    /// The phase, under a number by which it is told from all others, and all its systems, in the
+    /// order of their numbers. It takes no memory.
+    ///
+    /// A system whose owner can't be counted stays at home, with those after it. That takes more
+    /// owners than there can be, but no contract of `Arc` says so.
     #[inline]
-    pub(crate) fn numbered(self, number: u64) -> WorldPhase
+    pub(crate) fn numbered(self, number: u64) -> (OpenWorld, Vec<Commands>)
         // requires stands_for { J.world_of number ≡ self.world }
-        // ensures { result ≡ record {
+        // ensures phase { result.0 ≡ record {
         //   number = number;
         //   of_world = self.of_world;
+        //   spawned = self.spawned;
         //   world = self.world;
-        //   home = self.home;
+        //   home = result.0.home;
         //   queues = [];
         // } }
+        // ensures systems { AreNew number self.world result.1.items }
+        // ensures given { issuing result.1.items ++ reverse result.0.home ≡ self.home }
     {
         let WorldOpening {
             of_world,
+            spawned,
             world,
-            home,
+            mut home,
+            queues,
+            mut systems,
         } = self;
-        let none = Vec::new();
-        WorldPhase::new(of_world, world, home, none, number)
+        home.reverse();
+        let mut open = OpenWorld::new(of_world, spawned, world, home, queues, number);
+        open.give_out(&mut systems);
+        (open, systems)
     }
 }

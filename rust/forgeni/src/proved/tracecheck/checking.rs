@@ -4,7 +4,9 @@
 
 use crate::proved::tracecheck::verdict::{Refusal, Verdict};
 use crate::proved::ent_alloc::Limits;
-use crate::proved::ent_replay::trace::{AllocReply, Checker, Line, ReadFault, ReserveReply, Stop, read_line};
+use crate::proved::ent_replay::trace::{
+    AllocReply, Call, CheckError, Comparer, ReadFault, ReserveReply, read_line,
+};
 use crate::kit::alloc::AllocError;
 
 /// Why the lines of a trace are not taken any further.
@@ -22,10 +24,10 @@ impl From<AllocError> for End {
     }
 }
 
-/// Takes the lines of a trace as texts, one after the other. It holds the checker, and nothing of
-/// the lines.
+/// Takes the lines of a trace as texts, one after the other. It holds what compares them, and nothing
+/// of the lines.
 pub struct Checking {
-    checker: Checker,
+    comparer: Comparer,
     lines: u64,
     given: u64,
 }
@@ -45,7 +47,7 @@ impl Checking {
     #[inline]
     pub fn new(limits: Limits) -> Self {
         Checking {
-            checker: Checker::new(limits),
+            comparer: Comparer::new(limits),
             lines: 0,
             given: 0,
         }
@@ -109,12 +111,12 @@ impl Checking {
         // ensures { result ≡ record self { lines = number } }
     {
         let Checking {
-            checker,
+            comparer,
             lines: _,
             given,
         } = self;
         Checking {
-            checker,
+            comparer,
             lines: number,
             given,
         }
@@ -122,7 +124,7 @@ impl Checking {
 
     // Takes the call of the line that has this number.
     #[inline]
-    fn take_call(self, number: u64, line: Line) -> Result<Self, End>
+    fn take_call(self, number: u64, line: Call) -> Result<Self, End>
         // requires { number ≡ self.lines + 1 }
         // ensures taken { IfOk result (λ next. (limits : LimitsValue) (texts : List (List ℕ))
         //     (text : List ℕ) → line_of number (words_of text) ≡ Ok (Some line)
@@ -133,20 +135,20 @@ impl Checking {
         //     → MayEnd limits (texts ++ text ∷ after) end) }
     {
         let Checking {
-            checker,
+            comparer,
             lines: _,
             given,
         } = self;
         let Some(given) = given.checked_add(given_in(&line)) else {
             return Err(End::Memory);
         };
-        match checker.take(number, line) {
-            Ok(checker) => Ok(Checking {
-                checker,
+        match comparer.take(number, line) {
+            Ok(comparer) => Ok(Checking {
+                comparer,
                 lines: number,
                 given,
             }),
-            Err(stop) => Err(end_of(number, stop)),
+            Err(error) => Err(end_of(number, error)),
         }
     }
 
@@ -165,41 +167,41 @@ impl Checking {
     #[inline]
     pub fn finish(self) -> End {
         let Checking {
-            checker,
+            comparer,
             lines,
             given,
         } = self;
-        match checker.finish() {
+        match comparer.finish() {
             Ok(_) => End::Verdict(Verdict::Agrees { lines, given }),
-            Err(Stop::Differs(difference)) => End::Verdict(Verdict::Differs(difference)),
+            Err(CheckError::Differs(difference)) => End::Verdict(Verdict::Differs(difference)),
             Err(_) => End::Memory,
         }
     }
 }
 
-// What a stop at the line of this number says of the trace.
+// What an error at the line of this number says of the trace.
 #[inline]
-fn end_of(number: u64, stop: Stop) -> End
-    // ensures { result ≡ end_of number stop }
+fn end_of(number: u64, error: CheckError) -> End
+    // ensures { result ≡ end_of number error }
 {
-    match stop {
-        Stop::Differs(difference) => End::Verdict(Verdict::Differs(difference)),
-        Stop::TooMany => End::Verdict(Verdict::Refused {
+    match error {
+        CheckError::Differs(difference) => End::Verdict(Verdict::Differs(difference)),
+        CheckError::TooMany => End::Verdict(Verdict::Refused {
             line: number,
             refusal: Refusal::Requests,
         }),
-        Stop::Memory => End::Memory,
+        _ => End::Memory,
     }
 }
 
 // How many handles a call says were given out.
 #[inline]
-fn given_in(line: &Line) -> u64
+fn given_in(line: &Call) -> u64
     // ensures { result ≡ given_in line.now }
 {
     match line {
-        Line::Alloc(Some(AllocReply::Handle(_))) => 1,
-        Line::Reserve(reservation) => listed_in(&reservation.reply),
+        Call::Alloc(Some(AllocReply::Handle(_))) => 1,
+        Call::Reserve(reservation) => listed_in(&reservation.reply),
         _ => 0,
     }
 }

@@ -6,7 +6,7 @@ use alloc::vec::Vec;
 use crate::kit::programs::format;
 use crate::kit::vec::FallibleVec;
 use crate::proved::ent_handle::{Handle, Memory};
-use crate::proved::ent_replay::trace::{Cause, Difference, append_answer, append_handles, write_line};
+use crate::proved::ent_replay::trace::{Cause, Difference, append_handles, write_difference};
 
 // A difference shows at most this many handles of a pool.
 const SHOWN: usize = 8;
@@ -81,7 +81,7 @@ impl Verdict {
     pub fn text(&self) -> Result<Vec<u8>, Memory> {
         match self {
             Verdict::Agrees { lines, given } => agrees_text(*lines, *given),
-            Verdict::Differs(difference) => difference_text(difference),
+            Verdict::Differs(difference) => difference_lines(difference),
             Verdict::Refused { line, refusal } => refused_text(*line, *refusal),
         }
     }
@@ -105,14 +105,11 @@ fn refused_text(line: u64, refusal: Refusal) -> Result<Vec<u8>, Memory>
 }
 
 #[inline]
-fn difference_text(difference: &Difference) -> Result<Vec<u8>, Memory>
-    // ensures { IfOk result (λ text. text.items ≡ difference_text difference.now) }
+fn difference_lines(difference: &Difference) -> Result<Vec<u8>, Memory>
+    // ensures { IfOk result (λ text. text.items ≡ difference_lines difference.now) }
 {
-    let number = difference.number;
-    let mut text = format!("differs line {number}: ")?.into_bytes();
-    write_line(&mut text, &difference.told)?;
-    text.extend_from_slice_fallibly(b", expected")?;
-    append_answer(&mut text, &difference.expected)?;
+    let mut text = Vec::new();
+    write_difference(&mut text, difference)?;
     text.push_fallibly(b'\n')?;
     append_state(
         &mut text,

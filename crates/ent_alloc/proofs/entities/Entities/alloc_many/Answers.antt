@@ -1,7 +1,6 @@
-use Rattle.std.proofs.Common.{rules, ◌≡◌, sym, ap, ◌∙◌, subst, ℕ, ◌+◌, ◌-◌, ◌<◌, ◌≤◌, length, take, drop}
-use Rattle.std.proofs.Common.{◌++◌, reverse, arith, List, All}
-use Rattle.std.proofs.lemmas.List.{append-nil, take_at, drop_at, take_all, length-append}
-use Rattle.ent_handle.specs.Handle.{Handle}
+use Rattle.std.proofs.Common.{rules, ◌≡◌, sym, ◌∙◌, subst, ℕ, ◌+◌, ◌-◌, ◌≤◌, length, drop}
+use Rattle.std.proofs.Common.{◌++◌, arith, All}
+use Rattle.std.proofs.lemmas.List.{length-append}
 use Rattle.ent_alloc.specs.Sequential.{fresh, after_take, after_flush}
 use Rattle.ent_alloc.specs.Sound.{IsSound, IsWithin}
 use Rattle.ent_alloc.specs.Entities.{Entities, HasRowsOfLiving}

@@ -1,7 +1,5 @@
-use Rattle.std.proofs.Common.{rules, ◌≡◌, ◌<◌, ◌≤◌, ◌∙◌, ap, sym, arith, subst, length, take, List, Ok, Err, All}
-use Rattle.ent_handle.specs.Handle.{Handle}
-use Rattle.ent_alloc.specs.declared.space.Space.{Space}
-use Rattle.ent_alloc.specs.Sequential.{listed, reply_to}
+use Rattle.std.proofs.Common.{rules, ◌≡◌, ◌∙◌, sym, subst, All}
+use Rattle.ent_alloc.specs.Sequential.{reply_to}
 use Rattle.ent_alloc.specs.Sound.{IsSound, IsWithin}
 use Rattle.ent_alloc.proofs.Meaning.{allocator_is}
 use Rattle.ent_alloc.proofs.Asked.{told, of_served, of_refused, space_of_three}

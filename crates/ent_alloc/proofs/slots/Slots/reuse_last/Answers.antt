@@ -1,4 +1,4 @@
-use Rattle.std.proofs.Common.{rules, ◌≡◌, ◌-◌}
+use Rattle.std.proofs.Common.{rules, ◌≡◌}
 use Rattle.std.proofs.lemmas.List.{get_or_read}
 use Rattle.ent_alloc.specs.Slots.{record_at}
 use Rattle.ent_alloc.proofs.Linked.{last_made, last_handle, reuse_last_keeps_links}

@@ -6,7 +6,7 @@ use Rattle.std.proofs.lemmas.Int.{ints}
 use Rattle.ent_shared.specs.Phase.{Shared, Reserver, own_of}
 use Rattle.ent_shared.proofs.Seating.{seated_reservation, of_stepped, given_now}
 use Rattle.ent_shared.proofs.Returned.{served_floor, refused_floor, span_at, nothing_at}
-use Rattle.ent_shared.proofs.Returned.{length-served}
+use Rattle.ent_shared.proofs.Returned.{length-served, enough_at_first}
 use Rattle.ent_alloc.specs.Sequential.{cursor}
 use Rattle.ent_shared.proofs.shared.Shared.reserve_many.Goals as goal
 use Rattle.ent_shared.proofs.shared.Shared.reserve_many.Goals.{After-reply-2}
@@ -86,6 +86,15 @@ returns-clause-stays c =
 
 pub returns-clause-length : goal.returns-clause-length
 returns-clause-length c = search (rules, length-served)
+
+pub returns-clause-enough : goal.returns-clause-enough
+returns-clause-enough c =
+    let at = (goal.at.returns-clause-enough c).After-reply-2 in
+    let start = ap (λ (s : Shared). s.start) c.self.view_is in
+    rw (← start) (enough_at_first c.self.inside.entities.allocator c.reserve.result
+    c.in_ok-handles.handles c.args.n
+    c.self.invariant.sound c.self.invariant.begins.flushed
+    (search (rules, spanned at, c.reply-2.ensures, c.in_ok-handles.was)))
 
 pub returns-in_err-handles-clause-stays : goal.returns-in_err-handles-clause-stays
 returns-in_err-handles-clause-stays c =

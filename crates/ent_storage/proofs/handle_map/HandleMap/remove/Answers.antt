@@ -1,6 +1,5 @@
 use Rattle.std.proofs.Common.{rules, sym, ap, ◌∙◌, arith}
 use Rattle.std.proofs.lemmas.Grind.{common_steps}
-use Rattle.std.specs.FinMap as map
 use Rattle.ent_storage.specs.HandleMap.{HandleMap}
 use Rattle.ent_storage.proofs.Entries.{map-take}
 use Rattle.ent_storage.proofs.Found.{remove_absent, found, made, had, counted-take, read_of}

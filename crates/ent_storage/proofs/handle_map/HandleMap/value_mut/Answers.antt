@@ -1,6 +1,5 @@
 use Rattle.std.proofs.Common.{rules, ap, arith}
 use Rattle.std.proofs.lemmas.Grind.{common_steps}
-use Rattle.std.specs.FinMap as map
 use Rattle.ent_storage.specs.HandleMap.{HandleMap}
 use Rattle.ent_storage.proofs.Entries.{map-write}
 use Rattle.ent_storage.proofs.Found.{found, made, got, counted-write, read_of}

@@ -4,8 +4,8 @@
 
 use alloc::vec::Vec;
 use crate::proved::ent_replay::handle_list::HandleList;
+use crate::proved::ent_replay::trace::call::Call;
 use crate::proved::ent_replay::trace::fitting::{fits_born, fits_freed};
-use crate::proved::ent_replay::trace::line::Line;
 use crate::proved::ent_replay::trace::reply::{AllocReply, FlushReply, FreeReply};
 use crate::proved::ent_alloc::{AllocFault, Entities, FreeFault};
 use crate::proved::ent_handle::{Handle, Memory};
@@ -15,8 +15,8 @@ use crate::proved::ent_handle::{Handle, Memory};
 #[inline]
 pub(super) fn answered(
     entities: &mut Entities,
-    line: &Line,
-) -> Result<Option<Line>, Memory>
+    line: &Call,
+) -> Result<Option<Call>, Memory>
     // requires { IsAlone line.now }
     // ensures fits { IfOk result (λ expected. IfNone expected (Fits entities.old.allocator line.now)) }
     // ensures differs { IfOk result (λ expected. IfSome expected (λ other.
@@ -26,52 +26,52 @@ pub(super) fn answered(
     //     ≡ after_line entities.old.allocator line.now) }
 {
     match line {
-        Line::Alloc(told) => {
+        Call::Alloc(told) => {
             let given = allocated(entities)?;
             let fits = told.is_none_or(|told| told == given);
             Ok(if fits {
                 None
             } else {
-                Some(Line::Alloc(Some(given)))
+                Some(Call::Alloc(Some(given)))
             })
         }
-        Line::Free(handle, told) => {
+        Call::Free(handle, told) => {
             let given = freed(entities, *handle)?;
             let fits = told.is_none_or(|told| fits_freed(told, given));
             Ok(if fits {
                 None
             } else {
-                Some(Line::Free(*handle, Some(given)))
+                Some(Call::Free(*handle, Some(given)))
             })
         }
-        Line::Flush(told) => {
+        Call::Flush(told) => {
             let given = flushed(entities)?;
             match told {
-                Some(told) if !fits_born(told, &given) => Ok(Some(Line::Flush(Some(FlushReply::Born(
+                Some(told) if !fits_born(told, &given) => Ok(Some(Call::Flush(Some(FlushReply::Born(
                     given,
                 ))))),
                 _ => Ok(None),
             }
         }
-        Line::State(handle, told) => {
+        Call::State(handle, told) => {
             let given = entities.state(*handle);
             let fits = told.is_none_or(|told| told == given);
             Ok(if fits {
                 None
             } else {
-                Some(Line::State(*handle, Some(given)))
+                Some(Call::State(*handle, Some(given)))
             })
         }
-        Line::Len(told) => {
+        Call::Len(told) => {
             let given = entities.len();
             let fits = told.is_none_or(|told| told == given);
             Ok(if fits {
                 None
             } else {
-                Some(Line::Len(Some(given)))
+                Some(Call::Len(Some(given)))
             })
         }
-        Line::Reserve(_) => unreachable!(),
+        Call::Reserve(_) => unreachable!(),
     }
 }
 
@@ -79,7 +79,7 @@ pub(super) fn answered(
 fn allocated(entities: &mut Entities) -> Result<AllocReply, Memory>
     // ensures reply { IfOk result (λ reply. reply ≡ alloc_reply entities.old.allocator) }
     // ensures after { OnOk result (entities.new.allocator
-    //     ≡ after_line entities.old.allocator (Line.Alloc None)) }
+    //     ≡ after_line entities.old.allocator (Call.Alloc None)) }
 {
     match entities.alloc() {
         Ok(handle) => Ok(AllocReply::Handle(handle)),
@@ -93,7 +93,7 @@ fn allocated(entities: &mut Entities) -> Result<AllocReply, Memory>
 fn freed(entities: &mut Entities, handle: Handle) -> Result<FreeReply, Memory>
     // ensures reply { IfOk result (λ reply. reply ≡ free_reply entities.old.allocator handle) }
     // ensures after { OnOk result (entities.new.allocator
-    //     ≡ after_line entities.old.allocator (Line.Free handle None)) }
+    //     ≡ after_line entities.old.allocator (Call.Free handle None)) }
 {
     match entities.free(handle) {
         Ok(freed) => Ok(freed_reply(freed.next)),

@@ -1,56 +1,44 @@
 // Made of crates/ent_replay/src/trace/difference.rt by rust/erase. It isn't edited by hand.
 
-//! Why a checker stops.
+//! Where a trace differs.
 
 use crate::proved::ent_replay::handle_list::HandleList;
-use crate::proved::ent_replay::trace::line::Line;
+use crate::proved::ent_replay::trace::call::Call;
 use crate::proved::ent_handle::Memory;
-use crate::kit::alloc::{AllocError, AllocFailed};
 
-/// The first line whose reply isn't the allocator's.
+/// The first call whose answer isn't the allocator's. No trace that begins so agrees.
+///
+/// Of reservations of threads it is the first one in the order in which the checker put them: in that
+/// order those before it agree.
+///
+/// `Display` writes it in one line, as `differs line 5: len => 3, expected 2`.
 #[derive(Debug)]
 pub struct Difference {
-    /// The number of the line.
+    /// The number of the call, from 1. In a trace with one call on each line it is the line.
     pub number: u64,
-    /// The line as it was taken.
-    pub told: Line,
-    /// The same call with the reply that the allocator gives there.
-    pub expected: Line,
-    /// The front of the allocator's pool there, before the call: its first 8 handles, or all if there
-    /// are fewer.
+    /// The call, with what was answered.
+    pub told: Call,
+    /// The same call with what the allocator answers there.
+    pub expected: Call,
+    /// The front of the allocator's pool before the call: its first 8 handles, or all if there are
+    /// fewer.
     pub front: HandleList,
-    /// The allocator's cursor there, before the call.
+    /// The allocator's cursor before the call.
     pub cursor: i64,
 }
 
-/// Why a checker stops.
-#[derive(Debug)]
-pub enum Stop {
-    /// The trace doesn't agree.
-    Differs(Difference),
-    /// More than 2^50 handles were requested since the last flush, which no allocator here counts.
-    TooMany,
-    /// Memory ran out.
-    Memory,
-}
-
-impl From<Memory> for Stop {
+impl Difference {
+    /// A copy.
     #[inline]
-    fn from(_refused: Memory) -> Self {
-        Stop::Memory
-    }
-}
-
-impl From<AllocError> for Stop {
-    #[inline]
-    fn from(_refused: AllocError) -> Self {
-        Stop::Memory
-    }
-}
-
-impl<T> From<AllocFailed<T>> for Stop {
-    #[inline]
-    fn from(_refused: AllocFailed<T>) -> Self {
-        Stop::Memory
+    pub(super) fn try_copy(&self) -> Result<Self, Memory>
+        // ensures { IfOk result (λ copy. copy ≡ self.now) }
+    {
+        Ok(Difference {
+            number: self.number,
+            told: self.told.try_copy()?,
+            expected: self.expected.try_copy()?,
+            front: self.front.try_copy()?,
+            cursor: self.cursor,
+        })
     }
 }

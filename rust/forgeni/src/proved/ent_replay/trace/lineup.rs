@@ -7,12 +7,13 @@ use alloc::vec::Vec;
 use crate::kit::vec::FallibleVec;
 use crate::proved::ent_replay::by_caller::ByCaller;
 use crate::proved::ent_replay::handle_list::HandleList;
+use crate::proved::ent_replay::trace::call::Call;
 use crate::proved::ent_replay::trace::difference::Difference;
 use crate::proved::ent_replay::trace::fitting::fits_reserved;
 use crate::proved::ent_replay::trace::front::front_at;
-use crate::proved::ent_replay::trace::line::{Line, Reservation};
 use crate::proved::ent_replay::trace::placed::Placed;
 use crate::proved::ent_replay::trace::reply::ReserveReply;
+use crate::proved::ent_replay::trace::reservation::Reservation;
 use crate::proved::ent_replay::trace::suspect::suspect;
 use crate::proved::ent_alloc::{Entities, Reserved, Space, Span};
 use crate::proved::ent_handle::Memory;
@@ -124,8 +125,8 @@ impl Lineup {
         let given = reply_at(entities, cursor, reservation.requested)?;
         Ok(Difference {
             number: reservation.number,
-            expected: Line::Reserve(with_reply(&reservation, reply_of(given))),
-            told: Line::Reserve(reservation),
+            expected: Call::Reserve(with_reply(&reservation, reply_of(given))),
+            told: Call::Reserve(reservation),
             front: front_at(entities, cursor)?,
             cursor,
         })

@@ -5,8 +5,9 @@
 use crate::proved::ent_replay::trace::answers::{
     read_alloc, read_flush, read_free, read_len, read_reserved, read_state,
 };
-use crate::proved::ent_replay::trace::line::{Line, Reservation};
+use crate::proved::ent_replay::trace::call::Call;
 use crate::proved::ent_replay::trace::read_fault::{Cause, ReadFault};
+use crate::proved::ent_replay::trace::reservation::Reservation;
 use crate::proved::ent_replay::trace::words::{before_comment, first_word, no_argument, one_argument, two_arguments};
 use crate::proved::ent_handle::{Handle, read_decimal};
 
@@ -25,39 +26,39 @@ fn read_handle(word: &[u8]) -> Result<Handle, Cause>
 }
 
 #[inline]
-fn alloc_line(text: &[u8]) -> Result<Line, Cause>
+fn alloc_line(text: &[u8]) -> Result<Call, Cause>
     // ensures { result ≡ alloc_line (words_in text.now) }
 {
     match no_argument(text)? {
-        None => Ok(Line::Alloc(None)),
-        Some(told) => Ok(Line::Alloc(Some(read_alloc(told)?))),
+        None => Ok(Call::Alloc(None)),
+        Some(told) => Ok(Call::Alloc(Some(read_alloc(told)?))),
     }
 }
 
 #[inline]
-fn free_line(text: &[u8]) -> Result<Line, Cause>
+fn free_line(text: &[u8]) -> Result<Call, Cause>
     // ensures { result ≡ free_line (words_in text.now) }
 {
     let (word, told) = one_argument(text)?;
     let handle = read_handle(word)?;
     match told {
-        None => Ok(Line::Free(handle, None)),
-        Some(told) => Ok(Line::Free(handle, Some(read_free(told)?))),
+        None => Ok(Call::Free(handle, None)),
+        Some(told) => Ok(Call::Free(handle, Some(read_free(told)?))),
     }
 }
 
 #[inline]
-fn flush_line(text: &[u8]) -> Result<Line, ReadFault>
+fn flush_line(text: &[u8]) -> Result<Call, ReadFault>
     // ensures { ReadsAs result (flush_line (words_in text.now)) }
 {
     match no_argument(text)? {
-        None => Ok(Line::Flush(None)),
-        Some(told) => Ok(Line::Flush(Some(read_flush(told)?))),
+        None => Ok(Call::Flush(None)),
+        Some(told) => Ok(Call::Flush(Some(read_flush(told)?))),
     }
 }
 
 #[inline]
-fn reserve_line(number: u64, text: &[u8]) -> Result<Line, ReadFault>
+fn reserve_line(number: u64, text: &[u8]) -> Result<Call, ReadFault>
     // ensures { ReadsAs result (reserve_line number (words_in text.now)) }
 {
     let (caller, requested, told) = two_arguments(text)?;
@@ -65,7 +66,7 @@ fn reserve_line(number: u64, text: &[u8]) -> Result<Line, ReadFault>
     let requested = read_number(requested)?;
     let told = told.ok_or(Cause::Reply)?;
     let reply = read_reserved(told)?;
-    Ok(Line::Reserve(Reservation {
+    Ok(Call::Reserve(Reservation {
         number,
         caller,
         requested,
@@ -74,29 +75,29 @@ fn reserve_line(number: u64, text: &[u8]) -> Result<Line, ReadFault>
 }
 
 #[inline]
-fn state_line(text: &[u8]) -> Result<Line, Cause>
+fn state_line(text: &[u8]) -> Result<Call, Cause>
     // ensures { result ≡ state_line (words_in text.now) }
 {
     let (word, told) = one_argument(text)?;
     let handle = read_handle(word)?;
     match told {
-        None => Ok(Line::State(handle, None)),
-        Some(told) => Ok(Line::State(handle, Some(read_state(told)?))),
+        None => Ok(Call::State(handle, None)),
+        Some(told) => Ok(Call::State(handle, Some(read_state(told)?))),
     }
 }
 
 #[inline]
-fn len_line(text: &[u8]) -> Result<Line, Cause>
+fn len_line(text: &[u8]) -> Result<Call, Cause>
     // ensures { result ≡ len_line (words_in text.now) }
 {
     match no_argument(text)? {
-        None => Ok(Line::Len(None)),
-        Some(told) => Ok(Line::Len(Some(read_len(told)?))),
+        None => Ok(Call::Len(None)),
+        Some(told) => Ok(Call::Len(Some(read_len(told)?))),
     }
 }
 
 #[inline]
-fn read_call(number: u64, word: &[u8], text: &[u8]) -> Result<Line, ReadFault>
+fn read_call(number: u64, word: &[u8], text: &[u8]) -> Result<Call, ReadFault>
     // ensures { ReadsAs result (call_of number word.now (words_in text.now)) }
 {
     if word == b"reserve".as_slice() {
@@ -139,7 +140,7 @@ fn read_call(number: u64, word: &[u8], text: &[u8]) -> Result<Line, ReadFault>
 ///
 /// </details>
 #[inline]
-pub fn read_line(number: u64, line: &[u8]) -> Result<Option<Line>, ReadFault> {
+pub fn read_line(number: u64, line: &[u8]) -> Result<Option<Call>, ReadFault> {
     match first_word(before_comment(line)) {
         None => Ok(None),
         Some((word, others)) => Ok(Some(read_call(number, word, others)?)),

@@ -1,11 +1,12 @@
 // Made of crates/ent_replay/src/trace/reply.rt by rust/erase. It isn't edited by hand.
 
-//! What a line of a trace says was answered.
+//! What an allocator answered.
 
+use alloc::vec::Vec;
 use crate::proved::ent_replay::handle_list::HandleList;
-use crate::proved::ent_handle::Handle;
+use crate::proved::ent_handle::{Handle, Memory};
 
-/// What `alloc` answered.
+/// What was answered to a call for a handle that is alive at once.
 #[derive(Clone, Copy, Debug, PartialEq, Eq)]
 pub enum AllocReply {
     /// The handle that came to life.
@@ -16,10 +17,17 @@ pub enum AllocReply {
     NeedsFlush,
 }
 
-/// What `free` answered.
+impl From<Handle> for AllocReply {
+    #[inline]
+    fn from(handle: Handle) -> Self {
+        AllocReply::Handle(handle)
+    }
+}
+
+/// What was answered to a call that frees a handle.
 #[derive(Clone, Copy, Debug, PartialEq, Eq)]
 pub enum FreeReply {
-    /// The handle was freed. What its slot gives next isn't told.
+    /// The handle was freed. What its slot gives next isn't compared.
     Freed,
     /// The handle was freed, and its slot gives this one next.
     Next(Handle),
@@ -31,7 +39,7 @@ pub enum FreeReply {
     NeedsFlush,
 }
 
-/// What `flush` answered.
+/// What was answered to a flush.
 #[derive(Debug)]
 pub enum FlushReply {
     /// The handles that came to life, in their order.
@@ -40,13 +48,54 @@ pub enum FlushReply {
     Count(u32),
 }
 
-/// What a reservation was answered.
+impl FlushReply {
+    /// A copy.
+    #[inline]
+    pub(super) fn try_copy(&self) -> Result<Self, Memory>
+        // ensures { IfOk result (λ copy. copy ≡ self.now) }
+    {
+        Ok(match self {
+            FlushReply::Born(handles) => FlushReply::Born(handles.try_copy()?),
+            FlushReply::Count(count) => FlushReply::Count(*count),
+        })
+    }
+}
+
+impl From<Vec<Handle>> for FlushReply {
+    #[inline]
+    fn from(born: Vec<Handle>) -> Self {
+        FlushReply::Born(HandleList::new(born))
+    }
+}
+
+/// What was answered to a reservation.
 #[derive(Debug)]
 pub enum ReserveReply {
     /// The handles, in their order.
     Handles(HandleList),
-    /// Too few were left. How many isn't told.
+    /// Too few were left. How many isn't compared.
     Space,
     /// Too few were left, and this many.
     SpaceLeft(u32),
+}
+
+impl ReserveReply {
+    /// A copy.
+    #[inline]
+    pub(super) fn try_copy(&self) -> Result<Self, Memory>
+        // ensures { IfOk result (λ copy. copy ≡ self.now) }
+    {
+        Ok(match self {
+            ReserveReply::Handles(handles) => ReserveReply::Handles(handles.try_copy()?),
+            ReserveReply::Space => ReserveReply::Space,
+            ReserveReply::SpaceLeft(left) => ReserveReply::SpaceLeft(*left),
+        })
+    }
+}
+
+impl From<Vec<Handle>> for ReserveReply {
+    #[inline]
+    fn from(handles: Vec<Handle>) -> Self {
+        ReserveReply::Handles(HandleList::new(handles))
+    }
 }

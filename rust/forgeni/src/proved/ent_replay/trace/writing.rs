@@ -4,8 +4,10 @@
 
 use alloc::vec::Vec;
 use crate::kit::vec::FallibleVec;
-use crate::proved::ent_replay::trace::line::{Line, Reservation};
+use crate::proved::ent_replay::trace::call::Call;
+use crate::proved::ent_replay::trace::difference::Difference;
 use crate::proved::ent_replay::trace::reply::{AllocReply, FlushReply, FreeReply, ReserveReply};
+use crate::proved::ent_replay::trace::reservation::Reservation;
 use crate::proved::ent_alloc::State;
 use crate::proved::ent_handle::{Handle, Memory};
 use crate::kit::itoa::Buffer;
@@ -45,7 +47,7 @@ fn append_handle(out: &mut Vec<u8>, handle: Handle) -> Result<(), Memory>
 ///
 /// # Errors
 ///
-/// `Memory`: memory ran out. `out` is as it was.
+/// `Memory`: out of memory. `out` is as it was.
 ///
 /// <details><summary>Contract</summary>
 ///
@@ -146,7 +148,7 @@ fn write_state(out: &mut Vec<u8>, state: State) -> Result<(), Memory>
 #[inline]
 fn write_reserve(out: &mut Vec<u8>, reservation: &Reservation) -> Result<(), Memory>
     // ensures { OnOk result (out.new.items
-    //     ≡ out.old.items ++ line_text (Line.Reserve reservation.now)) }
+    //     ≡ out.old.items ++ line_text (Call.Reserve reservation.now)) }
 {
     append(out, b"reserve")?;
     append_number(out, reservation.caller)?;
@@ -160,7 +162,7 @@ fn write_reserve(out: &mut Vec<u8>, reservation: &Reservation) -> Result<(), Mem
 ///
 /// # Errors
 ///
-/// `Memory`: memory ran out. `out` is as it was.
+/// `Memory`: out of memory. `out` is as it was.
 ///
 /// <details><summary>Contract</summary>
 ///
@@ -173,23 +175,23 @@ fn write_reserve(out: &mut Vec<u8>, reservation: &Reservation) -> Result<(), Mem
 ///
 /// </details>
 #[inline]
-pub fn append_answer(out: &mut Vec<u8>, line: &Line) -> Result<(), Memory> {
+pub fn append_answer(out: &mut Vec<u8>, line: &Call) -> Result<(), Memory> {
     let mut text = Vec::new();
     put_answer(&mut text, line)?;
     append(out, &text)
 }
 
 #[inline]
-fn put_answer(out: &mut Vec<u8>, line: &Line) -> Result<(), Memory>
+fn put_answer(out: &mut Vec<u8>, line: &Call) -> Result<(), Memory>
     // ensures ok { OnOk result (out.new.items ≡ out.old.items ++ spaced (answer_words line.now)) }
 {
     match line {
-        Line::Alloc(Some(reply)) => write_alloc(out, *reply),
-        Line::Free(_, Some(reply)) => write_free(out, *reply),
-        Line::Flush(Some(reply)) => write_flush(out, reply),
-        Line::Reserve(reservation) => write_reserved(out, &reservation.reply),
-        Line::State(_, Some(state)) => write_state(out, *state),
-        Line::Len(Some(len)) => append_number(out, *len),
+        Call::Alloc(Some(reply)) => write_alloc(out, *reply),
+        Call::Free(_, Some(reply)) => write_free(out, *reply),
+        Call::Flush(Some(reply)) => write_flush(out, reply),
+        Call::Reserve(reservation) => write_reserved(out, &reservation.reply),
+        Call::State(_, Some(state)) => write_state(out, *state),
+        Call::Len(Some(len)) => append_number(out, *len),
         _ => Ok(()),
     }
 }
@@ -199,7 +201,7 @@ fn put_answer(out: &mut Vec<u8>, line: &Line) -> Result<(), Memory>
 ///
 /// # Errors
 ///
-/// `Memory`: memory ran out. `out` is as it was.
+/// `Memory`: out of memory. `out` is as it was.
 ///
 /// <details><summary>Contract</summary>
 ///
@@ -212,18 +214,18 @@ fn put_answer(out: &mut Vec<u8>, line: &Line) -> Result<(), Memory>
 ///
 /// </details>
 #[inline]
-pub fn write_line(out: &mut Vec<u8>, line: &Line) -> Result<(), Memory> {
+pub fn write_line(out: &mut Vec<u8>, line: &Call) -> Result<(), Memory> {
     let mut text = Vec::new();
     put_line(&mut text, line)?;
     append(out, &text)
 }
 
 #[inline]
-fn put_line(out: &mut Vec<u8>, line: &Line) -> Result<(), Memory>
+fn put_line(out: &mut Vec<u8>, line: &Call) -> Result<(), Memory>
     // ensures ok { OnOk result (out.new.items ≡ out.old.items ++ line_text line.now) }
 {
     match line {
-        Line::Alloc(told) => {
+        Call::Alloc(told) => {
             append(out, b"alloc")?;
             match told {
                 None => Ok(()),
@@ -233,7 +235,7 @@ fn put_line(out: &mut Vec<u8>, line: &Line) -> Result<(), Memory>
                 }
             }
         }
-        Line::Free(handle, told) => {
+        Call::Free(handle, told) => {
             append(out, b"free")?;
             append_handle(out, *handle)?;
             match told {
@@ -244,7 +246,7 @@ fn put_line(out: &mut Vec<u8>, line: &Line) -> Result<(), Memory>
                 }
             }
         }
-        Line::Flush(told) => {
+        Call::Flush(told) => {
             append(out, b"flush")?;
             match told {
                 None => Ok(()),
@@ -254,8 +256,8 @@ fn put_line(out: &mut Vec<u8>, line: &Line) -> Result<(), Memory>
                 }
             }
         }
-        Line::Reserve(reservation) => write_reserve(out, reservation),
-        Line::State(handle, told) => {
+        Call::Reserve(reservation) => write_reserve(out, reservation),
+        Call::State(handle, told) => {
             append(out, b"state")?;
             append_handle(out, *handle)?;
             match told {
@@ -266,7 +268,7 @@ fn put_line(out: &mut Vec<u8>, line: &Line) -> Result<(), Memory>
                 }
             }
         }
-        Line::Len(told) => {
+        Call::Len(told) => {
             append(out, b"len")?;
             match told {
                 None => Ok(()),
@@ -277,4 +279,43 @@ fn put_line(out: &mut Vec<u8>, line: &Line) -> Result<(), Memory>
             }
         }
     }
+}
+
+/// Appends the text of a difference: the number of the call, the call as it was, and what the
+/// allocator answers. It is one line, without a line feed.
+///
+/// # Errors
+///
+/// `Memory`: out of memory. `out` is as it was.
+///
+/// <details><summary>Contract</summary>
+///
+/// In the words of the folder `specs/` of crate `ent_replay`:
+///
+/// ```text
+/// ensures ok { OnOk result (out.new.items ≡ out.old.items ++ difference_text difference.now) }
+/// ensures err { OnErr result (out.new.items ≡ out.old.items) }
+/// ```
+///
+/// </details>
+#[inline]
+pub fn write_difference(
+    out: &mut Vec<u8>,
+    difference: &Difference,
+) -> Result<(), Memory> {
+    let mut text = Vec::new();
+    put_difference(&mut text, difference)?;
+    append(out, &text)
+}
+
+#[inline]
+fn put_difference(out: &mut Vec<u8>, difference: &Difference) -> Result<(), Memory>
+    // ensures ok { OnOk result (out.new.items ≡ out.old.items ++ difference_text difference.now) }
+{
+    append(out, b"differs line ")?;
+    append(out, Buffer::new().format(difference.number).as_bytes())?;
+    append(out, b": ")?;
+    put_line(out, &difference.told)?;
+    append(out, b", expected")?;
+    put_answer(out, &difference.expected)
 }

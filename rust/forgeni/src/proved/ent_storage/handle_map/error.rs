@@ -25,6 +25,7 @@ impl core::fmt::Display for InsertError {
 impl core::error::Error for InsertError {}
 
 /// A value that [`HandleMap::insert`](super::HandleMap::insert) hands back.
+#[derive(Clone, Copy, PartialEq, Eq)]
 pub struct Uninserted<T> {
     /// The value.
     pub value: T,

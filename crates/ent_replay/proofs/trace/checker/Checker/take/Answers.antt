@@ -1,9 +1,0 @@
-use Rattle.ent_replay.proofs.Orders.{run_more}
-use Rattle.std.proofs.Common.{rules}
-use Rattle.ent_replay.proofs.trace.checker.Checker.take.Goals as goal
-
-pub returns-in-Reserve-clause-follows : goal.returns-in-Reserve-clause-follows
-returns-in-Reserve-clause-follows c = search (rules, run_more)
-
-pub returns-in-Reserve-clause-reaches : goal.returns-in-Reserve-clause-reaches
-returns-in-Reserve-clause-reaches c = search rules

@@ -1,0 +1,13 @@
+use Rattle.std.proofs.Common.{append-nil, arith, rules}
+use Rattle.std.proofs.lemmas.Grind.{common_steps}
+use Rattle.ent_replay.proofs.Stops.{on_differs, on_err}
+use Rattle.ent_replay.proofs.trace.comparer.Comparer.finish.Goals as goal
+
+pub returns-clause-agrees : goal.returns-clause-agrees
+returns-clause-agrees c = grind (arith, common_steps)
+
+pub returns-clause-differs : goal.returns-clause-differs
+returns-clause-differs c = search (rules, on_err, on_differs)
+
+pub returns-clause-none : goal.returns-clause-none
+returns-clause-none c = search (rules, on_err, on_differs, append-nil)

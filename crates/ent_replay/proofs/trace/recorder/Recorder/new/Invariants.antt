@@ -1,0 +1,6 @@
+use Rattle.std.proofs.Common.{◌≡◌}
+use Rattle.ent_replay.specs.Logs.{new_logs}
+use Rattle.ent_replay.proofs.trace.recorder.Recorder.new.Given as goal
+
+abbrev pub invariant-loop-caller : goal.invariant-loop-caller
+invariant-loop-caller l = l.logs.items ≡ new_logs l.caller

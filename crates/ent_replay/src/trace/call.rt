@@ -1,0 +1,64 @@
+//! A call of an allocator, and what was answered.
+ghost use Rattle.std.specs.Prelude.{◌≡◌, IfOk};
+ghost use Rattle.ent_replay.specs.Recording.{numbered};
+
+use crate::trace::reply::{AllocReply, FlushReply, FreeReply};
+use crate::trace::reservation::Reservation;
+use ent_alloc::State;
+use ent_handle::{Handle, Memory};
+use std::alloc::Global;
+
+/// A call of an allocator, and what was answered. `None` is for an answer that isn't known: the call
+/// is made, and nothing is compared.
+///
+/// `Display` writes it as a line of a trace, without the end of the line:
+///
+/// ```
+/// use forgeni::trace::{AllocReply, Call, Reservation, ReserveReply};
+///
+/// assert_eq!(Call::Alloc(Some(AllocReply::Space)).to_string(), "alloc => space");
+/// let refused = Reservation::new(2, 5, ReserveReply::SpaceLeft(3));
+/// assert_eq!(Call::Reserve(refused).to_string(), "reserve 2 5 => space left 3");
+/// ```
+#[derive(Debug, Drop)]
+pub enum Call {
+    /// A handle that is alive at once.
+    Alloc(Option<AllocReply>),
+    /// The end of a living handle.
+    Free(Handle, Option<FreeReply>),
+    /// What is reserved comes to life.
+    Flush(Option<FlushReply>),
+    /// Handles that the next flush brings to life. It is the only call that others may overlap.
+    Reserve(Reservation),
+    /// What became of a handle.
+    State(Handle, Option<State>),
+    /// How many handles are alive.
+    Len(Option<u32>),
+}
+
+impl Call {
+    /// The same call, and if it is a reservation, with this number.
+    pub(super) fn numbered(self, number: u64) -> Self
+        ensures { result ≡ numbered number self }
+    {
+        match self {
+            Call::Reserve(reservation) => Call::Reserve(reservation.numbered(number)),
+            other => other,
+        }
+    }
+
+    /// A copy.
+    pub(super) fn try_copy(&self, alloc: Global) -> Result<Self, Memory>
+        ensures { IfOk result (λ copy. copy ≡ self.now) }
+    {
+        Ok(match self {
+            Call::Alloc(reply) => Call::Alloc(*reply),
+            Call::Free(handle, reply) => Call::Free(*handle, *reply),
+            Call::Flush(Some(reply)) => Call::Flush(Some(reply.try_copy(alloc)?)),
+            Call::Flush(None) => Call::Flush(None),
+            Call::Reserve(reservation) => Call::Reserve(reservation.try_copy(alloc)?),
+            Call::State(handle, state) => Call::State(*handle, *state),
+            Call::Len(len) => Call::Len(*len),
+        })
+    }
+}

@@ -1,0 +1,70 @@
+//! Why a checker stops.
+ghost use Rattle.std.specs.Prelude.{◌≡◌, option_copied};
+ghost use Rattle.ent_replay.specs.Recording.{IsCopyOf, difference_of};
+ghost use Rattle.ent_replay.specs.declared.trace.check_error.CheckError.TheVariants.{Memory as ErrorMemory};
+
+use crate::trace::difference::Difference;
+use ent_handle::Memory;
+use std::alloc::{AllocError, AllocFailed, Global};
+
+/// Why a [`Checker`](crate::trace::Checker) takes no more calls.
+#[derive(Debug, Drop)]
+#[non_exhaustive]
+pub enum CheckError {
+    /// An answer isn't the allocator's.
+    Differs(Difference),
+    /// More than 2^50 handles were requested since the last flush, which no allocator here counts.
+    TooMany,
+    /// Out of memory.
+    Memory,
+}
+
+impl CheckError {
+    /// The difference, if it is one.
+    pub fn difference(&self) -> Option<&Difference>
+        ensures { option_copied result ≡ difference_of self.now }
+    {
+        match self {
+            CheckError::Differs(difference) => Some(difference),
+            _ => None,
+        }
+    }
+
+    /// A copy, or `Memory` if there is no memory for one.
+    pub(super) fn copied(&self, alloc: Global) -> Self
+        ensures { IsCopyOf self.now result }
+    {
+        match self {
+            CheckError::Differs(difference) => match difference.try_copy(alloc) {
+                Ok(copy) => CheckError::Differs(copy),
+                Err(Memory) => CheckError::Memory,
+            },
+            CheckError::TooMany => CheckError::TooMany,
+            CheckError::Memory => CheckError::Memory,
+        }
+    }
+}
+
+impl From<Memory> for CheckError {
+    ghost from_gives = { λ _ error. error ≡ ErrorMemory };
+
+    fn from(_refused: Memory) -> Self {
+        CheckError::Memory
+    }
+}
+
+impl From<AllocError> for CheckError {
+    ghost from_gives = { λ _ error. error ≡ ErrorMemory };
+
+    fn from(_refused: AllocError) -> Self {
+        CheckError::Memory
+    }
+}
+
+impl<T: Drop> From<AllocFailed<T>> for CheckError {
+    ghost from_gives = { λ _ error. error ≡ ErrorMemory };
+
+    fn from(_refused: AllocFailed<T>) -> Self {
+        CheckError::Memory
+    }
+}

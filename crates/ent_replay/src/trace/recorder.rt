@@ -1,0 +1,206 @@
+//! A checker with a log for each caller.
+ghost use Rattle.std.specs.Prelude.{◌≡◌, ◌∷◌, ◌++◌, [], map, Some, Ok, IfOk};
+ghost use Rattle.std.specs.Borrow.{sem};
+ghost use Rattle.ent_alloc.specs.Sequential.{opening};
+ghost use Rattle.ent_replay.specs.Logs.{emptied, new_logs};
+ghost use Rattle.ent_replay.specs.Lending.{LendsLogs};
+ghost use Rattle.ent_replay.specs.Recording.{TakesAll, Answers, Finishes, lines_in_all};
+ghost use Rattle.ent_replay.specs.declared.trace.reply.AllocReply.{AllocReply};
+ghost use Rattle.ent_replay.specs.declared.trace.reply.FlushReply.{FlushReply};
+
+use crate::trace::call::Call;
+use crate::trace::check_error::CheckError;
+use crate::trace::checker::Checker;
+use crate::trace::log::Log;
+use crate::trace::reply::{AllocReply, FlushReply, FreeReply};
+use ent_alloc::{Limits, State};
+use ent_handle::{Handle, Memory};
+use std::alloc::Global;
+
+/// Records an allocator that threads share, and checks it as it goes.
+///
+/// While threads reserve, each has one of the [`logs`](Self::logs). At the next other call the logs
+/// are joined, in the order of the callers. Then they are empty again. The borrow of the logs has
+/// ended then, so no thread still appends.
+///
+/// ```
+/// use forgeni::trace::Recorder;
+/// use forgeni::{Entities, Limits};
+///
+/// let mut recorder = Recorder::new(Limits::GREATEST, 4)?;
+/// let (shared, mut reservers) = Entities::new().share(4)?;
+/// std::thread::scope(|scope| {
+///     for (log, reserver) in recorder.logs().iter_mut().zip(&mut reservers) {
+///         scope.spawn(move || {
+///             for _ in 0..100 {
+///                 let one = reserver.reserve().expect("a handle");
+///                 log.push(1, one.into()).expect("memory");
+///             }
+///         });
+///     }
+/// });
+/// let mut entities = shared.close(reservers)?;
+/// recorder.flush(entities.flush()?.into())?;
+/// recorder.len(400)?;
+/// recorder.finish()?;
+/// # Ok::<(), Box<dyn std::error::Error>>(())
+/// ```
+///
+/// Where threads keep their logs, [`Checker::join`] takes each of them as the phase ends.
+#[derive(Drop)]
+pub struct Recorder {
+    checker: Checker,
+    logs: Vec<Log>,
+}
+
+impl Recorder {
+    /// A recorder of an allocator that has given nothing, with a log for each of so many callers. They
+    /// are numbered from 0.
+    ///
+    /// # Errors
+    ///
+    /// `Memory`: out of memory.
+    pub fn new(alloc: Global, limits: Limits, callers: u32) -> Result<Self, Memory>
+        ensures opens { IfOk result (λ recorder. recorder.checker.comparer
+            ≡ Ok (record { allocator = opening limits; run = [] })) }
+        ensures none { IfOk result (λ recorder. recorder.checker.calls ≡ 0) }
+        ensures logs { IfOk result (λ recorder. recorder.logs.items ≡ new_logs callers) }
+    {
+        let mut logs = Vec::new(alloc);
+        for caller in 0..callers {
+            logs.push(Log::new(alloc, caller))?;
+        }
+        Ok(Recorder {
+            checker: Checker::new(alloc, limits),
+            logs,
+        })
+    }
+
+    /// A log for each caller.
+    pub fn logs(&mut self) -> &mut [Log]
+        ensures* writes_back { sem 𝓛 (LendsLogs self.entry result) }
+        ensures logs { result.now ≡ self.old.logs.items }
+    {
+        self.logs.as_mut_slice()
+    }
+
+    /// How many calls were taken, with those of the logs that were joined.
+    pub fn calls(&self) -> u64
+        ensures { result ≡ self.now.checker.calls }
+    {
+        self.checker.calls()
+    }
+
+    /// Joins the logs, and takes this call.
+    ///
+    /// # Errors
+    ///
+    /// As of [`Checker::call`]. The logs are emptied in any case.
+    pub fn call(&mut self, call: Call) -> Result<(), CheckError>
+        ensures takes { TakesAll self.old.checker (lines_in_all self.old.logs.items ++ call ∷ [])
+            self.new.checker }
+        ensures emptied { self.new.logs.items ≡ map emptied self.old.logs.items }
+        ensures answers { Answers self.new.checker.comparer result }
+    {
+        join_all(&mut self.checker, &mut self.logs);
+        self.checker.call(call)
+    }
+
+    /// A handle was asked for, to be alive at once.
+    ///
+    /// # Errors
+    ///
+    /// As of [`call`](Self::call).
+    pub fn alloc<R: Into<AllocReply>>(&mut self, reply: R) -> Result<(), CheckError>
+        ensures takes { (told : AllocReply) × R.converts reply told × TakesAll self.old.checker
+            (lines_in_all self.old.logs.items ++ Call.Alloc (Some told) ∷ []) self.new.checker }
+        ensures emptied { self.new.logs.items ≡ map emptied self.old.logs.items }
+        ensures answers { Answers self.new.checker.comparer result }
+    {
+        self.call(Call::Alloc(Some(reply.into())))
+    }
+
+    /// A handle was freed.
+    ///
+    /// # Errors
+    ///
+    /// As of [`call`](Self::call).
+    pub fn free(&mut self, handle: Handle, reply: FreeReply) -> Result<(), CheckError>
+        ensures takes { TakesAll self.old.checker
+            (lines_in_all self.old.logs.items ++ Call.Free handle (Some reply) ∷ [])
+            self.new.checker }
+        ensures emptied { self.new.logs.items ≡ map emptied self.old.logs.items }
+        ensures answers { Answers self.new.checker.comparer result }
+    {
+        self.call(Call::Free(handle, Some(reply)))
+    }
+
+    /// What is reserved was brought to life.
+    ///
+    /// # Errors
+    ///
+    /// As of [`call`](Self::call).
+    pub fn flush<R: Into<FlushReply>>(&mut self, reply: R) -> Result<(), CheckError>
+        ensures takes { (told : FlushReply) × R.converts reply told × TakesAll self.old.checker
+            (lines_in_all self.old.logs.items ++ Call.Flush (Some told) ∷ []) self.new.checker }
+        ensures emptied { self.new.logs.items ≡ map emptied self.old.logs.items }
+        ensures answers { Answers self.new.checker.comparer result }
+    {
+        self.call(Call::Flush(Some(reply.into())))
+    }
+
+    /// The state of a handle was read.
+    ///
+    /// # Errors
+    ///
+    /// As of [`call`](Self::call).
+    pub fn state(&mut self, handle: Handle, reply: State) -> Result<(), CheckError>
+        ensures takes { TakesAll self.old.checker
+            (lines_in_all self.old.logs.items ++ Call.State handle (Some reply) ∷ [])
+            self.new.checker }
+        ensures emptied { self.new.logs.items ≡ map emptied self.old.logs.items }
+        ensures answers { Answers self.new.checker.comparer result }
+    {
+        self.call(Call::State(handle, Some(reply)))
+    }
+
+    /// The living were counted.
+    ///
+    /// # Errors
+    ///
+    /// As of [`call`](Self::call).
+    pub fn len(&mut self, reply: u32) -> Result<(), CheckError>
+        ensures takes { TakesAll self.old.checker
+            (lines_in_all self.old.logs.items ++ Call.Len (Some reply) ∷ []) self.new.checker }
+        ensures emptied { self.new.logs.items ≡ map emptied self.old.logs.items }
+        ensures answers { Answers self.new.checker.comparer result }
+    {
+        self.call(Call::Len(Some(reply)))
+    }
+
+    /// There are no more calls. The logs are joined, and the last reservations are compared.
+    ///
+    /// # Errors
+    ///
+    /// As of [`Checker::finish`].
+    pub fn finish(self) -> Result<(), CheckError>
+        ensures { Finishes self.checker (lines_in_all self.logs.items) result }
+    {
+        let Recorder {
+            mut checker,
+            mut logs,
+        } = self;
+        join_all(&mut checker, &mut logs);
+        checker.finish()
+    }
+}
+
+// Joins the logs, in their order.
+fn join_all(checker: &mut Checker, logs: &mut [Log])
+    ensures takes { TakesAll checker.old (lines_in_all logs.old) checker.new }
+    ensures emptied { logs.new ≡ map emptied logs.old }
+{
+    for log in logs.iter_mut() {
+        log.hand_over(checker);
+    }
+}

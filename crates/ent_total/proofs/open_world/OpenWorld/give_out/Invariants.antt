@@ -1,0 +1,19 @@
+use Rattle.std.proofs.Common.{◌≡◌, ◌≤◌, ◌+◌, ◌++◌, [], length, reverse, vec_len}
+use Rattle.std.specs.Prelude.{vec_capacity}
+use Rattle.ent_total.specs.Issuing.{AreNew, issuing}
+use Rattle.ent_total.proofs.open_world.OpenWorld.give_out.Given as goal
+
+-- each time one less is at home
+abbrev pub decreases-loop-system : goal.decreases-loop-system
+decreases-loop-system g l = length l.self.home
+
+-- those that were given out so far, and those that are left
+abbrev pub invariant-loop-system : goal.invariant-loop-system
+invariant-loop-system g l = record {
+  given : issuing l.systems.items ++ reverse l.self.home
+      ≡ issuing l.initial.systems.items ++ reverse l.initial.self.home;
+  new : AreNew l.self.number l.self.world l.systems.items;
+  room : vec_len l.systems + length l.self.home ≤ vec_capacity l.systems;
+  phase : l.self ≡ record l.initial.self { home = l.self.home };
+  queues : l.self.queues ≡ [];
+}

@@ -1,6 +1,0 @@
-use Rattle.ent_total.proofs.Refusals.{first_reason}
-use Rattle.ent_total.proofs.phase.Phase.close.Goals as goal
-
-pub returns-in-Err-clause-other_phase : goal.returns-in-Err-clause-other_phase
-returns-in-Err-clause-other_phase g c =
-    first_reason _ _ (λ e. cc) c.in-Err.why (rw c.deref.ensures.value at c.in-Err.ensures.why)

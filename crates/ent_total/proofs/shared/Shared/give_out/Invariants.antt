@@ -1,0 +1,18 @@
+use Rattle.std.proofs.Common.{◌≡◌, ◌≤◌, ◌+◌, ◌++◌, length, reverse, vec_len}
+use Rattle.std.specs.Prelude.{vec_capacity}
+use Rattle.ent_total.specs.Sharing.{AreOf, reservers_of}
+use Rattle.ent_total.proofs.shared.Shared.give_out.Given as goal
+
+-- each time one less is at home
+abbrev pub decreases-loop-reserver : goal.decreases-loop-reserver
+decreases-loop-reserver g l = length l.self.home
+
+-- those that were given out so far, and those that are left
+abbrev pub invariant-loop-reserver : goal.invariant-loop-reserver
+invariant-loop-reserver g l = record {
+  given : reservers_of l.reservers.items ++ reverse l.self.home
+      ≡ reservers_of l.initial.reservers.items ++ reverse l.initial.self.home;
+  of : AreOf l.self.number l.reservers.items;
+  room : vec_len l.reservers + length l.self.home ≤ vec_capacity l.reservers;
+  phase : l.self ≡ record l.initial.self { home = l.self.home };
+}

@@ -1,0 +1,325 @@
+ghost use Rattle.std.specs.Prelude.{◌≡◌, ◌≢◌, ◌↔◌, ◌++◌, ◌∷◌, [], length, IfOk, IfErr, IsErrOf, OnOk, OnErr, Ok};
+ghost use Rattle.std.specs.Prelude.{IsTrue};
+ghost use Rattle.std.specs.FinMap as map;
+ghost use Rattle.std.specs.Arc.{arc_value};
+ghost use Rattle.ent_shared.specs.Order.{handles_given};
+ghost use Rattle.ent_shared.specs.Phase.{IsOf};
+ghost use Rattle.ent_storage.specs.Bundle.{bundle_of};
+ghost use Rattle.ent_storage.specs.EntityMap.{birth_of, value_of};
+ghost use Rattle.ent_storage.specs.BirthOrder.{ListsAll};
+ghost use Rattle.ent_queue.specs.Command.{Spawn, SpawnMany, Insert, Remove, Despawn};
+ghost use Rattle.ent_queue.specs.Reserving.{IsReturned, refused_by};
+
+use crate::command_queue::CommandQueue;
+use crate::numbering::Numbering;
+use crate::open_world::OpenWorld;
+use ent_alloc::ReserveError;
+use ent_handle::{Birth, ComponentId, Handle, Memory};
+use ent_shared::Reserver;
+use ent_world::View;
+use std::alloc::Global;
+use std::marker::{Model, PhantomData};
+use std::mem;
+use std::sync::Arc;
+
+/// Issues the commands of one system. They take effect when the queue is applied. It may go to
+/// another thread.
+///
+/// A spawn reserves its handle at once, so a system knows what it will have spawned. The world can
+/// be read, as it was when it was opened.
+#[must_use]
+#[derive(Drop)]
+pub struct Commands<J: Numbering> {
+    pub(crate) world: Arc<ent_world::OpenWorld, Global>,
+    pub(crate) reserver: Reserver,
+    pub(crate) queue: ent_queue::CommandQueue,
+    pub(crate) number: u64,
+    pub(crate) of: PhantomData<J>,
+}
+
+impl<J: Numbering> Model for Commands<J> {
+    ghost use Rattle.std.specs.Prelude.{◌≡◌};
+    ghost use Rattle.std.specs.Arc.{arc_value};
+    ghost use Rattle.ent_shared.specs.Phase.{IsOf};
+    ghost use Rattle.ent_total.specs.Issuing.{Commands, commands_code};
+
+    ghost Value = { Commands };
+
+    ghost coded = { commands_code };
+
+    ghost view = { λ i. record {
+      number = i.number;
+      world = arc_value i.world;
+      reserver = i.reserver;
+      queue = i.queue;
+    } };
+
+    // The number stands for the world, and the reserver came with it.
+    ghost invariant = { λ i. (J.world_of i.number ≡ arc_value i.world)
+        × IsOf (arc_value i.world).shared i.reserver };
+}
+
+impl<J: Numbering> Commands<J> {
+    ghost use Rattle.ent_total.specs.Issuing.{Extends, IsRefused, new_commands};
+
+    /// A system that has issued nothing.
+    pub(crate) fn new(
+        alloc: Global,
+        world: Arc<ent_world::OpenWorld, Global>,
+        mut reserver: Reserver,
+        number: u64,
+    ) -> Self
+        requires stands_for { J.world_of number ≡ arc_value world }
+        requires own { IsOf (arc_value world).shared reserver }
+        ensures { result ≡ new_commands number (arc_value world) reserver }
+    {
+        let queue = ent_queue::Commands::new(alloc, world.shared(), &mut reserver).finish();
+        Commands {
+            world,
+            reserver,
+            queue,
+            number,
+            of: PhantomData,
+        }
+    }
+
+    /// Reserves a handle at once, by one atomic step. It is to have these components, in any order.
+    /// Of a component that stands there twice the last value counts.
+    ///
+    /// # Errors
+    ///
+    /// `Memory`, and then nothing has changed. With `Space` and `Quota` the queue keeps the refusal,
+    /// which is a fault of the sync point's report, and the system may go on.
+    ///
+    /// ```
+    /// use forgeni::{ComponentId, World};
+    ///
+    /// let (open, mut systems) = World::new().open(1)?;
+    /// let cart = systems[0].spawn(&[(ComponentId(0), 5)])?;
+    /// assert!(!open.contains(cart));
+    /// let queues = systems.into_iter().map(|one| one.finish()).collect();
+    /// let (mut world, queues) = open.close(queues)?;
+    /// world.apply(queues)?;
+    /// assert_eq!(world.get(cart, ComponentId(0)), Some(5));
+    /// # Ok::<(), Box<dyn std::error::Error>>(())
+    /// ```
+    pub fn spawn(
+        &mut self,
+        alloc: Global,
+        components: &[(ComponentId, i64)],
+    ) -> Result<Handle, ReserveError>
+        ensures extends { Extends self.old self.new }
+        ensures ok { IfOk result (λ handle. self.new.queue
+            ≡ self.old.queue ++ Spawn handle (bundle_of components.now) ∷ []) }
+        ensures refused { IfErr result (λ fault.
+            self.new.queue ≡ self.old.queue ++ refused_by 1 fault) }
+        ensures memory { IsErrOf result ReserveError.Memory → self.new ≡ self.old }
+        ensures given { IfOk result (λ handle.
+            IsReturned self.old.world.shared self.old.reserver self.new.reserver 1
+            (Ok (handle ∷ []))) }
+        ensures refusal { IfErr result
+            (IsRefused self.old.world.shared self.old.reserver self.new.reserver 1) }
+
+        // What was given is recorded.
+        ensures recorded { IfOk result (λ handle. handles_given self.new.reserver.own
+            ≡ handles_given self.old.reserver.own ++ handle ∷ []) }
+        ensures unrecorded { OnErr result
+            (handles_given self.new.reserver.own ≡ handles_given self.old.reserver.own) }
+    {
+        let queue = self.take_queue(alloc);
+        let shared = self.world.shared();
+        let mut commands = ent_queue::Commands::resume(alloc, shared, &mut self.reserver, queue);
+        let spawned = commands.spawn_with(components);
+        self.queue = commands.finish();
+        spawned
+    }
+
+    /// Reserves `n` handles at once, by one atomic step. Each is to have these components. It takes
+    /// time for each handle of the list, and of the queue, which has them too.
+    ///
+    /// # Errors
+    ///
+    /// As of [`spawn`](Commands::spawn).
+    pub fn spawn_many(
+        &mut self,
+        alloc: Global,
+        n: u32,
+        components: &[(ComponentId, i64)],
+    ) -> Result<Vec<Handle>, ReserveError>
+        ensures extends { Extends self.old self.new }
+        ensures ok { IfOk result (λ handles. self.new.queue
+            ≡ self.old.queue ++ SpawnMany handles.items (bundle_of components.now) ∷ []) }
+        ensures length { IfOk result (λ handles. length handles.items ≡ n) }
+        ensures refused { IfErr result (λ fault.
+            self.new.queue ≡ self.old.queue ++ refused_by n fault) }
+        ensures memory { IsErrOf result ReserveError.Memory → self.new ≡ self.old }
+        ensures given { IfOk result (λ handles.
+            IsReturned self.old.world.shared self.old.reserver self.new.reserver n
+            (Ok handles.items)) }
+        ensures refusal { IfErr result
+            (IsRefused self.old.world.shared self.old.reserver self.new.reserver n) }
+
+        // What was given is recorded.
+        ensures recorded { IfOk result (λ handles. handles_given self.new.reserver.own
+            ≡ handles_given self.old.reserver.own ++ handles.items) }
+        ensures unrecorded { OnErr result
+            (handles_given self.new.reserver.own ≡ handles_given self.old.reserver.own) }
+    {
+        let queue = self.take_queue(alloc);
+        let shared = self.world.shared();
+        let mut commands = ent_queue::Commands::resume(alloc, shared, &mut self.reserver, queue);
+        let spawned = commands.spawn_many_with(n, components);
+        self.queue = commands.finish();
+        spawned
+    }
+
+    /// Gives the entity these components, instead of those that it has under the same numbers.
+    ///
+    /// # Errors
+    ///
+    /// `OutOfMemory`, and then nothing has changed.
+    pub fn insert(
+        &mut self,
+        alloc: Global,
+        handle: Handle,
+        components: &[(ComponentId, i64)],
+    ) -> Result<(), Memory>
+        ensures ok { OnOk result (self.new ≡ record self.old {
+          queue = self.old.queue ++ Insert handle (bundle_of components.now) ∷ [];
+        }) }
+        ensures memory { OnErr result (self.new ≡ self.old) }
+    {
+        let queue = self.take_queue(alloc);
+        let shared = self.world.shared();
+        let mut commands = ent_queue::Commands::resume(alloc, shared, &mut self.reserver, queue);
+        let issued = commands.insert_with(handle, components);
+        self.queue = commands.finish();
+        issued
+    }
+
+    /// Takes the component out of the entity, if it has it.
+    ///
+    /// # Errors
+    ///
+    /// `OutOfMemory`, and then nothing has changed.
+    pub fn remove(&mut self, alloc: Global, handle: Handle, id: ComponentId) -> Result<(), Memory>
+        ensures ok { OnOk result (self.new ≡ record self.old {
+          queue = self.old.queue ++ Remove handle id ∷ [];
+        }) }
+        ensures memory { OnErr result (self.new ≡ self.old) }
+    {
+        let queue = self.take_queue(alloc);
+        let shared = self.world.shared();
+        let mut commands = ent_queue::Commands::resume(alloc, shared, &mut self.reserver, queue);
+        let issued = commands.remove(handle, id);
+        self.queue = commands.finish();
+        issued
+    }
+
+    /// Takes the entity out of the world.
+    ///
+    /// # Errors
+    ///
+    /// `OutOfMemory`, and then nothing has changed.
+    pub fn despawn(&mut self, alloc: Global, handle: Handle) -> Result<(), Memory>
+        ensures ok { OnOk result (self.new ≡ record self.old {
+          queue = self.old.queue ++ Despawn handle ∷ [];
+        }) }
+        ensures memory { OnErr result (self.new ≡ self.old) }
+    {
+        let queue = self.take_queue(alloc);
+        let shared = self.world.shared();
+        let mut commands = ent_queue::Commands::resume(alloc, shared, &mut self.reserver, queue);
+        let issued = commands.despawn(handle);
+        self.queue = commands.finish();
+        issued
+    }
+
+    /// The queue, and leaves an empty one, which takes no memory.
+    fn take_queue(&mut self, alloc: Global) -> ent_queue::CommandQueue
+        ensures queue { result ≡ self.old.queue }
+        ensures rest { self.new ≡ record self.old { queue = [] } }
+    {
+        let shared = self.world.shared();
+        let empty = ent_queue::Commands::new(alloc, shared, &mut self.reserver).finish();
+        mem::replace(&mut self.queue, empty)
+    }
+
+    /// The value of the entity's component, if the entity is alive and has it.
+    #[must_use]
+    pub fn get(&self, handle: Handle, id: ComponentId) -> Option<i64>
+        ensures { result ≡ value_of self.now.world.entities handle id }
+    {
+        self.world.view().get(handle, id)
+    }
+
+    /// When and by whom the entity was brought to life, if it is alive.
+    #[must_use]
+    pub fn birth(&self, handle: Handle) -> Option<Birth>
+        ensures { result ≡ birth_of self.now.world.entities handle }
+    {
+        self.world.view().birth(handle)
+    }
+
+    /// Whether the entity is alive. What the systems of the phase spawn isn't yet.
+    #[must_use]
+    pub fn contains(&self, handle: Handle) -> bool
+        ensures { result ≡ map.contains_key self.now.world.entities handle }
+    {
+        self.world.view().contains(handle)
+    }
+
+    /// The handles of all entities, by birth and then by handle. The time is that of a sort.
+    ///
+    /// # Errors
+    ///
+    /// `OutOfMemory`: there is no memory for the list. It never comes if there are no entities.
+    pub fn by_birth(&self) -> Result<Vec<Handle>, Memory>
+        ensures ok { IfOk result (λ handles. ListsAll self.now.world.entities handles.items) }
+        ensures memory { OnErr result (self.now.world.entities ≢ map.empty) }
+    {
+        self.world.view().by_birth()
+    }
+
+    /// All that can be read of the world, as a system of a frame reads it.
+    #[must_use]
+    pub fn view(&self) -> View<'_>
+        ensures phase { result.phase ≡ self.now.world.phase }
+        ensures entities { result.entities ≡ self.now.world.entities }
+    {
+        self.world.view()
+    }
+
+    /// Whether it is of this phase.
+    #[must_use]
+    pub fn is_of(&self, phase: &OpenWorld<J>) -> bool
+        ensures number { IsTrue result ↔ (self.now.number ≡ phase.now.number) }
+        ensures world { IsTrue result → self.now.world ≡ phase.now.world }
+    {
+        self.number == phase.number()
+    }
+
+    /// Which of the systems it is: its position in the list that the phase began with, from 0.
+    /// Births and faults count systems by the order of their queues at the close instead.
+    #[must_use]
+    pub fn number(&self) -> usize
+        ensures { result ≡ self.now.reserver.own.number }
+    {
+        self.reserver.number()
+    }
+
+    /// Ends the issuing, and returns the queue, which [`OpenWorld::close`] takes. The system can
+    /// issue no more:
+    ///
+    /// ```compile_fail
+    /// let (open, mut systems) = forgeni::World::new().open(1).unwrap();
+    /// let mut only = systems.pop().unwrap();
+    /// let queue = only.finish();
+    /// only.spawn(&[]);
+    /// ```
+    pub fn finish(self) -> CommandQueue<J>
+        ensures { result ≡ self }
+    {
+        CommandQueue::new(self)
+    }
+}

@@ -1,0 +1,285 @@
+ghost use Rattle.std.specs.Prelude.{◌≡◌, ◌≢◌, ◌+◌, ◌≤◌, [], ◌∷◌, ◌++◌, All, length, reverse};
+ghost use Rattle.std.specs.Prelude.{IfOk, IfErr, IfSome, IfNone, OnErr};
+ghost use Rattle.std.specs.FinMap as map;
+ghost use Rattle.std.specs.Arc.{arc_value};
+ghost use Rattle.std.specs.Vec.{vec_capacity, vec_len};
+ghost use Rattle.ent_shared.specs.Phase.{IsOf};
+ghost use Rattle.ent_storage.specs.EntityMap.{birth_of, value_of};
+ghost use Rattle.ent_storage.specs.BirthOrder.{ListsAll};
+ghost use Rattle.ent_total.specs.Issuing.{AreNew, MayComeHome, issuing, new_commands, with_home};
+
+use crate::command_queue::CommandQueue;
+use crate::commands::Commands;
+use crate::numbering::Numbering;
+use crate::world_homecoming::bring_home;
+use ent_handle::{Birth, ComponentId, Handle, Memory};
+use ent_shared::Reserver;
+use ent_world::View;
+use std::alloc::Global;
+use std::marker::{Model, PhantomData};
+use std::sync::Arc;
+
+/// A world in a phase. It can be read, as it was when it was opened. The phase ends by
+/// [`close`](OpenWorld::close).
+///
+/// It may go to another thread, and so may the [`Commands`](crate::Commands) of its systems.
+#[must_use]
+#[derive(Drop)]
+pub struct OpenWorld<J: Numbering> {
+    alloc: Global,
+    of_world: u64,
+    spawned: u32,
+    world: Arc<ent_world::OpenWorld, Global>,
+    home: Vec<Reserver>,
+    queues: Vec<ent_queue::CommandQueue>,
+    number: u64,
+    of: PhantomData<J>,
+}
+
+impl<J: Numbering> Model for OpenWorld<J> {
+    ghost use Rattle.std.specs.Prelude.{All, ◌≡◌, ◌≤◌, length};
+    ghost use Rattle.std.specs.Arc.{arc_value};
+    ghost use Rattle.std.specs.Vec.{vec_capacity};
+    ghost use Rattle.ent_shared.specs.Phase.{IsOf};
+    ghost use Rattle.ent_total.specs.Issuing.{OpenWorld, open_world_code};
+
+    ghost Value = { OpenWorld };
+
+    ghost coded = { open_world_code };
+
+    ghost view = { λ p. record {
+      number = p.number;
+      of_world = p.of_world;
+      spawned = p.spawned;
+      world = arc_value p.world;
+      home = p.home.items;
+      queues = p.queues.items;
+    } };
+
+    ghost invariant = { λ p. record {
+      -- the number stands for this world, and the reservers at home came with it
+      stands_for : J.world_of p.number ≡ arc_value p.world;
+      own : All (IsOf (arc_value p.world).shared) p.home.items;
+      -- a system that came home brought its reserver and its queue
+      each : length p.queues.items ≤ length p.home.items;
+      -- there are at most 1,024 systems, and there is room for all of them
+      few : (arc_value p.world).shared.count ≤ 1024;
+      home_room : (arc_value p.world).shared.count ≤ vec_capacity p.home;
+      queue_room : (arc_value p.world).shared.count ≤ vec_capacity p.queues;
+    } };
+}
+
+/// What a phase of a world is made of, once nobody else has a part of it.
+#[derive(Drop)]
+pub(crate) struct Parts {
+    pub(crate) of_world: u64,
+    pub(crate) spawned: u32,
+    pub(crate) world: ent_world::OpenWorld,
+    pub(crate) home: Vec<Reserver>,
+    pub(crate) queues: Vec<ent_queue::CommandQueue>,
+}
+
+impl<J: Numbering> OpenWorld<J> {
+    pub(crate) fn new(
+        alloc: Global,
+        of_world: u64,
+        spawned: u32,
+        world: Arc<ent_world::OpenWorld, Global>,
+        home: Vec<Reserver>,
+        queues: Vec<ent_queue::CommandQueue>,
+        number: u64,
+    ) -> Self
+        requires stands_for { J.world_of number ≡ arc_value world }
+        requires own { All (IsOf (arc_value world).shared) home.items }
+        requires each { length queues.items ≤ length home.items }
+        requires few { (arc_value world).shared.count ≤ 1024 }
+        requires home_room { (arc_value world).shared.count ≤ vec_capacity home }
+        requires queue_room { (arc_value world).shared.count ≤ vec_capacity queues }
+        ensures { result ≡ record {
+          number = number;
+          of_world = of_world;
+          spawned = spawned;
+          world = arc_value world;
+          home = home.items;
+          queues = queues.items;
+        } }
+    {
+        OpenWorld {
+            alloc,
+            of_world,
+            spawned,
+            world,
+            home,
+            queues,
+            number,
+            of: PhantomData,
+        }
+    }
+
+    /// The value of the entity's component, if the entity is alive and has it.
+    #[must_use]
+    pub fn get(&self, handle: Handle, id: ComponentId) -> Option<i64>
+        ensures { result ≡ value_of self.now.world.entities handle id }
+    {
+        self.world.view().get(handle, id)
+    }
+
+    /// When and by whom the entity was brought to life, if it is alive.
+    #[must_use]
+    pub fn birth(&self, handle: Handle) -> Option<Birth>
+        ensures { result ≡ birth_of self.now.world.entities handle }
+    {
+        self.world.view().birth(handle)
+    }
+
+    /// Whether the entity is alive. What the systems spawn isn't yet.
+    #[must_use]
+    pub fn contains(&self, handle: Handle) -> bool
+        ensures { result ≡ map.contains_key self.now.world.entities handle }
+    {
+        self.world.view().contains(handle)
+    }
+
+    /// The handles of all entities, by birth and then by handle. The time is that of a sort.
+    ///
+    /// # Errors
+    ///
+    /// `OutOfMemory`: there is no memory for the list. It never comes if there are no entities.
+    pub fn by_birth(&self) -> Result<Vec<Handle>, Memory>
+        ensures ok { IfOk result (λ handles. ListsAll self.now.world.entities handles.items) }
+        ensures memory { OnErr result (self.now.world.entities ≢ map.empty) }
+    {
+        self.world.view().by_birth()
+    }
+
+    /// All that can be read of the world, as a system of a frame reads it.
+    #[must_use]
+    pub fn view(&self) -> View<'_>
+        ensures phase { result.phase ≡ self.now.world.phase }
+        ensures entities { result.entities ≡ self.now.world.entities }
+    {
+        self.world.view()
+    }
+
+    /// How many systems the phase has.
+    #[must_use]
+    pub fn count(&self) -> usize
+        ensures { result ≡ self.now.world.shared.count }
+    {
+        self.world.shared().count()
+    }
+
+    /// How many systems have come home: a close that was refused kept their queues.
+    #[must_use]
+    pub fn at_home(&self) -> usize
+        ensures { result ≡ length self.now.home }
+    {
+        self.home.len()
+    }
+
+    pub(crate) fn number(&self) -> u64
+        ensures number { result ≡ self.now.number }
+        ensures stands_for { J.world_of result ≡ self.now.world }
+    {
+        self.number
+    }
+
+    /// A system with the last of the reservers that are at home, or `None` if none is.
+    ///
+    /// # Errors
+    ///
+    /// `Memory` if the owners of the phase can't be counted any more. Then nothing has changed.
+    fn next_system(&mut self) -> Result<Option<Commands<J>>, Memory>
+        requires { self.old.queues ≡ [] }
+        ensures given { IfOk result (λ found. IfSome found (λ c.
+            (c ≡ new_commands self.old.number self.old.world c.reserver)
+            × (self.old ≡ record self.new { home = self.new.home ++ c.reserver ∷ [] }))) }
+        ensures none { IfOk result (λ found. IfNone found (self.new ≡ self.old)) }
+        ensures err { OnErr result (self.new ≡ self.old) }
+    {
+        if self.home.is_empty() {
+            return Ok(None);
+        }
+        let Ok(world) = Arc::try_clone(&self.world) else {
+            return Err(Memory);
+        };
+        let Some(reserver) = self.home.pop() else {
+            unreachable!()
+        };
+        Ok(Some(Commands::new(self.alloc, world, reserver, self.number)))
+    }
+
+    /// Gives out the systems of the reservers at home, the last one first, to a list that has room
+    /// for them. One whose owner can't be counted stays at home, and so do the others.
+    pub(crate) fn give_out(&mut self, systems: &mut Vec<Commands<J>>)
+        requires queues { self.old.queues ≡ [] }
+        requires room { vec_len systems.old + length self.old.home ≤ vec_capacity systems.old }
+        requires new { AreNew self.old.number self.old.world systems.old.items }
+        ensures new { AreNew self.old.number self.old.world systems.new.items }
+        ensures given { issuing systems.new.items ++ reverse self.new.home
+            ≡ issuing systems.old.items ++ reverse self.old.home }
+        ensures phase { self.new ≡ record self.old { home = self.new.home } }
+    {
+        while let Ok(Some(system)) = self.next_system() {
+            systems.push_reserved(system);
+        }
+    }
+
+    /// Takes systems home, in their order, which needs no memory.
+    pub(crate) fn take_home(&mut self, queues: Vec<CommandQueue<J>>)
+        requires { MayComeHome self.old queues.items }
+        ensures { self.new ≡ with_home self.old queues.items }
+    {
+        bring_home(
+            &mut self.home,
+            &mut self.queues,
+            &self.world,
+            self.number,
+            queues,
+        );
+    }
+
+    /// What it is made of, if no system owns the world too.
+    pub(crate) fn end(self) -> Result<Parts, Self>
+        ensures world { IfOk result (λ parts. parts.world ≡ self.world) }
+        ensures of_world { IfOk result (λ parts. parts.of_world ≡ self.of_world) }
+        ensures spawned { IfOk result (λ parts. parts.spawned ≡ self.spawned) }
+        ensures home { IfOk result (λ parts. parts.home.items ≡ self.home) }
+        ensures queues { IfOk result (λ parts. parts.queues.items ≡ self.queues) }
+        ensures own { IfOk result (λ parts. All (IsOf parts.world.shared) parts.home.items) }
+        ensures each { IfOk result (λ parts.
+            length parts.queues.items ≤ length parts.home.items) }
+        ensures few { IfOk result (λ parts. parts.world.shared.count ≤ 1024) }
+        ensures err { IfErr result (λ phase. phase ≡ self) }
+    {
+        let OpenWorld {
+            alloc,
+            of_world,
+            spawned,
+            world,
+            home,
+            queues,
+            number,
+            of: _,
+        } = self;
+        match Arc::try_unwrap(world) {
+            Ok(world) => Ok(Parts {
+                of_world,
+                spawned,
+                world,
+                home,
+                queues,
+            }),
+            Err(world) => Err(OpenWorld::new(
+                alloc, of_world, spawned, world, home, queues, number,
+            )),
+        }
+    }
+
+    /// A list without systems.
+    pub(crate) fn no_queues(&self) -> Vec<CommandQueue<J>>
+        ensures { result.items ≡ [] }
+    {
+        Vec::new(self.alloc)
+    }
+}

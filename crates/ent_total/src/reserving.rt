@@ -1,0 +1,178 @@
+//! What a reserver reserves: one handle, or many at once.
+ghost use Rattle.std.specs.Prelude.{◌≡◌, ◌↔◌, ◌+◌, ◌<◌, ◌≤◌, [], ◌∷◌, ◌++◌, length};
+ghost use Rattle.std.specs.Prelude.{Ok, Err, IfOk, IfErr, OnOk, OnErr, IsOk, IsErrOf, IsTrue};
+ghost use Rattle.std.specs.Prelude.{vec_len, vec_capacity};
+ghost use Rattle.ent_alloc.specs.Sequential.{listed_alone};
+ghost use Rattle.ent_alloc.specs.declared.refused.Refused.TheVariants as refused;
+ghost use Rattle.ent_alloc.specs.declared.reserve_error.ReserveError.TheVariants as failed;
+ghost use Rattle.ent_shared.specs.Order.{handles_given};
+ghost use Rattle.ent_total.specs.Faults.{IsErrWith, IsSpace, IfSpace, IfQuota};
+ghost use Rattle.ent_total.specs.Sharing.{MakesReservation, GivesReply, MayBeServed};
+
+use crate::numbering::Numbering;
+use crate::reserver::Reserver;
+use ent_alloc::{Refused, ReserveError, Reserved};
+use ent_handle::Handle;
+
+impl<J: Numbering> Reserver<J> {
+    /// Reserves one handle, by one atomic step. It takes no memory.
+    ///
+    /// ```
+    /// use forgeni::Entities;
+    ///
+    /// let (shared, mut reservers) = Entities::new().share(2)?;
+    /// let one = reservers[0].reserve()?;
+    /// let other = reservers[1].reserve()?;
+    /// assert_ne!(one, other);
+    /// # Ok::<(), Box<dyn std::error::Error + Send + Sync>>(())
+    /// ```
+    ///
+    /// # Errors
+    ///
+    /// [`Refused::Space`] if the pool is empty; the request is taken from the quota too.
+    /// [`Refused::Quota`] if nothing is left of the quota, and then nothing has changed.
+    pub fn reserve(&mut self) -> Result<Handle, Refused>
+        ensures quota { self.old.reserver.own.left ≡ 0
+            → (result ≡ Err (refused.Quota 0)) × (self.new ≡ self.old) }
+        ensures gains { 0 < self.old.reserver.own.left
+            → MakesReservation self.old self.new 1 (listed_alone result) }
+
+        // What was given is recorded.
+        ensures given { IfOk result (λ handle. handles_given self.new.reserver.own
+            ≡ handles_given self.old.reserver.own ++ handle ∷ []) }
+        ensures refused { OnErr result
+            (handles_given self.new.reserver.own ≡ handles_given self.old.reserver.own) }
+    {
+        self.shared.reserve(&mut self.reserver)
+    }
+
+    /// Reserves `n` handles at once, by one atomic step: all of them or none. They are in the order
+    /// in which the allocator would have given them to one caller. A request of 0 makes no step,
+    /// and is always served.
+    ///
+    /// ```
+    /// use forgeni::{Entities, Limits, ReserveError};
+    ///
+    /// let entities = Entities::with_limits(Limits::new(10, 1).unwrap());
+    /// let (shared, mut reservers) = entities.share(1)?;
+    /// let seven = reservers[0].reserve_many(7)?;
+    /// assert_eq!(seven.len(), 7);
+    /// let refused = reservers[0].reserve_many(4);
+    /// assert_eq!(refused, Err(ReserveError::Space { wanted: 4, left: 3 }));
+    /// # Ok::<(), Box<dyn std::error::Error + Send + Sync>>(())
+    /// ```
+    ///
+    /// # Errors
+    ///
+    /// - [`ReserveError::Quota`] if `n` is above what is left of the quota. Nothing has changed.
+    /// - [`ReserveError::Space`] if the pool has fewer than `n` handles. `n` is taken from the quota
+    ///   all the same, and the pool gives no more until the next flush.
+    /// - [`ReserveError::Memory`] if there is no memory for the list. Nothing has changed.
+    ///
+    /// The list is allocated before the atomic step, and only that step tells what the pool has. So
+    /// if others have left too few handles, the error may be `Memory`. A request for more than the
+    /// pool had when the phase was opened takes no memory, and returns `Space`.
+    pub fn reserve_many(&mut self, n: u32) -> Result<Vec<Handle>, ReserveError>
+        ensures gains { IfOk result (λ handles.
+            0 < n → MakesReservation self.old self.new n (Ok handles.items)) }
+        ensures length { IfOk result (λ handles. length handles.items ≡ n) }
+        ensures nothing { n ≡ 0 → IsOk result × (self.new ≡ self.old) }
+
+        // The first that holds: the quota has too few, there is no memory, the pool has too few.
+        ensures quota { IsErrOf result (failed.Quota self.old.reserver.own.left)
+            ↔ (self.old.reserver.own.left < n) }
+        ensures quota_left { IfErr result (λ error. IfQuota error
+            (λ left. left ≡ self.old.reserver.own.left)) }
+        ensures memory { IsErrOf result failed.Memory → MayBeServed self.old n }
+        ensures space { IfErr result (λ error. IfSpace error
+            (λ why. MakesReservation self.old self.new n (Err why))) }
+        ensures short { n ≤ self.old.reserver.own.left
+            → length self.old.shared.start.pool < n → IsErrWith result IsSpace }
+        ensures unchanged { IfErr result (λ error. ¬ (IsSpace error) → self.new ≡ self.old) }
+
+        // What was given is recorded.
+        ensures given { IfOk result (λ handles. handles_given self.new.reserver.own
+            ≡ handles_given self.old.reserver.own ++ handles.items) }
+        ensures refused { OnErr result
+            (handles_given self.new.reserver.own ≡ handles_given self.old.reserver.own) }
+    {
+        let mut handles = Vec::new(self.alloc);
+        self.reserve_into(&mut handles, n)?;
+        Ok(handles)
+    }
+
+    /// [`reserve_many`](Self::reserve_many), which appends the handles to a list. It takes no memory
+    /// if the list has room for them.
+    ///
+    /// ```
+    /// use forgeni::Entities;
+    ///
+    /// let (shared, mut reservers) = Entities::new().share(1)?;
+    /// let mut handles = Vec::with_capacity(100);
+    /// for _ in 0..10 {
+    ///     reservers[0].reserve_into(&mut handles, 10)?;
+    /// }
+    /// assert_eq!(handles.len(), 100);
+    /// # Ok::<(), Box<dyn std::error::Error + Send + Sync>>(())
+    /// ```
+    ///
+    /// # Errors
+    ///
+    /// As [`reserve_many`](Self::reserve_many), and then the list has the same handles as before.
+    pub fn reserve_into(&mut self, handles: &mut Vec<Handle>, n: u32) -> Result<(), ReserveError>
+        ensures given { OnOk result (0 < n
+            → GivesReply self.old self.new n handles.old.items handles.new.items) }
+        ensures nothing { n ≡ 0 → IsOk result × (self.new ≡ self.old)
+            × (handles.new.items ≡ handles.old.items) }
+        ensures kept { OnErr result (handles.new.items ≡ handles.old.items) }
+
+        // The first that holds: the quota has too few, there is no memory, the pool has too few.
+        ensures quota { IsErrOf result (failed.Quota self.old.reserver.own.left)
+            ↔ (self.old.reserver.own.left < n) }
+        ensures quota_left { IfErr result (λ error. IfQuota error
+            (λ left. left ≡ self.old.reserver.own.left)) }
+        ensures memory { IsErrOf result failed.Memory → MayBeServed self.old n
+            × (vec_capacity handles.old < vec_len handles.old + n) }
+        ensures space { IfErr result (λ error. IfSpace error
+            (λ why. MakesReservation self.old self.new n (Err why))) }
+        ensures short { n ≤ self.old.reserver.own.left
+            → length self.old.shared.start.pool < n → IsErrWith result IsSpace }
+        ensures unchanged { IfErr result (λ error. ¬ (IsSpace error) → self.new ≡ self.old) }
+
+        // It takes memory only if the list has no room, and if so many may be served.
+        ensures room { vec_len handles.old + n ≤ vec_capacity handles.old
+            → vec_capacity handles.new ≡ vec_capacity handles.old }
+        ensures no_memory { ¬ (MayBeServed self.old n)
+            → vec_capacity handles.new ≡ vec_capacity handles.old }
+
+        // Nothing is recorded as given.
+        ensures refused { OnErr result
+            (handles_given self.new.reserver.own ≡ handles_given self.old.reserver.own) }
+    {
+        if handles.capacity() - handles.len() < n as usize && self.may_be_served(n) {
+            handles.reserve(n as usize)?;
+        }
+        let given = self.shared.reserve_many(&mut self.reserver, n)?;
+        append(handles, given);
+        Ok(())
+    }
+
+    /// Whether a request for `n` may be served. If not, no memory is taken for it.
+    fn may_be_served(&self, n: u32) -> bool
+        ensures { IsTrue result ↔ MayBeServed self.now n }
+    {
+        let n = u64::from(n);
+        n <= self.reserver.left() && n <= self.shared.pool()
+    }
+}
+
+/// Appends what was given to a list that has room for it.
+fn append(handles: &mut Vec<Handle>, given: Reserved<'_>)
+    requires { vec_len handles.old + length given ≤ vec_capacity handles.old }
+    ensures items { handles.new.items ≡ handles.old.items ++ given.entry }
+    ensures room { vec_capacity handles.new ≡ vec_capacity handles.old }
+{
+    for handle in given {
+        handles.push_reserved(handle);
+    }
+}

@@ -1,0 +1,29 @@
+ghost use Rattle.std.specs.Prelude.{◌≡◌};
+ghost use Rattle.ent_total.specs.Applying.{parts_of};
+
+use crate::queues::Queues;
+use crate::stopped::Stopped;
+
+/// Why a sync point didn't do all.
+#[non_exhaustive]
+#[derive(Drop)]
+pub enum SyncError {
+    /// The queues are of a phase of another world. Nothing was done, and these are the queues.
+    OtherWorld(Queues),
+    /// There was no memory to begin. Nothing was done, and these are the queues.
+    Memory(Queues),
+    /// Memory ran out at a command. [`Stopped::go_on`] does the rest.
+    Stopped(Stopped),
+}
+
+impl SyncError {
+    /// What it hands back: the queues if nothing was done, and else where it stopped.
+    pub fn into_parts(self) -> Result<Queues, Stopped>
+        ensures { result ≡ parts_of self }
+    {
+        match self {
+            SyncError::OtherWorld(queues) | SyncError::Memory(queues) => Ok(queues),
+            SyncError::Stopped(stopped) => Err(stopped),
+        }
+    }
+}

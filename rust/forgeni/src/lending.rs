@@ -1,0 +1,45 @@
+//! What is away for a while.
+
+use core::mem;
+
+/// A value that is away, in parts. It is put together again and back when this is dropped, whatever
+/// for.
+pub(crate) struct Lending<'a, T, P> {
+    home: &'a mut T,
+    parts: Option<P>,
+    back: fn(P) -> T,
+}
+
+impl<'a, T: Default, P> Lending<'a, T, P> {
+    /// Takes the value apart. If that is refused, it is back at once.
+    pub(crate) fn begin<E>(
+        home: &'a mut T,
+        apart: impl FnOnce(T) -> Result<P, (T, E)>,
+        back: fn(P) -> T,
+    ) -> Result<Self, E> {
+        match apart(mem::take(home)) {
+            Ok(parts) => Ok(Self {
+                home,
+                parts: Some(parts),
+                back,
+            }),
+            Err((value, error)) => {
+                *home = value;
+                Err(error)
+            }
+        }
+    }
+
+    /// The parts.
+    pub(crate) fn parts(&mut self) -> &mut P {
+        self.parts.as_mut().expect("they are away until the drop")
+    }
+}
+
+impl<T, P> Drop for Lending<'_, T, P> {
+    fn drop(&mut self) {
+        if let Some(parts) = self.parts.take() {
+            *self.home = (self.back)(parts);
+        }
+    }
+}

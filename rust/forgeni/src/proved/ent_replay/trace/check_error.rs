@@ -1,0 +1,76 @@
+// Made of crates/ent_replay/src/trace/check_error.rt by rust/erase. It isn't edited by hand.
+
+//! Why a checker stops.
+
+use crate::proved::ent_replay::trace::difference::Difference;
+use crate::proved::ent_handle::Memory;
+use crate::kit::alloc::{AllocError, AllocFailed};
+
+/// Why a [`Checker`](crate::proved::ent_replay::trace::Checker) takes no more calls.
+#[derive(Debug)]
+#[non_exhaustive]
+pub enum CheckError {
+    /// An answer isn't the allocator's.
+    Differs(Difference),
+    /// More than 2^50 handles were requested since the last flush, which no allocator here counts.
+    TooMany,
+    /// Out of memory.
+    Memory,
+}
+
+impl CheckError {
+    /// The difference, if it is one.
+    ///
+    /// <details><summary>Contract</summary>
+    ///
+    /// In the words of the folder `specs/` of crate `ent_replay`:
+    ///
+    /// ```text
+    /// ensures { option_copied result ≡ difference_of self.now }
+    /// ```
+    ///
+    /// </details>
+    #[inline]
+    pub fn difference(&self) -> Option<&Difference> {
+        match self {
+            CheckError::Differs(difference) => Some(difference),
+            _ => None,
+        }
+    }
+
+    /// A copy, or `Memory` if there is no memory for one.
+    #[inline]
+    pub(super) fn copied(&self) -> Self
+        // ensures { IsCopyOf self.now result }
+    {
+        match self {
+            CheckError::Differs(difference) => match difference.try_copy() {
+                Ok(copy) => CheckError::Differs(copy),
+                Err(Memory) => CheckError::Memory,
+            },
+            CheckError::TooMany => CheckError::TooMany,
+            CheckError::Memory => CheckError::Memory,
+        }
+    }
+}
+
+impl From<Memory> for CheckError {
+    #[inline]
+    fn from(_refused: Memory) -> Self {
+        CheckError::Memory
+    }
+}
+
+impl From<AllocError> for CheckError {
+    #[inline]
+    fn from(_refused: AllocError) -> Self {
+        CheckError::Memory
+    }
+}
+
+impl<T> From<AllocFailed<T>> for CheckError {
+    #[inline]
+    fn from(_refused: AllocFailed<T>) -> Self {
+        CheckError::Memory
+    }
+}

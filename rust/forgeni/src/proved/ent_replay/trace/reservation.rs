@@ -1,0 +1,76 @@
+// Made of crates/ent_replay/src/trace/reservation.rt by rust/erase. It isn't edited by hand.
+
+//! A reservation of handles.
+
+use crate::proved::ent_replay::trace::reply::ReserveReply;
+use crate::proved::ent_handle::Memory;
+
+/// One reservation of one caller.
+#[derive(Debug)]
+pub struct Reservation {
+    /// The number of its call, from 1. A [`Checker`](crate::proved::ent_replay::trace::Checker) numbers what it takes.
+    pub number: u64,
+    /// The caller. Reservations of one caller are in its order.
+    pub caller: u32,
+    /// For how many handles.
+    pub requested: u32,
+    /// What was answered.
+    pub reply: ReserveReply,
+}
+
+impl Reservation {
+    /// The reservation of so many handles by this caller, with its answer. It has no number yet, so
+    /// its number is 0.
+    ///
+    /// <details><summary>Contract</summary>
+    ///
+    /// In the words of the folder `specs/` of crate `ent_replay`:
+    ///
+    /// ```text
+    /// ensures is { result ≡ reservation_of caller requested result.reply }
+    /// ensures reply { R.converts reply result.reply }
+    /// ```
+    ///
+    /// </details>
+    #[inline]
+    pub fn new<R: Into<ReserveReply>>(caller: u32, requested: u32, reply: R) -> Self {
+        Reservation {
+            number: 0,
+            caller,
+            requested,
+            reply: reply.into(),
+        }
+    }
+
+    /// The same with this number.
+    #[inline]
+    pub(super) fn numbered(self, number: u64) -> Self
+        // ensures { result ≡ record self { number = number } }
+    {
+        let Reservation {
+            number: _,
+            caller,
+            requested,
+            reply,
+        } = self;
+        Reservation {
+            number,
+            caller,
+            requested,
+            reply,
+        }
+    }
+
+    /// A copy.
+    #[inline]
+    pub(super) fn try_copy(&self) -> Result<Self, Memory>
+        // ensures { IfOk result (λ copy. copy ≡ self.now) }
+    {
+        Ok(Reservation {
+            number: self.number,
+            caller: self.caller,
+            requested: self.requested,
+            reply: self.reply.try_copy()?,
+        })
+    }
+}

@@ -1,0 +1,401 @@
+// Made of crates/ent_total/src/commands.rt by rust/erase. It isn't edited by hand.
+
+use alloc::vec::Vec;
+use crate::proved::ent_total::command_queue::CommandQueue;
+use crate::proved::ent_total::open_world::OpenWorld;
+use crate::proved::ent_alloc::ReserveError;
+use crate::proved::ent_handle::{Birth, ComponentId, Handle, Memory};
+use crate::proved::ent_shared::Reserver;
+use crate::proved::ent_world::View;
+use core::mem;
+use crate::kit::sync::Arc;
+
+/// Issues the commands of one system. They take effect when the queue is applied. It may go to
+/// another thread.
+///
+/// A spawn reserves its handle at once, so a system knows what it will have spawned. The world can
+/// be read, as it was when it was opened.
+#[must_use]
+pub struct Commands {
+    pub(super) world: Arc<crate::proved::ent_world::OpenWorld>,
+    pub(super) reserver: Reserver,
+    pub(super) queue: crate::proved::ent_queue::CommandQueue,
+    pub(super) number: u64,
+}
+
+impl Commands {
+    /// A system that has issued nothing.
+    #[inline]
+    pub(super) fn new(
+        world: Arc<crate::proved::ent_world::OpenWorld>,
+        mut reserver: Reserver,
+        number: u64,
+    ) -> Self
+        // requires stands_for { J.world_of number ≡ arc_value world }
+        // requires own { IsOf (arc_value world).shared reserver }
+        // ensures { result ≡ new_commands number (arc_value world) reserver }
+    {
+        let queue = crate::proved::ent_queue::Commands::new(world.shared(), &mut reserver).finish();
+        Commands {
+            world,
+            reserver,
+            queue,
+            number,
+        }
+    }
+
+    /// Reserves a handle at once, by one atomic step. It is to have these components, in any order.
+    /// Of a component that stands there twice the last value counts.
+    ///
+    /// # Errors
+    ///
+    /// `Memory`, and then nothing has changed. With `Space` and `Quota` the queue keeps the refusal,
+    /// which is a fault of the sync point's report, and the system may go on.
+    ///
+    /// ```
+    /// use forgeni::{ComponentId, World};
+    ///
+    /// let (open, mut systems) = World::new().open(1)?;
+    /// let cart = systems[0].spawn(&[(ComponentId(0), 5)])?;
+    /// assert!(!open.contains(cart));
+    /// let queues = systems.into_iter().map(|one| one.finish()).collect();
+    /// let (mut world, queues) = open.close(queues)?;
+    /// world.apply(queues)?;
+    /// assert_eq!(world.get(cart, ComponentId(0)), Some(5));
+    /// # Ok::<(), Box<dyn std::error::Error>>(())
+    /// ```
+    ///
+    /// <details><summary>Contract</summary>
+    ///
+    /// In the words of the folder `specs/` of crate `ent_total`:
+    ///
+    /// ```text
+    /// ensures extends { Extends self.old self.new }
+    /// ensures ok { IfOk result (λ handle. self.new.queue
+    ///     ≡ self.old.queue ++ Spawn handle (bundle_of components.now) ∷ []) }
+    /// ensures refused { IfErr result (λ fault.
+    ///     self.new.queue ≡ self.old.queue ++ refused_by 1 fault) }
+    /// ensures memory { IsErrOf result ReserveError.Memory → self.new ≡ self.old }
+    /// ensures given { IfOk result (λ handle.
+    ///     IsReturned self.old.world.shared self.old.reserver self.new.reserver 1
+    ///     (Ok (handle ∷ []))) }
+    /// ensures refusal { IfErr result
+    ///     (IsRefused self.old.world.shared self.old.reserver self.new.reserver 1) }
+    ///
+    /// // What was given is recorded.
+    /// ensures recorded { IfOk result (λ handle. handles_given self.new.reserver.own
+    ///     ≡ handles_given self.old.reserver.own ++ handle ∷ []) }
+    /// ensures unrecorded { OnErr result
+    ///     (handles_given self.new.reserver.own ≡ handles_given self.old.reserver.own) }
+    /// ```
+    ///
+    /// </details>
+    #[inline]
+    pub fn spawn(
+        &mut self,
+        components: &[(ComponentId, i64)],
+    ) -> Result<Handle, ReserveError> {
+        let queue = self.take_queue();
+        let shared = self.world.shared();
+        let mut commands = crate::proved::ent_queue::Commands::resume(shared, &mut self.reserver, queue);
+        let spawned = commands.spawn_with(components);
+        self.queue = commands.finish();
+        spawned
+    }
+
+    /// Reserves `n` handles at once, by one atomic step. Each is to have these components. It takes
+    /// time for each handle of the list, and of the queue, which has them too.
+    ///
+    /// # Errors
+    ///
+    /// As of [`spawn`](Commands::spawn).
+    ///
+    /// <details><summary>Contract</summary>
+    ///
+    /// In the words of the folder `specs/` of crate `ent_total`:
+    ///
+    /// ```text
+    /// ensures extends { Extends self.old self.new }
+    /// ensures ok { IfOk result (λ handles. self.new.queue
+    ///     ≡ self.old.queue ++ SpawnMany handles.items (bundle_of components.now) ∷ []) }
+    /// ensures length { IfOk result (λ handles. length handles.items ≡ n) }
+    /// ensures refused { IfErr result (λ fault.
+    ///     self.new.queue ≡ self.old.queue ++ refused_by n fault) }
+    /// ensures memory { IsErrOf result ReserveError.Memory → self.new ≡ self.old }
+    /// ensures given { IfOk result (λ handles.
+    ///     IsReturned self.old.world.shared self.old.reserver self.new.reserver n
+    ///     (Ok handles.items)) }
+    /// ensures refusal { IfErr result
+    ///     (IsRefused self.old.world.shared self.old.reserver self.new.reserver n) }
+    ///
+    /// // What was given is recorded.
+    /// ensures recorded { IfOk result (λ handles. handles_given self.new.reserver.own
+    ///     ≡ handles_given self.old.reserver.own ++ handles.items) }
+    /// ensures unrecorded { OnErr result
+    ///     (handles_given self.new.reserver.own ≡ handles_given self.old.reserver.own) }
+    /// ```
+    ///
+    /// </details>
+    #[inline]
+    pub fn spawn_many(
+        &mut self,
+        n: u32,
+        components: &[(ComponentId, i64)],
+    ) -> Result<Vec<Handle>, ReserveError> {
+        let queue = self.take_queue();
+        let shared = self.world.shared();
+        let mut commands = crate::proved::ent_queue::Commands::resume(shared, &mut self.reserver, queue);
+        let spawned = commands.spawn_many_with(n, components);
+        self.queue = commands.finish();
+        spawned
+    }
+
+    /// Gives the entity these components, instead of those that it has under the same numbers.
+    ///
+    /// # Errors
+    ///
+    /// `OutOfMemory`, and then nothing has changed.
+    ///
+    /// <details><summary>Contract</summary>
+    ///
+    /// In the words of the folder `specs/` of crate `ent_total`:
+    ///
+    /// ```text
+    /// ensures ok { OnOk result (self.new ≡ record self.old {
+    ///   queue = self.old.queue ++ Insert handle (bundle_of components.now) ∷ [];
+    /// }) }
+    /// ensures memory { OnErr result (self.new ≡ self.old) }
+    /// ```
+    ///
+    /// </details>
+    #[inline]
+    pub fn insert(
+        &mut self,
+        handle: Handle,
+        components: &[(ComponentId, i64)],
+    ) -> Result<(), Memory> {
+        let queue = self.take_queue();
+        let shared = self.world.shared();
+        let mut commands = crate::proved::ent_queue::Commands::resume(shared, &mut self.reserver, queue);
+        let issued = commands.insert_with(handle, components);
+        self.queue = commands.finish();
+        issued
+    }
+
+    /// Takes the component out of the entity, if it has it.
+    ///
+    /// # Errors
+    ///
+    /// `OutOfMemory`, and then nothing has changed.
+    ///
+    /// <details><summary>Contract</summary>
+    ///
+    /// In the words of the folder `specs/` of crate `ent_total`:
+    ///
+    /// ```text
+    /// ensures ok { OnOk result (self.new ≡ record self.old {
+    ///   queue = self.old.queue ++ Remove handle id ∷ [];
+    /// }) }
+    /// ensures memory { OnErr result (self.new ≡ self.old) }
+    /// ```
+    ///
+    /// </details>
+    #[inline]
+    pub fn remove(&mut self, handle: Handle, id: ComponentId) -> Result<(), Memory> {
+        let queue = self.take_queue();
+        let shared = self.world.shared();
+        let mut commands = crate::proved::ent_queue::Commands::resume(shared, &mut self.reserver, queue);
+        let issued = commands.remove(handle, id);
+        self.queue = commands.finish();
+        issued
+    }
+
+    /// Takes the entity out of the world.
+    ///
+    /// # Errors
+    ///
+    /// `OutOfMemory`, and then nothing has changed.
+    ///
+    /// <details><summary>Contract</summary>
+    ///
+    /// In the words of the folder `specs/` of crate `ent_total`:
+    ///
+    /// ```text
+    /// ensures ok { OnOk result (self.new ≡ record self.old {
+    ///   queue = self.old.queue ++ Despawn handle ∷ [];
+    /// }) }
+    /// ensures memory { OnErr result (self.new ≡ self.old) }
+    /// ```
+    ///
+    /// </details>
+    #[inline]
+    pub fn despawn(&mut self, handle: Handle) -> Result<(), Memory> {
+        let queue = self.take_queue();
+        let shared = self.world.shared();
+        let mut commands = crate::proved::ent_queue::Commands::resume(shared, &mut self.reserver, queue);
+        let issued = commands.despawn(handle);
+        self.queue = commands.finish();
+        issued
+    }
+
+    /// The queue, and leaves an empty one, which takes no memory.
+    #[inline]
+    fn take_queue(&mut self) -> crate::proved::ent_queue::CommandQueue
+        // ensures queue { result ≡ self.old.queue }
+        // ensures rest { self.new ≡ record self.old { queue = [] } }
+    {
+        let shared = self.world.shared();
+        let empty = crate::proved::ent_queue::Commands::new(shared, &mut self.reserver).finish();
+        mem::replace(&mut self.queue, empty)
+    }
+
+    /// The value of the entity's component, if the entity is alive and has it.
+    ///
+    /// <details><summary>Contract</summary>
+    ///
+    /// In the words of the folder `specs/` of crate `ent_total`:
+    ///
+    /// ```text
+    /// ensures { result ≡ value_of self.now.world.entities handle id }
+    /// ```
+    ///
+    /// </details>
+    #[must_use]
+    #[inline]
+    pub fn get(&self, handle: Handle, id: ComponentId) -> Option<i64> {
+        self.world.view().get(handle, id)
+    }
+
+    /// When and by whom the entity was brought to life, if it is alive.
+    ///
+    /// <details><summary>Contract</summary>
+    ///
+    /// In the words of the folder `specs/` of crate `ent_total`:
+    ///
+    /// ```text
+    /// ensures { result ≡ birth_of self.now.world.entities handle }
+    /// ```
+    ///
+    /// </details>
+    #[must_use]
+    #[inline]
+    pub fn birth(&self, handle: Handle) -> Option<Birth> {
+        self.world.view().birth(handle)
+    }
+
+    /// Whether the entity is alive. What the systems of the phase spawn isn't yet.
+    ///
+    /// <details><summary>Contract</summary>
+    ///
+    /// In the words of the folder `specs/` of crate `ent_total`:
+    ///
+    /// ```text
+    /// ensures { result ≡ map.contains_key self.now.world.entities handle }
+    /// ```
+    ///
+    /// </details>
+    #[must_use]
+    #[inline]
+    pub fn contains(&self, handle: Handle) -> bool {
+        self.world.view().contains(handle)
+    }
+
+    /// The handles of all entities, by birth and then by handle. The time is that of a sort.
+    ///
+    /// # Errors
+    ///
+    /// `OutOfMemory`: there is no memory for the list. It never comes if there are no entities.
+    ///
+    /// <details><summary>Contract</summary>
+    ///
+    /// In the words of the folder `specs/` of crate `ent_total`:
+    ///
+    /// ```text
+    /// ensures ok { IfOk result (λ handles. ListsAll self.now.world.entities handles.items) }
+    /// ensures memory { OnErr result (self.now.world.entities ≢ map.empty) }
+    /// ```
+    ///
+    /// </details>
+    #[inline]
+    pub fn by_birth(&self) -> Result<Vec<Handle>, Memory> {
+        self.world.view().by_birth()
+    }
+
+    /// All that can be read of the world, as a system of a frame reads it.
+    ///
+    /// <details><summary>Contract</summary>
+    ///
+    /// In the words of the folder `specs/` of crate `ent_total`:
+    ///
+    /// ```text
+    /// ensures phase { result.phase ≡ self.now.world.phase }
+    /// ensures entities { result.entities ≡ self.now.world.entities }
+    /// ```
+    ///
+    /// </details>
+    #[must_use]
+    #[inline]
+    pub fn view(&self) -> View<'_> {
+        self.world.view()
+    }
+
+    /// Whether it is of this phase.
+    ///
+    /// <details><summary>Contract</summary>
+    ///
+    /// In the words of the folder `specs/` of crate `ent_total`:
+    ///
+    /// ```text
+    /// ensures number { IsTrue result ↔ (self.now.number ≡ phase.now.number) }
+    /// ensures world { IsTrue result → self.now.world ≡ phase.now.world }
+    /// ```
+    ///
+    /// </details>
+    #[must_use]
+    #[inline]
+    pub fn is_of(&self, phase: &OpenWorld) -> bool {
+        self.number == phase.number()
+    }
+
+    /// Which of the systems it is: its position in the list that the phase began with, from 0.
+    /// Births and faults count systems by the order of their queues at the close instead.
+    ///
+    /// <details><summary>Contract</summary>
+    ///
+    /// In the words of the folder `specs/` of crate `ent_total`:
+    ///
+    /// ```text
+    /// ensures { result ≡ self.now.reserver.own.number }
+    /// ```
+    ///
+    /// </details>
+    #[must_use]
+    #[inline]
+    pub fn number(&self) -> usize {
+        self.reserver.number()
+    }
+
+    /// Ends the issuing, and returns the queue, which [`OpenWorld::close`] takes. The system can
+    /// issue no more:
+    ///
+    /// ```compile_fail
+    /// let (open, mut systems) = forgeni::World::new().open(1).unwrap();
+    /// let mut only = systems.pop().unwrap();
+    /// let queue = only.finish();
+    /// only.spawn(&[]);
+    /// ```
+    ///
+    /// <details><summary>Contract</summary>
+    ///
+    /// In the words of the folder `specs/` of crate `ent_total`:
+    ///
+    /// ```text
+    /// ensures { result ≡ self }
+    /// ```
+    ///
+    /// </details>
+    #[inline]
+    pub fn finish(self) -> CommandQueue {
+        CommandQueue::new(self)
+    }
+}

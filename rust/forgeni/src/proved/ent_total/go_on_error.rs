@@ -1,0 +1,37 @@
+// Made of crates/ent_total/src/go_on_error.rt by rust/erase. It isn't edited by hand.
+
+use crate::proved::ent_total::stopped::Stopped;
+
+/// Why a sync point that went on didn't do all.
+#[non_exhaustive]
+pub enum GoOnError {
+    /// It stopped in another world. Nothing has changed.
+    OtherWorld(Stopped),
+    /// Handles were requested in the world since it stopped, so the world needs a flush first.
+    /// Nothing has changed.
+    NeedsFlush(Stopped),
+    /// Memory ran out at a command, there or later. Its report has what was done since it went on.
+    Stopped(Stopped),
+}
+
+impl GoOnError {
+    /// The sync point, to go on from where it stopped.
+    ///
+    /// <details><summary>Contract</summary>
+    ///
+    /// In the words of the folder `specs/` of crate `ent_total`:
+    ///
+    /// ```text
+    /// ensures { result ≡ stopped_in self }
+    /// ```
+    ///
+    /// </details>
+    #[inline]
+    pub fn into_stopped(self) -> Stopped {
+        match self {
+            GoOnError::OtherWorld(stopped)
+            | GoOnError::NeedsFlush(stopped)
+            | GoOnError::Stopped(stopped) => stopped,
+        }
+    }
+}

@@ -1,0 +1,304 @@
+// Made of crates/ent_total/src/open_world.rt by rust/erase. It isn't edited by hand.
+
+use alloc::vec::Vec;
+use crate::kit::vec::FallibleVec;
+use crate::proved::ent_total::command_queue::CommandQueue;
+use crate::proved::ent_total::commands::Commands;
+use crate::proved::ent_total::world_homecoming::bring_home;
+use crate::proved::ent_handle::{Birth, ComponentId, Handle, Memory};
+use crate::proved::ent_shared::Reserver;
+use crate::proved::ent_world::View;
+use crate::kit::sync::Arc;
+
+/// A world in a phase. It can be read, as it was when it was opened. The phase ends by
+/// [`close`](OpenWorld::close).
+///
+/// It may go to another thread, and so may the [`Commands`](crate::proved::ent_total::Commands) of its systems.
+#[must_use]
+pub struct OpenWorld {
+    of_world: u64,
+    spawned: u32,
+    world: Arc<crate::proved::ent_world::OpenWorld>,
+    home: Vec<Reserver>,
+    queues: Vec<crate::proved::ent_queue::CommandQueue>,
+    number: u64,
+}
+
+/// What a phase of a world is made of, once nobody else has a part of it.
+pub(super) struct Parts {
+    pub(super) of_world: u64,
+    pub(super) spawned: u32,
+    pub(super) world: crate::proved::ent_world::OpenWorld,
+    pub(super) home: Vec<Reserver>,
+    pub(super) queues: Vec<crate::proved::ent_queue::CommandQueue>,
+}
+
+impl OpenWorld {
+    #[inline]
+    pub(super) fn new(
+        of_world: u64,
+        spawned: u32,
+        world: Arc<crate::proved::ent_world::OpenWorld>,
+        home: Vec<Reserver>,
+        queues: Vec<crate::proved::ent_queue::CommandQueue>,
+        number: u64,
+    ) -> Self
+        // requires stands_for { J.world_of number ≡ arc_value world }
+        // requires own { All (IsOf (arc_value world).shared) home.items }
+        // requires each { length queues.items ≤ length home.items }
+        // requires few { (arc_value world).shared.count ≤ 1024 }
+        // requires home_room { (arc_value world).shared.count ≤ vec_capacity home }
+        // requires queue_room { (arc_value world).shared.count ≤ vec_capacity queues }
+        // ensures { result ≡ record {
+        //   number = number;
+        //   of_world = of_world;
+        //   spawned = spawned;
+        //   world = arc_value world;
+        //   home = home.items;
+        //   queues = queues.items;
+        // } }
+    {
+        OpenWorld {
+            of_world,
+            spawned,
+            world,
+            home,
+            queues,
+            number,
+        }
+    }
+
+    /// The value of the entity's component, if the entity is alive and has it.
+    ///
+    /// <details><summary>Contract</summary>
+    ///
+    /// In the words of the folder `specs/` of crate `ent_total`:
+    ///
+    /// ```text
+    /// ensures { result ≡ value_of self.now.world.entities handle id }
+    /// ```
+    ///
+    /// </details>
+    #[must_use]
+    #[inline]
+    pub fn get(&self, handle: Handle, id: ComponentId) -> Option<i64> {
+        self.world.view().get(handle, id)
+    }
+
+    /// When and by whom the entity was brought to life, if it is alive.
+    ///
+    /// <details><summary>Contract</summary>
+    ///
+    /// In the words of the folder `specs/` of crate `ent_total`:
+    ///
+    /// ```text
+    /// ensures { result ≡ birth_of self.now.world.entities handle }
+    /// ```
+    ///
+    /// </details>
+    #[must_use]
+    #[inline]
+    pub fn birth(&self, handle: Handle) -> Option<Birth> {
+        self.world.view().birth(handle)
+    }
+
+    /// Whether the entity is alive. What the systems spawn isn't yet.
+    ///
+    /// <details><summary>Contract</summary>
+    ///
+    /// In the words of the folder `specs/` of crate `ent_total`:
+    ///
+    /// ```text
+    /// ensures { result ≡ map.contains_key self.now.world.entities handle }
+    /// ```
+    ///
+    /// </details>
+    #[must_use]
+    #[inline]
+    pub fn contains(&self, handle: Handle) -> bool {
+        self.world.view().contains(handle)
+    }
+
+    /// The handles of all entities, by birth and then by handle. The time is that of a sort.
+    ///
+    /// # Errors
+    ///
+    /// `OutOfMemory`: there is no memory for the list. It never comes if there are no entities.
+    ///
+    /// <details><summary>Contract</summary>
+    ///
+    /// In the words of the folder `specs/` of crate `ent_total`:
+    ///
+    /// ```text
+    /// ensures ok { IfOk result (λ handles. ListsAll self.now.world.entities handles.items) }
+    /// ensures memory { OnErr result (self.now.world.entities ≢ map.empty) }
+    /// ```
+    ///
+    /// </details>
+    #[inline]
+    pub fn by_birth(&self) -> Result<Vec<Handle>, Memory> {
+        self.world.view().by_birth()
+    }
+
+    /// All that can be read of the world, as a system of a frame reads it.
+    ///
+    /// <details><summary>Contract</summary>
+    ///
+    /// In the words of the folder `specs/` of crate `ent_total`:
+    ///
+    /// ```text
+    /// ensures phase { result.phase ≡ self.now.world.phase }
+    /// ensures entities { result.entities ≡ self.now.world.entities }
+    /// ```
+    ///
+    /// </details>
+    #[must_use]
+    #[inline]
+    pub fn view(&self) -> View<'_> {
+        self.world.view()
+    }
+
+    /// How many systems the phase has.
+    ///
+    /// <details><summary>Contract</summary>
+    ///
+    /// In the words of the folder `specs/` of crate `ent_total`:
+    ///
+    /// ```text
+    /// ensures { result ≡ self.now.world.shared.count }
+    /// ```
+    ///
+    /// </details>
+    #[must_use]
+    #[inline]
+    pub fn count(&self) -> usize {
+        self.world.shared().count()
+    }
+
+    /// How many systems have come home: a close that was refused kept their queues.
+    ///
+    /// <details><summary>Contract</summary>
+    ///
+    /// In the words of the folder `specs/` of crate `ent_total`:
+    ///
+    /// ```text
+    /// ensures { result ≡ length self.now.home }
+    /// ```
+    ///
+    /// </details>
+    #[must_use]
+    #[inline]
+    pub fn at_home(&self) -> usize {
+        self.home.len()
+    }
+
+    #[inline]
+    pub(super) fn number(&self) -> u64
+        // ensures number { result ≡ self.now.number }
+        // ensures stands_for { J.world_of result ≡ self.now.world }
+    {
+        self.number
+    }
+
+    /// A system with the last of the reservers that are at home, or `None` if none is.
+    ///
+    /// # Errors
+    ///
+    /// `Memory` if the owners of the phase can't be counted any more. Then nothing has changed.
+    #[inline]
+    fn next_system(&mut self) -> Result<Option<Commands>, Memory>
+        // requires { self.old.queues ≡ [] }
+        // ensures given { IfOk result (λ found. IfSome found (λ c.
+        //     (c ≡ new_commands self.old.number self.old.world c.reserver)
+        //     × (self.old ≡ record self.new { home = self.new.home ++ c.reserver ∷ [] }))) }
+        // ensures none { IfOk result (λ found. IfNone found (self.new ≡ self.old)) }
+        // ensures err { OnErr result (self.new ≡ self.old) }
+    {
+        if self.home.is_empty() {
+            return Ok(None);
+        }
+        let Ok(world) = Arc::try_clone(&self.world) else {
+            return Err(Memory);
+        };
+        let Some(reserver) = self.home.pop() else {
+            unreachable!()
+        };
+        Ok(Some(Commands::new(world, reserver, self.number)))
+    }
+
+    /// Gives out the systems of the reservers at home, the last one first, to a list that has room
+    /// for them. One whose owner can't be counted stays at home, and so do the others.
+    #[inline]
+    pub(super) fn give_out(&mut self, systems: &mut Vec<Commands>)
+        // requires queues { self.old.queues ≡ [] }
+        // requires room { vec_len systems.old + length self.old.home ≤ vec_capacity systems.old }
+        // requires new { AreNew self.old.number self.old.world systems.old.items }
+        // ensures new { AreNew self.old.number self.old.world systems.new.items }
+        // ensures given { issuing systems.new.items ++ reverse self.new.home
+        //     ≡ issuing systems.old.items ++ reverse self.old.home }
+        // ensures phase { self.new ≡ record self.old { home = self.new.home } }
+    {
+        while let Ok(Some(system)) = self.next_system() {
+            systems.push_reserved(system);
+        }
+    }
+
+    /// Takes systems home, in their order, which needs no memory.
+    #[inline]
+    pub(super) fn take_home(&mut self, queues: Vec<CommandQueue>)
+        // requires { MayComeHome self.old queues.items }
+        // ensures { self.new ≡ with_home self.old queues.items }
+    {
+        bring_home(
+            &mut self.home,
+            &mut self.queues,
+            &self.world,
+            self.number,
+            queues,
+        );
+    }
+
+    /// What it is made of, if no system owns the world too.
+    #[inline]
+    pub(super) fn end(self) -> Result<Parts, Self>
+        // ensures world { IfOk result (λ parts. parts.world ≡ self.world) }
+        // ensures of_world { IfOk result (λ parts. parts.of_world ≡ self.of_world) }
+        // ensures spawned { IfOk result (λ parts. parts.spawned ≡ self.spawned) }
+        // ensures home { IfOk result (λ parts. parts.home.items ≡ self.home) }
+        // ensures queues { IfOk result (λ parts. parts.queues.items ≡ self.queues) }
+        // ensures own { IfOk result (λ parts. All (IsOf parts.world.shared) parts.home.items) }
+        // ensures each { IfOk result (λ parts.
+        //     length parts.queues.items ≤ length parts.home.items) }
+        // ensures few { IfOk result (λ parts. parts.world.shared.count ≤ 1024) }
+        // ensures err { IfErr result (λ phase. phase ≡ self) }
+    {
+        let OpenWorld {
+            of_world,
+            spawned,
+            world,
+            home,
+            queues,
+            number,
+        } = self;
+        match Arc::try_unwrap(world) {
+            Ok(world) => Ok(Parts {
+                of_world,
+                spawned,
+                world,
+                home,
+                queues,
+            }),
+            Err(world) => Err(OpenWorld::new(
+                of_world, spawned, world, home, queues, number,
+            )),
+        }
+    }
+
+    /// A list without systems.
+    #[inline]
+    pub(super) fn no_queues(&self) -> Vec<CommandQueue>
+        // ensures { result.items ≡ [] }
+    {
+        Vec::new()
+    }
+}

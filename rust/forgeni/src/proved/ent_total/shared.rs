@@ -1,0 +1,292 @@
+// Made of crates/ent_total/src/shared.rt by rust/erase. It isn't edited by hand.
+
+use alloc::vec::Vec;
+use crate::kit::vec::FallibleVec;
+use crate::proved::ent_total::homecoming::bring_home;
+use crate::proved::ent_total::reserver::Reserver;
+use crate::proved::ent_alloc::Living;
+use crate::proved::ent_handle::{Handle, Memory};
+use crate::kit::sync::Arc;
+
+/// An allocator while it is shared: [`Entities::share`] makes it, with its reservers.
+///
+/// The allocator is inside, so nothing but reservations happens until [`close`](Self::close) gives
+/// it back. If the `Shared` is dropped, the allocator goes with the last of the reservers.
+///
+/// It is `Send` and `Sync`: any thread may read it.
+#[must_use]
+pub struct Shared {
+    shared: Arc<crate::proved::ent_shared::Shared>,
+    home: Vec<crate::proved::ent_shared::Reserver>,
+    number: u64,
+}
+
+impl Shared {
+    #[inline]
+    pub(super) fn new(
+        shared: Arc<crate::proved::ent_shared::Shared>,
+        home: Vec<crate::proved::ent_shared::Reserver>,
+        number: u64,
+    ) -> Self
+        // requires stands_for { J.shared_of number ≡ arc_value shared }
+        // requires own { All (IsOf (arc_value shared)) home.items }
+        // requires room { (arc_value shared).count ≤ vec_capacity home }
+        // ensures { result
+        //     ≡ record { number = number; shared = arc_value shared; home = home.items } }
+    {
+        Shared {
+            shared,
+            home,
+            number,
+        }
+    }
+
+    /// How many reservers it has, whether they exist, are at home or were lost.
+    ///
+    /// <details><summary>Contract</summary>
+    ///
+    /// In the words of the folder `specs/` of crate `ent_total`:
+    ///
+    /// ```text
+    /// ensures { result ≡ self.now.shared.count }
+    /// ```
+    ///
+    /// </details>
+    #[must_use]
+    #[inline]
+    pub fn count(&self) -> usize {
+        self.shared.count()
+    }
+
+    /// How many reservers are at home: a close that was refused took them.
+    ///
+    /// <details><summary>Contract</summary>
+    ///
+    /// In the words of the folder `specs/` of crate `ent_total`:
+    ///
+    /// ```text
+    /// ensures { result ≡ length self.now.home }
+    /// ```
+    ///
+    /// </details>
+    #[must_use]
+    #[inline]
+    pub fn at_home(&self) -> usize {
+        self.home.len()
+    }
+
+    /// Whether the entity was alive when the phase was opened. It stays so until the close: what is
+    /// reserved comes to life after it, and nothing is freed before. Any thread may ask, and it
+    /// takes constant time.
+    ///
+    /// ```
+    /// use forgeni::Entities;
+    ///
+    /// let mut entities = Entities::new();
+    /// let old = entities.alloc()?;
+    /// entities.try_set_row(old, 3)?;
+    /// entities.phase(1, |shared, reservers| {
+    ///     let new = reservers[0].reserve().expect("a handle");
+    ///     assert!(shared.is_alive(old) && !shared.is_alive(new));
+    ///     assert_eq!((shared.row(old), shared.row(new)), (Some(3), None));
+    /// })?;
+    /// # Ok::<(), Box<dyn std::error::Error + Send + Sync>>(())
+    /// ```
+    ///
+    /// <details><summary>Contract</summary>
+    ///
+    /// In the words of the folder `specs/` of crate `ent_total`:
+    ///
+    /// ```text
+    /// ensures { result ≡ set.contains self.now.shared.start.live handle }
+    /// ```
+    ///
+    /// </details>
+    #[must_use]
+    #[inline]
+    pub fn is_alive(&self, handle: Handle) -> bool {
+        self.shared.is_alive(handle)
+    }
+
+    /// The row that was set with the entity ([`Entities::try_set_row`]) when the phase was opened.
+    /// `None` if the entity was not alive then, or had no row. Any thread may ask, and it takes
+    /// constant time.
+    ///
+    /// <details><summary>Contract</summary>
+    ///
+    /// In the words of the folder `specs/` of crate `ent_total`:
+    ///
+    /// ```text
+    /// ensures value { result ≡ map.get self.now.shared.rows handle }
+    /// ensures alive { OnSome result (set.contains self.now.shared.start.live handle ≡ true) }
+    /// ```
+    ///
+    /// </details>
+    #[must_use]
+    #[inline]
+    pub fn row(&self, handle: Handle) -> Option<u32> {
+        self.shared.row(handle)
+    }
+
+    /// How many entities were alive when the phase was opened.
+    ///
+    /// <details><summary>Contract</summary>
+    ///
+    /// In the words of the folder `specs/` of crate `ent_total`:
+    ///
+    /// ```text
+    /// ensures { result ≡ set.len self.now.shared.start.live }
+    /// ```
+    ///
+    /// </details>
+    #[must_use]
+    #[inline]
+    pub fn len(&self) -> u32 {
+        self.shared.len()
+    }
+
+    /// Whether no entity was alive when the phase was opened.
+    ///
+    /// <details><summary>Contract</summary>
+    ///
+    /// In the words of the folder `specs/` of crate `ent_total`:
+    ///
+    /// ```text
+    /// ensures { IsTrue result ↔ (set.len self.now.shared.start.live ≡ 0) }
+    /// ```
+    ///
+    /// </details>
+    #[must_use]
+    #[inline]
+    pub fn is_empty(&self) -> bool {
+        self.shared.is_empty()
+    }
+
+    /// The entities that were alive when the phase was opened, by rising slot.
+    ///
+    /// ```
+    /// use forgeni::Entities;
+    ///
+    /// let mut entities = Entities::new();
+    /// let old = entities.alloc()?;
+    /// let (shared, mut reservers) = entities.share(1)?;
+    /// let new = reservers[0].reserve()?;
+    /// assert_eq!(shared.iter().collect::<Vec<_>>(), [old]);
+    /// # Ok::<(), Box<dyn std::error::Error + Send + Sync>>(())
+    /// ```
+    ///
+    /// <details><summary>Contract</summary>
+    ///
+    /// In the words of the folder `specs/` of crate `ent_total`:
+    ///
+    /// ```text
+    /// ensures living { set.from_list result ≡ self.now.shared.start.live }
+    /// ensures rising { AllPairs (λ g h. g.index < h.index) result }
+    /// ensures count { length result ≡ set.len self.now.shared.start.live }
+    /// ```
+    ///
+    /// </details>
+    #[must_use]
+    #[inline]
+    pub fn iter(&self) -> Living<'_> {
+        self.shared.iter()
+    }
+
+    #[inline]
+    pub(super) fn number(&self) -> u64
+        // ensures number { result ≡ self.now.number }
+        // ensures stands_for { J.shared_of result ≡ self.now.shared }
+    {
+        self.number
+    }
+
+    /// The last of the reservers that are at home, or `None` if none is. It takes no memory.
+    ///
+    /// # Errors
+    ///
+    /// `OutOfMemory` if the owners of the phase can't be counted any more. Then nothing has changed.
+    ///
+    /// <details><summary>Contract</summary>
+    ///
+    /// In the words of the folder `specs/` of crate `ent_total`:
+    ///
+    /// ```text
+    /// ensures given { IfOk result (λ found. IfSome found (λ r.
+    ///     (r.number ≡ self.old.number) × (r.shared ≡ self.old.shared)
+    ///     × (self.old ≡ record self.new { home = self.new.home ++ r.reserver ∷ [] }))) }
+    /// ensures none { IfOk result (λ found. IfNone found
+    ///     ((self.old.home ≡ []) × (self.new ≡ self.old))) }
+    /// ensures none_home { (result ≡ Ok None) ↔ (self.old.home ≡ []) }
+    /// ensures err { OnErr result (self.new ≡ self.old) }
+    /// ```
+    ///
+    /// </details>
+    #[inline]
+    pub fn reserver(&mut self) -> Result<Option<Reserver>, Memory> {
+        if self.home.is_empty() {
+            return Ok(None);
+        }
+        let Ok(shared) = Arc::try_clone(&self.shared) else {
+            return Err(Memory);
+        };
+        let Some(reserver) = self.home.pop() else {
+            unreachable!()
+        };
+        Ok(Some(Reserver {
+            shared,
+            reserver,
+            number: self.number,
+        }))
+    }
+
+    /// Gives out those at home, the last one first, to a list that has room for them. One whose
+    /// owner can't be counted stays at home, and so do the others.
+    #[inline]
+    pub(super) fn give_out(&mut self, reservers: &mut Vec<Reserver>)
+        // requires room { vec_len reservers.old + length self.old.home ≤ vec_capacity reservers.old }
+        // requires of { AreOf self.old.number reservers.old.items }
+        // ensures of { AreOf self.new.number reservers.new.items }
+        // ensures given { reservers_of reservers.new.items ++ reverse self.new.home
+        //     ≡ reservers_of reservers.old.items ++ reverse self.old.home }
+        // ensures phase { self.new ≡ record self.old { home = self.new.home } }
+    {
+        while let Ok(Some(reserver)) = self.reserver() {
+            reservers.push_reserved(reserver);
+        }
+    }
+
+    /// Takes reservers home, which needs no memory.
+    #[inline]
+    pub(super) fn take_home(&mut self, reservers: Vec<Reserver>)
+        // requires { MayComeHome self.old reservers.items }
+        // ensures { self.new ≡ record self.old { home = all_home self.old reservers.items } }
+    {
+        bring_home(&mut self.home, &self.shared, self.number, reservers);
+    }
+
+    /// The allocator with the reservers that are at home, if no other reserver owns it too.
+    #[inline]
+    pub(super) fn end(self) -> Result<(crate::proved::ent_shared::Shared, Vec<crate::proved::ent_shared::Reserver>), Self>
+        // ensures ok { IfOk result (λ parts. (parts.0 ≡ self.shared) × (parts.1.items ≡ self.home)) }
+        // ensures own { IfOk result (λ parts. All (IsOf parts.0) parts.1.items) }
+        // ensures err { IfErr result (λ shared. shared ≡ self) }
+    {
+        let Shared {
+            shared,
+            home,
+            number,
+        } = self;
+        match Arc::try_unwrap(shared) {
+            Ok(shared) => Ok((shared, home)),
+            Err(shared) => Err(Shared::new(shared, home, number)),
+        }
+    }
+
+    /// A list without reservers.
+    #[inline]
+    pub(super) fn no_reservers(&self) -> Vec<Reserver>
+        // ensures { result.items ≡ [] }
+    {
+        Vec::new()
+    }
+}

@@ -1,0 +1,36 @@
+// Made of crates/ent_total/src/sync_error.rt by rust/erase. It isn't edited by hand.
+
+use crate::proved::ent_total::queues::Queues;
+use crate::proved::ent_total::stopped::Stopped;
+
+/// Why a sync point didn't do all.
+#[non_exhaustive]
+pub enum SyncError {
+    /// The queues are of a phase of another world. Nothing was done, and these are the queues.
+    OtherWorld(Queues),
+    /// There was no memory to begin. Nothing was done, and these are the queues.
+    Memory(Queues),
+    /// Memory ran out at a command. [`Stopped::go_on`] does the rest.
+    Stopped(Stopped),
+}
+
+impl SyncError {
+    /// What it hands back: the queues if nothing was done, and else where it stopped.
+    ///
+    /// <details><summary>Contract</summary>
+    ///
+    /// In the words of the folder `specs/` of crate `ent_total`:
+    ///
+    /// ```text
+    /// ensures { result ≡ parts_of self }
+    /// ```
+    ///
+    /// </details>
+    #[inline]
+    pub fn into_parts(self) -> Result<Queues, Stopped> {
+        match self {
+            SyncError::OtherWorld(queues) | SyncError::Memory(queues) => Ok(queues),
+            SyncError::Stopped(stopped) => Err(stopped),
+        }
+    }
+}

@@ -1,0 +1,439 @@
+// Made of crates/ent_total/src/world.rt by rust/erase. It isn't edited by hand.
+
+use alloc::vec::Vec;
+use crate::proved::ent_alloc::{AllocFault, FreeFault, Freed, Limits};
+use crate::proved::ent_handle::{Birth, ComponentId, Handle, Memory};
+use crate::proved::ent_queue::Bundle;
+use crate::proved::ent_storage::Items;
+
+/// The system in the birth of an entity that no system spawned.
+const NO_SYSTEM: u32 = 0xffff_ffff;
+
+/// Who is alive, and what each entity is made of.
+///
+/// A component is a number ([`ComponentId`]) and a value of 64 bits. Systems that run side by side
+/// don't touch the world: `open` gives each its [`Commands`](crate::proved::ent_total::Commands), and
+/// [`apply`](World::apply) lets their queues take effect. Outside of phases entities come and go at
+/// once ([`spawn`](World::spawn), [`despawn`](World::despawn)), and the components of a living one
+/// change by commands alone.
+///
+/// Queues take effect in their order, whichever system issued first. So births, components and
+/// faults are the same on any number of threads, if no request is refused, no allocation fails, and
+/// nothing depends on handles.
+///
+/// It may go to another thread, and many threads may read it at once.
+///
+/// ```
+/// use forgeni::{ComponentId, World};
+///
+/// const AGE: ComponentId = ComponentId(0);
+///
+/// let (open, mut systems) = World::new().open(2)?;
+/// std::thread::scope(|scope| {
+///     for commands in &mut systems {
+///         scope.spawn(move || commands.spawn(&[(AGE, 1)]));
+///     }
+/// });
+/// let queues = systems.into_iter().map(|commands| commands.finish()).collect();
+/// let (mut world, queues) = open.close(queues)?;
+/// let report = world.apply(queues)?;
+/// assert_eq!(report.born.len(), 2);
+/// assert!(report.faults.is_empty());
+/// for entity in world.by_birth()? {
+///     assert_eq!(world.get(entity, AGE), Some(1));
+/// }
+/// # Ok::<(), Box<dyn std::error::Error>>(())
+/// ```
+pub struct World {
+    pub(super) world: crate::proved::ent_world::World,
+    /// By it queues know their world. It is given from outside: what a queue says of its world is as
+    /// good as it.
+    pub(super) number: u64,
+    /// How many entities [`spawn`](World::spawn) made since the last flush, at most 2^32 - 1.
+    pub(super) spawned: u32,
+}
+
+/// A world without entities, with these limits. It takes no memory. The number is its own: by it
+/// queues know their world.
+///
+/// <details><summary>Contract</summary>
+///
+/// In the words of the folder `specs/` of crate `ent_total`:
+///
+/// ```text
+/// ensures { result ≡ record { world = first_world limits; number = number; spawned = 0 } }
+/// ```
+///
+/// </details>
+#[inline]
+pub fn new_world(limits: Limits, number: u64) -> World {
+    World {
+        world: crate::proved::ent_world::World::new(limits),
+        number,
+        spawned: 0,
+    }
+}
+
+impl World {
+    /// Brings an entity to life at once, with these components, in any order. Of a component that
+    /// stands there twice the last value counts.
+    ///
+    /// The entity's birth names the phase and no system. Its ordinal is how many entities `spawn`
+    /// made before it since the last flush, and at most 2^32 - 1.
+    ///
+    /// # Errors
+    ///
+    /// `NeedsFlush` if handles were requested since the last flush, `Space` if no slot is left,
+    /// `Memory` if memory runs out. Nothing has changed then.
+    ///
+    /// ```
+    /// use forgeni::World;
+    ///
+    /// let mut world = World::new();
+    /// let cart = world.spawn(&[])?;
+    /// let horse = world.spawn(&[])?;
+    /// assert_eq!(world.birth(cart).unwrap().to_string(), "0.4294967295.0");
+    /// assert_eq!(world.birth(horse).unwrap().to_string(), "0.4294967295.1");
+    /// # Ok::<(), forgeni::AllocError>(())
+    /// ```
+    ///
+    /// <details><summary>Contract</summary>
+    ///
+    /// In the words of the folder `specs/` of crate `ent_total`:
+    ///
+    /// ```text
+    /// ensures front { IfOk result (λ handle.
+    ///     slice_get self.old.world.allocator.pool 0 ≡ Some handle) }
+    /// ensures ok { IfOk result (λ handle. self.new.world
+    ///     ≡ after_spawn (next_birth self.old) (bundle_of components.now) handle self.old.world) }
+    /// ensures counted { OnOk result (self.new.spawned ≡ ordinal (self.old.spawned + 1)) }
+    /// ensures number { self.new.number ≡ self.old.number }
+    ///
+    /// // When it is refused, and what stands then.
+    /// ensures needs_flush { IsErrOf result AllocFault.NeedsFlush
+    ///     ↔ (0 < self.old.world.allocator.asked) }
+    /// ensures space { IsErrOf result AllocFault.Space
+    ///     → (self.old.world.allocator.asked ≡ 0) × (self.old.world.allocator.pool ≡ []) }
+    /// ensures full { (self.old.world.allocator.asked ≡ 0) × (self.old.world.allocator.pool ≡ [])
+    ///     → IsErrOf result AllocFault.Space
+    ///     ⊎ (IsErrOf result AllocFault.Memory × (4 < length (bundle_of components.now))) }
+    /// ensures memory { IsErrOf result AllocFault.Memory
+    ///     → (top self.old.world.allocator ≡ 0) ⊎ (0 < length (bundle_of components.now)) }
+    /// ensures err { OnErr result (self.new ≡ self.old) }
+    /// ```
+    ///
+    /// </details>
+    #[inline]
+    pub fn spawn(
+        &mut self,
+        components: &[(ComponentId, i64)],
+    ) -> Result<Handle, AllocFault> {
+        let birth = Birth {
+            frame: self.world.phase(),
+            system: NO_SYSTEM,
+            ordinal: self.spawned,
+        };
+        let handle = self.spawn_with_birth(birth, components)?;
+        self.spawned = self.spawned.saturating_add(1);
+        Ok(handle)
+    }
+
+    /// As [`spawn`](World::spawn), with this birth. It may be any, even that of another entity.
+    ///
+    /// # Errors
+    ///
+    /// As of `spawn`.
+    ///
+    /// <details><summary>Contract</summary>
+    ///
+    /// In the words of the folder `specs/` of crate `ent_total`:
+    ///
+    /// ```text
+    /// ensures front { IfOk result (λ handle.
+    ///     slice_get self.old.world.allocator.pool 0 ≡ Some handle) }
+    /// ensures ok { IfOk result (λ handle. self.new ≡ record self.old {
+    ///   world = after_spawn birth (bundle_of components.now) handle self.old.world;
+    /// }) }
+    ///
+    /// // When it is refused, and what stands then.
+    /// ensures needs_flush { IsErrOf result AllocFault.NeedsFlush
+    ///     ↔ (0 < self.old.world.allocator.asked) }
+    /// ensures space { IsErrOf result AllocFault.Space
+    ///     → (self.old.world.allocator.asked ≡ 0) × (self.old.world.allocator.pool ≡ []) }
+    /// ensures full { (self.old.world.allocator.asked ≡ 0) × (self.old.world.allocator.pool ≡ [])
+    ///     → IsErrOf result AllocFault.Space
+    ///     ⊎ (IsErrOf result AllocFault.Memory × (4 < length (bundle_of components.now))) }
+    /// ensures memory { IsErrOf result AllocFault.Memory
+    ///     → (top self.old.world.allocator ≡ 0) ⊎ (0 < length (bundle_of components.now)) }
+    /// ensures err { OnErr result (self.new ≡ self.old) }
+    /// ```
+    ///
+    /// </details>
+    #[inline]
+    pub fn spawn_with_birth(
+        &mut self,
+        birth: Birth,
+        components: &[(ComponentId, i64)],
+    ) -> Result<Handle, AllocFault> {
+        if self.world.needs_flush() {
+            return Err(AllocFault::NeedsFlush);
+        }
+        let Ok(bundle) = Bundle::of(components) else {
+            return Err(AllocFault::Memory);
+        };
+        self.world.spawn(birth, &bundle)
+    }
+
+    /// Takes a living entity out, with all its components.
+    ///
+    /// # Errors
+    ///
+    /// `NeedsFlush` if handles were requested since the last flush, `NotAlive` if the handle names
+    /// no living entity, `Memory` if memory runs out. Nothing has changed then.
+    ///
+    /// <details><summary>Contract</summary>
+    ///
+    /// In the words of the folder `specs/` of crate `ent_total`:
+    ///
+    /// ```text
+    /// ensures ok { OnOk result
+    ///     (self.new ≡ record self.old { world = after_despawn handle self.old.world }) }
+    /// ensures next { IfOk result (λ freed.
+    ///     freed.next ≡ next self.old.world.allocator.limits handle) }
+    /// ensures lived { OnOk result (lives_in self.old.world handle ≡ true) }
+    /// ensures needs_flush { IsErrOf result FreeFault.NeedsFlush
+    ///     ↔ (0 < self.old.world.allocator.asked) }
+    /// ensures not_alive { IsErrOf result FreeFault.NotAlive
+    ///     ↔ ((self.old.world.allocator.asked ≡ 0)
+    ///     × (lives_in self.old.world handle ≡ false)) }
+    /// ensures memory { IsErrOf result FreeFault.Memory
+    ///     → handle.generation ≢ self.old.world.allocator.limits.generations }
+    /// ensures err { OnErr result (self.new ≡ self.old) }
+    /// ```
+    ///
+    /// </details>
+    #[inline]
+    pub fn despawn(&mut self, handle: Handle) -> Result<Freed, FreeFault> {
+        self.world.despawn(handle)
+    }
+
+    /// The value of the entity's component, if the entity is alive and has it.
+    ///
+    /// <details><summary>Contract</summary>
+    ///
+    /// In the words of the folder `specs/` of crate `ent_total`:
+    ///
+    /// ```text
+    /// ensures { result ≡ value_of self.now.world.entities handle id }
+    /// ```
+    ///
+    /// </details>
+    #[must_use]
+    #[inline]
+    pub fn get(&self, handle: Handle, id: ComponentId) -> Option<i64> {
+        self.world.get(handle, id)
+    }
+
+    /// When and by whom the entity was brought to life, if it is alive.
+    ///
+    /// <details><summary>Contract</summary>
+    ///
+    /// In the words of the folder `specs/` of crate `ent_total`:
+    ///
+    /// ```text
+    /// ensures { result ≡ birth_of self.now.world.entities handle }
+    /// ```
+    ///
+    /// </details>
+    #[must_use]
+    #[inline]
+    pub fn birth(&self, handle: Handle) -> Option<Birth> {
+        self.world.birth(handle)
+    }
+
+    /// Whether the entity is alive. It takes constant time.
+    ///
+    /// <details><summary>Contract</summary>
+    ///
+    /// In the words of the folder `specs/` of crate `ent_total`:
+    ///
+    /// ```text
+    /// ensures { result ≡ lives_in self.now.world handle }
+    /// ```
+    ///
+    /// </details>
+    #[must_use]
+    #[inline]
+    pub fn contains(&self, handle: Handle) -> bool {
+        self.world.contains(handle)
+    }
+
+    /// The entity's components and their values, by rising number, if it is alive.
+    ///
+    /// ```
+    /// use forgeni::{ComponentId, World};
+    ///
+    /// let mut world = World::new();
+    /// let cart = world.spawn(&[(ComponentId(7), 2), (ComponentId(3), 1)])?;
+    /// let items: Vec<_> = world.items(cart).unwrap().collect();
+    /// assert_eq!(items, [(ComponentId(3), 1), (ComponentId(7), 2)]);
+    /// # Ok::<(), forgeni::AllocError>(())
+    /// ```
+    ///
+    /// <details><summary>Contract</summary>
+    ///
+    /// In the words of the folder `specs/` of crate `ent_total`:
+    ///
+    /// ```text
+    /// ensures { result ≡ option_map map.entries (components_of self.now.world.entities handle) }
+    /// ```
+    ///
+    /// </details>
+    #[must_use]
+    #[inline]
+    pub fn items(&self, handle: Handle) -> Option<Items<'_>> {
+        self.world.items(handle)
+    }
+
+    /// The handles of all entities, by birth and then by handle. The time is that of a sort.
+    ///
+    /// # Errors
+    ///
+    /// `OutOfMemory`: there is no memory for the list. It never comes if there are no entities.
+    ///
+    /// <details><summary>Contract</summary>
+    ///
+    /// In the words of the folder `specs/` of crate `ent_total`:
+    ///
+    /// ```text
+    /// ensures ok { IfOk result (λ handles. ListsAll self.now.world.entities handles.items) }
+    /// ensures memory { OnErr result (self.now.world.entities ≢ map.empty) }
+    /// ```
+    ///
+    /// </details>
+    #[inline]
+    pub fn by_birth(&self) -> Result<Vec<Handle>, Memory> {
+        self.world.by_birth()
+    }
+
+    /// How many entities are alive.
+    ///
+    /// <details><summary>Contract</summary>
+    ///
+    /// In the words of the folder `specs/` of crate `ent_total`:
+    ///
+    /// ```text
+    /// ensures { result ≡ map.len self.now.world.entities }
+    /// ```
+    ///
+    /// </details>
+    #[must_use]
+    #[inline]
+    pub fn len(&self) -> usize {
+        self.world.len()
+    }
+
+    /// Whether no entity is alive.
+    ///
+    /// <details><summary>Contract</summary>
+    ///
+    /// In the words of the folder `specs/` of crate `ent_total`:
+    ///
+    /// ```text
+    /// ensures { IsTrue result ↔ (self.now.world.entities ≡ map.empty) }
+    /// ```
+    ///
+    /// </details>
+    #[must_use]
+    #[inline]
+    pub fn is_empty(&self) -> bool {
+        self.world.is_empty()
+    }
+
+    /// How often the world was flushed, which is the `frame` in the births of what comes to life
+    /// next. It stays at 2^64 - 1.
+    ///
+    /// <details><summary>Contract</summary>
+    ///
+    /// In the words of the folder `specs/` of crate `ent_total`:
+    ///
+    /// ```text
+    /// ensures { result ≡ self.now.world.phase }
+    /// ```
+    ///
+    /// </details>
+    #[must_use]
+    #[inline]
+    pub fn frame(&self) -> u64 {
+        self.world.phase()
+    }
+
+    /// How many slots are retired: they give no handle any more. It takes constant time.
+    ///
+    /// <details><summary>Contract</summary>
+    ///
+    /// In the words of the folder `specs/` of crate `ent_total`:
+    ///
+    /// ```text
+    /// ensures { result ≡ retired self.now.world.allocator }
+    /// ```
+    ///
+    /// </details>
+    #[must_use]
+    #[inline]
+    pub fn retired(&self) -> u32 {
+        self.world.retired()
+    }
+
+    /// Whether any handle was requested since the last flush. It is so between
+    /// [`OpenWorld::close`](crate::proved::ent_total::OpenWorld::close) and [`apply`](World::apply), if a system has
+    /// spawned.
+    ///
+    /// <details><summary>Contract</summary>
+    ///
+    /// In the words of the folder `specs/` of crate `ent_total`:
+    ///
+    /// ```text
+    /// ensures { IsTrue result ↔ (0 < self.now.world.allocator.asked) }
+    /// ```
+    ///
+    /// </details>
+    #[must_use]
+    #[inline]
+    pub fn needs_flush(&self) -> bool {
+        self.world.needs_flush()
+    }
+
+    /// Brings to life what is reserved, without components: what the systems of a phase had spawned
+    /// whose queues are not to take effect. [`apply`](World::apply) brings entities to life too.
+    ///
+    /// The birth of each entity names the phase that ends, no system, and the entity's number among
+    /// those that are born. So an entity that [`spawn`](World::spawn) made in that phase may have
+    /// the same birth.
+    ///
+    /// # Errors
+    ///
+    /// `OutOfMemory`, only if something is reserved. Nothing has changed then.
+    ///
+    /// <details><summary>Contract</summary>
+    ///
+    /// In the words of the folder `specs/` of crate `ent_total`:
+    ///
+    /// ```text
+    /// ensures ok { OnOk result (self.new ≡ record self.old {
+    ///   world = after_births [] self.old.world;
+    ///   spawned = 0;
+    /// }) }
+    /// ensures flushed { OnOk result (self.new.world.allocator.asked ≡ 0) }
+    /// ensures err { OnErr result (self.new ≡ self.old) }
+    /// ensures memory { OnErr result (0 < length self.old.world.allocator.taken) }
+    /// ```
+    ///
+    /// </details>
+    #[inline]
+    pub fn flush(&mut self) -> Result<(), Memory> {
+        self.world.flush()?;
+        self.spawned = 0;
+        Ok(())
+    }
+}
