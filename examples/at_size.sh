@@ -21,9 +21,11 @@ tested() {
     for test in $passed; do echo "forgeni, $test: passed"; done
 }
 
-# The first are for optimised code, as their file says. The second take no time.
-tested --release --test sizes
-tested --lib room::
+# The first are for optimised code, as their file says. The second take no time. What cargo has built is tested alone.
+if [ -z "${PROGRAMS:-}" ]; then
+    tested --release --test sizes
+    tested --lib room::
+fi
 
 python3 - "$out" <<'END'
 import sys

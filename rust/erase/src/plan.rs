@@ -78,7 +78,8 @@ pub static TESTED: Target = Target {
 /// The texts of the files that are to be, by their paths in the repository.
 pub type Files = BTreeMap<PathBuf, String>;
 
-/// Erases the crates of the package. The repository is the folder of `crates.txt`.
+/// Erases the crates of the package, and those of the programs if `crates.txt` lists them. The repository is the
+/// folder of `crates.txt`.
 ///
 /// # Errors
 ///
@@ -95,7 +96,10 @@ pub fn package(repository: &Path) -> Result<Files, Box<dyn Error>> {
         return Err(what.into());
     }
     let mut files = erased(&crates, &names, PROVED.folder)?;
-    let programs = read_all(repository, PROGRAM_CRATES)?;
+    let listed = listed(repository)?;
+    let is_listed = |name: &&&str| listed.lines().any(|line| names_crate(line, name));
+    let programs: Vec<&str> = PROGRAM_CRATES.iter().filter(is_listed).copied().collect();
+    let programs = read_all(repository, &programs)?;
     let mut names = Names::new(&[&PACKAGE, &PROGRAMS]);
     add_names(&mut names, &crates, PROVED.path)?;
     add_names(&mut names, &programs, PROVED.path)?;
@@ -131,9 +135,21 @@ fn read_all(repository: &Path, names: &[&str]) -> io::Result<Vec<Crate>> {
     names.iter().map(|name| read(repository, name)).collect()
 }
 
+/// The list of the repository's crates.
+fn listed(repository: &Path) -> io::Result<String> {
+    fs::read_to_string(repository.join("crates.txt"))
+}
+
+/// Whether a line of the list is that of this crate.
+fn names_crate(line: &str, name: &str) -> bool {
+    line.split_once(':')
+        .and_then(|it| it.0.split_whitespace().next())
+        == Some(name)
+}
+
 /// These crates and all of the repository's that they stand on.
 fn crates_below(repository: &Path, tops: &[&str]) -> Result<Vec<Crate>, Box<dyn Error>> {
-    let listed = fs::read_to_string(repository.join("crates.txt"))?;
+    let listed = listed(repository)?;
     let tops: Vec<String> = tops.iter().map(|top| (*top).to_owned()).collect();
     let names = below(&listed, &tops)?;
     let crates = names.iter().map(|name| read(repository, name));

@@ -169,6 +169,8 @@
 //!
 //! `std`, which is on by default: `run_frame` and its systems, since they start threads, and the pool
 //! `Reservers`, since it may wait. Without it the package is `no_std` with `alloc`.
+//!
+//! `programs`, which is off by default: the programs `spawnrun` and `tracecheck`, which the library has nothing of.
 #![cfg_attr(not(test), no_std)]
 #![forbid(unsafe_code)]
 #![deny(missing_docs)]

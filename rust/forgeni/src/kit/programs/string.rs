@@ -175,7 +175,7 @@ mod tests {
         text.0.shrink_to_fit();
         assert_eq!(refuse(|| text.push_str("bc")), Err(AllocError));
         assert_eq!(refuse(|| text.push('ä')), Err(AllocError));
-        assert_eq!(refuse(|| write!(text, "{}{}", "", 12)), Err(AllocError));
+        assert_eq!(refuse(|| write!(text, "{}", 12)), Err(AllocError));
         assert_eq!(text.as_str(), "a");
     }
 

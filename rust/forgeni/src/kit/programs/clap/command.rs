@@ -172,7 +172,8 @@ impl<'a> Command<'a> {
             let widths = self.subcommands.iter().map(|it| it.name.len());
             let width = widths.max().unwrap_or(0);
             for it in &self.subcommands {
-                write!(text, "  {:width$}  {}\n", it.name, it.about)?;
+                write!(text, "  {:width$}  {}", it.name, it.about)?;
+                text.push_str("\n")?;
             }
             text.push_str("\n")?;
         }
