@@ -67,7 +67,7 @@ IMPORTS = set(
     "either::Left either::Right itoa::Buffer itoa::Integer smallvec::SmallVec".split()
 )
 PRELUDE = set(
-    "Some None Ok Err Option Result Vec Self self Iterator DoubleEndedIterator ExactSizeIterator From Default Copy Clone Send Sync Fn FnMut FnOnce Ord PartialOrd "
+    "Some None Ok Err Option Result Vec Self self Iterator DoubleEndedIterator ExactSizeIterator From Into Default Copy Clone Send Sync Fn FnMut FnOnce Ord PartialOrd "
     "PartialEq Eq bool char str u8 u16 u32 u64 u128 usize i64".split()
 )
 ASSOCIATED = set(
@@ -76,9 +76,9 @@ ASSOCIATED = set(
     "fmt::Result i64::from mem::replace str::from_utf8 u16::from_le_bytes u32::MAX u32::from_le_bytes u64::from u64::from_le_bytes usize::from".split()
 )
 METHODS = set(
-    "all as_bytes as_chunks as_slice binary_search binary_search_by_key capacity cast_signed cast_unsigned checked_add checked_sub clear "
+    "all as_bytes as_chunks as_mut_slice as_slice binary_search binary_search_by_key capacity cast_signed cast_unsigned checked_add checked_sub clear "
     "close_with cmp collect contains copied count enumerate extend_from_slice fetch_add fetch_sub filter format free get get_mut insert into "
-    "into_badge into_seat is_ascii_digit is_empty is_err is_none is_none_or is_some iter join_seat len load_new_seat map map_err max min next next_back ok "
+    "into_badge into_seat is_ascii_digit is_empty is_err is_none is_none_or is_some iter iter_mut join_seat len load_new_seat map map_err max min next next_back ok "
     "ok_or parse pop position push push_reserved remove reserve resize retain reverse saturating_add saturating_mul saturating_sub size_hint "
     "sort_by_cached_key sort_by_key sort_unstable split_at split_at_mut split_first split_first_chunk split_last split_seat swap_remove take then "
     "to_le_bytes truncate unwrap unwrap_or word write_str write_u64".split()
@@ -103,7 +103,7 @@ RENAMED |= {("Vec", it): it + "_fallibly" for it in ("from_slice", "with_capacit
 # Calls of the kit's list that Rust's has otherwise, with the receivers that are no lists. A wrong one doesn't compile.
 LISTS = {"capacity": "living", "extend_from_slice": "", "push": "living", "push_reserved": "", "resize": "", "sort_by_cached_key": ""}
 LISTS |= {"sort_by_key": "", "reserve": "] index living self shared storage"}
-LISTS |= {"insert": "blocked calls commands items last latest living queue seen spent values"}
+LISTS |= {"insert": "blocked calls commands items last latest living queue seen self spent values"}
 DERIVES = set("Clone Copy Debug Default PartialEq Eq Hash".split())
 KEYWORDS = set(
     "as async await break const continue crate dyn else enum extern false fn for if impl in let loop match mod move mut pub ref return "
@@ -521,7 +521,7 @@ class Reader:
         if not any(self.left):
             self.out[mark:], self.log[notes:] = [], [it for it in self.log[notes:] if it[1] == "ghost trait"]
             return
-        if not all(self.left):
+        if sum(self.left) == 1 < len(self.left):
             self.out += [it for it in self.cut(mark) if it.text not in ("{", ",", "}")]
         self.imports_at = mark if self.imports_at is None else self.imports_at
         found = [self.has_condition(it) for it in self.taken]

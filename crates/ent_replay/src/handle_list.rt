@@ -8,7 +8,7 @@ use ent_handle::{Handle, Memory};
 use std::alloc::Global;
 use std::marker::Model;
 
-/// Handles in order.
+/// The handles of an answer, in their order.
 #[derive(Debug, Drop)]
 pub struct HandleList {
     handles: Vec<Handle>,
@@ -25,6 +25,7 @@ impl Model for HandleList {
 
 impl HandleList {
     /// The list of these handles. It takes no memory.
+    #[must_use]
     pub fn new(handles: Vec<Handle>) -> Self
         ensures { result ≡ handles.items }
     {
@@ -32,6 +33,7 @@ impl HandleList {
     }
 
     /// The handles.
+    #[must_use]
     pub fn as_slice(&self) -> &[Handle]
         ensures { result.now ≡ self.now }
     {
@@ -39,6 +41,7 @@ impl HandleList {
     }
 
     /// How many there are.
+    #[must_use]
     pub fn len(&self) -> usize
         ensures { result ≡ length self.now }
     {
@@ -46,6 +49,7 @@ impl HandleList {
     }
 
     /// Whether there is none.
+    #[must_use]
     pub fn is_empty(&self) -> bool
         ensures { IsTrue result ↔ (self.now ≡ []) }
     {
@@ -62,6 +66,7 @@ impl HandleList {
     }
 
     /// Gives the handles back, with their memory.
+    #[must_use]
     pub fn into_vec(self) -> Vec<Handle>
         ensures { result.items ≡ self }
     {

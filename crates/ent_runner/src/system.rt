@@ -11,7 +11,9 @@ use std::alloc::Global;
 /// A system: it reads the world as the frame began, and issues commands that take effect at the
 /// frame's sync point.
 ///
-/// One value of it may run on any worker, so what it knows of the world is what the view says.
+/// One value of it may run on any worker, so what it knows of the world is what the view says. In plain
+/// Rust a function is a system, and so is a closure: `system` tells Rust the types of its parameters.
+/// Systems of several types go into one list in boxes, or behind `&dyn System`.
 pub trait System {
     /// What it may issue in a frame that begins with this world. A run without a fault, from an
     /// empty queue on, leaves a queue of this kind.

@@ -1,5 +1,5 @@
 //! An allocator is shared.
-ghost use Rattle.std.specs.Prelude.{◌≡◌, ◌<◌, ◌≤◌, ◌↔◌, ◌⊎◌, ◌++◌, IfOk, IfErr, reverse};
+ghost use Rattle.std.specs.Prelude.{◌≡◌, ◌<◌, ◌≤◌, ◌↔◌, ◌⊎◌, ◌++◌, All, IfOk, IfErr, reverse};
 ghost use Rattle.ent_shared.specs.Phase.{records_of};
 ghost use Rattle.ent_shared.specs.Record.{opened_records};
 ghost use Rattle.ent_total.specs.Faults.{IsErrWith};
@@ -131,6 +131,7 @@ impl<J: Numbering> Opening<J> {
         ensures number { result.0.number ≡ number }
         ensures shared { result.0.shared ≡ self.shared }
         ensures of { AreOf number result.1.items }
+        ensures same { All (λ r. r.shared ≡ self.shared) result.1.items }
         ensures given { reservers_of result.1.items ++ reverse result.0.home ≡ self.home }
     {
         let Opening {

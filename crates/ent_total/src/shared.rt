@@ -17,7 +17,8 @@ use std::alloc::Global;
 use std::marker::{Model, PhantomData};
 use std::sync::Arc;
 
-/// An allocator while it is shared: [`Entities::share`] makes it, with its reservers.
+/// An allocator while it is shared. [`Entities::share`](forgeni::Entities::share) makes it, with its
+/// reservers.
 ///
 /// The allocator is inside, so nothing but reservations happens until [`close`](Self::close) gives
 /// it back. If the `Shared` is dropped, the allocator goes with the last of the reservers.
@@ -119,9 +120,9 @@ impl<J: Numbering> Shared<J> {
         self.shared.is_alive(handle)
     }
 
-    /// The row that was set with the entity ([`Entities::try_set_row`]) when the phase was opened.
-    /// `None` if the entity was not alive then, or had no row. Any thread may ask, and it takes
-    /// constant time.
+    /// The row that was set with the entity ([`try_set_row`](forgeni::Entities::try_set_row)), when the
+    /// phase was opened. `None` if the entity was not alive then, or had no row. Any thread may ask,
+    /// and it takes constant time.
     #[must_use]
     pub fn row(&self, handle: Handle) -> Option<u32>
         ensures value { result ≡ map.get self.now.shared.rows handle }
@@ -211,7 +212,9 @@ impl<J: Numbering> Shared<J> {
     pub(crate) fn give_out(&mut self, reservers: &mut Vec<Reserver<J>>)
         requires room { vec_len reservers.old + length self.old.home ≤ vec_capacity reservers.old }
         requires of { AreOf self.old.number reservers.old.items }
-        ensures of { AreOf self.new.number reservers.new.items }
+        requires same { All (λ r. r.shared ≡ self.old.shared) reservers.old.items }
+        ensures of { AreOf self.old.number reservers.new.items }
+        ensures same { All (λ r. r.shared ≡ self.old.shared) reservers.new.items }
         ensures given { reservers_of reservers.new.items ++ reverse self.new.home
             ≡ reservers_of reservers.old.items ++ reverse self.old.home }
         ensures phase { self.new ≡ record self.old { home = self.new.home } }

@@ -1,6 +1,9 @@
+use thiserror::Error;
+
 /// Where a sync point stopped because memory ran out. All births have taken effect, and of the
 /// commands just those before.
-#[derive(Clone, Copy, Debug, PartialEq, Eq, Hash)]
+#[derive(Clone, Copy, Debug, PartialEq, Eq, Hash, Error)]
+#[error("out of memory at command {command} of system {system}")]
 pub struct Stop {
     /// The number of the queue among those that are applied, from 0.
     pub system: usize,

@@ -9,7 +9,7 @@ pub enum ShareError {
     #[error("a flush is needed first")]
     NeedsFlush,
     /// The number of callers isn't one from 1 to 1,024.
-    #[error("an allocator is shared among 1 to 1,024 callers")]
+    #[error("a phase has 1 to 1,024 callers")]
     Count,
     /// Out of memory.
     #[error("out of memory")]

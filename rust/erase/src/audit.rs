@@ -221,9 +221,14 @@ impl Audit<'_> {
         let kept = names.filter(|name| forms::KEPT_DERIVES.contains(name));
         let end = self.source.partner(open) + 1;
         let name = end + 1 + usize::from(self.source.at(end) == "pub");
-        let is_compared = self.source.at(name - 1) == "struct"
-            && forms::compared(self.krate, self.source.at(name)).is_some();
-        let added = if is_compared { forms::EQUALITY } else { &[] };
+        let (word, name) = (self.source.at(name - 1), self.source.at(name));
+        let is_compared = word == "struct" && forms::compared(self.krate, name).is_some();
+        let is_data = ["struct", "enum"].contains(&word) && forms::is_data(self.krate, name);
+        let added = match (is_compared, is_data) {
+            (true, _) => forms::EQUALITY,
+            (_, true) => forms::OF_DATA,
+            _ => &[],
+        };
         kept.chain(added.iter().copied()).collect()
     }
 

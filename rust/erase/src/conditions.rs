@@ -15,8 +15,18 @@ const PACKAGE_ONLY: &str = "(crate)";
 const CALLABLE: [&str; 2] = [".", "IsAlwaysCallable"];
 
 /// Whether the clause whose braces open at `open` says only that a closure may be called.
-pub(crate) fn is_of_a_closure(source: &Source<'_>, open: usize) -> bool {
+fn is_of_a_closure(source: &Source<'_>, open: usize) -> bool {
     source.has(open + 2, &CALLABLE) && source.partner(open) == open + 5
+}
+
+/// What a `requires` clause says of commands that the package lends to a system: they are ready. Only proved code makes
+/// commands, `System::run` is called with those that are ready, and each call leaves them so. So no caller can have others.
+const READY: [&str; 4] = ["IsReady", "self", ".", "old"];
+
+/// Whether the clause whose braces open at `open` is a condition that each caller meets.
+pub(crate) fn is_met(source: &Source<'_>, open: usize) -> bool {
+    let is_ready = source.has(open + 1, &READY) && source.partner(open) == open + 5;
+    is_ready || is_of_a_closure(source, open)
 }
 
 /// Whether the contract of the function whose `fn` stands at `at` has a condition.
@@ -28,7 +38,7 @@ pub(crate) fn has_condition(source: &Source<'_>, at: usize) -> bool {
         }
         let open = source.find(found, source.len(), &["{"]);
         let open = open.unwrap_or(source.len());
-        if source.at(found) == "requires" && !is_of_a_closure(source, open) {
+        if source.at(found) == "requires" && !is_met(source, open) {
             return true;
         }
         next = source.partner(open) + 1;

@@ -333,6 +333,7 @@ pub const BARE: &[&str] = &[
     "From",
     "Into",
     "Hash",
+    "Into",
     "Item",
     "Iterator",
     "None",
@@ -429,6 +430,18 @@ pub const LAYOUTS: &[Layout] = &[
         name: "Reserver",
         attribute: "#[repr(align(128))]",
     },
+    // A command writes the queue, so two systems in a list share none either.
+    Layout {
+        krate: "ent_total",
+        name: "Commands",
+        attribute: "#[repr(align(128))]",
+    },
+    // Each thread writes to a log of its own.
+    Layout {
+        krate: "ent_replay",
+        name: "Log",
+        attribute: "#[repr(align(128))]",
+    },
 ];
 
 /// The layout of the type of this crate, if it has one of its own.
@@ -473,6 +486,28 @@ pub fn compared(krate: &str, name: &str) -> Option<&'static Compared> {
     COMPARED
         .iter()
         .find(|it| it.krate == krate && it.name == name)
+}
+
+/// The traits that plain data has in the package, and that the kit can't derive for it: there a clone may fail.
+pub const OF_DATA: &[&str] = &["Clone", "PartialEq", "Eq", "Hash"];
+
+/// The types whose derive gets these traits, by their crates. The proofs know none of them.
+const DATA: &[(&str, &[&str])] = &[(
+    "ent_replay",
+    &[
+        "Call",
+        "CheckError",
+        "Difference",
+        "FlushReply",
+        "Reservation",
+        "ReserveReply",
+    ],
+)];
+
+/// Whether the type of this crate is such data.
+pub fn is_data(krate: &str, name: &str) -> bool {
+    DATA.iter()
+        .any(|(its_crate, names)| *its_crate == krate && names.contains(&name))
 }
 
 /// Files of crates in which what `fmt` writes is padded in the package, as Rust's own numbers and texts are. In the
@@ -531,6 +566,7 @@ pub const CONSTANTS: &[(&str, &str, &str)] = &[
     ("ent_handle", "handle.rt", "index"),
     ("ent_handle", "handle.rt", "new"),
     ("ent_handle", "handle.rt", "to_bits"),
+    ("ent_replay", "log.rt", "new"),
     ("ent_storage", "handle_map.rt", "limit"),
     ("ent_storage", "handle_map.rt", "new"),
     ("ent_storage", "handle_map.rt", "with_limit"),

@@ -382,6 +382,25 @@ fn layouts() {
     stays("pub struct Handle {\n    bits: u32,\n}\n");
 }
 
+/// Plain data gets more derives, and no other type of the crate or of another crate does.
+#[test]
+fn data() {
+    let source = "/// A.\n#[derive(Debug, Drop)]\npub enum Call {\n    /// B.\n    B,\n}\n\n\
+                  /// C.\n#[derive(Debug, Drop)]\npub struct Calls;\n";
+    let wanted = "/// A.\n#[derive(Debug, Clone, PartialEq, Eq, Hash)]\npub enum Call {\n    \
+                  /// B.\n    B,\n}\n\n/// C.\n#[derive(Debug)]\npub struct Calls;\n";
+    let other = wanted.replace("(Debug)", "(Debug, Clone, PartialEq, Eq, Hash)");
+    let (result, audited) = erased_of("ent_replay", PATH, source, &other).expect("known forms");
+    assert_eq!(body(&result), Some(wanted));
+    assert!(audited.is_err());
+    let less = wanted.replace(", Hash", "");
+    let (_, audited) = erased_of("ent_replay", PATH, source, &less).expect("known forms");
+    assert!(audited.is_err());
+    let (result, _) = erased_of("ent_handle", PATH, source, "").expect("known forms");
+    let plain = wanted.replace(", Clone, PartialEq, Eq, Hash", "");
+    assert_eq!(body(&result), Some(plain.as_str()));
+}
+
 /// The equality of a handle is printed as the derive, if it is that of the derive. That of another type stays.
 #[test]
 fn equality_of_one_field() {

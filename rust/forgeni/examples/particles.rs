@@ -69,7 +69,7 @@ fn mixed(number: u64) -> u64 {
     all ^ all >> 31
 }
 
-/// What the systems of a thread want.
+/// What the systems of a thread have decided.
 #[derive(Default)]
 struct Wanted {
     burnt: Vec<Handle>,

@@ -32,7 +32,7 @@ type System = fn(&View<'_>, &mut SystemCommands<'_>) -> Result<(), OutOfMemory>;
 /// Launches three projectiles. The queue keeps a refusal, and the sync point reports it.
 fn launch(_: &View<'_>, commands: &mut SystemCommands<'_>) -> Result<(), OutOfMemory> {
     commands
-        .spawn_many(3, &[(AGE, 0)])
+        .spawn_many_with(3, &[(AGE, 0)])
         .map_or_else(ReserveError::or_memory, |_| Ok(()))
 }
 
@@ -40,7 +40,7 @@ fn launch(_: &View<'_>, commands: &mut SystemCommands<'_>) -> Result<(), OutOfMe
 fn age(view: &View<'_>, commands: &mut SystemCommands<'_>) -> Result<(), OutOfMemory> {
     for one in view.with(AGE)? {
         match view.get(one, AGE) {
-            Some(age) if age < LIMIT => commands.insert(one, &[(AGE, age + 1)])?,
+            Some(age) if age < LIMIT => commands.insert_with(one, &[(AGE, age + 1)])?,
             _ => commands.despawn(one)?,
         }
     }
@@ -51,7 +51,7 @@ fn age(view: &View<'_>, commands: &mut SystemCommands<'_>) -> Result<(), OutOfMe
 /// and this one is a fault.
 fn aim(view: &View<'_>, commands: &mut SystemCommands<'_>) -> Result<(), OutOfMemory> {
     match view.with(AGE)?.first() {
-        Some(oldest) => commands.insert(*oldest, &[(TARGET, 1)]),
+        Some(oldest) => commands.insert_with(*oldest, &[(TARGET, 1)]),
         None => Ok(()),
     }
 }

@@ -1,17 +1,9 @@
 //! Frames: systems run on workers over one world, and the sync point applies what they issued.
 
-use crate::errors::OutOfMemory;
 use crate::kit::thread::StdThreads;
-use crate::proved::ent_handle::Memory;
-use crate::proved::ent_runner::{self, NoGate};
-use crate::proved::ent_total::Unframed;
-use crate::proved::{ent_queue, ent_world};
-use crate::report::Report;
-use crate::sync::{Queues, Stopped, SyncError};
-use crate::system::System;
-use crate::system_commands::SystemCommands;
-use crate::view::View;
-use crate::world::World;
+use crate::proved::ent_runner::NoGate;
+use crate::proved::ent_total;
+use crate::{OutOfMemory, Report, System, SystemCommands, View, World};
 use alloc::boxed::Box;
 use alloc::vec::Vec;
 use core::any::Any;
@@ -19,6 +11,8 @@ use core::error::Error;
 use core::fmt;
 use std::panic::{catch_unwind, resume_unwind, AssertUnwindSafe};
 use std::sync::{Mutex, PoisonError};
+
+pub use crate::proved::ent_total::FrameError;
 
 /// Runs each system once, on that many workers side by side, and then the sync point. It returns
 /// the report of the sync point.
@@ -32,7 +26,7 @@ use std::sync::{Mutex, PoisonError};
 /// Which handles a system gets depends on the workers. The births, the components and the faults don't, as
 /// long as
 ///
-/// - no spawn is refused: if slots or a credit run out, late requests are refused, and which requests are
+/// - no spawn is refused: if slots or a quota run out, late requests are refused, and which requests are
 ///   late depends on the workers;
 /// - no allocation fails;
 /// - nothing depends on handles: no system compares them or keeps them as values, and no two entities have
@@ -45,20 +39,20 @@ use std::sync::{Mutex, PoisonError};
 ///
 /// const AGE: ComponentId = ComponentId(0);
 ///
-/// fn launch(_: View<'_>, commands: &mut SystemCommands<'_, '_>) -> Result<(), OutOfMemory> {
-///     commands.spawn(&[(AGE, 0)]).map_or_else(|refused| refused.or_memory(), |_| Ok(()))
+/// fn launch(_: &View<'_>, commands: &mut SystemCommands<'_>) -> Result<(), OutOfMemory> {
+///     commands.spawn_with(&[(AGE, 0)]).map_or_else(|refused| refused.or_memory(), |_| Ok(()))
 /// }
 ///
-/// fn age(view: View<'_>, commands: &mut SystemCommands<'_, '_>) -> Result<(), OutOfMemory> {
+/// fn age(view: &View<'_>, commands: &mut SystemCommands<'_>) -> Result<(), OutOfMemory> {
 ///     for one in view.with(AGE)? {
 ///         let age = view.get(one, AGE).unwrap_or(0);
-///         commands.insert(one, &[(AGE, age + 1)])?;
+///         commands.insert_with(one, &[(AGE, age + 1)])?;
 ///     }
 ///     Ok(())
 /// }
 ///
 /// let mut world = World::new();
-/// let systems: [fn(View<'_>, &mut SystemCommands<'_, '_>) -> _; 2] = [launch, age];
+/// let systems: [fn(&View<'_>, &mut SystemCommands<'_>) -> _; 2] = [launch, age];
 /// for _ in 0..3 {
 ///     run_frame(&mut world, &systems, 4)?;
 /// }
@@ -75,8 +69,8 @@ use std::sync::{Mutex, PoisonError};
 /// - [`Lost`](FrameError::Lost): a system returned an error, or systems are left and no worker has
 ///   memory for another one. No command was applied. What the systems that ran had reserved stays
 ///   reserved, and nothing else is: [`World::flush`] brings it to life, without components.
-/// - [`Sync`](FrameError::Sync): all systems ran, and the sync point ran out of memory. It may be made
-///   again, or go on.
+/// - [`Unapplied`](FrameError::Unapplied) and [`Stopped`](FrameError::Stopped): all systems ran, and
+///   the sync point ran out of memory. It may be made again, or go on.
 ///
 /// # Panics
 ///
@@ -88,7 +82,7 @@ use std::sync::{Mutex, PoisonError};
 ///
 /// With more than one worker, threads are started as [`std::thread::scope`] starts them. If memory
 /// for that runs out, it ends the process.
-pub fn run_frame<S: System>(
+pub fn run_frame<S: System + Sync>(
     world: &mut World,
     systems: &[S],
     workers: usize,
@@ -98,13 +92,11 @@ pub fn run_frame<S: System>(
         return Err(FrameError::Memory);
     }
     guarded.extend(systems.iter().map(Guarded::new));
-    let proved = &mut world.proved;
-    let ran = proved.run_frame(&StdThreads, &guarded, workers, &NoGate);
-    let panic = guarded.into_iter().find_map(Guarded::panic);
-    if let Some(panic) = panic {
+    let ran = ent_total::run_frame(&StdThreads, world, &guarded, workers, &NoGate);
+    if let Some(panic) = guarded.into_iter().find_map(Guarded::panic) {
         resume_unwind(panic);
     }
-    Ok(Report::of(ran?.sync))
+    Ok(ran?.sync)
 }
 
 /// What a panic was raised with.
@@ -132,59 +124,29 @@ impl<'a, S: System> Guarded<'a, S> {
     }
 }
 
-impl<S: System> ent_runner::System for Guarded<'_, S> {
+impl<S: System> System for Guarded<'_, S> {
     /// A system that panics has stopped, like one that ran out of memory: the frame is lost, and the
     /// world is closed with what was reserved.
-    fn run(
-        &self,
-        view: &ent_world::View<'_>,
-        commands: &mut ent_queue::Commands<'_>,
-    ) -> Result<(), Memory> {
-        let mut commands = SystemCommands::of(commands);
+    fn run(&self, view: &View<'_>, commands: &mut SystemCommands<'_>) -> Result<(), OutOfMemory> {
         // Nothing that a panic leaves half done is looked at: what was issued is dropped.
-        let run = AssertUnwindSafe(|| self.system.run(View::of(view), &mut commands));
-        match catch_unwind(run) {
-            Ok(ran) => ran.map_err(|OutOfMemory| Memory),
-            Err(panic) => {
-                *self.panic.lock().unwrap_or_else(PoisonError::into_inner) = Some(panic);
-                Err(Memory)
-            }
-        }
+        let run = AssertUnwindSafe(|| self.system.run(view, commands));
+        catch_unwind(run).unwrap_or_else(|panic| {
+            *self.panic.lock().unwrap_or_else(PoisonError::into_inner) = Some(panic);
+            Err(OutOfMemory)
+        })
     }
 }
 
-/// Why a frame didn't do all.
-#[derive(Debug)]
-pub enum FrameError {
-    /// Handles were requested since the last flush. No system ran, and the world is as it was.
-    NeedsFlush,
-    /// The number of workers isn't one from 1 to 64. No system ran, and the world is as it was.
-    Workers,
-    /// There are more than 65,536 systems. None of them ran, and the world is as it was.
-    Systems,
-    /// Memory ran out before any system ran. The world is as it was.
-    Memory,
-    /// A system returned an error, or systems are left and no worker has memory for another one. No
-    /// command was applied. The handles that the systems reserved stay reserved, and no others: the
-    /// next flush brings them to life, without components.
-    Lost,
-    /// All systems ran, and the sync point did not do all. It has the queues.
-    Sync(SyncError),
-}
-
-impl From<Unframed> for FrameError {
-    fn from(refused: Unframed) -> Self {
-        match refused {
-            Unframed::NeedsFlush => Self::NeedsFlush,
-            Unframed::Workers => Self::Workers,
-            Unframed::Systems => Self::Systems,
-            Unframed::Memory => Self::Memory,
-            Unframed::Lost => Self::Lost,
-            Unframed::Unapplied(queues) => Self::Sync(SyncError::Memory(Queues::of(queues))),
-            Unframed::Stopped(stopped, so_far) => {
-                let stopped = Stopped::at(stopped, Report::of(so_far));
-                Self::Sync(SyncError::Stopped(stopped))
-            }
+impl fmt::Debug for FrameError {
+    fn fmt(&self, out: &mut fmt::Formatter<'_>) -> fmt::Result {
+        match self {
+            Self::NeedsFlush => out.write_str("NeedsFlush"),
+            Self::Workers => out.write_str("Workers"),
+            Self::Systems => out.write_str("Systems"),
+            Self::Memory => out.write_str("Memory"),
+            Self::Lost => out.write_str("Lost"),
+            Self::Unapplied(queues) => out.debug_tuple("Unapplied").field(queues).finish(),
+            Self::Stopped(stopped) => out.debug_tuple("Stopped").field(stopped).finish(),
         }
     }
 }
@@ -197,7 +159,8 @@ impl fmt::Display for FrameError {
             Self::Systems => out.write_str("a frame has at most 65,536 systems"),
             Self::Memory => out.write_str("out of memory before any system ran"),
             Self::Lost => out.write_str("out of memory while the systems ran"),
-            Self::Sync(error) => write!(out, "the sync point stopped: {error}"),
+            Self::Unapplied(_) => out.write_str("the sync point stopped: out of memory"),
+            Self::Stopped(stopped) => write!(out, "the sync point stopped: {stopped}"),
         }
     }
 }

@@ -30,6 +30,14 @@ impl<'a, T: Default, P> Lending<'a, T, P> {
         }
     }
 
+    /// Puts the value back by this closure, and returns what else the closure makes of the parts.
+    pub(crate) fn end<R>(mut self, back: impl FnOnce(P) -> (T, R)) -> R {
+        let parts = self.parts.take().expect("they are away until the drop");
+        let (value, rest) = back(parts);
+        *self.home = value;
+        rest
+    }
+
     /// The parts.
     pub(crate) fn parts(&mut self) -> &mut P {
         self.parts.as_mut().expect("they are away until the drop")

@@ -6,7 +6,7 @@
 //! the contract of each proved call is below its docs.
 //!
 //! ```
-//! use forgeni::Entities;
+//! use forgeni::{Entities, State};
 //!
 //! let mut entities = Entities::new();
 //! let first = entities.alloc()?;
@@ -15,7 +15,7 @@
 //! assert_eq!(entities.len(), 2);
 //!
 //! entities.free(first)?;
-//! assert!(!entities.is_alive(first));
+//! assert_eq!(entities.state(first), State::Gone);
 //! assert!(entities.is_alive(second));
 //!
 //! // The slot is used again, by a handle of the next generation.
@@ -42,6 +42,11 @@
 //!         });
 //!     }
 //! });
+//!
+//! // From now on the first one reserves after all that the second one has reserved.
+//! let (first, others) = reservers.split_at_mut(1);
+//! first[0].meet(&mut others[0])?;
+//!
 //! let mut entities = shared.close(reservers)?;
 //! assert_eq!(entities.len(), 0);
 //! entities.flush(&mut Vec::new())?;
@@ -70,7 +75,15 @@
 //! let mut names = HandleMap::new();
 //! let cart = entities.alloc()?;
 //! names.insert(cart, String::from("cart"))?;
-//! assert_eq!(names[cart], "cart");
+//! names[cart].push('s');
+//! for (one, name) in &names {
+//!     assert!(entities.is_alive(one) && name == "carts");
+//! }
+//!
+//! // A map knows no allocator, so take out the values of what you free.
+//! entities.free(cart)?;
+//! assert_eq!(names.remove(cart).as_deref(), Some("carts"));
+//! assert_eq!(names.get(cart), None);
 //! # Ok::<(), Box<dyn std::error::Error + Send + Sync>>(())
 //! ```
 //!
@@ -143,7 +156,8 @@
 //!
 //! - [`Entities::share`], [`Entities::phase`] and [`World::open`] make an `Arc`. They ask for as much memory before, and
 //!   say so if it is refused. So only another thread can take it in between.
-//! - Handles of a slice or an array become an answer of a [`trace::Call`].
+//! - Handles of a slice or an array become an answer of a [`trace::Call`], or a call or an error of a trace is
+//!   cloned.
 //! - A [`trace::Checker`] notes the first reservation of a caller in a run. It asks for as much memory
 //!   before, as for an `Arc`.
 //! - A [`HandleMap`] is cloned, extended, collected, or used up by an iterator. `Reservers::into_inner`
@@ -185,7 +199,6 @@ extern crate alloc;
 #[cfg(any(feature = "std", test))]
 extern crate std;
 
-mod commands;
 mod component;
 mod entities;
 mod errors;
@@ -198,7 +211,6 @@ mod kit;
 mod lending;
 mod lent;
 mod numbers;
-mod open_world;
 mod phase;
 #[cfg(feature = "programs")]
 #[doc(hidden)]
@@ -207,7 +219,6 @@ pub mod programs;
 #[allow(unused_assignments, unused_labels)]
 #[rustfmt::skip]
 mod proved;
-mod report;
 #[cfg(feature = "std")]
 mod reservers;
 #[cfg(test)]
@@ -217,16 +228,12 @@ mod storage;
 mod sync;
 #[cfg(feature = "std")]
 mod system;
-#[cfg(feature = "std")]
-mod system_commands;
 pub mod trace;
-#[cfg(feature = "std")]
-mod view;
 #[cfg(feature = "std")]
 mod waiting;
 mod world;
+mod world_phase;
 
-pub use commands::{CommandQueue, Commands, SpawnError};
 pub use component::{Birth, ComponentId};
 pub use entities::{Entities, Freed, Living, State};
 pub use errors::{Absent, AllocError, FreeError, OutOfMemory, Refused, ReserveError};
@@ -235,18 +242,15 @@ pub use frames::{run_frame, FrameError};
 pub use handle::{Handle, ParseHandleError};
 pub use handle_map::{HandleMap, InsertError, Uninserted};
 pub use lent::Lent;
-pub use open_world::{FinishError, OpenError, OpenWorld, Unfinished, Unopened};
 pub use proved::ent_alloc::Limits;
-pub use report::{Fault, FaultKind, Report};
 #[cfg(feature = "std")]
 pub use reservers::{Lends, Reservers, Unpooled};
 pub use sharing::{CloseError, OtherPhase, Reserver, ShareError, Shared, Unclosed, Unshared};
 pub use storage::{Bundle, Items, Storage, StorageError};
-pub use sync::{GoOnError, Queues, Stopped, SyncError, SyncErrorKind};
+pub use sync::{Fault, FaultKind, GoOnError, Queues, Report, Stop, Stopped, SyncError};
 #[cfg(feature = "std")]
-pub use system::System;
-#[cfg(feature = "std")]
-pub use system_commands::SystemCommands;
-#[cfg(feature = "std")]
-pub use view::View;
-pub use world::World;
+pub use system::{system, System, SystemCommands};
+pub use world::{
+    CommandQueue, Commands, FinishError, OpenWorld, Unfinished, Unopened, View, World,
+};
+pub use world_phase::LentCommands;

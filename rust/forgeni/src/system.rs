@@ -1,56 +1,70 @@
 //! Systems of frames.
 
-use crate::errors::OutOfMemory;
-use crate::system_commands::SystemCommands;
-use crate::view::View;
+use crate::{OutOfMemory, View};
 use alloc::boxed::Box;
+use alloc::sync::Arc;
+use core::fmt;
 
-/// A system: it reads the world as the frame began, and issues commands that take effect at the
-/// frame's sync point.
+pub use crate::proved::ent_queue::Commands as SystemCommands;
+pub use crate::proved::ent_runner::System;
+
+/// The closure itself, as a [`System`]. By this call Rust knows the types of its parameters:
 ///
-/// One value of it may run on any worker, so what it knows of the world is what the view says. A
-/// function is a system, and so is a closure that says the types of its parameters. Systems of
-/// several types go into one list as `&dyn System` or in boxes.
-pub trait System: Sync {
-    /// Runs it once.
-    ///
-    /// # Errors
-    ///
-    /// `OutOfMemory`, if memory was refused to the system. The whole frame is then
-    /// [`Lost`](crate::FrameError::Lost), and what the system had reserved stays reserved.
-    fn run(&self, view: View<'_>, commands: &mut SystemCommands<'_, '_>)
-        -> Result<(), OutOfMemory>;
+/// ```
+/// use forgeni::{run_frame, system, World};
+///
+/// let launch = system(|_view, commands| match commands.spawn_with(&[]) {
+///     Ok(_) => Ok(()),
+///     Err(refused) => refused.or_memory(),
+/// });
+/// let mut world = World::new();
+/// run_frame(&mut world, &[launch], 1)?;
+/// assert_eq!(world.len(), 1);
+/// # Ok::<(), forgeni::FrameError>(())
+/// ```
+pub fn system<F>(run: F) -> F
+where
+    F: Fn(&View<'_>, &mut SystemCommands<'_>) -> Result<(), OutOfMemory>,
+{
+    run
 }
 
 impl<F> System for F
 where
-    F: Fn(View<'_>, &mut SystemCommands<'_, '_>) -> Result<(), OutOfMemory> + Sync,
+    F: Fn(&View<'_>, &mut SystemCommands<'_>) -> Result<(), OutOfMemory>,
 {
-    fn run(
-        &self,
-        view: View<'_>,
-        commands: &mut SystemCommands<'_, '_>,
-    ) -> Result<(), OutOfMemory> {
+    fn run(&self, view: &View<'_>, commands: &mut SystemCommands<'_>) -> Result<(), OutOfMemory> {
         self(view, commands)
     }
 }
 
-impl System for &(dyn System + '_) {
-    fn run(
-        &self,
-        view: View<'_>,
-        commands: &mut SystemCommands<'_, '_>,
-    ) -> Result<(), OutOfMemory> {
-        (**self).run(view, commands)
-    }
+/// Systems of several types go into one list behind these.
+macro_rules! systems_behind {
+    ($([$($of:tt)*] $pointer:ty;)*) => {$(
+        impl $($of)* System for $pointer {
+            fn run(
+                &self,
+                view: &View<'_>,
+                commands: &mut SystemCommands<'_>,
+            ) -> Result<(), OutOfMemory> {
+                (**self).run(view, commands)
+            }
+        }
+    )*};
 }
 
-impl System for Box<dyn System + '_> {
-    fn run(
-        &self,
-        view: View<'_>,
-        commands: &mut SystemCommands<'_, '_>,
-    ) -> Result<(), OutOfMemory> {
-        (**self).run(view, commands)
+systems_behind! {
+    [] &(dyn System + '_);
+    [] &(dyn System + Sync + '_);
+    [] &(dyn System + Send + Sync + '_);
+    [] Box<dyn System + '_>;
+    [] Box<dyn System + Sync + '_>;
+    [] Box<dyn System + Send + Sync + '_>;
+    [<S: System + ?Sized>] Arc<S>;
+}
+
+impl fmt::Debug for SystemCommands<'_> {
+    fn fmt(&self, out: &mut fmt::Formatter<'_>) -> fmt::Result {
+        out.debug_struct("SystemCommands").finish_non_exhaustive()
     }
 }

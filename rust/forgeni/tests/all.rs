@@ -18,6 +18,7 @@ mod model;
 mod panics;
 mod phases;
 mod recording;
+mod reserving;
 mod sharing;
 mod storage_model;
 mod texts;

@@ -190,12 +190,12 @@ fn finished(systems: Vec<Commands>) -> Vec<CommandQueue> {
 fn worlds() {
     let mut world = World::new();
     for count in [1, 10, 1_000] {
-        let most = (APART + 32) * count + 1_024;
+        // The systems, their reservers, and the list that a sync point reads.
+        let most = (APART + 32 + 32) * count + 1_024;
         let (open, systems) = at_most(most, || world.open(count).expect("memory"));
         let queues = finished(systems);
-        // The list that a sync point reads. A list has room for four.
-        let close = || open.close(queues).expect("memory");
-        let (closed, queues) = at_most(32 * count.max(4), close);
+        // The opening has made room for the list that a sync point reads.
+        let (closed, queues) = exactly(0, || open.close(queues).expect("closed"));
         world = closed;
         exactly(0, || world.apply(queues).expect("memory"));
     }
@@ -241,17 +241,17 @@ fn storages() {
 fn traces() {
     let all: Vec<Handle> = (0..N).map(|index| handle(index, 1)).collect();
     let mut checker = Checker::new(Limits::GREATEST);
-    let run = [Reservation::new(0, N, all.clone())];
-    // Two copies of the handles, and what the allocator answers, which is built one by one.
+    let run = vec![Reservation::new(0, N, all.clone())];
+    // What the allocator answers, which is compared with what was told.
     at_most((2 * HANDLE) * BYTES + grown(HANDLE), || {
-        checker.run(&run).expect("it agrees");
+        checker.run(run).expect("it agrees");
     });
     at_most((2 * HANDLE + SLOT) * BYTES + grown(HANDLE), || {
         checker.flush(&all[..]).expect("it agrees");
     });
 
     let mut log = Log::new(0);
-    at_most(grown(32), || {
+    at_most(grown(40), || {
         for left in 0..N {
             log.push(1, ReserveReply::SpaceLeft(left)).expect("memory");
         }
@@ -268,7 +268,7 @@ mod threads {
     /// Of each system: what guards it, its place, its queue, and a list that grows by each.
     #[test]
     fn frames() {
-        let system = |_: View<'_>, _: &mut SystemCommands<'_, '_>| Ok(());
+        let system = |_: &View<'_>, _: &mut SystemCommands<'_>| Ok(());
         for count in [1 << 8, 1 << 11] {
             let (mut world, systems) = (World::new(), vec![system; count]);
             let most = (3 * 32 + 4 * 40) * count + 1_024;

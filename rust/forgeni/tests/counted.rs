@@ -103,7 +103,7 @@ fn lists_of_a_phase(world: World, count: u32) -> World {
     let queues = systems.into_iter().map(Commands::finish).collect();
     let (mut world, queues) = open.close(queues).expect("closed");
     let report = world.apply(queues).expect("memory is ample");
-    assert_eq!(report.born(), given);
+    assert_eq!(report.born, given);
     world
 }
 

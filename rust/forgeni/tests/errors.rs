@@ -3,9 +3,9 @@
 use forgeni::{
     Absent, AllocError, CloseError, CommandQueue, Commands, ComponentId, Entities, Fault,
     FinishError, FreeError, Freed, GoOnError, Handle, HandleMap, InsertError, Lent, Limits,
-    OpenError, OpenWorld, OtherPhase, OutOfMemory, ParseHandleError, Queues, Refused, Report,
-    ReserveError, Reserver, ShareError, Shared, SpawnError, State, Stopped, Storage, StorageError,
-    SyncError, SyncErrorKind, Unclosed, Unfinished, Uninserted, Unopened, Unshared, World,
+    OpenWorld, OtherPhase, OutOfMemory, ParseHandleError, Queues, Refused, Report, ReserveError,
+    Reserver, ShareError, Shared, State, Stop, Stopped, Storage, StorageError, SyncError, Unclosed,
+    Unfinished, Uninserted, Unopened, Unshared, World,
 };
 use std::error::Error;
 
@@ -24,7 +24,7 @@ fn each_error_travels() {
     travels::<GoOnError>();
     travels::<Uninserted<String>>();
     travels::<InsertError>();
-    travels::<OpenError>();
+    travels::<ShareError>();
     travels::<OtherPhase>();
     travels::<OutOfMemory>();
     travels::<ParseHandleError>();
@@ -32,9 +32,9 @@ fn each_error_travels() {
     travels::<ReserveError>();
     travels::<ShareError>();
     travels::<StorageError>();
-    travels::<SpawnError>();
+    travels::<ReserveError>();
     travels::<SyncError>();
-    travels::<SyncErrorKind>();
+    travels::<Stop>();
     travels::<Unclosed>();
     travels::<Unfinished>();
     travels::<Unopened>();
@@ -61,7 +61,7 @@ type Boxed = Box<dyn Error + Send + Sync>;
 
 /// A share without callers.
 fn not_shared() -> Result<(), Boxed> {
-    Entities::new().share(0)?;
+    let _ = Entities::new().share(0)?;
     Ok(())
 }
 
@@ -74,13 +74,13 @@ fn not_closed() -> Result<(), Boxed> {
 
 /// A world without systems, and one whose queues are lost.
 fn not_opened() -> Result<(), Boxed> {
-    World::new().open(0)?;
+    let _ = World::new().open(0)?;
     Ok(())
 }
 
 fn not_finished() -> Result<(), Boxed> {
     let (open, _systems) = World::new().open(1)?;
-    open.close(vec![])?;
+    let _ = open.close(vec![])?;
     Ok(())
 }
 
@@ -96,12 +96,9 @@ fn not_applied() -> Result<(), Boxed> {
 #[test]
 fn each_is_handed_on() {
     let said = |ran: Result<(), Boxed>| ran.expect_err("refused").to_string();
-    assert_eq!(
-        said(not_shared()),
-        "an allocator is shared among 1 to 1,024 callers"
-    );
+    assert_eq!(said(not_shared()), "a phase has 1 to 1,024 callers");
     assert_eq!(said(not_closed()), "missing reservers: 2");
-    assert_eq!(said(not_opened()), "a phase has 1 to 1,024 systems");
+    assert_eq!(said(not_opened()), "a phase has 1 to 1,024 callers");
     assert_eq!(said(not_finished()), "missing queues: 1");
     assert_eq!(said(not_applied()), "the queues are of another world");
 }
@@ -128,7 +125,7 @@ fn the_parts_of_each() {
 
     let refused = World::new().open(0).expect_err("no systems");
     let (world, error) = refused.into_parts();
-    assert_eq!((world.len(), error), (0, OpenError::Count));
+    assert_eq!((world.len(), error), (0, ShareError::Count));
     let (open, systems) = world.open(2).expect("opened");
     let refused = open.close(vec![]).expect_err("two are missing");
     let (open, none, error) = refused.into_parts();
@@ -137,9 +134,8 @@ fn the_parts_of_each() {
     let (mut world, queues) = open.close(queues).expect("closed");
 
     let refused = World::new().apply(queues).expect_err("of another world");
-    let (left, error) = refused.into_parts();
-    assert_eq!(error, SyncErrorKind::OtherWorld);
-    let queues = left.expect("nothing was done");
+    assert!(matches!(refused, SyncError::OtherWorld(_)));
+    let queues = refused.into_parts().expect("nothing was done");
     assert!(world.apply(queues).is_ok());
 
     let mut entities = Entities::with_limits(Limits::new(2, 1).expect("limits"));

@@ -5,7 +5,7 @@
 use crate::common::{handle, seeds, Numbers};
 use forgeni::{
     run_frame, Birth, Commands, ComponentId, FaultKind, FrameError, Handle, Limits, OutOfMemory,
-    Report, SpawnError, System, SystemCommands, View, World,
+    Report, ReserveError, System, SystemCommands, View, World,
 };
 use std::sync::atomic::{AtomicUsize, Ordering};
 use std::sync::Barrier;
@@ -29,24 +29,24 @@ enum Step {
 
 /// The two ways to issue commands.
 trait Issues {
-    fn spawn(&mut self, components: &[(ComponentId, i64)]) -> Result<Handle, SpawnError>;
-    fn spawn_many(&mut self, count: u32) -> Result<Vec<Handle>, SpawnError>;
+    fn spawn(&mut self, components: &[(ComponentId, i64)]) -> Result<Handle, ReserveError>;
+    fn spawn_many(&mut self, count: u32) -> Result<Vec<Handle>, ReserveError>;
     fn insert(&mut self, handle: Handle, value: (ComponentId, i64));
     fn remove(&mut self, handle: Handle);
     fn despawn(&mut self, handle: Handle);
 }
 
 macro_rules! issues {
-    ($type:ty) => {
+    ($type:ty, $spawn:ident, $spawn_many:ident, $insert:ident) => {
         impl Issues for $type {
-            fn spawn(&mut self, components: &[(ComponentId, i64)]) -> Result<Handle, SpawnError> {
-                self.spawn(components)
+            fn spawn(&mut self, components: &[(ComponentId, i64)]) -> Result<Handle, ReserveError> {
+                self.$spawn(components)
             }
-            fn spawn_many(&mut self, count: u32) -> Result<Vec<Handle>, SpawnError> {
-                self.spawn_many(count, &[(AGE, 0), (HP, 5)])
+            fn spawn_many(&mut self, count: u32) -> Result<Vec<Handle>, ReserveError> {
+                self.$spawn_many(count, &[(AGE, 0), (HP, 5)])
             }
             fn insert(&mut self, handle: Handle, value: (ComponentId, i64)) {
-                self.insert(handle, &[value]).expect("memory");
+                self.$insert(handle, &[value]).expect("memory");
             }
             fn remove(&mut self, handle: Handle) {
                 self.remove(handle, HP).expect("memory");
@@ -58,8 +58,8 @@ macro_rules! issues {
     };
 }
 
-issues!(Commands);
-issues!(SystemCommands<'_, '_>);
+issues!(Commands, spawn, spawn_many, insert);
+issues!(SystemCommands<'_>, spawn_with, spawn_many_with, insert_with);
 
 /// The living when the phase began: by birth, and the age of each that has one.
 struct Living {
@@ -112,11 +112,7 @@ fn run_steps(steps: &[Step], living: &Living, commands: &mut impl Issues) {
 struct Script(Vec<Step>);
 
 impl System for Script {
-    fn run(
-        &self,
-        view: View<'_>,
-        commands: &mut SystemCommands<'_, '_>,
-    ) -> Result<(), OutOfMemory> {
+    fn run(&self, view: &View<'_>, commands: &mut SystemCommands<'_>) -> Result<(), OutOfMemory> {
         let all = view.by_birth()?;
         let age = |one| (one, view.get(one, AGE).expect("it has one"));
         let aged = view.with(AGE)?.into_iter().map(age).collect();
@@ -162,9 +158,9 @@ fn story(world: &World, report: &Report) -> Story {
     let living = world.by_birth().expect("memory");
     let one = |one| {
         let birth = world.birth(one).expect("alive");
-        (birth, world.items(one).expect("alive"))
+        (birth, world.items(one).expect("alive").collect())
     };
-    let faults = report.faults().iter().map(|fault| {
+    let faults = report.faults.iter().map(|fault| {
         let kind = match fault.kind {
             FaultKind::NotAlive(_) => None,
             refused => Some(refused),
@@ -172,7 +168,7 @@ fn story(world: &World, report: &Report) -> Story {
         (fault.system, fault.command, kind)
     });
     let told = living.into_iter().map(one).collect();
-    (told, report.born().len(), faults.collect())
+    (told, report.born.len(), faults.collect())
 }
 
 /// The systems one after the other, without a frame.
@@ -213,11 +209,11 @@ fn play(seed: u64, workers: &[usize]) {
             let place = format!("seed {seed}, frame {frame}, {workers} workers");
             let own = run_frame(world, &scripts, *workers).expect("memory");
             assert_eq!(story(world, &own), story(&wanted, &report), "{place}");
-            assert_eq!(world.phase(), wanted.phase(), "{place}");
+            assert_eq!(world.frame(), wanted.frame(), "{place}");
             assert!(!world.needs_flush(), "{place}");
             if *workers == 1 {
-                assert_eq!(own.born(), report.born(), "{place}");
-                assert_eq!(own.faults(), report.faults(), "{place}");
+                assert_eq!(own.born, report.born, "{place}");
+                assert_eq!(own.faults, report.faults, "{place}");
             }
         }
     }
@@ -242,8 +238,8 @@ fn refused_spawns_are_faults() {
         Script(vec![Step::SpawnMany(3)]),
     ];
     let report = run_frame(&mut world, &scripts, 1).expect("memory");
-    assert_eq!(report.born(), [handle(0, 1), handle(1, 1)]);
-    let faults: Vec<FaultKind> = report.faults().iter().map(|fault| fault.kind).collect();
+    assert_eq!(report.born, [handle(0, 1), handle(1, 1)]);
+    let faults: Vec<FaultKind> = report.faults.iter().map(|fault| fault.kind).collect();
     assert_eq!(faults, [FaultKind::Space { wanted: 3, left: 1 }]);
 }
 
@@ -251,19 +247,19 @@ fn refused_spawns_are_faults() {
 /// reserve.
 fn two_spawns(world: &mut World, workers: usize) -> Report {
     let order = Barrier::new(workers);
-    let first = |_: View<'_>, commands: &mut SystemCommands<'_, '_>| {
+    let first = |_: &View<'_>, commands: &mut SystemCommands<'_>| {
         order.wait();
-        let spawned = commands.spawn(&[]);
-        spawned.map_or_else(SpawnError::or_memory, |_| Ok(()))
+        let spawned = commands.spawn_with(&[]);
+        spawned.map_or_else(ReserveError::or_memory, |_| Ok(()))
     };
-    let second = |_: View<'_>, commands: &mut SystemCommands<'_, '_>| {
-        let spawned = commands.spawn(&[]);
+    let second = |_: &View<'_>, commands: &mut SystemCommands<'_>| {
+        let spawned = commands.spawn_with(&[]);
         if workers == 2 {
             order.wait();
         }
-        spawned.map_or_else(SpawnError::or_memory, |_| Ok(()))
+        spawned.map_or_else(ReserveError::or_memory, |_| Ok(()))
     };
-    let systems: [&dyn System; 2] = [&first, &second];
+    let systems: [&(dyn System + Sync); 2] = [&first, &second];
     run_frame(world, &systems, workers).expect("memory")
 }
 
@@ -286,7 +282,7 @@ fn refusals_depend_on_the_workers() {
         let mut world = World::with_limits(Limits::new(1, 1).expect("limits"));
         let report = two_spawns(&mut world, workers);
         assert_eq!(births(&world), [(birth.to_string(), None)]);
-        let faults: Vec<_> = report.faults().iter().map(|fault| fault.system).collect();
+        let faults: Vec<_> = report.faults.iter().map(|fault| fault.system).collect();
         assert_eq!(faults, [late]);
     }
 }
@@ -327,7 +323,7 @@ fn births_between_frames() {
 fn workers_overlap() {
     for workers in [2, 4, 16] {
         let together = Barrier::new(workers);
-        let system = |_: View<'_>, _: &mut SystemCommands<'_, '_>| {
+        let system = |_: &View<'_>, _: &mut SystemCommands<'_>| {
             together.wait();
             Ok(())
         };
@@ -340,7 +336,7 @@ fn workers_overlap() {
 fn each_system_runs_once() {
     let runs: Vec<AtomicUsize> = (0..1_000).map(|_| AtomicUsize::new(0)).collect();
     let system = |count| {
-        move |_: View<'_>, _: &mut SystemCommands<'_, '_>| {
+        move |_: &View<'_>, _: &mut SystemCommands<'_>| {
             let count: &AtomicUsize = count;
             count.fetch_add(1, Ordering::Relaxed);
             Ok(())
@@ -359,15 +355,15 @@ fn each_system_runs_once() {
 /// Systems of several types, as references and in boxes.
 #[test]
 fn systems_of_several_types() {
-    fn launch(_: View<'_>, commands: &mut SystemCommands<'_, '_>) -> Result<(), OutOfMemory> {
-        commands.spawn(&[(AGE, 3)]).expect("a handle");
+    fn launch(_: &View<'_>, commands: &mut SystemCommands<'_>) -> Result<(), OutOfMemory> {
+        commands.spawn_with(&[(AGE, 3)]).expect("a handle");
         Ok(())
     }
     let script = Script(vec![Step::Age]);
     let mut world = World::new();
-    let systems: [&dyn System; 2] = [&launch, &script];
+    let systems: [&(dyn System + Sync); 2] = [&launch, &script];
     run_frame(&mut world, &systems, 2).expect("memory");
-    let boxed: Vec<Box<dyn System>> = vec![Box::new(launch), Box::new(script)];
+    let boxed: Vec<Box<dyn System + Send + Sync>> = vec![Box::new(launch), Box::new(script)];
     run_frame(&mut world, &boxed, 2).expect("memory");
     let ages = world.by_birth().expect("memory");
     let ages: Vec<_> = ages.into_iter().map(|one| world.get(one, AGE)).collect();
@@ -380,7 +376,7 @@ fn systems_of_several_types() {
 /// If a system runs out of memory, the frame is lost, even if the system is lent or boxed.
 #[test]
 fn systems_that_lack_memory() {
-    fn lacks(_: View<'_>, _: &mut SystemCommands<'_, '_>) -> Result<(), OutOfMemory> {
+    fn lacks(_: &View<'_>, _: &mut SystemCommands<'_>) -> Result<(), OutOfMemory> {
         Err(OutOfMemory)
     }
     let lost = |ran: Result<Report, FrameError>| {
@@ -388,11 +384,11 @@ fn systems_that_lack_memory() {
     };
     let mut world = World::new();
     lost(run_frame(&mut world, &[lacks], 1));
-    let lent: &dyn System = &lacks;
+    let lent: &(dyn System + Sync) = &lacks;
     lost(run_frame(&mut world, &[lent], 1));
-    let boxed: Box<dyn System> = Box::new(lacks);
+    let boxed: Box<dyn System + Send + Sync> = Box::new(lacks);
     lost(run_frame(&mut world, &[boxed], 1));
-    assert_eq!((world.phase(), world.len()), (0, 0));
+    assert_eq!((world.frame(), world.len()), (0, 0));
 }
 
 /// Each command is in its queue, even one that sets nothing or takes out what isn't there: the fault of such a
@@ -403,22 +399,22 @@ fn no_command_is_lost() {
     let gone = world.spawn(&[]).expect("a handle");
     let lives = world.spawn(&[(HP, 1), (AGE, 2)]).expect("a handle");
     world.despawn(gone).expect("alive");
-    let system = |_: View<'_>, commands: &mut SystemCommands<'_, '_>| {
-        commands.insert(gone, &[])?;
-        commands.insert(gone, &[(HP, 1)])?;
-        commands.insert(lives, &[(HP, 7), (HP, 8)])?;
+    let system = |_: &View<'_>, commands: &mut SystemCommands<'_>| {
+        commands.insert_with(gone, &[])?;
+        commands.insert_with(gone, &[(HP, 1)])?;
+        commands.insert_with(lives, &[(HP, 7), (HP, 8)])?;
         commands.remove(gone, HP)?;
         commands.remove(lives, AGE)?;
         commands.remove(lives, AGE)?;
-        commands.insert(lives, &[])?;
+        commands.insert_with(lives, &[])?;
         commands.despawn(gone)
     };
     let report = run_frame(&mut world, &[system], 1).expect("memory");
-    let faults = report.faults().iter().map(|fault| fault.command);
+    let faults = report.faults.iter().map(|fault| fault.command);
     assert!(faults.eq([0, 1, 3, 7]));
     let all = |fault: &forgeni::Fault| fault.kind == FaultKind::NotAlive(gone);
-    assert!(report.faults().iter().all(all));
-    assert_eq!(world.items(lives), Some(vec![(HP, 8)]));
+    assert!(report.faults.iter().all(all));
+    assert_eq!(world.items(lives).map(Vec::from_iter), Some(vec![(HP, 8)]));
 }
 
 /// A view lists those with a component, or all, by birth; it tells what each had as the frame began.
@@ -439,9 +435,9 @@ fn what_a_view_tells() {
     let early = spawn(&mut world, 2, &[(AGE, 3), (HP, 4)]);
     let gone = spawn(&mut world, 1, &[(HP, 1)]);
     world.despawn(gone).expect("alive");
-    let system = |view: View<'_>, commands: &mut SystemCommands<'_, '_>| {
-        let spawned = commands.spawn(&[(HP, 1)]).expect("a handle");
-        commands.insert(late, &[(HP, 2)])?;
+    let system = |view: &View<'_>, commands: &mut SystemCommands<'_>| {
+        let spawned = commands.spawn_with(&[(HP, 1)]).expect("a handle");
+        commands.insert_with(late, &[(HP, 2)])?;
         assert_eq!(view.with(HP), Ok(vec![early, late]));
         assert_eq!(view.with(AGE), Ok(vec![early]));
         assert_eq!(view.with(ComponentId(9)), Ok(vec![]));
@@ -461,7 +457,7 @@ fn what_a_view_tells() {
 
 #[test]
 fn what_a_frame_wants() {
-    let nothing = |_: View<'_>, _: &mut SystemCommands<'_, '_>| Ok(());
+    let nothing = |_: &View<'_>, _: &mut SystemCommands<'_>| Ok(());
     let mut world = World::new();
     for workers in [0, 65, usize::MAX] {
         let refused = run_frame(&mut world, &[nothing], workers).expect_err("refused");
@@ -472,11 +468,11 @@ fn what_a_frame_wants() {
     run_frame(&mut world, &most, 2).expect("memory");
     let refused = run_frame(&mut world, &[nothing; 65_537], 2).expect_err("refused");
     assert!(matches!(refused, FrameError::Systems), "{refused}");
-    assert_eq!((world.phase(), world.len()), (1, 0));
+    assert_eq!((world.frame(), world.len()), (1, 0));
 
     // A frame of nothing ends a phase too.
     run_frame(&mut world, &most[..0], 64).expect("memory");
-    assert_eq!(world.phase(), 2);
+    assert_eq!(world.frame(), 2);
 
     let (open, mut systems) = world.open(1).expect("opened");
     systems[0].spawn(&[]).expect("a handle");
@@ -486,5 +482,5 @@ fn what_a_frame_wants() {
     assert!(matches!(refused, FrameError::NeedsFlush), "{refused}");
     world.apply(queues).expect("memory");
     run_frame(&mut world, &[nothing], 1).expect("memory");
-    assert_eq!((world.phase(), world.len()), (4, 1));
+    assert_eq!((world.frame(), world.len()), (4, 1));
 }

@@ -219,7 +219,7 @@ fn reserve_and_spawn() {
     assert!(!world.contains(one));
     world.flush().expect("memory");
     assert!(world.contains(one));
-    assert_eq!(world.items(one), Some(vec![]));
+    assert_eq!(world.items(one).map(Vec::from_iter), Some(vec![]));
 }
 
 /// Bevy: a handle of one world is only a name in another one: of whoever has that slot and

@@ -3,7 +3,7 @@
 use crate::common::{flushed, handle, small};
 use forgeni::{
     AllocError, Commands, ComponentId, Entities, Fault, FaultKind, Freed, Handle, HandleMap,
-    Limits, Refused, ReserveError, SpawnError, Storage, World,
+    Limits, Refused, ReserveError, Storage, World,
 };
 
 fn limits(slots: u32, generations: u32) -> Limits {
@@ -32,7 +32,7 @@ fn each_way_to_make_an_allocator() {
 
 /// A phase of this world that requests so many entities, and then so many more. What is left for the
 /// second.
-fn left_of(world: World, first: u32, second: u32) -> Result<usize, SpawnError> {
+fn left_of(world: World, first: u32, second: u32) -> Result<usize, ReserveError> {
     let (_open, mut systems) = world.open(1).expect("opened");
     systems[0].spawn_many(first, &[]).expect("handles");
     systems[0].spawn_many(second, &[]).map(|given| given.len())
@@ -44,11 +44,11 @@ fn each_way_to_make_a_world() {
         assert_eq!(left_of(world, 1, 200_000), Ok(200_000));
     }
     let few = limits(3, 1);
-    let made = World::try_with_limits(few).expect("it takes no memory");
+    let made = World::with_limits(few);
     for mut world in [made, World::with_limits(few)] {
         let one = world.spawn(&[]).expect("a handle");
         assert_eq!(world.despawn(one), Ok(Freed { next: None }));
-        let refused = SpawnError::Space { wanted: 2, left: 1 };
+        let refused = ReserveError::Space { wanted: 2, left: 1 };
         assert_eq!(left_of(world, 1, 2), Err(refused));
     }
 }
@@ -172,28 +172,25 @@ fn the_end_of_a_credit() {
     let only = &mut systems[0];
     for times in 0..TIMES {
         let left = u32::from(times == 0);
-        let refused = SpawnError::Space {
+        let refused = ReserveError::Space {
             wanted: WANTED,
             left,
         };
         assert_eq!(only.spawn_many(WANTED, &[(ALL, 1)]), Err(refused));
     }
-    let refused = SpawnError::Credit { left: 0 };
+    let refused = ReserveError::Quota { left: 0 };
     assert_eq!(only.spawn_many(WANTED, &[]), Err(refused));
     assert_eq!(only.spawn(&[]), Err(refused));
     let queues = systems.into_iter().map(Commands::finish).collect();
     let (mut world, queues) = open.close(queues).expect("closed");
     let report = world.apply(queues).expect("memory");
-    assert_eq!(report.faults().len(), TIMES as usize + 2);
+    assert_eq!(report.faults.len(), TIMES as usize + 2);
     let last = Fault {
         system: 0,
         command: TIMES as usize + 1,
-        kind: FaultKind::Credit { left: 0 },
+        kind: FaultKind::Quota { left: 0 },
     };
-    assert_eq!(
-        (report.faults().last(), report.born()),
-        (Some(&last), &[][..])
-    );
+    assert_eq!((report.faults.last(), report.born), (Some(&last), vec![]));
 }
 
 /// The placeholder is of no allocator, and no call takes it for one of its own.

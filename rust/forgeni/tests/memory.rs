@@ -6,8 +6,7 @@ mod common;
 
 use common::{flushed, this_program};
 use forgeni::{Commands, ComponentId, Entities, Fault, GoOnError, Handle, Limits};
-use forgeni::{OpenError, Queues, Report, ShareError, SpawnError};
-use forgeni::{Stopped, SyncError, SyncErrorKind, World};
+use forgeni::{Queues, Report, ReserveError, ShareError, Stop, Stopped, SyncError, World};
 use std::env;
 use std::process::Command;
 
@@ -102,7 +101,6 @@ impl Left {
                 other => panic!("{other}"),
             }),
             Self::Rest(stopped, _) => stopped.go_on(world).map_err(|why| match why {
-                GoOnError::Memory(stopped) => Self::Rest(stopped, false),
                 GoOnError::Stopped(stopped) => Self::Rest(stopped, true),
                 other => panic!("{other}"),
             }),
@@ -113,17 +111,16 @@ impl Left {
 /// A request in the world, even a refused one, needs a flush before the sync point goes on.
 fn with_a_request(world: World, stopped: Stopped) -> (World, Stopped) {
     let (open, mut systems) = world.open(1).expect("opened");
-    let refused = SpawnError::Space { wanted: 1, left: 0 };
+    let refused = ReserveError::Space { wanted: 1, left: 0 };
     assert_eq!(systems[0].spawn(&[]), Err(refused));
     let queues = systems.into_iter().map(Commands::finish).collect();
     let (mut world, _) = open.close(queues).expect("closed");
-    let place = (stopped.system, stopped.command, stopped.done);
+    let place = stopped.stop();
     let error = stopped.go_on(&mut world).expect_err("not flushed");
-    assert_eq!(error.kind(), SyncErrorKind::NeedsFlush);
     let GoOnError::NeedsFlush(stopped) = error else {
         panic!("{error}");
     };
-    assert_eq!((stopped.system, stopped.command, stopped.done), place);
+    assert_eq!(stopped.stop(), place);
     world.flush().expect("memory");
     (world, stopped)
 }
@@ -131,7 +128,6 @@ fn with_a_request(world: World, stopped: Stopped) -> (World, Stopped) {
 /// It goes on in its own world alone.
 fn in_another_world(stopped: Stopped) -> Stopped {
     let error = stopped.go_on(&mut World::new()).expect_err("another");
-    assert_eq!(error.kind(), SyncErrorKind::OtherWorld);
     match error {
         GoOnError::OtherWorld(stopped) => stopped,
         other => panic!("{other}"),
@@ -146,15 +142,20 @@ fn with_little_memory() -> (Made, Vec<Place>) {
     for free in 0.. {
         let again = match with_parts(free, 1 << 16, || left.try_to_do(&mut world)) {
             Ok(report) => {
-                faults.extend(report.faults());
+                faults.extend(report.faults);
                 break;
             }
             Err(again) => again,
         };
         left = match again {
             Left::Rest(at, true) => {
-                faults.extend(at.so_far.faults());
-                places.push((at.system, at.command, at.done));
+                faults.extend(&at.so_far().faults);
+                let Stop {
+                    system,
+                    command,
+                    done,
+                } = at.stop();
+                places.push((system, command, done));
                 // At the first stop, while no slot is free.
                 let at = match places[..] {
                     [(0, ..)] => {
@@ -175,8 +176,8 @@ fn with_little_memory() -> (Made, Vec<Place>) {
 fn with_ample_memory() -> Made {
     let (mut world, queues) = prepared();
     let report = world.apply(queues).expect("memory is ample");
-    assert_eq!(report.born().len(), COUNT as usize);
-    (living(&world), report.faults().to_vec())
+    assert_eq!(report.born.len(), COUNT as usize);
+    (living(&world), report.faults.to_vec())
 }
 
 fn compare() {
@@ -236,7 +237,7 @@ fn open_again_and_again() {
                 return;
             }
             Err(refused) => {
-                assert_eq!(refused.error, OpenError::Memory);
+                assert_eq!(refused.error, ShareError::Memory);
                 assert_eq!(refused.to_string(), "out of memory");
                 world = refused.world;
                 assert_eq!(world.get(one, ID), Some(3));

@@ -38,15 +38,19 @@ mod frames {
     impl System for Does {
         fn run(
             &self,
-            view: View<'_>,
-            commands: &mut SystemCommands<'_, '_>,
+            view: &View<'_>,
+            commands: &mut SystemCommands<'_>,
         ) -> Result<(), OutOfMemory> {
             match *self {
                 Does::Spawn(count) => {
-                    commands.spawn_many(count, &[(HP, 1)]).expect("handles");
+                    commands
+                        .spawn_many_with(count, &[(HP, 1)])
+                        .expect("handles");
                 }
                 Does::SpawnAndPanic(count, number) => {
-                    commands.spawn_many(count, &[(HP, 1)]).expect("handles");
+                    commands
+                        .spawn_many_with(count, &[(HP, 1)])
+                        .expect("handles");
                     // This panic prints nothing.
                     resume_unwind(Box::new(number));
                 }
@@ -78,13 +82,13 @@ mod frames {
             assert_eq!(panic_of(&mut world, &systems, workers), 9);
 
             // No command was applied, and what was reserved is known.
-            assert_eq!((world.len(), world.phase()), (1, 0));
+            assert_eq!((world.len(), world.frame()), (1, 0));
             assert_eq!(world.get(handle(0, 1), HP), Some(7));
             assert!(world.needs_flush());
             let refused = run_frame(&mut world, &systems, workers).expect_err("not flushed");
             assert!(matches!(refused, FrameError::NeedsFlush), "{refused}");
             world.flush().expect("memory");
-            assert_eq!((world.len(), world.phase()), (4, 1));
+            assert_eq!((world.len(), world.frame()), (4, 1));
             for ordinal in 0..3 {
                 let born = Birth {
                     frame: 0,
@@ -93,14 +97,14 @@ mod frames {
                 };
                 let entity = handle(1 + ordinal, 1);
                 assert_eq!(world.birth(entity), Some(born));
-                assert_eq!(world.items(entity), Some(vec![]));
+                assert_eq!(world.items(entity).map(Vec::from_iter), Some(vec![]));
             }
 
             // The next frame is like any other.
             let systems = [Does::Despawn, Does::Spawn(2)];
             let report = run_frame(&mut world, &systems, workers).expect("memory");
-            assert_eq!((report.born().len(), report.faults().len()), (2, 0));
-            assert_eq!((world.len(), world.phase()), (2, 2));
+            assert_eq!((report.born.len(), report.faults.len()), (2, 0));
+            assert_eq!((world.len(), world.frame()), (2, 2));
         }
     }
 
@@ -113,7 +117,7 @@ mod frames {
                 panic_of(&mut world, &[Does::SpawnAndPanic(0, 1)], workers),
                 1
             );
-            assert_eq!((world.len(), world.phase()), (1, 0));
+            assert_eq!((world.len(), world.frame()), (1, 0));
             world.flush().expect("memory");
             assert_eq!(
                 world.despawn(handle(0, 1)).expect("alive").next,
@@ -182,8 +186,8 @@ mod frames {
     #[test]
     fn a_panic_whose_value_panics() {
         let mut world = one();
-        let system = |_: View<'_>, commands: &mut SystemCommands<'_, '_>| {
-            commands.spawn(&[]).expect("a handle");
+        let system = |_: &View<'_>, commands: &mut SystemCommands<'_>| {
+            commands.spawn_with(&[]).expect("a handle");
             panic_any(Loud)
         };
         let ran = catch_unwind(AssertUnwindSafe(|| run_frame(&mut world, &[system], 1)));
@@ -225,7 +229,7 @@ fn a_phase_goes_on_without_the_system_that_panicked() {
     assert_eq!(left.error, FinishError::Missing { count: 1 });
     let (mut world, queues) = left.open.close_lost(left.queues).expect("it is lost");
     let report = world.apply(queues).expect("memory");
-    assert_eq!((report.born().len(), report.faults().len()), (4, 0));
+    assert_eq!((report.born.len(), report.faults.len()), (4, 0));
     let with = |one| world.get(one, HP) == Some(2);
     let living = world.by_birth().expect("memory");
     assert_eq!(living.into_iter().filter(|one| with(*one)).count(), 3);
@@ -300,5 +304,5 @@ fn printing_that_panics_changes_nothing() {
     breaks(&world);
     let report = world.apply(queues).expect("memory");
     breaks(&report);
-    assert_eq!(report.faults().len(), 1);
+    assert_eq!(report.faults.len(), 1);
 }

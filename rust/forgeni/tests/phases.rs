@@ -2,7 +2,7 @@
 //! allocator is back at the end, with all that was reserved.
 
 use crate::common::{flushed, handle, seeds, small, Model, Numbers};
-use forgeni::{Entities, Handle, OtherPhase, ReserveError, ShareError};
+use forgeni::{ComponentId, Entities, Handle, OtherPhase, ReserveError, ShareError, World};
 use std::collections::HashSet;
 use std::mem;
 use std::panic::{catch_unwind, resume_unwind, AssertUnwindSafe};
@@ -497,4 +497,54 @@ mod pools {
         let panic = catch_unwind(AssertUnwindSafe(|| pool.with(|_| ()))).expect_err("none");
         assert_eq!(panic.downcast_ref(), Some(&"the pool has no reservers"));
     }
+}
+
+/// A phase of a world on a borrow. The queues take effect after it, in the order of the systems.
+#[test]
+fn a_phase_of_a_world() {
+    const HP: ComponentId = ComponentId(0);
+    let mut world = World::new();
+    let old = world.spawn(&[(HP, 1)]).expect("a handle");
+    let (new, queues) = world
+        .phase(2, |open, systems| {
+            assert_eq!((open.count(), open.get(old, HP)), (2, Some(1)));
+            assert_eq!((systems[1].number(), systems[1].get(old, HP)), (1, Some(1)));
+            systems[1].insert(old, &[(HP, 2)]).expect("memory");
+            systems[0].insert(old, &[(HP, 3)]).expect("memory");
+            systems[0].spawn_many(2, &[(HP, 4)]).expect("handles");
+            systems[1].spawn(&[]).expect("a handle")
+        })
+        .expect("memory");
+    assert!(world.needs_flush() && !world.contains(new));
+    let report = world.apply(queues).expect("memory");
+    assert_eq!(
+        (report.born.len(), world.len(), world.get(old, HP)),
+        (3, 4, Some(2))
+    );
+    // It goes on to count what it spawns.
+    let next = world.spawn(&[]).expect("a handle");
+    assert_eq!(world.birth(next).map(|birth| birth.ordinal), Some(0));
+}
+
+/// The world is back whatever ends the phase, and no command takes effect.
+#[test]
+fn a_phase_of_a_world_that_panics() {
+    let mut world = World::new();
+    let first = world.spawn(&[]).expect("a handle");
+    let panics = || {
+        let _ = world.phase(3, |_, systems| {
+            systems[0].spawn_many(5, &[]).expect("handles");
+            systems[1].despawn(first).expect("memory");
+            std::panic::panic_any(7_u32);
+        });
+    };
+    let panic = catch_unwind(AssertUnwindSafe(panics));
+    assert_eq!(panic.expect_err("it panics").downcast_ref(), Some(&7_u32));
+    assert!(world.contains(first) && world.needs_flush());
+    world.flush().expect("memory");
+    assert_eq!((world.len(), world.frame()), (6, 1));
+
+    let refused = world.phase(0, |_, _| panic!("it isn't called"));
+    assert!(matches!(refused, Err(ShareError::Count)));
+    assert_eq!((world.len(), world.frame()), (6, 1));
 }

@@ -5,9 +5,9 @@ use forgeni::trace::{AllocReply, Call, CheckError, Checker, Difference, FlushRep
 use forgeni::trace::{Log, Recorder, Reservation, ReserveReply};
 use forgeni::{
     Absent, AllocError, Birth, CloseError, Commands, ComponentId, Entities, Fault, FaultKind,
-    FinishError, FreeError, Freed, Handle, HandleMap, InsertError, Limits, OpenError, OtherPhase,
-    OutOfMemory, ParseHandleError, Refused, ReserveError, ShareError, SpawnError, State, Storage,
-    StorageError, SyncError, SyncErrorKind, World,
+    FinishError, FreeError, Freed, Handle, HandleMap, InsertError, Limits, OtherPhase, OutOfMemory,
+    ParseHandleError, Refused, ReserveError, ShareError, State, Stop, Storage, StorageError,
+    SyncError, World,
 };
 use std::fmt::{Debug, Display};
 
@@ -49,10 +49,7 @@ fn errors_of_an_allocator() {
         (&ReserveError::Quota { left: 7 }, "the quota left is 7"),
         (&ReserveError::Memory, MEMORY),
         (&ShareError::NeedsFlush, NEEDS_FLUSH),
-        (
-            &ShareError::Count,
-            "an allocator is shared among 1 to 1,024 callers",
-        ),
+        (&ShareError::Count, "a phase has 1 to 1,024 callers"),
         (&ShareError::Memory, MEMORY),
         (&OtherPhase, "the reserver is of another phase"),
         (&CloseError::OtherPhase, "a reserver is of another phase"),
@@ -83,26 +80,20 @@ fn errors_of_components_and_worlds() {
             "a later occupant of the slot has a value",
         ),
         (&InsertError::Memory, MEMORY),
-        (&SpawnError::Space { wanted, left }, WANTED),
-        (&SpawnError::Credit { left: 7 }, "the credit left is 7"),
-        (&SpawnError::Memory, MEMORY),
-        (&OpenError::NeedsFlush, NEEDS_FLUSH),
-        (&OpenError::Count, "a phase has 1 to 1,024 systems"),
-        (&OpenError::Memory, MEMORY),
+        (&ReserveError::Space { wanted, left }, WANTED),
+        (&ReserveError::Quota { left: 7 }, "the quota left is 7"),
+        (&ReserveError::Memory, MEMORY),
+        (&ShareError::NeedsFlush, NEEDS_FLUSH),
+        (&ShareError::Count, "a phase has 1 to 1,024 callers"),
+        (&ShareError::Memory, MEMORY),
         (&FinishError::OtherPhase, "a queue is of another phase"),
         (&FinishError::Missing { count: 2 }, "missing queues: 2"),
         (&FinishError::InUse, "a system is still in use"),
-        (&FinishError::Memory, MEMORY),
         (
-            &SyncErrorKind::OtherWorld,
-            "the queues are of another world",
-        ),
-        (&SyncErrorKind::NeedsFlush, NEEDS_FLUSH),
-        (&SyncErrorKind::Memory, MEMORY),
-        (
-            &SyncErrorKind::Stopped {
+            &Stop {
                 system: 3,
                 command: 4,
+                done: 5,
             },
             "out of memory at command 4 of system 3",
         ),
@@ -126,12 +117,9 @@ fn errors_with_parts() {
     let (open, systems) = World::new().open(1).expect("opened");
     let unfinished = open.close(vec![]).expect_err("missing");
     displays([
-        (
-            &unshared as &dyn Display,
-            "an allocator is shared among 1 to 1,024 callers",
-        ),
+        (&unshared as &dyn Display, "a phase has 1 to 1,024 callers"),
         (&unclosed, "missing reservers: 2"),
-        (&unopened, "a phase has 1 to 1,024 systems"),
+        (&unopened, "a phase has 1 to 1,024 callers"),
         (&unfinished, "missing queues: 1"),
     ]);
     debugs([
@@ -145,7 +133,7 @@ fn errors_with_parts() {
             "Unclosed { shared: Shared { count: 2, at_home: 0, .. }, reservers: [], \
              error: Missing { count: 2 } }",
         ),
-        (&unopened, "Unopened { world: World { len: 0, phase: 0, .. }, error: Count }"),
+        (&unopened, "Unopened { world: World { len: 0, frame: 0, .. }, error: Count }"),
         (
             &unfinished,
             "Unfinished { open: OpenWorld { count: 1, at_home: 0, .. }, queues: [], \
@@ -159,11 +147,14 @@ fn errors_with_parts() {
         &unapplied as &dyn Display,
         "the queues are of another world",
     )]);
-    debugs([(&unapplied as &dyn Debug, "OtherWorld(Queues { .. })")]);
-    let (left, _) = unapplied.into_parts();
+    debugs([(
+        &unapplied as &dyn Debug,
+        "OtherWorld(Queues { len: 1, .. })",
+    )]);
+    let left = unapplied.into_parts();
     let refused = SyncError::Memory(left.expect("nothing was done"));
     displays([(&refused as &dyn Display, MEMORY)]);
-    debugs([(&refused as &dyn Debug, "Memory(Queues { .. })")]);
+    debugs([(&refused as &dyn Debug, "Memory(Queues { len: 1, .. })")]);
 }
 
 #[test]
@@ -235,7 +226,7 @@ fn values_of_worlds() {
             &FaultKind::Space { wanted: 5, left: 3 },
             "Space { wanted: 5, left: 3 }",
         ),
-        (&FaultKind::Credit { left: 7 }, "Credit { left: 7 }"),
+        (&FaultKind::Quota { left: 7 }, "Quota { left: 7 }"),
         (&HandleMap::from_iter([(handle(1, 2), 'a')]), "{1v2: 'a'}"),
     ]);
     displays([(&birth as &dyn Display, "2.0.1")]);
@@ -243,7 +234,7 @@ fn values_of_worlds() {
     let mut world = World::new();
     world.spawn(&[]).expect("a handle");
     world.flush().expect("memory");
-    debugs([(&world as &dyn Debug, "World { len: 1, phase: 1, .. }")]);
+    debugs([(&world as &dyn Debug, "World { len: 1, frame: 1, .. }")]);
     let (open, mut systems) = world.open(2).expect("opened");
     systems[1].spawn(&[]).expect("a handle");
     systems[1].despawn(handle(7, 1)).expect("memory");
@@ -260,7 +251,7 @@ fn values_of_worlds() {
     let report = world.apply(queues).expect("memory");
     debugs([(
         &report as &dyn Debug,
-        "Report { born: [1v1], faults: [Fault { system: 1, command: 1, kind: NotAlive(7v1) }] }",
+        "SyncReport { born: [1v1], faults: [Fault { system: 1, command: 1, kind: NotAlive(7v1) }] }",
     )]);
 }
 
@@ -275,66 +266,72 @@ fn lines_of_a_trace() {
     let reserve = |reply: ReserveReply| Call::Reserve(Reservation::new(6, 2, reply));
     displays([
         (
-            &Call::Alloc(AllocReply::Handle(one)) as &dyn Display,
+            &Call::Alloc(Some(AllocReply::Handle(one))) as &dyn Display,
             "alloc => 3v4",
         ),
-        (&Call::Alloc(AllocReply::Space), "alloc => space"),
-        (&Call::Alloc(AllocReply::NeedsFlush), "alloc => needs flush"),
-        (&Call::Alloc(AllocReply::Untold), "alloc"),
-        (&Call::Free(one, FreeReply::Freed), "free 3v4 => freed"),
+        (&Call::Alloc(Some(AllocReply::Space)), "alloc => space"),
         (
-            &Call::Free(one, FreeReply::Next(handle(3, 5))),
+            &Call::Alloc(Some(AllocReply::NeedsFlush)),
+            "alloc => needs flush",
+        ),
+        (&Call::Alloc(None), "alloc"),
+        (
+            &Call::Free(one, Some(FreeReply::Freed)),
+            "free 3v4 => freed",
+        ),
+        (
+            &Call::Free(one, Some(FreeReply::Next(handle(3, 5)))),
             "free 3v4 => freed next 3v5",
         ),
         (
-            &Call::Free(one, FreeReply::Retired),
+            &Call::Free(one, Some(FreeReply::Retired)),
             "free 3v4 => freed retired",
         ),
         (
-            &Call::Free(one, FreeReply::NotAlive),
+            &Call::Free(one, Some(FreeReply::NotAlive)),
             "free 3v4 => not alive",
         ),
         (
-            &Call::Free(one, FreeReply::NeedsFlush),
+            &Call::Free(one, Some(FreeReply::NeedsFlush)),
             "free 3v4 => needs flush",
         ),
-        (&Call::Free(one, FreeReply::Untold), "free 3v4"),
+        (&Call::Free(one, None), "free 3v4"),
+        (&Call::Flush(Some(two().into())), "flush => born 0v1 1v2"),
+        (&Call::Flush(Some([].into())), "flush => born"),
         (
-            &Call::Flush(FlushReply::Born(two())),
-            "flush => born 0v1 1v2",
+            &Call::Flush(Some(FlushReply::Count(7))),
+            "flush => born (7)",
         ),
-        (&Call::Flush(FlushReply::Born(vec![])), "flush => born"),
-        (&Call::Flush(FlushReply::Count(7)), "flush => born (7)"),
-        (&Call::Flush(FlushReply::Untold), "flush"),
-        (
-            &reserve(ReserveReply::Handles(two())),
-            "reserve 6 2 => 0v1 1v2",
-        ),
-        (&reserve(ReserveReply::Handles(vec![])), "reserve 6 2 =>"),
+        (&Call::Flush(None), "flush"),
+        (&reserve(two().into()), "reserve 6 2 => 0v1 1v2"),
+        (&reserve([].into()), "reserve 6 2 =>"),
         (&reserve(ReserveReply::Space), "reserve 6 2 => space"),
         (
             &reserve(ReserveReply::SpaceLeft(0)),
             "reserve 6 2 => space left 0",
         ),
-        (&Call::State(one, State::Alive), "state 3v4 => alive"),
-        (&Call::State(one, State::Reserved), "state 3v4 => reserved"),
-        (&Call::State(one, State::Gone), "state 3v4 => gone"),
-        (&Call::Len(5), "len => 5"),
+        (&Call::State(one, Some(State::Alive)), "state 3v4 => alive"),
+        (
+            &Call::State(one, Some(State::Reserved)),
+            "state 3v4 => reserved",
+        ),
+        (&Call::State(one, Some(State::Gone)), "state 3v4 => gone"),
+        (&Call::Len(Some(5)), "len => 5"),
     ]);
 }
 
 #[test]
 fn values_of_traces() {
     let difference = Difference {
-        line: 4,
-        told: Call::Len(2),
-        expected: Call::Len(3),
-        front: two(),
+        number: 4,
+        told: Call::Len(Some(2)),
+        expected: Call::Len(Some(3)),
+        front: two().into(),
         cursor: -1,
     };
     let text = "differs line 4: len => 2, expected 3";
     let debug =
-        "Difference { line: 4, told: Len(2), expected: Len(3), front: [0v1, 1v2], cursor: -1 }";
+        "Difference { number: 4, told: Len(Some(2)), expected: Len(Some(3)), front: HandleList { handles: [0v1, 1v2] }, cursor: -1 }";
     let error = CheckError::Differs(difference.clone());
     displays([
         (&difference as &dyn Display, text),
@@ -354,11 +351,11 @@ fn values_of_traces() {
     debugs([
         (&difference as &dyn Debug, debug),
         (&error, &format!("Differs({debug})")),
-        (&checker, "Checker { calls: 1, .. }"),
-        (&recorder, "Recorder { calls: 1, logs: 3 }"),
+        (&checker, "Checker { calls: 1, error: None, .. }"),
+        (&recorder, "Recorder { calls: 1, .. }"),
         (
             &log,
-            "Log { caller: 6, reservations: [Reservation { caller: 6, requested: 1, reply: Handles([0v1]) }] }",
+            "Log { caller: 6, reservations: [Reservation { number: 0, caller: 6, requested: 1, reply: Handles(HandleList { handles: [0v1] }) }] }",
         ),
     ]);
 }
@@ -382,13 +379,13 @@ mod frames {
             (&FrameError::Memory, "out of memory before any system ran"),
             (&FrameError::Lost, "out of memory while the systems ran"),
             (
-                &FrameError::Sync(SyncError::Memory(queues)),
+                &FrameError::Unapplied(queues),
                 "the sync point stopped: out of memory",
             ),
         ]);
         world.spawn(&[]).expect("a handle");
         world.flush().expect("memory");
-        let system = |view: View<'_>, commands: &mut SystemCommands<'_, '_>| {
+        let system = |view: &View<'_>, commands: &mut SystemCommands<'_>| {
             debugs([
                 (&view as &dyn Debug, "View { phase: 1, .. }"),
                 (commands, "SystemCommands { .. }"),

@@ -68,7 +68,7 @@ fn the_whole_pending_list_flushed() {
 
 #[test]
 fn a_bulk_in_the_other_order() {
-    let wrong = begun().run(&[reservation(7, "1v2 0v2 3v1")]);
+    let wrong = begun().run(vec![reservation(7, "1v2 0v2 3v1")]);
     expect_text(
         wrong,
         "differs line 6: reserve 7 3 => 1v2 0v2 3v1, expected 0v2 1v2 3v1",
@@ -79,7 +79,7 @@ fn a_bulk_in_the_other_order() {
 fn the_cursor_not_reset() {
     let mut checker = begun();
     checker
-        .run(&[reservation(0, "0v2 1v2 3v1")])
+        .run(vec![reservation(0, "0v2 1v2 3v1")])
         .expect("it agrees");
     checker.flush(handles("3v1 0v2 1v2")).expect("it agrees");
     checker.reserve(0, 1, handle(5, 1)).expect("not compared");
@@ -113,7 +113,7 @@ fn the_first_generation_after_the_last() {
 
 #[test]
 fn a_reservation_in_two_steps() {
-    let wrong = begun().run(&[reservation(0, "1v2"), reservation(1, "1v2")]);
+    let wrong = begun().run(vec![reservation(0, "1v2"), reservation(1, "1v2")]);
     expect_text(wrong, "differs line 7: reserve 1 1 => 1v2, expected 0v2");
 }
 
@@ -121,7 +121,7 @@ fn a_reservation_in_two_steps() {
 fn a_reservation_lost() {
     let mut checker = begun();
     checker
-        .run(&[reservation(0, "0v2"), reservation(1, "1v2")])
+        .run(vec![reservation(0, "0v2"), reservation(1, "1v2")])
         .expect("they agree in the other order");
     let wrong = checker.flush([handle(1, 2)]);
     expect_text(
@@ -133,7 +133,7 @@ fn a_reservation_lost() {
 #[test]
 fn a_cursor_read_again() {
     // Both threads have lowered the cursor from 2 to 0, and read 0 then.
-    let wrong = begun().run(&[reservation(0, "0v2"), reservation(1, "0v2")]);
+    let wrong = begun().run(vec![reservation(0, "0v2"), reservation(1, "0v2")]);
     expect_text(wrong, "differs line 6: reserve 0 1 => 0v2, expected 1v2");
 }
 
@@ -143,16 +143,16 @@ fn a_cursor_read_again() {
 fn a_run_that_was_compared_is_over() {
     let [early, late] = [reservation(0, "1v2"), reservation(1, "0v2")];
     begun()
-        .run(&[late.clone(), early.clone()])
+        .run(vec![late.clone(), early.clone()])
         .expect("in the other order");
     let mut checker = begun();
-    let wrong = checker.run(std::slice::from_ref(&late));
+    let wrong = checker.run(vec![late.clone()]);
     expect_text(wrong, "differs line 6: reserve 1 1 => 0v2, expected 1v2");
 
     // What isn't compared yet is of one run, however it is handed in.
     let mut checker = begun();
     checker.reserve(1, 1, handle(0, 2)).expect("not compared");
-    checker.run(&[early]).expect("in the other order");
+    checker.run(vec![early]).expect("in the other order");
     checker.finish().expect("it agrees");
 
     // A call that reads ends a run.
@@ -164,12 +164,12 @@ fn a_run_that_was_compared_is_over() {
 
 #[test]
 fn refusals() {
-    let refused = |caller, requested, reply| Reservation::new(caller, requested, reply);
+    let refused = Reservation::new::<ReserveReply>;
     let mut checker = Checker::new(limits(3, 1));
     checker
-        .run(&[
+        .run(vec![
             refused(0, 9, ReserveReply::SpaceLeft(0)),
-            refused(0, 0, ReserveReply::Handles(vec![])),
+            refused(0, 0, [].into()),
             refused(1, 2, ReserveReply::Space),
             refused(2, 1, ReserveReply::Space),
             refused(3, 4, ReserveReply::SpaceLeft(1)),
@@ -178,7 +178,7 @@ fn refusals() {
         .expect("the last ones come first");
     assert_eq!(checker.calls(), 6);
     // One is left, so a request for one isn't refused.
-    let wrong = Checker::new(limits(3, 1)).run(&[
+    let wrong = Checker::new(limits(3, 1)).run(vec![
         reservation(4, "0v1 1v1"),
         refused(2, 1, ReserveReply::SpaceLeft(1)),
     ]);
@@ -187,7 +187,7 @@ fn refusals() {
         "differs line 2: reserve 2 1 => space left 1, expected 2v1",
     );
     // No caller is served after it was refused.
-    let wrong = Checker::new(limits(3, 1)).run(&[
+    let wrong = Checker::new(limits(3, 1)).run(vec![
         refused(4, 4, ReserveReply::SpaceLeft(1)),
         reservation(4, "0v1 1v1"),
     ]);
@@ -228,16 +228,16 @@ fn nothing_is_compared_after_a_difference() {
     let mut checker = begun();
     let wrong = checker.len(2);
     let difference = Difference {
-        line: 6,
-        told: Call::Len(2),
-        expected: Call::Len(1),
+        number: 6,
+        told: Call::Len(Some(2)),
+        expected: Call::Len(Some(1)),
         // The slot that was freed last stands first, and two wait.
-        front: handles("1v2 0v2 3v1 4v1 5v1 6v1 7v1 8v1"),
+        front: handles("1v2 0v2 3v1 4v1 5v1 6v1 7v1 8v1").into(),
         cursor: 2,
     };
     assert_eq!(wrong, Err(CheckError::Differs(difference.clone())));
     assert_eq!(checker.len(1), wrong);
-    assert_eq!(checker.run(&[]), wrong);
+    assert_eq!(checker.run(vec![]), wrong);
     assert_eq!(checker.calls(), 6);
     let found = checker.finish().expect_err("the same");
     assert_eq!(found.difference(), Some(&difference));
@@ -251,14 +251,14 @@ fn nothing_is_compared_after_a_difference() {
 #[test]
 fn what_is_not_told_is_not_compared() {
     let mut checker = begun();
-    checker.alloc(AllocReply::Untold).expect("it is made");
+    checker.call(Call::Alloc(None)).expect("it is made");
     checker.state(handle(1, 2), State::Alive).expect("it was");
     checker
-        .free(handle(1, 2), FreeReply::Untold)
+        .call(Call::Free(handle(1, 2), None))
         .expect("it is made");
     checker.state(handle(1, 2), State::Gone).expect("it was");
     checker.reserve(0, 1, handle(1, 3)).expect("not compared");
-    checker.flush(FlushReply::Untold).expect("it is made");
+    checker.call(Call::Flush(None)).expect("it is made");
     checker.len(2).expect("it was");
     checker.flush(FlushReply::Count(0)).expect("none");
     checker.finish().expect("it agrees");
@@ -283,35 +283,41 @@ fn a_call_is_written_as_a_line() {
     let (one, list) = (handle(3, 2), handles("0v1 4294967294v2147483647"));
     let reserve = |reply: ReserveReply| Call::Reserve(Reservation::new(4_294_967_295, 2, reply));
     for (call, line) in [
-        (Call::Alloc(one.into()), "alloc => 3v2"),
-        (Call::Alloc(AllocReply::Space), "alloc => space"),
-        (Call::Alloc(AllocReply::NeedsFlush), "alloc => needs flush"),
-        (Call::Alloc(AllocReply::Untold), "alloc"),
-        (Call::Free(one, FreeReply::Freed), "free 3v2 => freed"),
+        (Call::Alloc(Some(one.into())), "alloc => 3v2"),
+        (Call::Alloc(Some(AllocReply::Space)), "alloc => space"),
         (
-            Call::Free(one, FreeReply::Next(handle(3, 3))),
+            Call::Alloc(Some(AllocReply::NeedsFlush)),
+            "alloc => needs flush",
+        ),
+        (Call::Alloc(None), "alloc"),
+        (Call::Free(one, Some(FreeReply::Freed)), "free 3v2 => freed"),
+        (
+            Call::Free(one, Some(FreeReply::Next(handle(3, 3)))),
             "free 3v2 => freed next 3v3",
         ),
         (
-            Call::Free(one, FreeReply::Retired),
+            Call::Free(one, Some(FreeReply::Retired)),
             "free 3v2 => freed retired",
         ),
         (
-            Call::Free(one, FreeReply::NotAlive),
+            Call::Free(one, Some(FreeReply::NotAlive)),
             "free 3v2 => not alive",
         ),
         (
-            Call::Free(one, FreeReply::NeedsFlush),
+            Call::Free(one, Some(FreeReply::NeedsFlush)),
             "free 3v2 => needs flush",
         ),
-        (Call::Free(one, FreeReply::Untold), "free 3v2"),
+        (Call::Free(one, None), "free 3v2"),
         (
-            Call::Flush(list.clone().into()),
+            Call::Flush(Some(list.clone().into())),
             "flush => born 0v1 4294967294v2147483647",
         ),
-        (Call::Flush([].into()), "flush => born"),
-        (Call::Flush(FlushReply::Count(12)), "flush => born (12)"),
-        (Call::Flush(FlushReply::Untold), "flush"),
+        (Call::Flush(Some([].into())), "flush => born"),
+        (
+            Call::Flush(Some(FlushReply::Count(12))),
+            "flush => born (12)",
+        ),
+        (Call::Flush(None), "flush"),
         (
             reserve(list.into()),
             "reserve 4294967295 2 => 0v1 4294967294v2147483647",
@@ -325,10 +331,13 @@ fn a_call_is_written_as_a_line() {
             reserve(ReserveReply::SpaceLeft(1)),
             "reserve 4294967295 2 => space left 1",
         ),
-        (Call::State(one, State::Alive), "state 3v2 => alive"),
-        (Call::State(one, State::Reserved), "state 3v2 => reserved"),
-        (Call::State(one, State::Gone), "state 3v2 => gone"),
-        (Call::Len(4_294_967_295), "len => 4294967295"),
+        (Call::State(one, Some(State::Alive)), "state 3v2 => alive"),
+        (
+            Call::State(one, Some(State::Reserved)),
+            "state 3v2 => reserved",
+        ),
+        (Call::State(one, Some(State::Gone)), "state 3v2 => gone"),
+        (Call::Len(Some(4_294_967_295)), "len => 4294967295"),
     ] {
         assert_eq!(call.to_string(), line);
     }
@@ -391,19 +400,24 @@ fn space_without_a_number() {
     checker.flush([]).expect("it agrees");
     let wrong = Reservation::new(0, 3, ReserveReply::SpaceLeft(0));
     expect_text(
-        checker.run(&[wrong]),
+        checker.run(vec![wrong]),
         "differs line 3: reserve 0 3 => space left 0, expected space left 2",
     );
-    // It is handed back as it was handed in.
+    // It is handed back as it was handed in, with its number.
     let mut checker = Checker::new(limits(2, 1));
     let told = Reservation::new(0, 1, ReserveReply::Space);
-    let wrong = checker
-        .run(std::slice::from_ref(&told))
-        .expect_err("one is left");
+    let wrong = checker.run(vec![told]).expect_err("one is left");
     let difference = wrong.difference().expect("a difference");
-    assert_eq!(difference.told, Call::Reserve(told));
-    let expected = Reservation::new(0, 1, handle(0, 1));
-    assert_eq!(difference.expected, Call::Reserve(expected));
+    let numbered = |reply: ReserveReply| Reservation {
+        number: 1,
+        caller: 0,
+        requested: 1,
+        reply,
+    };
+    let told = Call::Reserve(numbered(ReserveReply::Space));
+    assert_eq!(difference.told, told);
+    let expected = Call::Reserve(numbered(handle(0, 1).into()));
+    assert_eq!(difference.expected, expected);
     assert_eq!(
         (&difference.front[..], difference.cursor),
         (&handles("0v1 1v1")[..], 0)

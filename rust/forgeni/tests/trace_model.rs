@@ -31,7 +31,7 @@ fn free_reply(model: &mut Model, given: Handle) -> FreeReply {
 
 fn reserve_reply(model: &mut Model, requested: u32) -> ReserveReply {
     match model.reserve(requested) {
-        Ok(handles) => ReserveReply::Handles(handles),
+        Ok(handles) => handles.into(),
         Err(ReserveError::Space { left, .. }) => ReserveReply::SpaceLeft(left),
         Err(other) => unreachable!("{other}"),
     }
@@ -44,29 +44,29 @@ fn fits(model: &mut Model, call: &Call) -> bool {
     match call {
         Call::Alloc(told) => {
             let given = alloc_reply(model);
-            *told == given || *told == AllocReply::Untold
+            told.is_none_or(|told| told == given)
         }
         Call::Free(one, told) => match (told, free_reply(model, *one)) {
-            (FreeReply::Untold, _) => true,
-            (FreeReply::Freed, given) => {
+            (None, _) => true,
+            (Some(FreeReply::Freed), given) => {
                 matches!(given, FreeReply::Next(_) | FreeReply::Retired)
             }
-            (told, given) => *told == given,
+            (Some(told), given) => *told == given,
         },
         Call::Flush(told) => {
             let born = model.flush();
             match told {
-                FlushReply::Born(told) => *told == born,
-                FlushReply::Count(told) => *told as usize == born.len(),
-                FlushReply::Untold => true,
+                Some(FlushReply::Born(told)) => told[..] == born[..],
+                Some(FlushReply::Count(told)) => *told as usize == born.len(),
+                None => true,
             }
         }
         Call::Reserve(it) => match (&it.reply, reserve_reply(model, it.requested)) {
             (ReserveReply::Space, ReserveReply::SpaceLeft(_)) => true,
             (told, given) => *told == given,
         },
-        Call::State(one, told) => model.state(*one) == *told,
-        Call::Len(told) => model.live.len() as u32 == *told,
+        Call::State(one, told) => told.is_none_or(|told| told == model.state(*one)),
+        Call::Len(told) => told.is_none_or(|told| told == model.live.len() as u32),
     }
 }
 
@@ -192,32 +192,32 @@ fn add_run(
 fn add_call(numbers: &mut Numbers, model: &mut Model, calls: &mut Vec<Call>) {
     calls.push(match numbers.below(12) {
         0..=2 => match alloc_reply(model) {
-            _ if numbers.below(8) == 0 => Call::Alloc(AllocReply::Untold),
-            reply => Call::Alloc(reply),
+            _ if numbers.below(8) == 0 => Call::Alloc(None),
+            reply => Call::Alloc(Some(reply)),
         },
         3..=6 => {
             let one = known_handle(numbers, model);
             match (free_reply(model, one), numbers.below(8)) {
-                (_, 0) => Call::Free(one, FreeReply::Untold),
+                (_, 0) => Call::Free(one, None),
                 (FreeReply::Next(_) | FreeReply::Retired, 1..=3) => {
-                    Call::Free(one, FreeReply::Freed)
+                    Call::Free(one, Some(FreeReply::Freed))
                 }
-                (reply, _) => Call::Free(one, reply),
+                (reply, _) => Call::Free(one, Some(reply)),
             }
         }
         7..=9 => {
             let born = model.flush();
             Call::Flush(match numbers.below(6) {
-                0 => FlushReply::Untold,
-                1 => FlushReply::Count(born.len() as u32),
-                _ => FlushReply::Born(born),
+                0 => None,
+                1 => Some(FlushReply::Count(born.len() as u32)),
+                _ => Some(born.into()),
             })
         }
         10 => {
             let one = known_handle(numbers, model);
-            Call::State(one, model.state(one))
+            Call::State(one, Some(model.state(one)))
         }
-        _ => Call::Len(model.live.len() as u32),
+        _ => Call::Len(Some(model.live.len() as u32)),
     });
 }
 
@@ -263,11 +263,11 @@ fn changed(numbers: &mut Numbers, call: &Call) -> Call {
     let any = some_handle(numbers);
     let count = numbers.below(4) as u32;
     match call {
-        Call::Alloc(_) => Call::Alloc(match numbers.below(4) {
+        Call::Alloc(_) => Call::Alloc(Some(match numbers.below(4) {
             0 => AllocReply::Space,
             1 => AllocReply::NeedsFlush,
             _ => AllocReply::Handle(any),
-        }),
+        })),
         Call::Free(one, _) => {
             let reply = match numbers.below(5) {
                 0 => FreeReply::Freed,
@@ -276,10 +276,12 @@ fn changed(numbers: &mut Numbers, call: &Call) -> Call {
                 3 => FreeReply::NeedsFlush,
                 _ => FreeReply::Next(any),
             };
-            Call::Free(*one, reply)
+            Call::Free(*one, Some(reply))
         }
-        Call::Flush(FlushReply::Born(born)) => Call::Flush(other_list(numbers, born).into()),
-        Call::Flush(_) => Call::Flush(FlushReply::Count(count)),
+        Call::Flush(Some(FlushReply::Born(born))) => {
+            Call::Flush(Some(other_list(numbers, born).into()))
+        }
+        Call::Flush(_) => Call::Flush(Some(FlushReply::Count(count))),
         Call::Reserve(it) => {
             let reply = match (&it.reply, numbers.below(4)) {
                 (_, 0) => ReserveReply::Space,
@@ -294,17 +296,26 @@ fn changed(numbers: &mut Numbers, call: &Call) -> Call {
         }
         Call::State(one, _) => {
             let states = [State::Alive, State::Reserved, State::Gone];
-            Call::State(*one, states[numbers.below(3) as usize])
+            Call::State(*one, Some(states[numbers.below(3) as usize]))
         }
-        Call::Len(_) => Call::Len(count),
+        Call::Len(_) => Call::Len(Some(count)),
+    }
+}
+
+/// The call as the checker numbers it.
+fn numbered(call: Call, number: u64) -> Call {
+    match call {
+        Call::Reserve(it) => Call::Reserve(Reservation { number, ..it }),
+        other => other,
     }
 }
 
 /// What is wrong with a difference, as far as the search can tell.
 fn expect_difference(trace: &Trace, error: &CheckError, place: &str) {
     let difference = error.difference().expect("a difference");
-    let at = difference.line as usize - 1;
-    assert_eq!(difference.told, trace.calls[at], "{place}");
+    let at = difference.number as usize - 1;
+    let told = numbered(trace.calls[at].clone(), difference.number);
+    assert_eq!(difference.told, told, "{place}");
     assert_ne!(difference.told, difference.expected, "{place}");
     if caller(&difference.told).is_none() {
         // All before it agrees, and with the right reply it does too.

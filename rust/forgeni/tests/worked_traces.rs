@@ -106,8 +106,8 @@ fn number(word: &str) -> u32 {
 fn read(line: &str) -> Call {
     let words: Vec<&str> = line.split_whitespace().collect();
     match words[..] {
-        ["alloc", "=>", "needs", "flush"] => Call::Alloc(AllocReply::NeedsFlush),
-        ["alloc", "=>", one] => Call::Alloc(handles(&[one])[0].into()),
+        ["alloc", "=>", "needs", "flush"] => Call::Alloc(Some(AllocReply::NeedsFlush)),
+        ["alloc", "=>", one] => Call::Alloc(Some(handles(&[one])[0].into())),
         ["free", one, "=>", ref reply @ ..] => {
             let reply = match reply {
                 ["freed", "next", next] => FreeReply::Next(handles(&[next])[0]),
@@ -115,9 +115,9 @@ fn read(line: &str) -> Call {
                 ["not", "alive"] => FreeReply::NotAlive,
                 other => panic!("{other:?}"),
             };
-            Call::Free(handles(&[one])[0], reply)
+            Call::Free(handles(&[one])[0], Some(reply))
         }
-        ["flush", "=>", "born", ref born @ ..] => Call::Flush(handles(born).into()),
+        ["flush", "=>", "born", ref born @ ..] => Call::Flush(Some(handles(born).into())),
         ["reserve", caller, count, "=>", ref reply @ ..] => {
             let reply = match reply {
                 ["space", "left", left] => ReserveReply::SpaceLeft(number(left)),
@@ -183,22 +183,23 @@ fn changed(call: &Call) -> Vec<Call> {
         Call::Alloc(_) => each
             .map(AllocReply::Handle)
             .chain([AllocReply::Space, AllocReply::NeedsFlush])
-            .map(Call::Alloc)
+            .map(|reply| Call::Alloc(Some(reply)))
             .collect(),
         Call::Free(one, reply) => {
-            let is_freed = matches!(reply, FreeReply::Next(_) | FreeReply::Retired);
+            let is_freed = matches!(reply, Some(FreeReply::Next(_) | FreeReply::Retired));
             each.map(FreeReply::Next)
                 .chain([FreeReply::Retired, FreeReply::NotAlive])
                 .chain([FreeReply::NeedsFlush])
                 .chain((!is_freed).then_some(FreeReply::Freed))
-                .map(|reply| Call::Free(*one, reply))
+                .map(|reply| Call::Free(*one, Some(reply)))
                 .collect()
         }
-        Call::Flush(FlushReply::Born(born)) => {
+        Call::Flush(Some(FlushReply::Born(born))) => {
             let count = born.len() as u32;
             let counts = [count + 1, count.wrapping_sub(1)].map(FlushReply::Count);
-            let lists = other_lists(born).into_iter().map(FlushReply::Born);
-            lists.chain(counts).map(Call::Flush).collect()
+            let lists = other_lists(born).into_iter().map(FlushReply::from);
+            let replies = lists.chain(counts);
+            replies.map(|reply| Call::Flush(Some(reply))).collect()
         }
         Call::Reserve(it) => {
             let lists = match &it.reply {
@@ -208,7 +209,7 @@ fn changed(call: &Call) -> Vec<Call> {
             let is_served = matches!(it.reply, ReserveReply::Handles(_));
             lists
                 .into_iter()
-                .map(ReserveReply::Handles)
+                .map(ReserveReply::from)
                 .chain((0..4).map(ReserveReply::SpaceLeft))
                 .chain(is_served.then_some(ReserveReply::Space))
                 .map(|reply| Call::Reserve(Reservation::new(it.caller, it.requested, reply)))
@@ -242,13 +243,24 @@ fn with_each_change(rows: &[Row], mut expect: impl FnMut(&[Call], usize, &CheckE
     assert!(count > 100 * rows.len(), "{count} changes");
 }
 
+/// The call at this place as the checker numbers it.
+fn numbered(call: &Call, at: usize) -> Call {
+    match call.clone() {
+        Call::Reserve(it) => Call::Reserve(Reservation {
+            number: at as u64 + 1,
+            ..it
+        }),
+        other => other,
+    }
+}
+
 #[test]
 fn a_changed_answer_differs_at_its_line() {
     with_each_change(&ROWS, |calls, at, error| {
         let difference = error.difference().expect("a difference");
         let place = format!("{difference}");
-        assert_eq!(difference.line, at as u64 + 1, "{place}");
-        assert_eq!(difference.expected, calls[at], "{place}");
+        assert_eq!(difference.number, at as u64 + 1, "{place}");
+        assert_eq!(difference.expected, numbered(&calls[at], at), "{place}");
     });
 }
 
@@ -257,7 +269,7 @@ fn a_changed_answer_differs_at_its_line() {
 fn a_changed_answer_of_two_callers_differs() {
     with_each_change(&ROWS_OF_TWO, |calls, at, error| {
         let difference = error.difference().expect("a difference");
-        let line = difference.line as usize - 1;
+        let line = difference.number as usize - 1;
         if !matches!(calls[at], Call::Reserve(_)) {
             assert_eq!((line, &difference.expected), (at, &calls[at]));
         } else {

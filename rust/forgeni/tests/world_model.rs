@@ -4,7 +4,7 @@ use crate::common::{handle, seeds, Numbers};
 use crate::worlds::{any_components, pick, Command, WorldModel};
 use forgeni::{
     AllocError, Birth, CommandQueue, Commands, ComponentId, FaultKind, FreeError, Freed, Handle,
-    Limits, SpawnError, World,
+    Limits, ReserveError, World,
 };
 use std::collections::BTreeSet;
 use std::thread;
@@ -12,7 +12,7 @@ use std::thread;
 /// What the world says of everything is what the model says.
 fn compare(world: &World, model: &WorldModel, place: &str) {
     assert_eq!(world.len(), model.live.len(), "{place}: len");
-    assert_eq!(world.phase(), model.phase, "{place}: phase");
+    assert_eq!(world.frame(), model.phase, "{place}: phase");
     assert_eq!(world.by_birth(), Ok(model.by_birth()), "{place}: by_birth");
     let kept = model.live.len() + model.waiting.len();
     let retired = model.made as usize - kept;
@@ -20,7 +20,11 @@ fn compare(world: &World, model: &WorldModel, place: &str) {
     for (entity, (birth, held)) in &model.live {
         assert_eq!(world.birth(*entity), Some(*birth), "{place}: {entity}");
         let items: Vec<_> = held.iter().map(|(id, value)| (*id, *value)).collect();
-        assert_eq!(world.items(*entity), Some(items), "{place}: {entity}");
+        assert_eq!(
+            world.items(*entity).map(Vec::from_iter),
+            Some(items),
+            "{place}: {entity}"
+        );
         for (id, value) in held {
             assert_eq!(world.get(*entity, *id), Some(*value), "{place}: {entity}");
         }
@@ -115,11 +119,11 @@ impl System {
     }
 }
 
-fn refused(error: SpawnError) -> Command {
+fn refused(error: ReserveError) -> Command {
     Command::Refused(match error {
-        SpawnError::Space { wanted, left } => FaultKind::Space { wanted, left },
-        SpawnError::Credit { left } => FaultKind::Credit { left },
-        SpawnError::Memory => panic!("out of memory"),
+        ReserveError::Space { wanted, left } => FaultKind::Space { wanted, left },
+        ReserveError::Quota { left } => FaultKind::Quota { left },
+        ReserveError::Memory => panic!("out of memory"),
     })
 }
 
@@ -184,8 +188,8 @@ fn phase(world: World, model: &mut WorldModel, seed: u64, way: Way, place: &str)
     assert_eq!(world.needs_flush(), asked, "{place}: needs_flush");
     let report = world.apply(queues).expect("memory");
     let (born, faults) = model.apply(&issued);
-    assert_eq!(report.born(), born, "{place}: born");
-    assert_eq!(report.faults(), faults, "{place}: faults");
+    assert_eq!(report.born, born, "{place}: born");
+    assert_eq!(report.faults, faults, "{place}: faults");
     world
 }
 

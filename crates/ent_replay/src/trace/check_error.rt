@@ -8,8 +8,8 @@ use ent_handle::Memory;
 use std::alloc::{AllocError, AllocFailed, Global};
 
 /// Why a [`Checker`](crate::trace::Checker) takes no more calls.
-#[derive(Debug, Drop)]
 #[non_exhaustive]
+#[derive(Debug, Drop)]
 pub enum CheckError {
     /// An answer isn't the allocator's.
     Differs(Difference),
@@ -21,6 +21,7 @@ pub enum CheckError {
 
 impl CheckError {
     /// The difference, if it is one.
+    #[must_use]
     pub fn difference(&self) -> Option<&Difference>
         ensures { option_copied result ≡ difference_of self.now }
     {

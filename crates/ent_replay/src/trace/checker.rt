@@ -28,26 +28,18 @@ use std::mem;
 /// and no call is compared after it.
 ///
 /// ```
-/// use forgeni::trace::{AllocReply, Checker, FreeReply, FlushReply, Reservation};
-/// use forgeni::{Handle, Limits};
+/// use forgeni::trace::Checker;
+/// use forgeni::{Entities, Limits};
 ///
-/// let one = |text: &str| text.parse::<Handle>();
-/// let mut checker = Checker::new(Limits::GREATEST);
-/// checker.alloc(one("0v1")?.into())?;
-/// checker.free(one("0v1")?, FreeReply::Freed)?;
-///
-/// // Two threads reserved. Their logs come one after the other.
-/// checker.run(vec![
-///     Reservation::new(1, 1, one("1v1")?.into()),
-///     Reservation::new(2, 1, one("0v2")?.into()),
-/// ])?;
-///
-/// // New slots come to life first.
-/// let differs = checker.flush([one("0v2")?, one("1v1")?].into()).unwrap_err();
-/// assert_eq!(
-///     differs.to_string(),
-///     "differs line 5: flush => born 0v2 1v1, expected born 1v1 0v2",
-/// );
+/// let (mut entities, mut checker) = (Entities::new(), Checker::new(Limits::GREATEST));
+/// checker.alloc(entities.alloc()?)?;
+/// checker.reserve(7, 2, entities.request_many(2)?)?;
+/// let mut born = Vec::new();
+/// entities.flush(&mut born)?;
+/// checker.flush(born)?;
+/// let wrong = checker.len(4).unwrap_err();
+/// assert_eq!(wrong.to_string(), "differs line 4: len => 4, expected 3");
+/// assert_eq!(checker.len(3), Err(wrong));
 /// # Ok::<(), Box<dyn std::error::Error>>(())
 /// ```
 #[derive(Drop)]
@@ -63,6 +55,7 @@ impl Checker {
     ///
     /// The limits are those of the allocator that is checked: how many slots it may make, and after
     /// which generation it gives a slot no more. The greatest ones go as far as handles do.
+    #[must_use]
     pub fn new(alloc: Global, limits: Limits) -> Self
         ensures opens { result.comparer ≡ Ok (record { allocator = opening limits; run = [] }) }
         ensures none { result.calls ≡ 0 }
@@ -77,6 +70,7 @@ impl Checker {
     /// How many calls it has taken, up to the first that failed. It is the number of the last one.
     ///
     /// It counts to 2^64 − 1, and stays there.
+    #[must_use]
     pub fn calls(&self) -> u64
         ensures { result ≡ self.now.calls }
     {
@@ -84,6 +78,7 @@ impl Checker {
     }
 
     /// Why it has stopped, if it has.
+    #[must_use]
     pub fn error(&self) -> Option<&CheckError>
         ensures { option_copied result ≡ error_in self.now.comparer }
     {

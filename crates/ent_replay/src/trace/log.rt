@@ -34,6 +34,7 @@ impl Model for Log {
 
 impl Log {
     /// The empty log of this caller. It takes no memory.
+    #[must_use]
     pub fn new(alloc: Global, caller: u32) -> Self
         ensures { result ≡ record { caller = caller; reservations = [] } }
     {
@@ -44,6 +45,7 @@ impl Log {
     }
 
     /// Whose log it is.
+    #[must_use]
     pub fn caller(&self) -> u32
         ensures { result ≡ self.now.caller }
     {
@@ -51,6 +53,7 @@ impl Log {
     }
 
     /// What was reserved and is not joined yet.
+    #[must_use]
     pub fn reservations(&self) -> &[Reservation]
         ensures { result.now ≡ self.now.reservations }
     {

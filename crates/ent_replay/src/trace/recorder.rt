@@ -34,13 +34,15 @@ use std::alloc::Global;
 ///         scope.spawn(move || {
 ///             for _ in 0..100 {
 ///                 let one = reserver.reserve().expect("a handle");
-///                 log.push(1, one.into()).expect("memory");
+///                 log.push(1, one).expect("memory");
 ///             }
 ///         });
 ///     }
 /// });
 /// let mut entities = shared.close(reservers)?;
-/// recorder.flush(entities.flush()?.into())?;
+/// let mut born = Vec::new();
+/// entities.flush(&mut born)?;
+/// recorder.flush(born)?;
 /// recorder.len(400)?;
 /// recorder.finish()?;
 /// # Ok::<(), Box<dyn std::error::Error>>(())
@@ -66,7 +68,7 @@ impl Recorder {
         ensures none { IfOk result (λ recorder. recorder.checker.calls ≡ 0) }
         ensures logs { IfOk result (λ recorder. recorder.logs.items ≡ new_logs callers) }
     {
-        let mut logs = Vec::new(alloc);
+        let mut logs = Vec::with_capacity(alloc, callers as usize)?;
         for caller in 0..callers {
             logs.push(Log::new(alloc, caller))?;
         }
@@ -85,6 +87,7 @@ impl Recorder {
     }
 
     /// How many calls were taken, with those of the logs that were joined.
+    #[must_use]
     pub fn calls(&self) -> u64
         ensures { result ≡ self.now.checker.calls }
     {

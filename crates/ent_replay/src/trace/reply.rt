@@ -9,7 +9,7 @@ use ent_handle::{Handle, Memory};
 use std::alloc::Global;
 
 /// What was answered to a call for a handle that is alive at once.
-#[derive(Clone, Copy, Debug, PartialEq, Eq)]
+#[derive(Clone, Copy, Debug, PartialEq, Eq, Hash)]
 pub enum AllocReply {
     /// The handle that came to life.
     Handle(Handle),
@@ -28,7 +28,7 @@ impl From<Handle> for AllocReply {
 }
 
 /// What was answered to a call that frees a handle.
-#[derive(Clone, Copy, Debug, PartialEq, Eq)]
+#[derive(Clone, Copy, Debug, PartialEq, Eq, Hash)]
 pub enum FreeReply {
     /// The handle was freed. What its slot gives next isn't compared.
     Freed,

@@ -22,6 +22,7 @@ pub struct Reservation {
 impl Reservation {
     /// The reservation of so many handles by this caller, with its answer. It has no number yet, so
     /// its number is 0.
+    #[must_use]
     pub fn new<R: Into<ReserveReply>>(caller: u32, requested: u32, reply: R) -> Self
         ensures is { result ≡ reservation_of caller requested result.reply }
         ensures reply { R.converts reply result.reply }

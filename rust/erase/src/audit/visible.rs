@@ -1,7 +1,7 @@
 //! Functions with a condition are the package's own.
 
 use super::Audit;
-use crate::conditions::{imported, is_of_a_closure};
+use crate::conditions::{imported, is_met};
 use crate::source::Fault;
 
 impl Audit<'_> {
@@ -42,7 +42,7 @@ impl Audit<'_> {
                 word @ ("requires" | "ensures") => {
                     let open = (at..source.len()).find(|at| source.at(*at) == "{");
                     let open = open.unwrap_or(source.len());
-                    if word == "requires" && !is_of_a_closure(source, open) {
+                    if word == "requires" && !is_met(source, open) {
                         return true;
                     }
                     at = source.partner(open);

@@ -59,25 +59,33 @@ impl<'a> Commands<'a> {
     /// [`QueueFault::Memory`], and then neither the queue nor the reserver has changed.
     /// [`QueueFault::Space`] and [`QueueFault::Quota`] as [`Shared::reserve`] returns them; the
     /// queue then keeps the refusal, and [`QueueFault::or_memory`] lets a system go on.
+    ///
+    /// <details><summary>Contract</summary>
+    ///
+    /// In the words of the folder `specs/` of crate `ent_queue`:
+    ///
+    /// ```text
+    /// requires { IsReady self.old }
+    /// ensures extends { Extends self.old self.new }
+    /// ensures ok { IfOk result (λ handle.
+    ///     queue_of self.new ≡ queue_of self.old ++ Spawn handle bundle.now ∷ []) }
+    /// ensures refused { IfErr result (λ fault.
+    ///     queue_of self.new ≡ queue_of self.old ++ refused_by 1 fault) }
+    /// ensures memory { IsErrOf result QueueFault.Memory
+    ///     → reserver_of self.new ≡ reserver_of self.old }
+    ///
+    /// // Anything but Memory is the result of a reservation.
+    /// ensures replies { (reply : Result HandleValue Refusal) → result ≡ queued reply
+    ///     → IsReturned (shared_of self.new) (reserver_of self.old) (reserver_of self.new) 1
+    ///     (listed_alone reply) }
+    /// ```
+    ///
+    /// </details>
     #[inline]
-    pub(crate) fn spawn<const INLINE: usize>(
+    pub fn spawn<const INLINE: usize>(
         &mut self,
         bundle: &Bundle<INLINE>,
-    ) -> Result<Handle, QueueFault>
-        // requires { IsReady self.old }
-        // ensures extends { Extends self.old self.new }
-        // ensures ok { IfOk result (λ handle.
-        //     queue_of self.new ≡ queue_of self.old ++ Spawn handle bundle.now ∷ []) }
-        // ensures refused { IfErr result (λ fault.
-        //     queue_of self.new ≡ queue_of self.old ++ refused_by 1 fault) }
-        // ensures memory { IsErrOf result QueueFault.Memory
-        //     → reserver_of self.new ≡ reserver_of self.old }
-
-        // Anything but Memory is the result of a reservation.
-        // ensures replies { (reply : Result HandleValue Refusal) → result ≡ queued reply
-        //     → IsReturned (shared_of self.new) (reserver_of self.old) (reserver_of self.new) 1
-        //     (listed_alone reply) }
-    {
+    ) -> Result<Handle, QueueFault> {
         self.queue.spawn(self.shared, self.reserver, bundle.items())
     }
 
@@ -87,22 +95,30 @@ impl<'a> Commands<'a> {
     /// # Errors
     ///
     /// As [`Commands::spawn`].
+    ///
+    /// <details><summary>Contract</summary>
+    ///
+    /// In the words of the folder `specs/` of crate `ent_queue`:
+    ///
+    /// ```text
+    /// requires { IsReady self.old }
+    /// ensures extends { Extends self.old self.new }
+    /// ensures ok { IfOk result (λ handle. queue_of self.new
+    ///     ≡ queue_of self.old ++ Spawn handle (bundle_of components.now) ∷ []) }
+    /// ensures refused { IfErr result (λ fault.
+    ///     queue_of self.new ≡ queue_of self.old ++ refused_by 1 fault) }
+    /// ensures memory { IsErrOf result QueueFault.Memory
+    ///     → reserver_of self.new ≡ reserver_of self.old }
+    ///
+    /// // Anything but Memory is the result of a reservation.
+    /// ensures replies { (reply : Result HandleValue Refusal) → result ≡ queued reply
+    ///     → IsReturned (shared_of self.new) (reserver_of self.old) (reserver_of self.new) 1
+    ///     (listed_alone reply) }
+    /// ```
+    ///
+    /// </details>
     #[inline]
-    pub(crate) fn spawn_with(&mut self, components: &[(ComponentId, i64)]) -> Result<Handle, QueueFault>
-        // requires { IsReady self.old }
-        // ensures extends { Extends self.old self.new }
-        // ensures ok { IfOk result (λ handle. queue_of self.new
-        //     ≡ queue_of self.old ++ Spawn handle (bundle_of components.now) ∷ []) }
-        // ensures refused { IfErr result (λ fault.
-        //     queue_of self.new ≡ queue_of self.old ++ refused_by 1 fault) }
-        // ensures memory { IsErrOf result QueueFault.Memory
-        //     → reserver_of self.new ≡ reserver_of self.old }
-
-        // Anything but Memory is the result of a reservation.
-        // ensures replies { (reply : Result HandleValue Refusal) → result ≡ queued reply
-        //     → IsReturned (shared_of self.new) (reserver_of self.old) (reserver_of self.new) 1
-        //     (listed_alone reply) }
-    {
+    pub fn spawn_with(&mut self, components: &[(ComponentId, i64)]) -> Result<Handle, QueueFault> {
         let Ok(bundle) = OwnBundle::of(components) else {
             return Err(QueueFault::Memory);
         };
@@ -114,28 +130,36 @@ impl<'a> Commands<'a> {
     /// # Errors
     ///
     /// As [`Commands::spawn`], with [`Shared::reserve_many`] instead of [`Shared::reserve`].
+    ///
+    /// <details><summary>Contract</summary>
+    ///
+    /// In the words of the folder `specs/` of crate `ent_queue`:
+    ///
+    /// ```text
+    /// requires { IsReady self.old }
+    /// ensures extends { Extends self.old self.new }
+    /// ensures ok { IfOk result (λ handles.
+    ///     queue_of self.new ≡ queue_of self.old ++ SpawnMany handles.items bundle.now ∷ []) }
+    /// ensures length { IfOk result (λ handles. length handles.items ≡ n) }
+    /// ensures refused { IfErr result (λ fault.
+    ///     queue_of self.new ≡ queue_of self.old ++ refused_by n fault) }
+    /// ensures memory { IsErrOf result QueueFault.Memory
+    ///     → reserver_of self.new ≡ reserver_of self.old }
+    ///
+    /// // Anything but Memory is the result of a reservation.
+    /// ensures replies { (reply : Result (List HandleValue) Refusal)
+    ///     → as_list result ≡ queued reply
+    ///     → IsReturned (shared_of self.new) (reserver_of self.old) (reserver_of self.new) n
+    ///     reply }
+    /// ```
+    ///
+    /// </details>
     #[inline]
-    pub(crate) fn spawn_many<const INLINE: usize>(
+    pub fn spawn_many<const INLINE: usize>(
         &mut self,
         n: u32,
         bundle: &Bundle<INLINE>,
-    ) -> Result<Vec<Handle>, QueueFault>
-        // requires { IsReady self.old }
-        // ensures extends { Extends self.old self.new }
-        // ensures ok { IfOk result (λ handles.
-        //     queue_of self.new ≡ queue_of self.old ++ SpawnMany handles.items bundle.now ∷ []) }
-        // ensures length { IfOk result (λ handles. length handles.items ≡ n) }
-        // ensures refused { IfErr result (λ fault.
-        //     queue_of self.new ≡ queue_of self.old ++ refused_by n fault) }
-        // ensures memory { IsErrOf result QueueFault.Memory
-        //     → reserver_of self.new ≡ reserver_of self.old }
-
-        // Anything but Memory is the result of a reservation.
-        // ensures replies { (reply : Result (List HandleValue) Refusal)
-        //     → as_list result ≡ queued reply
-        //     → IsReturned (shared_of self.new) (reserver_of self.old) (reserver_of self.new) n
-        //     reply }
-    {
+    ) -> Result<Vec<Handle>, QueueFault> {
         self.queue
             .spawn_many(self.shared, self.reserver, n, bundle.items())
     }
@@ -146,28 +170,36 @@ impl<'a> Commands<'a> {
     /// # Errors
     ///
     /// As [`Commands::spawn_many`].
+    ///
+    /// <details><summary>Contract</summary>
+    ///
+    /// In the words of the folder `specs/` of crate `ent_queue`:
+    ///
+    /// ```text
+    /// requires { IsReady self.old }
+    /// ensures extends { Extends self.old self.new }
+    /// ensures ok { IfOk result (λ handles. queue_of self.new
+    ///     ≡ queue_of self.old ++ SpawnMany handles.items (bundle_of components.now) ∷ []) }
+    /// ensures length { IfOk result (λ handles. length handles.items ≡ n) }
+    /// ensures refused { IfErr result (λ fault.
+    ///     queue_of self.new ≡ queue_of self.old ++ refused_by n fault) }
+    /// ensures memory { IsErrOf result QueueFault.Memory
+    ///     → reserver_of self.new ≡ reserver_of self.old }
+    ///
+    /// // Anything but Memory is the result of a reservation.
+    /// ensures replies { (reply : Result (List HandleValue) Refusal)
+    ///     → as_list result ≡ queued reply
+    ///     → IsReturned (shared_of self.new) (reserver_of self.old) (reserver_of self.new) n
+    ///     reply }
+    /// ```
+    ///
+    /// </details>
     #[inline]
-    pub(crate) fn spawn_many_with(
+    pub fn spawn_many_with(
         &mut self,
         n: u32,
         components: &[(ComponentId, i64)],
-    ) -> Result<Vec<Handle>, QueueFault>
-        // requires { IsReady self.old }
-        // ensures extends { Extends self.old self.new }
-        // ensures ok { IfOk result (λ handles. queue_of self.new
-        //     ≡ queue_of self.old ++ SpawnMany handles.items (bundle_of components.now) ∷ []) }
-        // ensures length { IfOk result (λ handles. length handles.items ≡ n) }
-        // ensures refused { IfErr result (λ fault.
-        //     queue_of self.new ≡ queue_of self.old ++ refused_by n fault) }
-        // ensures memory { IsErrOf result QueueFault.Memory
-        //     → reserver_of self.new ≡ reserver_of self.old }
-
-        // Anything but Memory is the result of a reservation.
-        // ensures replies { (reply : Result (List HandleValue) Refusal)
-        //     → as_list result ≡ queued reply
-        //     → IsReturned (shared_of self.new) (reserver_of self.old) (reserver_of self.new) n
-        //     reply }
-    {
+    ) -> Result<Vec<Handle>, QueueFault> {
         let Ok(bundle) = OwnBundle::of(components) else {
             return Err(QueueFault::Memory);
         };
@@ -179,19 +211,27 @@ impl<'a> Commands<'a> {
     /// # Errors
     ///
     /// `Memory`, and then nothing has changed.
+    ///
+    /// <details><summary>Contract</summary>
+    ///
+    /// In the words of the folder `specs/` of crate `ent_queue`:
+    ///
+    /// ```text
+    /// requires { IsReady self.old }
+    /// ensures extends { Extends self.old self.new }
+    /// ensures reserver { reserver_of self.new ≡ reserver_of self.old }
+    /// ensures ok { OnOk result
+    ///     (queue_of self.new ≡ queue_of self.old ++ Insert handle bundle.now ∷ []) }
+    /// ensures err { OnErr result (queue_of self.new ≡ queue_of self.old) }
+    /// ```
+    ///
+    /// </details>
     #[inline]
-    pub(crate) fn insert<const INLINE: usize>(
+    pub fn insert<const INLINE: usize>(
         &mut self,
         handle: Handle,
         bundle: &Bundle<INLINE>,
-    ) -> Result<(), Memory>
-        // requires { IsReady self.old }
-        // ensures extends { Extends self.old self.new }
-        // ensures reserver { reserver_of self.new ≡ reserver_of self.old }
-        // ensures ok { OnOk result
-        //     (queue_of self.new ≡ queue_of self.old ++ Insert handle bundle.now ∷ []) }
-        // ensures err { OnErr result (queue_of self.new ≡ queue_of self.old) }
-    {
+    ) -> Result<(), Memory> {
         self.queue.insert(handle, bundle.items())
     }
 
@@ -201,19 +241,27 @@ impl<'a> Commands<'a> {
     /// # Errors
     ///
     /// `Memory`, and then nothing has changed.
+    ///
+    /// <details><summary>Contract</summary>
+    ///
+    /// In the words of the folder `specs/` of crate `ent_queue`:
+    ///
+    /// ```text
+    /// requires { IsReady self.old }
+    /// ensures extends { Extends self.old self.new }
+    /// ensures reserver { reserver_of self.new ≡ reserver_of self.old }
+    /// ensures ok { OnOk result (queue_of self.new
+    ///     ≡ queue_of self.old ++ Insert handle (bundle_of components.now) ∷ []) }
+    /// ensures err { OnErr result (queue_of self.new ≡ queue_of self.old) }
+    /// ```
+    ///
+    /// </details>
     #[inline]
-    pub(crate) fn insert_with(
+    pub fn insert_with(
         &mut self,
         handle: Handle,
         components: &[(ComponentId, i64)],
-    ) -> Result<(), Memory>
-        // requires { IsReady self.old }
-        // ensures extends { Extends self.old self.new }
-        // ensures reserver { reserver_of self.new ≡ reserver_of self.old }
-        // ensures ok { OnOk result (queue_of self.new
-        //     ≡ queue_of self.old ++ Insert handle (bundle_of components.now) ∷ []) }
-        // ensures err { OnErr result (queue_of self.new ≡ queue_of self.old) }
-    {
+    ) -> Result<(), Memory> {
         let bundle = OwnBundle::of(components)?;
         self.insert(handle, &bundle)
     }
@@ -223,14 +271,22 @@ impl<'a> Commands<'a> {
     /// # Errors
     ///
     /// `Memory`, and then nothing has changed.
+    ///
+    /// <details><summary>Contract</summary>
+    ///
+    /// In the words of the folder `specs/` of crate `ent_queue`:
+    ///
+    /// ```text
+    /// requires { IsReady self.old }
+    /// ensures extends { Extends self.old self.new }
+    /// ensures reserver { reserver_of self.new ≡ reserver_of self.old }
+    /// ensures ok { OnOk result (queue_of self.new ≡ queue_of self.old ++ Remove handle id ∷ []) }
+    /// ensures err { OnErr result (queue_of self.new ≡ queue_of self.old) }
+    /// ```
+    ///
+    /// </details>
     #[inline]
-    pub(crate) fn remove(&mut self, handle: Handle, id: ComponentId) -> Result<(), Memory>
-        // requires { IsReady self.old }
-        // ensures extends { Extends self.old self.new }
-        // ensures reserver { reserver_of self.new ≡ reserver_of self.old }
-        // ensures ok { OnOk result (queue_of self.new ≡ queue_of self.old ++ Remove handle id ∷ []) }
-        // ensures err { OnErr result (queue_of self.new ≡ queue_of self.old) }
-    {
+    pub fn remove(&mut self, handle: Handle, id: ComponentId) -> Result<(), Memory> {
         self.queue.remove(handle, id)
     }
 
@@ -239,14 +295,22 @@ impl<'a> Commands<'a> {
     /// # Errors
     ///
     /// `Memory`, and then nothing has changed.
+    ///
+    /// <details><summary>Contract</summary>
+    ///
+    /// In the words of the folder `specs/` of crate `ent_queue`:
+    ///
+    /// ```text
+    /// requires { IsReady self.old }
+    /// ensures extends { Extends self.old self.new }
+    /// ensures reserver { reserver_of self.new ≡ reserver_of self.old }
+    /// ensures ok { OnOk result (queue_of self.new ≡ queue_of self.old ++ Despawn handle ∷ []) }
+    /// ensures err { OnErr result (queue_of self.new ≡ queue_of self.old) }
+    /// ```
+    ///
+    /// </details>
     #[inline]
-    pub(crate) fn despawn(&mut self, handle: Handle) -> Result<(), Memory>
-        // requires { IsReady self.old }
-        // ensures extends { Extends self.old self.new }
-        // ensures reserver { reserver_of self.new ≡ reserver_of self.old }
-        // ensures ok { OnOk result (queue_of self.new ≡ queue_of self.old ++ Despawn handle ∷ []) }
-        // ensures err { OnErr result (queue_of self.new ≡ queue_of self.old) }
-    {
+    pub fn despawn(&mut self, handle: Handle) -> Result<(), Memory> {
         self.queue.despawn(handle)
     }
 }

@@ -4,7 +4,7 @@ use alloc::vec::Vec;
 use crate::kit::vec::FallibleVec;
 use crate::proved::ent_handle::{Handle, Memory};
 
-/// Handles in order.
+/// The handles of an answer, in their order.
 #[derive(Debug)]
 pub struct HandleList {
     handles: Vec<Handle>,
@@ -22,6 +22,7 @@ impl HandleList {
     /// ```
     ///
     /// </details>
+    #[must_use]
     #[inline]
     pub fn new(handles: Vec<Handle>) -> Self {
         HandleList { handles }
@@ -38,6 +39,7 @@ impl HandleList {
     /// ```
     ///
     /// </details>
+    #[must_use]
     #[inline]
     pub fn as_slice(&self) -> &[Handle] {
         &self.handles
@@ -54,6 +56,7 @@ impl HandleList {
     /// ```
     ///
     /// </details>
+    #[must_use]
     #[inline]
     pub fn len(&self) -> usize {
         self.handles.len()
@@ -70,6 +73,7 @@ impl HandleList {
     /// ```
     ///
     /// </details>
+    #[must_use]
     #[inline]
     pub fn is_empty(&self) -> bool {
         self.handles.is_empty()
@@ -96,6 +100,7 @@ impl HandleList {
     /// ```
     ///
     /// </details>
+    #[must_use]
     #[inline]
     pub fn into_vec(self) -> Vec<Handle> {
         let HandleList { handles } = self;

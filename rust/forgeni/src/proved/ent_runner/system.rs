@@ -7,7 +7,9 @@ use crate::proved::ent_world::View;
 /// A system: it reads the world as the frame began, and issues commands that take effect at the
 /// frame's sync point.
 ///
-/// One value of it may run on any worker, so what it knows of the world is what the view says.
+/// One value of it may run on any worker, so what it knows of the world is what the view says. In plain
+/// Rust a function is a system, and so is a closure: `system` tells Rust the types of its parameters.
+/// Systems of several types go into one list in boxes, or behind `&dyn System`.
 pub trait System {
     /// Runs it once.
     ///

@@ -16,6 +16,7 @@ use crate::kit::sync::Arc;
 /// A spawn reserves its handle at once, so a system knows what it will have spawned. The world can
 /// be read, as it was when it was opened.
 #[must_use]
+#[repr(align(128))]
 pub struct Commands {
     pub(super) world: Arc<crate::proved::ent_world::OpenWorld>,
     pub(super) reserver: Reserver,

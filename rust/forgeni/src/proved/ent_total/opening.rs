@@ -111,6 +111,7 @@ impl Opening {
         // ensures number { result.0.number ≡ number }
         // ensures shared { result.0.shared ≡ self.shared }
         // ensures of { AreOf number result.1.items }
+        // ensures same { All (λ r. r.shared ≡ self.shared) result.1.items }
         // ensures given { reservers_of result.1.items ++ reverse result.0.home ≡ self.home }
     {
         let Opening {

@@ -8,7 +8,8 @@ use crate::proved::ent_alloc::Living;
 use crate::proved::ent_handle::{Handle, Memory};
 use crate::kit::sync::Arc;
 
-/// An allocator while it is shared: [`Entities::share`] makes it, with its reservers.
+/// An allocator while it is shared. [`Entities::share`](crate::Entities::share) makes it, with its
+/// reservers.
 ///
 /// The allocator is inside, so nothing but reservations happens until [`close`](Self::close) gives
 /// it back. If the `Shared` is dropped, the allocator goes with the last of the reservers.
@@ -108,9 +109,9 @@ impl Shared {
         self.shared.is_alive(handle)
     }
 
-    /// The row that was set with the entity ([`Entities::try_set_row`]) when the phase was opened.
-    /// `None` if the entity was not alive then, or had no row. Any thread may ask, and it takes
-    /// constant time.
+    /// The row that was set with the entity ([`try_set_row`](crate::Entities::try_set_row)), when the
+    /// phase was opened. `None` if the entity was not alive then, or had no row. Any thread may ask,
+    /// and it takes constant time.
     ///
     /// <details><summary>Contract</summary>
     ///
@@ -245,7 +246,9 @@ impl Shared {
     pub(super) fn give_out(&mut self, reservers: &mut Vec<Reserver>)
         // requires room { vec_len reservers.old + length self.old.home ≤ vec_capacity reservers.old }
         // requires of { AreOf self.old.number reservers.old.items }
-        // ensures of { AreOf self.new.number reservers.new.items }
+        // requires same { All (λ r. r.shared ≡ self.old.shared) reservers.old.items }
+        // ensures of { AreOf self.old.number reservers.new.items }
+        // ensures same { All (λ r. r.shared ≡ self.old.shared) reservers.new.items }
         // ensures given { reservers_of reservers.new.items ++ reverse self.new.home
         //     ≡ reservers_of reservers.old.items ++ reverse self.old.home }
         // ensures phase { self.new ≡ record self.old { home = self.new.home } }

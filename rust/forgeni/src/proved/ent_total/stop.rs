@@ -11,3 +11,12 @@ pub struct Stop {
     /// How many handles of that command are done. It is 0 except at a spawn of many.
     pub done: usize,
 }
+
+impl core::fmt::Display for Stop {
+    fn fmt(&self, f: &mut core::fmt::Formatter<'_>) -> core::fmt::Result {
+        let Stop { command, system, .. } = self;
+        write!(f, "out of memory at command {command} of system {system}")
+    }
+}
+
+impl core::error::Error for Stop {}

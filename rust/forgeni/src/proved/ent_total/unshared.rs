@@ -18,7 +18,7 @@ impl core::fmt::Display for ShareError {
     fn fmt(&self, f: &mut core::fmt::Formatter<'_>) -> core::fmt::Result {
         match self {
             ShareError::NeedsFlush => write!(f, "a flush is needed first"),
-            ShareError::Count => write!(f, "an allocator is shared among 1 to 1,024 callers"),
+            ShareError::Count => write!(f, "a phase has 1 to 1,024 callers"),
             ShareError::Memory => write!(f, "out of memory"),
         }
     }

@@ -1,6 +1,6 @@
 use Rattle.std.proofs.Common.{◌≡◌, ◌≤◌, ◌+◌, ◌++◌, length, reverse, vec_len}
-use Rattle.std.specs.Prelude.{vec_capacity}
-use Rattle.ent_total.specs.Sharing.{AreOf, reservers_of}
+use Rattle.std.specs.Prelude.{All, vec_capacity}
+use Rattle.ent_total.specs.Sharing.{Reserver, AreOf, reservers_of}
 use Rattle.ent_total.proofs.shared.Shared.give_out.Given as goal
 
 -- each time one less is at home
@@ -13,6 +13,7 @@ invariant-loop-reserver g l = record {
   given : reservers_of l.reservers.items ++ reverse l.self.home
       ≡ reservers_of l.initial.reservers.items ++ reverse l.initial.self.home;
   of : AreOf l.self.number l.reservers.items;
+  same : All (λ (r : Reserver). r.shared ≡ l.initial.self.shared) l.reservers.items;
   room : vec_len l.reservers + length l.self.home ≤ vec_capacity l.reservers;
   phase : l.self ≡ record l.initial.self { home = l.self.home };
 }

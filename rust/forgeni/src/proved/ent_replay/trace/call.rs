@@ -19,7 +19,7 @@ use crate::proved::ent_handle::{Handle, Memory};
 /// let refused = Reservation::new(2, 5, ReserveReply::SpaceLeft(3));
 /// assert_eq!(Call::Reserve(refused).to_string(), "reserve 2 5 => space left 3");
 /// ```
-#[derive(Debug)]
+#[derive(Debug, Clone, PartialEq, Eq, Hash)]
 pub enum Call {
     /// A handle that is alive at once.
     Alloc(Option<AllocReply>),

@@ -7,8 +7,8 @@ use crate::proved::ent_handle::Memory;
 use crate::kit::alloc::{AllocError, AllocFailed};
 
 /// Why a [`Checker`](crate::proved::ent_replay::trace::Checker) takes no more calls.
-#[derive(Debug)]
 #[non_exhaustive]
+#[derive(Debug, Clone, PartialEq, Eq, Hash)]
 pub enum CheckError {
     /// An answer isn't the allocator's.
     Differs(Difference),
@@ -30,6 +30,7 @@ impl CheckError {
     /// ```
     ///
     /// </details>
+    #[must_use]
     #[inline]
     pub fn difference(&self) -> Option<&Difference> {
         match self {

@@ -21,26 +21,18 @@ use core::mem;
 /// and no call is compared after it.
 ///
 /// ```
-/// use forgeni::trace::{AllocReply, Checker, FreeReply, FlushReply, Reservation};
-/// use forgeni::{Handle, Limits};
+/// use forgeni::trace::Checker;
+/// use forgeni::{Entities, Limits};
 ///
-/// let one = |text: &str| text.parse::<Handle>();
-/// let mut checker = Checker::new(Limits::GREATEST);
-/// checker.alloc(one("0v1")?.into())?;
-/// checker.free(one("0v1")?, FreeReply::Freed)?;
-///
-/// // Two threads reserved. Their logs come one after the other.
-/// checker.run(vec![
-///     Reservation::new(1, 1, one("1v1")?.into()),
-///     Reservation::new(2, 1, one("0v2")?.into()),
-/// ])?;
-///
-/// // New slots come to life first.
-/// let differs = checker.flush([one("0v2")?, one("1v1")?].into()).unwrap_err();
-/// assert_eq!(
-///     differs.to_string(),
-///     "differs line 5: flush => born 0v2 1v1, expected born 1v1 0v2",
-/// );
+/// let (mut entities, mut checker) = (Entities::new(), Checker::new(Limits::GREATEST));
+/// checker.alloc(entities.alloc()?)?;
+/// checker.reserve(7, 2, entities.request_many(2)?)?;
+/// let mut born = Vec::new();
+/// entities.flush(&mut born)?;
+/// checker.flush(born)?;
+/// let wrong = checker.len(4).unwrap_err();
+/// assert_eq!(wrong.to_string(), "differs line 4: len => 4, expected 3");
+/// assert_eq!(checker.len(3), Err(wrong));
 /// # Ok::<(), Box<dyn std::error::Error>>(())
 /// ```
 pub struct Checker {
@@ -65,6 +57,7 @@ impl Checker {
     /// ```
     ///
     /// </details>
+    #[must_use]
     #[inline]
     pub fn new(limits: Limits) -> Self {
         Checker {
@@ -86,6 +79,7 @@ impl Checker {
     /// ```
     ///
     /// </details>
+    #[must_use]
     #[inline]
     pub fn calls(&self) -> u64 {
         self.calls
@@ -102,6 +96,7 @@ impl Checker {
     /// ```
     ///
     /// </details>
+    #[must_use]
     #[inline]
     pub fn error(&self) -> Option<&CheckError> {
         match &self.comparer {

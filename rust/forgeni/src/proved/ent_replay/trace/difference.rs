@@ -12,7 +12,7 @@ use crate::proved::ent_handle::Memory;
 /// order those before it agree.
 ///
 /// `Display` writes it in one line, as `differs line 5: len => 3, expected 2`.
-#[derive(Debug)]
+#[derive(Debug, Clone, PartialEq, Eq, Hash)]
 pub struct Difference {
     /// The number of the call, from 1. In a trace with one call on each line it is the line.
     pub number: u64,

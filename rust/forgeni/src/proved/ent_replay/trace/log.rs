@@ -14,6 +14,7 @@ use crate::proved::ent_handle::Memory;
 /// Each thread has one of its own, and appends to it without a lock. It keeps no time: the checker
 /// needs none.
 #[derive(Debug)]
+#[repr(align(128))]
 pub struct Log {
     caller: u32,
     reservations: Vec<Reservation>,
@@ -31,8 +32,9 @@ impl Log {
     /// ```
     ///
     /// </details>
+    #[must_use]
     #[inline]
-    pub fn new(caller: u32) -> Self {
+    pub const fn new(caller: u32) -> Self {
         Log {
             caller,
             reservations: Vec::new(),
@@ -50,6 +52,7 @@ impl Log {
     /// ```
     ///
     /// </details>
+    #[must_use]
     #[inline]
     pub fn caller(&self) -> u32 {
         self.caller
@@ -66,6 +69,7 @@ impl Log {
     /// ```
     ///
     /// </details>
+    #[must_use]
     #[inline]
     pub fn reservations(&self) -> &[Reservation] {
         &self.reservations

@@ -29,13 +29,15 @@ use crate::proved::ent_handle::{Handle, Memory};
 ///         scope.spawn(move || {
 ///             for _ in 0..100 {
 ///                 let one = reserver.reserve().expect("a handle");
-///                 log.push(1, one.into()).expect("memory");
+///                 log.push(1, one).expect("memory");
 ///             }
 ///         });
 ///     }
 /// });
 /// let mut entities = shared.close(reservers)?;
-/// recorder.flush(entities.flush()?.into())?;
+/// let mut born = Vec::new();
+/// entities.flush(&mut born)?;
+/// recorder.flush(born)?;
 /// recorder.len(400)?;
 /// recorder.finish()?;
 /// # Ok::<(), Box<dyn std::error::Error>>(())
@@ -69,7 +71,7 @@ impl Recorder {
     /// </details>
     #[inline]
     pub fn new(limits: Limits, callers: u32) -> Result<Self, Memory> {
-        let mut logs = Vec::new();
+        let mut logs = Vec::with_capacity_fallibly(callers as usize)?;
         for caller in 0..callers {
             logs.push_fallibly(Log::new(caller))?;
         }
@@ -107,6 +109,7 @@ impl Recorder {
     /// ```
     ///
     /// </details>
+    #[must_use]
     #[inline]
     pub fn calls(&self) -> u64 {
         self.checker.calls()

@@ -7,7 +7,7 @@ use crate::proved::ent_replay::handle_list::HandleList;
 use crate::proved::ent_handle::{Handle, Memory};
 
 /// What was answered to a call for a handle that is alive at once.
-#[derive(Clone, Copy, Debug, PartialEq, Eq)]
+#[derive(Clone, Copy, Debug, PartialEq, Eq, Hash)]
 pub enum AllocReply {
     /// The handle that came to life.
     Handle(Handle),
@@ -25,7 +25,7 @@ impl From<Handle> for AllocReply {
 }
 
 /// What was answered to a call that frees a handle.
-#[derive(Clone, Copy, Debug, PartialEq, Eq)]
+#[derive(Clone, Copy, Debug, PartialEq, Eq, Hash)]
 pub enum FreeReply {
     /// The handle was freed. What its slot gives next isn't compared.
     Freed,
@@ -40,7 +40,7 @@ pub enum FreeReply {
 }
 
 /// What was answered to a flush.
-#[derive(Debug)]
+#[derive(Debug, Clone, PartialEq, Eq, Hash)]
 pub enum FlushReply {
     /// The handles that came to life, in their order.
     Born(HandleList),
@@ -69,7 +69,7 @@ impl From<Vec<Handle>> for FlushReply {
 }
 
 /// What was answered to a reservation.
-#[derive(Debug)]
+#[derive(Debug, Clone, PartialEq, Eq, Hash)]
 pub enum ReserveReply {
     /// The handles, in their order.
     Handles(HandleList),

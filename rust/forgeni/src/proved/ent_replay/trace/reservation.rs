@@ -6,7 +6,7 @@ use crate::proved::ent_replay::trace::reply::ReserveReply;
 use crate::proved::ent_handle::Memory;
 
 /// One reservation of one caller.
-#[derive(Debug)]
+#[derive(Debug, Clone, PartialEq, Eq, Hash)]
 pub struct Reservation {
     /// The number of its call, from 1. A [`Checker`](crate::proved::ent_replay::trace::Checker) numbers what it takes.
     pub number: u64,
@@ -32,6 +32,7 @@ impl Reservation {
     /// ```
     ///
     /// </details>
+    #[must_use]
     #[inline]
     pub fn new<R: Into<ReserveReply>>(caller: u32, requested: u32, reply: R) -> Self {
         Reservation {

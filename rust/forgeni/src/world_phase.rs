@@ -1,0 +1,160 @@
+//! A phase on a borrow of the world.
+
+use crate::lending::Lending;
+use crate::{Commands, ComponentId, Handle, OpenWorld, OutOfMemory, Queues};
+use crate::{ReserveError, ShareError, Unopened, World};
+use alloc::vec::Vec;
+use core::fmt;
+use core::ops::Deref;
+
+impl World {
+    /// Opens the world for `count` systems, 1 to 1,024, for as long as `run` takes. After it the
+    /// world is back, with all that was reserved, and [`apply`](Self::apply) takes the queues. `run`
+    /// can lose no system, since each is only [lent](LentCommands) to it.
+    ///
+    /// ```
+    /// use forgeni::{ComponentId, World};
+    ///
+    /// const AGE: ComponentId = ComponentId(0);
+    ///
+    /// let mut world = World::new();
+    /// let ((), queues) = world.phase(4, |open, systems| {
+    ///     assert_eq!(open.count(), 4);
+    ///     std::thread::scope(|scope| {
+    ///         for commands in systems {
+    ///             scope.spawn(move || commands.spawn_many(10, &[(AGE, 1)]));
+    ///         }
+    ///     });
+    /// })?;
+    /// let report = world.apply(queues)?;
+    /// assert_eq!((report.born.len(), world.len()), (40, 40));
+    /// # Ok::<(), Box<dyn std::error::Error + Send + Sync>>(())
+    /// ```
+    ///
+    /// # Errors
+    ///
+    /// As of [`open`](Self::open). `run` isn't called then, and the world is as it was.
+    ///
+    /// # Panics
+    ///
+    /// A panic of `run` is handed on. The world is back then too, with all that was reserved, and no
+    /// command takes effect.
+    ///
+    /// # Aborts
+    ///
+    /// As of `open`.
+    pub fn phase<T>(
+        &mut self,
+        count: usize,
+        run: impl FnOnce(&OpenWorld, &mut [LentCommands<'_>]) -> T,
+    ) -> Result<(T, Queues), ShareError> {
+        let mut lending = Lending::begin(
+            self,
+            |world| world.open(count).map_err(Unopened::into_parts),
+            |parts| closed(parts).0,
+        )?;
+        let (open, systems) = lending.parts();
+        let mut lent = Vec::new();
+        lent.try_reserve_exact(count)
+            .map_err(|_| ShareError::Memory)?;
+        lent.extend(systems.iter_mut().map(LentCommands::of));
+        let done = run(open, &mut lent);
+        drop(lent);
+        Ok((done, lending.end(closed)))
+    }
+}
+
+/// The world after a phase that had all its systems, and their queues.
+fn closed((open, systems): (OpenWorld, Vec<Commands>)) -> (World, Queues) {
+    let closed = open.close(systems.into_iter().map(Commands::finish).collect());
+    closed.expect("all systems of the phase are here, and nobody else has one")
+}
+
+/// The [`Commands`] of a system that are lent by a [`phase`](World::phase). They issue as those do,
+/// and cost no more.
+///
+/// The borrower can't keep them, nor put others in their place. So the phase has all of them at its
+/// end, even if this is dropped or forgotten.
+pub struct LentCommands<'a> {
+    commands: &'a mut Commands,
+}
+
+impl<'a> LentCommands<'a> {
+    fn of(commands: &'a mut Commands) -> Self {
+        Self { commands }
+    }
+
+    /// As [`Commands::spawn`].
+    ///
+    /// # Errors
+    ///
+    /// As there.
+    #[inline]
+    pub fn spawn(&mut self, components: &[(ComponentId, i64)]) -> Result<Handle, ReserveError> {
+        self.commands.spawn(components)
+    }
+
+    /// As [`Commands::spawn_many`].
+    ///
+    /// # Errors
+    ///
+    /// As there.
+    #[inline]
+    pub fn spawn_many(
+        &mut self,
+        n: u32,
+        components: &[(ComponentId, i64)],
+    ) -> Result<Vec<Handle>, ReserveError> {
+        self.commands.spawn_many(n, components)
+    }
+
+    /// As [`Commands::insert`].
+    ///
+    /// # Errors
+    ///
+    /// As there.
+    #[inline]
+    pub fn insert(
+        &mut self,
+        handle: Handle,
+        components: &[(ComponentId, i64)],
+    ) -> Result<(), OutOfMemory> {
+        self.commands.insert(handle, components)
+    }
+
+    /// As [`Commands::remove`].
+    ///
+    /// # Errors
+    ///
+    /// As there.
+    #[inline]
+    pub fn remove(&mut self, handle: Handle, id: ComponentId) -> Result<(), OutOfMemory> {
+        self.commands.remove(handle, id)
+    }
+
+    /// As [`Commands::despawn`].
+    ///
+    /// # Errors
+    ///
+    /// As there.
+    #[inline]
+    pub fn despawn(&mut self, handle: Handle) -> Result<(), OutOfMemory> {
+        self.commands.despawn(handle)
+    }
+}
+
+/// What can be read of the world.
+impl Deref for LentCommands<'_> {
+    type Target = Commands;
+
+    #[inline]
+    fn deref(&self) -> &Commands {
+        self.commands
+    }
+}
+
+impl fmt::Debug for LentCommands<'_> {
+    fn fmt(&self, out: &mut fmt::Formatter<'_>) -> fmt::Result {
+        self.commands.fmt(out)
+    }
+}
