@@ -96,7 +96,8 @@ impl Decimal {
     /// The length of `18446744073709551615` and of `-9223372036854775808`.
     const LENGTH: usize = 20;
 
-    #[inline]
+    // Where only the length is asked for, no digit is written then.
+    #[inline(always)]
     fn set(&mut self, size: u64, is_negative: bool) {
         let (mut at, mut size) = (Decimal::LENGTH, size);
         while size > u64::from(u32::MAX) {
@@ -129,13 +130,13 @@ impl Decimal {
         self.start = at;
     }
 
-    #[inline]
+    #[inline(always)]
     fn put_four(&mut self, at: usize, number: u32) {
         self.put_two(at, number / 100);
         self.put_two(at + 2, number % 100);
     }
 
-    #[inline]
+    #[inline(always)]
     fn put_two(&mut self, at: usize, number: u32) {
         [self.bytes[at], self.bytes[at + 1]] = PAIRS[number as usize];
     }
