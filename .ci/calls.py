@@ -41,7 +41,7 @@ def calls_of(type, file):
             yield f"{call[1]}({', '.join(arguments(call[2]))})", first_sentence(comments)
         if line.startswith("    ///"):
             comments = [*comments, line.strip()[3:].strip()]
-        elif not line.startswith("    #["):
+        elif not line.startswith(("    #[", "    // ")):
             comments = []
 
 

@@ -15,8 +15,9 @@ import second_eraser
 
 TOP = pathlib.Path(__file__).resolve().parent.parent
 CASES = TOP / ".ci" / "erase_holes.case"
-# The first eraser erases these crates and those that they use.
-CRATES = ["ent_replay", "ent_runner", "ent_total"]
+# The first eraser erases these crates, and knows of the last two that they have these types. A case is the first crate.
+CRATES = {"ent_runner": "", "ent_replay": "pub struct Log;\n", "ent_total": "pub struct Commands;\npub struct Reserver;\n"}
+CASE = "ent_runner"
 KEYS = ("edition: ", "refused: ", "erased: ")
 
 
@@ -31,11 +32,11 @@ def cases():
 
 
 def make_repository(top, says, files):
-    for crate in CRATES:
+    for crate, types in CRATES.items():
         (top / "crates" / crate / "src").mkdir(parents=True)
-        (top / "crates" / crate / "src" / "lib.rt").write_text("//! Empty.\n#![tactic(auto)]\n")
+        (top / "crates" / crate / "src" / "lib.rt").write_text("//! Types.\n#![tactic(auto)]\n" + types)
     for name, text in files.items():
-        (top / "crates" / CRATES[0] / "src" / name).write_text(text)
+        (top / "crates" / CASE / "src" / name).write_text(text)
     (top / "crates.txt").write_text("".join(f"{it}:\n" for it in CRATES))
     (top / second_eraser.RESULTS).mkdir(parents=True)
     (top / second_eraser.PACKAGE).write_text(f'[package]\nname = "forgeni"\nedition = "{says.get("edition", "2024")}"\n')
@@ -62,8 +63,8 @@ def main():
                 sys.exit(f"{CASES.name}: {name}: {fault}")
             command = ["cargo", "run", "--offline", "--quiet", "--manifest-path", TOP / "rust/erase/Cargo.toml"]
             first = subprocess.run(command, cwd=top, capture_output=True, text=True)
-            if first.returncode not in (0, 1):
-                sys.exit(f"{CASES.name}: {name}: the first eraser ended with {first.returncode}: {first.stderr}")
+            if first.returncode and (first.returncode != 1 or f"crates/{CASE}/" not in first.stderr):
+                sys.exit(f"{CASES.name}: {name}: the first eraser ended with {first.returncode}, but not for the case: {first.stderr}")
             count += 1
             refused += first.returncode
             if first.returncode == 0:

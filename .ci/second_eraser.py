@@ -1,12 +1,13 @@
 #!/usr/bin/env python3
 """A second eraser. It reads the proved sources by itself, and compares its results with `rust/forgeni/src/proved`, token by token.
 
-    .ci/second_eraser.py                        prints TABLE if the differences are its classes and counts; any other difference is an error
+    .ci/second_eraser.py                        prints what differs, class by class; any other difference is an error
+    .ci/second_eraser.py --fit                  writes this into the page
     .ci/second_eraser.py --mutate 500 --seed 1  changes one token of the results at a time; the comparison must find each change
 
-It was written from the language's guide, without a look at `rust/erase`. A reader goes down a grammar. A name must be an item of these crates,
-a binding, or in one of the lists below of names that mean the same in both languages. Whatever the grammar and the lists don't have is an
-error.
+It has another author than `rust/erase`, and another form. A reader goes down a grammar. A name must be an item of these crates, a binding,
+or in one of the lists below of names that mean the same in both languages. Whatever the grammar and the lists don't have is an error. How
+often each class of difference occurs, and why it keeps the meaning, stands in the page. Another count or class is an error too.
 """
 
 import argparse
@@ -16,36 +17,16 @@ import random
 import re
 import sys
 
-SOURCES, RESULTS, PACKAGE, EDITION = "crates", "rust/forgeni/src/proved", "rust/forgeni/Cargo.toml", "2024"
+SOURCES, RESULTS, PACKAGE, PAGE = "crates", "rust/forgeni/src/proved", "rust/forgeni/Cargo.toml", "docs/PROVED.md"
+EDITION = "2024"
 LINTS = "#![allow(dead_code, unused_imports, unused_variables, clippy::all)]"
 
-# What differs between a source without its ghost words and its result: each class, how often it occurs today, and why it keeps the meaning.
-TABLE = {
-    "derive(Drop)": (77, "in the kit a type may be dropped only if it says so, in Rust each may; no type here has a destructor"),
-    "derive(Error)": (15, "written out as the next class"),
-    "messages": (15, "`impl Display` writes the texts of `#[error(..)]`, and `impl Error` is empty, as the kit's derive has it"),
-    "bound Drop": (8, "as derive(Drop), for a type parameter"),
-    "crate path": (212, "a crate is a module of the package: `crate::x` is `crate::proved::NAME::x`"),
-    "sister path": (172, "as crate path, for the crates that a crate uses"),
-    "stand-in path": (39, "the kit's own words, maps and threads are the package's `kit`, by PATHS"),
-    "core path": (18, "the kit's std and Rust's have the same there, by PATHS"),
-    "import": (89, "`Vec`, `prove_eq!` and the traits of `collect_in` and of lists need no import in the kit"),
-    "collect_in": (2, "Rust's `Iterator` has a `collect` without an allocator"),
-    "formatter": (6, "the kit's `Formatter<W>` writes to a `W`, Rust's to a `dyn Write`; each use is `write_str` or `write!`"),
-    "visibility": (217, "`pub(crate)` would open a module to the whole package; too narrow a word fails to compile"),
-    "condition": (68, "a function with a `requires` may be called by proved code alone, which the package's own is; so it isn't `pub`"),
-    "inline": (634, "a hint to the compiler, on each function with a body and without a hint of its own"),
-    "layout": (1, "`Handle` is laid out as its word, so that an `Option` of it is; no source reads a layout"),
-    "equality": (2, "`impl PartialEq` and `impl Eq` of `Handle`, which compare its one field, are derived, so that a constant is a pattern"),
-    "padded": (2, "`padded!` is `write!` with a width, for which nobody can ask in the kit"),
-    "allocator": (282, "the right to allocate, `Global`, is handed to nobody in Rust: parameters, arguments, fields, what is bound"),
-    "ghost trait": (16, "a trait with ghost members alone, its imports and impls, and a module of nothing else"),
-    "ghost type": (79, "a type parameter that such a trait bounds, as an argument, and in a `PhantomData`"),
-    "clone": (4, "the kit's `clone` may be refused memory; that of an iterator asks for none, and calls its `again`"),
-    "list call": (94, "a list is Rust's own; what the kit's has otherwise is a call of `FallibleVec`, whose names no list of Rust has"),
-    "with_exact_limits": (5, "the allocator's `new(limits)`: in Rust `new()` has no parameter"),
-    "const": (12, "what makes an allocator without memory may be called in a constant: CONSTANT lists them"),
-}
+
+def named(text):
+    """The paths that a text lists as `PATH: NAMES;`."""
+    lists = [it.rsplit(":", 1) for it in text.split(";")]
+    return {f"{path.strip()}::{it}" for path, names in lists for it in names.split()}
+
 
 # The crates of the two programs, which aren't compared: they use twice as many forms and names of the kit as the others. What the first eraser
 # makes of them is run instead, beside the kit's build of the same sources (`.ci/programs.sh`). They are modules behind a feature.
@@ -55,56 +36,58 @@ LEFT_OUT, FEATURE = {"devices", "ent_script", "spawnrun", "spawnrun_lib", "trace
 PATHS = {f"std::{it}": f"crate::kit::{it}" for it in "alloc collections sync thread".split()}
 PATHS |= {f"std::{it}": f"core::{it}" for it in "cmp error fmt hash marker mem num".split()}
 PATHS |= {it: f"crate::kit::{it}" for it in "atomic_table either itoa smallvec".split()} | {"thiserror": ""}
-# The type of the right to allocate is written so until it goes.
-RIGHT = "@Global"
-# What may be imported or called from there. `Model` and the derive `Error` are for the prover and for `messages`.
-GHOST_IMPORTS = {"std::marker::Model", "thiserror::Error", "std::alloc::Global"}
-IMPORTS = set(
-    "std::alloc::Global std::alloc::AllocError std::alloc::AllocFailed std::collections::BTreeMap std::collections::LinkedList std::sync::Arc "
-    "std::thread::Threads std::thread::join_mut std::cmp::Ordering std::error::Error std::fmt std::marker::PhantomData std::mem "
-    "std::num::NonZeroU32 std::num::NonZeroU64 std::hash::Hash std::hash::Hasher atomic_table::Badge atomic_table::Join "
-    "atomic_table::Play atomic_table::Seat atomic_table::Split atomic_table::Table atomic_table::TableRule either::Either "
-    "either::Left either::Right itoa::Buffer itoa::Integer smallvec::SmallVec".split()
+# The right to allocate, as a type or a value, and a type that a ghost trait bounds are written so until they go, each by its class.
+RIGHT, GHOST = "@right", "@ghost"
+CLASSES = {RIGHT: "allocator", GHOST: "ghost type"}
+# What each difference of a class needs as an import.
+NEEDS = {"collect_in": "crate::kit::vec::CollectIn", "list call": "crate::kit::vec::FallibleVec", "padded": "crate::kit::padded"}
+# What goes of what is imported from there, and what stays, or may be called.
+MODEL, GLOBAL, ERROR = "std::marker::Model", "std::alloc::Global", "thiserror::Error"
+IMPORTS = named(
+    "std: fmt mem; std::alloc: AllocError AllocFailed; std::cmp: Ordering; std::collections: BTreeMap LinkedList; std::error: Error;"
+    "std::hash: Hash Hasher; std::marker: PhantomData; std::num: NonZeroU32 NonZeroU64; std::sync: Arc; std::thread: Threads join_mut;"
+    "atomic_table: Badge Join Play Seat Split Table TableRule; either: Either Left Right; itoa: Buffer Integer; smallvec: SmallVec"
+)
+ASSOCIATED = named(
+    "Arc: new try_clone try_unwrap; BTreeMap: new; Badge: blank; Buffer: new; NonZeroU32: new; NonZeroU64: MIN new; Table: of_words;"
+    "SmallVec: new with_capacity; Vec: new with_capacity; fmt: Debug Display Formatter Result; i64: from; mem: replace; str: from_utf8;"
+    "u16: from_le_bytes; u32: MAX from_le_bytes; u64: from from_le_bytes; usize: from"
 )
 PRELUDE = set(
-    "Some None Ok Err Option Result Vec Self self Iterator DoubleEndedIterator ExactSizeIterator From Into Default Copy Clone Send Sync Fn FnMut FnOnce Ord PartialOrd "
-    "PartialEq Eq bool char str u8 u16 u32 u64 u128 usize i64".split()
-)
-ASSOCIATED = set(
-    "Arc::new Arc::try_clone Arc::try_unwrap BTreeMap::new Badge::blank Buffer::new NonZeroU32::new NonZeroU64::MIN NonZeroU64::new "
-    "SmallVec::new SmallVec::with_capacity Table::of_words Vec::new Vec::with_capacity fmt::Debug fmt::Display fmt::Formatter "
-    "fmt::Result i64::from mem::replace str::from_utf8 u16::from_le_bytes u32::MAX u32::from_le_bytes u64::from u64::from_le_bytes usize::from".split()
+    "Some None Ok Err Option Result Vec Self self Iterator DoubleEndedIterator ExactSizeIterator From Into Default Copy Clone Send Sync Fn "
+    "FnMut FnOnce Ord PartialOrd PartialEq Eq bool str u8 u16 u32 u64 u128 usize i64".split()
 )
 METHODS = set(
-    "all as_bytes as_chunks as_mut_slice as_slice binary_search binary_search_by_key capacity cast_signed cast_unsigned checked_add checked_sub clear "
-    "close_with cmp collect contains copied count enumerate extend_from_slice fetch_add fetch_sub filter format free get get_mut insert into "
-    "into_badge into_seat is_ascii_digit is_empty is_err is_none is_none_or is_some iter iter_mut join_seat len load_new_seat map map_err max min next next_back ok "
-    "ok_or parse pop position push push_reserved remove reserve resize retain reverse saturating_add saturating_mul saturating_sub size_hint "
-    "sort_by_cached_key sort_by_key sort_unstable split_at split_at_mut split_first split_first_chunk split_last split_seat swap_remove take then "
-    "to_le_bytes truncate unwrap unwrap_or word write_str write_u64".split()
+    "all as_bytes as_chunks as_mut_slice as_slice binary_search binary_search_by_key capacity cast_signed cast_unsigned checked_add "
+    "checked_sub clear close_with cmp collect contains copied count enumerate extend_from_slice fetch_add fetch_sub filter format free get "
+    "get_mut insert into into_badge into_seat is_ascii_digit is_empty is_err is_none is_none_or is_some iter iter_mut join_seat len "
+    "load_new_seat map map_err max min next next_back ok ok_or parse pop position push push_reserved remove reserve resize retain reverse "
+    "saturating_add saturating_mul saturating_sub size_hint sort_by_cached_key sort_by_key sort_unstable split_at split_at_mut split_first "
+    "split_first_chunk split_last split_seat swap_remove take then to_le_bytes truncate unwrap unwrap_or word write_str write_u64".split()
 )
-# Methods of a trait of these crates that another type or trait has too. Each call of one can mean no other method.
-SHARED_NAMES = {
-    "run": "`System` has it, and `Worker` of the same crate, which is no `System`",
-    "take": "`Sink` has it, called on a parameter `S: Sink`; `Machine` and `Checker` are no `Sink`, and iterators are none",
-}
-CONSTANT = {(f"ent_alloc/{it}", "new") for it in ("entities", "limits", "slots")}
-CONSTANT |= {("ent_storage/handle_map", it) for it in ("limit", "new", "with_limit")} | {("ent_storage/handle_map/limit", it) for it in ("of", "slots")}
-CONSTANT |= {("ent_alloc/limits", "default_limits"), ("ent_alloc/requests", "none"), ("ent_alloc/entities", "with_limits")}
-CONSTANT |= {("ent_alloc/limits", it) for it in ("generations", "keeping_placeholder", "slots")}
-CONSTANT |= {("ent_handle/handle", it) for it in "from_bits from_parts generation index new to_bits".split()}
+# Methods of a trait of these crates that another type or trait has too. Each call can mean no other method: `run` is that of `System`,
+# which `Worker` isn't, and `take` is called on a parameter `S: Sink`, which `Machine`, `Checker` and iterators aren't.
+SHARED_NAMES = {"run", "take"}
+# Functions that may be called in a constant, by their files.
+CONSTANT = named(
+    "ent_alloc/entities: new with_limits; ent_alloc/limits: default_limits generations keeping_placeholder new slots; ent_alloc/slots: new;"
+    "ent_alloc/requests: none; ent_handle/handle: from_bits from_parts generation index new to_bits; ent_replay/trace/log: new;"
+    "ent_storage/handle_map: limit new with_limit; ent_storage/handle_map/limit: of slots"
+)
 # What `prove_eq!` may call, and whose stand-in is an enum alone (the empty path: what is imported from these crates).
 READS, WITHOUT_METHODS = {"cursor"}, {"", "either::Either"}
-# A file with a type that shares no line of a cache, one with a type of one word and its field, a file whose texts keep a width, and
-# functions with another name.
-APART_TYPE = "ent_total/reserver", "Reserver"
-WORD_TYPE, PADDED, RENAMED = ("ent_handle/handle", "Handle", "bits"), "ent_handle/text", {("Entities", "new"): "with_exact_limits"}
-RENAMED |= {("Vec", it): it + "_fallibly" for it in ("from_slice", "with_capacity")}
+# Types with a layout of their own, the one of which the results derive the equality, and those of data, which derives more in the results.
+LAYOUTS = dict.fromkeys(named("ent_replay: Log; ent_total: Commands Reserver"), "#[repr(align(128))]")
+LAYOUTS |= {"ent_handle::Handle": "#[repr(transparent)]"}
+WORD_TYPE, DATA = "ent_handle::Handle", named("ent_replay: Call CheckError Difference FlushReply Reservation ReserveReply")
+EQUALITY = {"PartialEq": "#[inline]fneq(&self,other:&Self)->bool{self.bits==other.bits}}", "Eq": "}"}
+# The file whose texts keep a width, and functions with another name.
+PADDED, RENAMED = "ent_handle/text", {"Entities::new": "with_exact_limits"}
+RENAMED |= {f"Vec::{it}": it + "_fallibly" for it in ("from_slice", "with_capacity")}
 # Calls of the kit's list that Rust's has otherwise, with the receivers that are no lists. A wrong one doesn't compile.
-LISTS = {"capacity": "living", "extend_from_slice": "", "push": "living", "push_reserved": "", "resize": "", "sort_by_cached_key": ""}
-LISTS |= {"sort_by_key": "", "reserve": "] index living self shared storage"}
+LISTS = dict.fromkeys("extend_from_slice push_reserved resize sort_by_cached_key sort_by_key".split(), "")
+LISTS |= {"capacity": "living", "push": "living", "reserve": "] index living self shared storage"}
 LISTS |= {"insert": "blocked calls commands items last latest living queue seen self spent values"}
-DERIVES = set("Clone Copy Debug Default PartialEq Eq Hash".split())
 KEYWORDS = set(
     "as async await break const continue crate dyn else enum extern false fn for if impl in let loop match mod move mut pub ref return "
     "static struct super trait true type unsafe use where while ghost requires ensures".split()
@@ -116,9 +99,10 @@ LEXEME = re.compile(
     % "|".join(re.escape(it) for it in OPERATORS),
     re.VERBOSE | re.DOTALL | re.ASCII,
 )
-# That a closure may be called: any of Rust's may.
-OF_A_CLOSURE = re.compile(r"requires\s+(?:\w+\s+)?\{\s*[A-Z]\w*\.IsAlwaysCallable\s+\w+\s*\}")
-ADDED = re.compile(r"""\"[^"]*"|'?\w+|::|->|=>|\.\.|\S""")
+# Conditions that each caller meets: that a closure may be called, as any of Rust's may, and that commands are ready. Only proved code makes
+# commands. It lends those that are ready, and each call leaves them so.
+MET = re.compile(r"requires\s+(?:\w+\s+)?\{\s*(?:[A-Z]\w*\.IsAlwaysCallable\s+\w+|(IsReady)\s+self\.old)\s*\}")
+IN_A_CLAUSE = re.compile(r'--.*|"(?:\\.|[^"\\])*"?|\{-|//|[{}]')
 BINARY = set("+ - * / % ^ & | && || << == != < > <= >= = += -= *= /= %= ^= |= &= <<=".split())
 Token = collections.namedtuple("Token", "kind text start end line")
 
@@ -156,59 +140,50 @@ class Text:
 
     def after_clause(self, at):
         """Where the braces end that begin at `at`. Their words are antt's: its comments are `--` and `{- -}`, its texts stand in `"`."""
-        depth, begin = 0, at
-        while at < len(self.text):
-            if self.text.startswith(("{-", "//"), at):
-                self.fail("a comment of several lines or of Rust in a clause", at)
-            if self.text.startswith("--", at):
-                if self.text[at - 1] not in " \n({[)}]":
-                    self.fail("a comment or a name", at)
-                at = self.text.index("\n", at)
-            if self.text[at] == '"':
-                at = re.compile(r'"(?:\\.|[^"\\])*').match(self.text, at).end()
-            depth += {"{": 1, "}": -1}.get(self.text[at], 0)
-            at += 1
+        depth = 0
+        for part in IN_A_CLAUSE.finditer(self.text, at):
+            if part[0] in ("{-", "//"):
+                self.fail("a comment of several lines or of Rust in a clause", part.start())
+            if part[0].startswith("--") and self.text[part.start() - 1] not in " \n({[)}]":
+                self.fail("a comment or a name", part.start())
+            depth += {"{": 1, "}": -1}.get(part[0], 0)
             if depth == 0:
-                return at
-        self.fail("a clause without an end", begin)
+                return part.end()
+        self.fail("a clause without an end", at)
 
 
 class Unit:
-    """What is erased together: the crates, what they declare and name, and how often each class of difference was made."""
+    """What is erased together: the crates, and what each of their files has to know of all others."""
 
     def __init__(self, crates, packages):
-        self.crates, self.packages, self.others, self.uses, self.conditions, self.facts = crates, packages, set(), [], set(), set()
-        self.counts, self.functions = collections.Counter(), collections.defaultdict(set)
+        self.crates, self.packages, self.conditions, self.facts = crates, packages, set(), set()
 
     def learn(self, notes):
-        """What another file has to know of this one."""
         self.facts |= {(name, of) for kind, name, of in notes if kind == "fact"}
-        twice = {of for name, of in self.facts if name == "right"} & {of for name, of in self.facts if name == "field"}
+        self.facts |= {(GHOST, of[1]) for name, of in self.facts if name == "phantom" and ("ghost", of[0]) in self.facts}
+        twice = {of for name, of in self.facts if name in CLASSES} & {of for name, of in self.facts if name == "field"}
         if twice:
-            raise Refused(f"a field `{min(twice)}` that has the right to allocate, and one that hasn't")
+            raise Refused(f"a field `{min(twice)}` that goes, since its type does, and one that stays")
 
-    def collect(self, notes):
-        self.counts.update(name for kind, name, _ in notes if kind == "count")
-        self.others |= {name for kind, name, _ in notes if kind == "other"}
-        self.uses += [it for it in notes if it[0] not in ("count", "other", "function", "add", "fact")]
-        for _, name, of in (it for it in notes if it[0] == "function"):
-            self.functions[name].add(of)
 
-    def check(self):
-        """Each name that was used has to be known, and to mean one thing."""
-        own, methods = self.functions.keys() | self.others, METHODS | self.functions.keys()
-        reads = {it for it in READS if {receiver for _, receiver in self.functions[it]} == {"&self"}}
-        lists = {"import": IMPORTS, "path": ASSOCIATED, "own path": own, "method": methods, "read": reads}
-        for kind, name, place in self.uses:
-            if (name.split("::")[-1] if kind == "own path" else name) not in lists.get(kind, ()):
-                raise Refused(f"{place}: {name if kind == 'refused' else f'the {kind} `{name}` is in no list'}")
-        for name, all_of in self.functions.items():
-            owners = {owner for owner, _ in all_of if owner}
-            for trait in (it for it in owners if it.startswith("trait ")):
-                if name not in SHARED_NAMES and (owners - {trait, f"impl {trait}"} or name in METHODS):
-                    raise Refused(f"`{name}` of {trait} is also a method of another trait or type: which is meant depends on the language")
-            if name == "collect" and owners:
-                raise Refused("a method `collect`: `collect_in` would take its place")
+def check(notes):
+    """Each name that was used has to be known, and to mean one thing."""
+    functions = collections.defaultdict(set)
+    for _, name, of in (it for it in notes if it[0] == "function"):
+        functions[name].add(of)
+    own = functions.keys() | {name for kind, name, _ in notes if kind == "other"}
+    reads = {it for it in READS if {receiver for _, receiver in functions[it]} == {"&self"}}
+    lists = {"import": IMPORTS, "path": ASSOCIATED, "own path": own, "method": METHODS | functions.keys(), "read": reads}
+    for (kind, name), place in ((name, place) for what, name, place in notes if what == "use"):
+        if (name.split("::")[-1] if kind == "own path" else name) not in lists.get(kind, ()):
+            raise Refused(f"{place}: {name if kind == 'refused' else f'the {kind} `{name}` is in no list'}")
+    for name, all_of in functions.items():
+        owners = {owner for owner, _ in all_of if owner}
+        for trait in (it for it in owners if it.startswith("trait ")):
+            if name not in SHARED_NAMES and (owners - {trait, f"impl {trait}"} or name in METHODS):
+                raise Refused(f"`{name}` of {trait} is also a method of another trait or type: which is meant depends on the language")
+        if name == "collect" and owners:
+            raise Refused("a method `collect`: `collect_in` would take its place")
 
 
 class Reader:
@@ -216,20 +191,20 @@ class Reader:
 
     def __init__(self, text, result, unit, first=None):
         self.text, self.unit, self.result, self.crate = text, unit, result.removesuffix(".rs"), result.split("/")[0]
-        self.at, self.far, self.out, self.log, self.imports_at, self.owner, self.no_struct = 0, 0, [], [], None, "", False
-        self.error, self.errs, self.fields, self.arms, self.declared, self.of, self.requires = "", False, [], "", "", "", False
-        self.tag, self.target, self.variant, self.bounds = "", "", "", {}
-        self.names, self.imports = ([first.names[0]], first.imports) if first else ([set()], {})
+        self.at, self.far, self.out, self.log, self.imports_at, self.bounds = 0, 0, [], [], None, {}
+        vars(self).update(dict.fromkeys("arms declared error of owner target trait variant".split(), ""))
+        self.errs, self.fields, self.no_struct, self.requires = False, [], False, False
+        self.names, self.imports = ([first.names[0]], first.imports) if first else ([{}], {})
 
     def file(self):
-        """The whole file. What it adds to the imports stands before them."""
+        """The whole file. What it adds to the imports stands before them, and an import that isn't used any more goes."""
         if not self.match(RULES["file"]):
             self.text.fail(f"{self.text.token(self.far).text!r} in a form that is in no rule", self.text.token(self.far).start)
         head = len(self.out)
         for name in sorted({name for kind, name, _ in self.log if kind == "add"}):
             self.add(f"use {name};", "import")
         self.out[self.imports_at or 0 : 0] = self.cut(head)
-        if self.texts(0).count("PhantomData") == 1 and ("count", "ghost type", None) in self.log:
+        if self.texts(0).count("PhantomData") == 1 and ("count", CLASSES[GHOST], None) in self.log:
             at = self.texts(0).index("PhantomData")
             self.out[at - 5 : at + 2] = []
             self.log.remove(("count", "core path", None))
@@ -239,17 +214,11 @@ class Reader:
 
     def match(self, part):
         kind, of = part
-        if kind == "text":
-            return self.seen(self.sees(of) and self.take())
-        if kind == "word":
-            return self.word(of)
-        if kind == "rule":
-            return self.rule(of)
-        if kind == "%":
-            return self.list(of)
+        if kind in ("token", "word", "rule", "commas", "pluses"):
+            return getattr(self, kind)(of)
         mark = (self.at, len(self.out), len(self.log))
         if kind == "or":
-            return any(self.all(it, mark) for it in of)
+            return any(all(self.match(it) for it in parts) or self.reset(mark) for parts in of)
         found = self.match(of)
         if kind == "-":
             self.cut(mark[1])
@@ -261,31 +230,27 @@ class Reader:
                 pass
         return found or kind in "*?"
 
-    def list(self, of):
-        """Parts with commas. A part of which nothing is left takes a comma with it."""
+    def commas(self, of, sign=","):
+        """Parts with signs between them. A part of which nothing is left takes a sign with it."""
         while True:
             begin = len(self.out)
             if not self.match(of):
                 return True
             is_gone = len(self.out) == begin
-            if not self.sees(","):
-                self.out.pop() if is_gone and self.out[-1].text == "," else None
+            if not self.sees(sign):
+                self.out.pop() if is_gone and self.out[-1].text == sign else None
                 return True
             self.drop() if is_gone else self.take()
 
-    def all(self, parts, mark):
-        for part in parts:
-            if not self.match(part):
-                self.reset(mark)
-                return False
-        return True
+    def pluses(self, of):
+        return self.commas(of, "+")
 
     def rule(self, name):
         """Reads a rule in the state and the scope that it has. What a scope binds is known in it alone."""
         state = STATES.get(name, {})
         before = {it: getattr(self, it) for it in state}
         vars(self).update(state)
-        self.names += [set()] * (name in SCOPES)
+        self.names += [{}] * (name in SCOPES)
         mark = (self.at, len(self.out), len(self.log))
         found = self.match(RULES[name])
         if found and hasattr(self, "after_" + name):
@@ -293,6 +258,9 @@ class Reader:
         del self.names[len(self.names) - (name in SCOPES) :]
         vars(self).update(before)
         return found and (name not in NOTES or self.note(*NOTES[name]))
+
+    def token(self, text):
+        return self.seen(self.sees(text) and self.take())
 
     def word(self, name):
         return self.seen(WORDS[name](self) if name in WORDS else getattr(self, "is_" + name.lower())())
@@ -327,8 +295,13 @@ class Reader:
     def add(self, words, kind=None):
         """Writes what only the results have."""
         self.note("count", kind) if kind else None
-        self.out += [Token("added", it, 0, 0, self.look().line) for it in ADDED.findall(words)]
+        self.note("add", NEEDS[kind]) if kind in NEEDS else None
+        self.out += [it._replace(line=self.look().line) for it in Text(words, "").tokens()]
         return True
+
+    def instead(self, words, kind):
+        """Writes this and not the next token."""
+        return self.drop() and self.add(words, kind)
 
     def cut(self, mark):
         """Takes back what was written since."""
@@ -349,73 +322,64 @@ class Reader:
         return True
 
     def use(self, kind, name):
-        return self.note(kind, name, f"{self.text.name}:{self.look().line}")
-
-    # What is for the prover alone, or for the kit's allocator.
+        return self.note("use", (kind, name), f"{self.text.name}:{self.look().line}")
 
     def texts(self, mark):
         return [it.text for it in self.out[mark:]]
 
+    def first(self, mark, *words):
+        """Where the first of these words was written since."""
+        return next(at for at in range(mark, len(self.out)) if self.out[at].text in words)
+
+    # What is for the prover alone, or for the kit's allocator.
+
     def knows(self, name, of):
         return (name, of) in self.unit.facts
 
-    def is_phantom(self, name):
-        """Whether this field of the type of the literal or pattern is a `PhantomData` of a ghost type."""
-        return any(self.knows("phantom", (of, self.tag, name)) for kind, of in self.unit.facts if kind == "ghost")
-
     def gone(self, mark, kind):
         """What was written since isn't in the results."""
-        return self.note("count", kind) and self.cut(mark)
-
-    def is_of(self, name, kind):
-        """Whether the innermost binding of a name is of this kind."""
-        found = next((it for it in reversed(self.names) if {name, f"{name}: {kind}"} & it), ())
-        return f"{name}: {kind}" in found
-
-    def is_right(self, words):
-        """Whether these words are a value that has the right to allocate."""
-        if len(words) == 3:
-            return words[1] == "." and self.knows("right", words[2])
-        return words == [RIGHT] or len(words) == 1 and self.is_of(words[0], RIGHT)
+        self.note("count", CLASSES.get(kind, kind))
+        self.cut(mark)
 
     def after_parameter(self, mark, _):
         name, *of = self.texts(mark)
         if of == [":", RIGHT]:
-            self.names[-1].add(f"{name}: {RIGHT}")
-            self.gone(mark, "allocator")
+            self.names[-1][name] = RIGHT
+            self.gone(mark, RIGHT)
 
     def after_passed(self, mark, _):
-        self.gone(mark, "allocator") if self.is_right(self.texts(mark)) else None
+        """An argument, or what a literal gives a field."""
+        words = self.texts(mark)
+        if words == [RIGHT] or len(words) == 3 and words[1] == "." and self.knows(RIGHT, words[2]):
+            self.gone(mark, RIGHT)
 
     def after_fielded(self, mark, _):
-        name, *of = self.texts(mark)[self.texts(mark).index(":") - 1 :]
-        of = [it for it in of[1:] if it != ","]
-        self.note("fact", "right" if of == [RIGHT] else "field", name)
+        words = [it for it in self.texts(mark) if it != ","]
+        at = words.index(":")
+        name, of = words[at - 1], words[at + 1 :]
+        fact = RIGHT if of == [RIGHT] else "phantom" if of[0] == "PhantomData" else "field"
+        self.note("fact", fact, (self.bounds.get("".join(of[2:3])), name) if fact == "phantom" else name)
         if of in ([RIGHT], ["PhantomData"]):
-            self.gone(mark, "allocator" if of == [RIGHT] else "ghost type")
-        elif of[0] == "PhantomData":
-            self.note("fact", "phantom", (self.bounds.get(of[2]), self.declared, name))
+            self.gone(mark, RIGHT if of == [RIGHT] else GHOST)
 
     def after_part(self, mark, _):
-        """A field in a literal or a pattern."""
+        """A field in a literal or a pattern. What a literal gives it may be gone already."""
         name, *of = self.texts(mark)
-        if self.knows("right", name) and (of in ([], [":", "_"]) or self.is_right(of[1:])):
-            self.names[-1] |= set() if of else {f"{name}: {RIGHT}"}
-            self.gone(mark, "allocator")
-        elif of in ([":", "_"], [":", "PhantomData"]) and self.is_phantom(name):
-            self.gone(mark, "ghost type")
+        kind = name if name == RIGHT else next((it for it in CLASSES if self.knows(it, name)), None)
+        if kind and of in ([], [":", "_"], [":", "PhantomData"]):
+            self.names[-1] |= {} if of else {name: kind}
+            self.gone(mark, kind)
+        self.cut(mark) if of == [":"] else None
 
     def after_generic(self, mark, _):
         name, *bound = self.texts(mark)
         self.bounds[name] = "".join(bound[1:])
         if self.knows("ghost", self.bounds[name]):
-            self.names[-1].add(f"{name}: ghost")
-            self.gone(mark, "ghost type")
+            self.names[-1][name] = GHOST
+            self.gone(mark, GHOST)
 
     def after_argument(self, mark, _):
-        words = self.texts(mark)
-        if words == [RIGHT] or len(words) == 1 and self.is_of(words[0], "ghost"):
-            self.gone(mark, "allocator" if words == [RIGHT] else "ghost type")
+        self.gone(mark, self.texts(mark)[0]) if self.texts(mark) in ([RIGHT], [GHOST]) else None
 
     def after_generics(self, mark, _):
         self.cut(mark) if self.texts(mark) in (["<", ">"], ["::"]) else None
@@ -425,33 +389,31 @@ class Reader:
     def after_trait(self, mark, notes):
         has_ghosts = any(it[1] == "(ghost members and imports)" for it in self.log[notes:])
         if has_ghosts and self.texts(mark)[-2:] == ["{", "}"]:
-            self.note("fact", "ghost", self.declared) and self.gone(mark, "ghost trait")
+            self.note("fact", "ghost", self.declared)
+            self.gone(mark, "ghost trait")
 
     def after_module(self, mark, _):
         inside = self.result.removesuffix("/mod") + "/" + self.declared
         self.gone(mark, "ghost trait") if self.knows("empty", inside) else None
 
     def is_step(self):
-        """A name after a `::`, or of a member. One function has another name."""
-        before = self.out[-1 - (self.out[-1].text == "::")].text
-        to = RENAMED.get((self.target if before in ("Self", "fn") else before, self.look().text))
-        if to is None:
-            return self.word("NAME")
-        self.note("add", "crate::kit::vec::FallibleVec") if before == "Vec" else None
-        return self.drop() and self.add(to, "list call" if before == "Vec" else to)
+        """A name after a `::`, or of a member. A few functions have another name."""
+        before, name = self.out[-1 - (self.out[-1].text == "::")].text, self.look().text
+        to = RENAMED.get(f"{self.target if before in ('Self', 'fn') else before}::{name}")
+        return self.instead(to, "list call" if before == "Vec" else to) if to else self.word("NAME")
 
     # Names.
 
     def is_provers(self, name):
         """Whether the name is the prover's and not one of the crate's own."""
-        return name not in self.names[0] | self.imports.keys()
+        return name not in self.names[0].keys() | self.imports.keys()
 
     def is_declared(self):
         """The name of an item, which may not be one that the results give another meaning."""
         self.declared = self.look().text
         if self.declared in self.unit.packages | PRELUDE | {"proved", "kit", "collect_in", "prove_eq"}:
             self.use("refused", f"an item named `{self.declared}`")
-        self.names[-2].add(self.declared)
+        self.names[-2][self.declared] = None
         return self.note("other", self.declared) and self.word("NAME")
 
     def words(self):
@@ -467,14 +429,17 @@ class Reader:
         if self.look().kind != "id" or self.look().text in KEYWORDS - {"crate", "super"}:
             return False
         words, _ = self.words()
-        first, whole = words[0], "::".join(words)
+        first, whole, is_alone = words[0], "::".join(words), len(words) == 1
         kit = next((it for it in PATHS if whole.startswith(it + "::")), None)
-        known = first in PRELUDE | {"crate", "super"} | self.imports.keys() or any(first in it for it in self.names)
+        bound = [it[first] for it in self.names if first in it]
+        known = bound or first in PRELUDE | {"crate", "super"} | self.imports.keys()
         self.note("add", "alloc::vec::Vec") if first == "Vec" else None
-        if not known and kit is None and not (first in self.unit.crates and len(words) > 1):
+        if not known and kit is None and (is_alone or first not in self.unit.crates):
             self.use("name", first)
-        elif len(words) > 1:
+        elif not is_alone:
             self.use("path" if first in PRELUDE - {"Self"} or self.imports.get(first) or kit else "own path", whole)
+        if is_alone and bound and bound[-1] in CLASSES:
+            return self.out.append(self.drop()._replace(text=bound[-1])) or True
         return self.head(words, kit)
 
     def head(self, words, kit):
@@ -485,8 +450,6 @@ class Reader:
             self.add("crate::proved::", "sister path")
         elif len(words) > 1 and words[0] in self.unit.packages:
             self.use("path", "::".join(words))
-        if words == ["Global"] and self.imports.get("Global") == "std::alloc::Global":
-            return self.out.append(self.drop()._replace(text=RIGHT)) or True
         return self.take() and (words[0] != "crate" or self.add(f"::proved::{self.crate}", "crate path"))
 
     def is_prefix(self):
@@ -512,9 +475,10 @@ class Reader:
         if new in self.unit.packages | PRELUDE:
             self.use("refused", f"an import named `{new}`")
         self.imports[new] = whole if foreign else ""
+        self.names[0] |= {new: RIGHT} if foreign and whole == GLOBAL else {}
         is_ghost = not foreign and self.knows("ghost", old)
         self.note("count", "ghost trait") if is_ghost else None
-        self.left.append(not (foreign and whole in GHOST_IMPORTS or is_ghost))
+        self.left.append(not (foreign and whole in (MODEL, GLOBAL, ERROR) or is_ghost))
         self.cut(mark) if not self.left[-1] else foreign and self.use("import", whole)
 
     def after_use(self, mark, notes):
@@ -537,7 +501,7 @@ class Reader:
 
     def narrow(self, mark):
         """`pub` becomes `pub(crate)`, where nothing else says more."""
-        at = next(at for at in range(mark, len(self.out)) if self.out[at].text in ("pub", "fn"))
+        at = self.first(mark, "pub", "fn")
         if self.out[at].text == "pub" and self.out[at + 1].text != "(":
             self.insert(at + 1, "(crate)", "condition")
 
@@ -547,139 +511,100 @@ class Reader:
             return False
         self.use("method", name)
         if name in LISTS and self.out[-2].text not in LISTS[name].split():
-            self.note("add", "crate::kit::vec::FallibleVec")
-            to = {"capacity": "sized_capacity", "push_reserved": name}.get(name, name + "_fallibly")
-            return self.drop() and self.add(to, "list call")
-        if name != "collect":
-            return self.word("NAME")
-        self.drop()
-        return self.note("add", "crate::kit::vec::CollectIn") and self.add("collect_in", "collect_in")
-
-    def is_binary(self):
-        found = self.sees(*BINARY) and self.take()
-        return found and (found.text != ">" or not self.sees(">", ">=") or self.take())
-
-    def add_padded(self):
-        return self.note("add", "crate::kit::padded") and self.add("padded", "padded")
-
-    def is_aligned(self):
-        if (self.result, self.look(1).text, self.look(2).text) == (WORD_TYPE[0], "struct", WORD_TYPE[1]):
-            self.insert(len(self.out) - 2, ", PartialEq, Eq")
-            self.add("#[repr(transparent)]", "layout")
-        if (self.result, self.look(1).text, self.look(2).text) == (APART_TYPE[0], "struct", APART_TYPE[1]):
-            self.add("#[repr(align(128))]", "layout")
-        return True
-
-    def is_derives(self):
-        """The derives that Rust has."""
-        kept = []
-        while self.drop().text != ")":
-            if self.sees("Drop") or self.sees("Error") and self.imports.get("Error") == "thiserror::Error":
-                self.errs |= self.sees("Error")
-                self.note("count", f"derive({self.look().text})")
-            elif self.sees(*DERIVES):
-                kept.append(self.look().text)
-            else:
-                return False
-            self.drop()
-        return self.add("(" * bool(kept) + ", ".join(kept) + ")" * bool(kept))
+            return self.instead({"capacity": "sized_capacity", "push_reserved": name}.get(name, name + "_fallibly"), "list call")
+        return self.instead("collect_in", "collect_in") if name == "collect" else self.word("NAME")
 
     def after_attribute(self, mark, _):
-        self.cut(mark) if self.out[mark:] and self.out[-2].text == "derive" else None
+        self.cut(mark) if self.texts(mark)[-4:] == ["derive", "(", ")", "]"] else None
 
     def after_bounds(self, mark, _):
-        """A word to the prover among bounds goes with its sign, and the colon with the last one."""
-        bounds = self.cut(mark)
-        while bounds and bounds[-1].text in ("+", ":"):
-            bounds.pop()
-        self.out += [it for at, it in enumerate(bounds) if it.text != "+" or bounds[at - 1].text not in ("+", ":")]
+        self.cut(mark) if self.texts(mark) == [":"] else None
 
     def after_predicate(self, mark, _):
         self.cut(mark) if ":" not in self.texts(mark) else None
 
     def after_variant_of(self, mark, _):
         if "[" in self.texts(mark):
-            self.use("refused", "the elements of an array in a variant, which are dropped in another order where a later part doesn't match")
+            self.use("refused", "elements of an array in a variant, which are dropped in another order where a later part doesn't match")
 
-    def after_variant(self, *_):
+    def pattern(self):
+        """A pattern of the fields that the message has."""
         used = re.findall(r"\{(\w+)", self.error)
         rest = [".."] * (not set(self.fields) <= set(used))
-        fields = {"}": "{" + ", ".join(used + rest) + "}", ")": "(..)"}.get(self.out[-1].text, "")
-        self.arms += f"{self.declared}::{self.variant}{fields} => write!(f, {self.error}), "
+        return {"}": "{" + ", ".join(used + rest) + "}", ")": "(..)"}.get(self.out[-1].text, "")
 
-    def after_struct(self, *_):
-        """What the derive `Error` stands for."""
-        body = f"match self {{ {self.arms} }}" if self.arms else f"write!(f, {self.error})"
+    def after_variant(self, *_):
+        self.arms += f"{self.declared}::{self.variant}{self.pattern()} => write!(f, {self.error}), "
+
+    def after_data(self, mark, _):
+        """What only the results say of a type: its layout, more derives, and what the derive `Error` stands for."""
+        at, whole = self.first(mark, "pub", "struct", "enum"), f"{self.crate}::{self.declared}"
+        self.insert(at, LAYOUTS[whole], "layout") if whole in LAYOUTS else None
+        self.insert(at - 2, ", PartialEq, Eq") if whole == WORD_TYPE else None
+        self.insert(at - 2, ", Clone, PartialEq, Eq, Hash", "data") if whole in DATA else None
+        bound = f"let {self.declared}{self.pattern()} = self;" if "{" in self.error else ""
+        body = f"match self {{ {self.arms} }}" if self.arms else f"{bound} write!(f, {self.error})"
         head = f"impl core::fmt::Display for {self.declared} {{ fn fmt(&self, f: &mut core::fmt::Formatter<'_>) -> core::fmt::Result"
         tail = f"{{ {body} }} }} impl core::error::Error for {self.declared} {{ }}"
         self.add(head + tail, "messages") if self.errs else None
 
-    after_enum = after_struct
-
     def after_impl(self, mark, notes):
-        own = self.names[0] | {it for it, whole in self.imports.items() if whole in WITHOUT_METHODS}
-        if self.of and self.of.split("::")[0] in own - PRELUDE and self.target not in own - self.names[-1]:
+        own, kind = self.names[0].keys() | {it for it, whole in self.imports.items() if whole in WITHOUT_METHODS}, None
+        if self.of and self.of.split("::")[0] in own - PRELUDE and self.target not in own - self.names[-1].keys():
             self.use("refused", f"an impl of `{self.of}` for a type of the kit: a method of Rust's may have its name")
-        if self.of == "std::marker::Model" and self.out[-2].text == "{":
-            self.out[mark:], self.log[notes:] = [], [("count", "(models)", None)]
-        elif self.knows("ghost", self.of) and self.out[-2].text == "{":
-            self.gone(mark, "ghost trait")
-        elif (self.result, self.target) == WORD_TYPE[:2] and self.of in ("PartialEq", "Eq"):
-            eq = f"#[inline]fneq(&self,other:&Self)->bool{{self.{WORD_TYPE[2]}==other.{WORD_TYPE[2]}}}"
-            if "".join(self.texts(mark)).split("{", 1)[1] != eq * (self.of == "PartialEq") + "}":
-                self.use("refused", f"an `{self.of}` of `{self.target}` that isn't that of the derive")
-            self.out[mark:], self.log[notes:] = [], [("count", "equality", None)]
-        elif self.of == "std::marker::Model" or self.of == "Drop" and self.is_provers("Drop"):
+        if self.of == MODEL and self.out[-2].text != "{" or self.of == "Drop" and self.is_provers("Drop"):
             self.use("refused", "a model with code, or a destructor")
+        elif self.out[-2].text == "{":
+            kind = "(models)" if self.of == MODEL else "ghost trait" if self.knows("ghost", self.of) else None
+        if f"{self.crate}::{self.target}" == WORD_TYPE and "".join(self.texts(mark)).split("{", 1)[1] == EQUALITY.get(self.of):
+            kind = "equality"
+        if kind:
+            self.out[mark:], self.log[notes:] = [], [("count", kind, None)]
 
     def after_receiver(self, mark, notes):
         receiver = "".join(it.text for it in self.out[mark:] if it.kind != "life" and it.text != ",")
         at = max(at for at in range(notes) if self.log[at][0] == "function")
         self.log[at] = ("function", self.log[at][1], (self.owner, receiver))
 
-    def after_cloner(self, mark, _):
-        rest = self.cut(mark)
-        self.out += rest if self.add("#[inline]", "inline") else []
-
     def after_function(self, mark, notes):
         if self.requires:
             name = next(name for kind, name, _ in self.log[notes:] if kind == "function")
             self.unit.conditions |= set() if self.owner else {(self.result, name)}
             self.narrow(mark)
-        at = next(at for at in range(mark, len(self.out)) if self.out[at].text in ("pub", "const", "fn"))
+        at = self.first(mark, "pub", "const", "fn")
         if self.out[-1].text == "}" and not {"inline", "cold"} & {it.text for it in self.out[mark:at]}:
             self.insert(at, "#[inline]", "inline")
 
+    after_cloner = after_function
 
-# The grammar: `-` reads and writes nothing, `&` and `!` look ahead, `%` is a list with commas, a word in capitals is one of WORDS or `is_..`.
-# After a rule its `after_..` is called. A range without an end is an index alone: elsewhere the kit ends it where Rust doesn't.
+
+# The grammar: `-` reads and writes nothing, `&` and `!` look ahead, `%` and `~` are lists with `,` and `+`, a word in capitals is in WORDS
+# or an `is_..`. After a rule its `after_..` is called. A range without an end is an index alone: elsewhere the kit ends it where Rust
+# doesn't.
 GRAMMAR = r"""
-file      = -head* item* END
-head      = '#' '!' '[' 'tactic' group ']'
+file      = -('#' '!' '[' 'tactic' group ']')* item* END
 group     = '(' (group | !')' ANY)* ')'
-item      = ghost | use | module | constant | alias | function | struct | enum | impl | trait
+item      = ghost | use | module | constant | function | data | impl | trait
 ghost     = -('pub'? 'ghost' ('use' UNTIL_SEMICOLON | NAME (':' CLAUSE)? ('=' CLAUSE)?) (';' | ','))
 use       = visible? 'use' PREFIX ('{' leaf% '}' | leaf) ';'
 leaf      = NAME ('as' NAME)?
 module    = visible? 'mod' DECLARED ';'
-constant  = visible? 'const' CONSTANT ':' type ('=' expression)? ';'
-attribute = -('#' '[' ('tactic' | 'cycle') group ']') | '#' '[' 'derive' DERIVES ']' | -('#' '[' 'error' '(' ERROR ')' ']') | hint | lint
-hint      = '#' '[' ('inline' ('(' ('always' | 'never') ')')? | 'cold') ']'
-lint      = '#' '[' ('must_use' ('=' STR)? | 'non_exhaustive') ']'
+constant  = visible? ('const' CONSTANT ':' type ('=' expression)? | 'type' CONSTANT generics ('=' type)?) ';'
+attribute = -('#' '[' (('tactic' | 'cycle') group | 'error' '(' ERROR ')') ']') | '#' '[' kept ']'
+kept      = 'derive' '(' derived% ')' | 'inline' ('(' ('always' | 'never') ')')? | 'cold' | 'must_use' ('=' STR)? | 'non_exhaustive'
+derived   = 'Clone' | 'Copy' | 'Debug' | 'Default' | 'Eq' | 'Hash' | 'PartialEq' | -NO_DERIVE
 visible   = 'pub' ('(' SCOPE ')')?
-struct    = attribute* ALIGNED visible? 'struct' DECLARED generics ('{' named '}' | ('(' unnamed% ')')? ';')
-enum      = attribute* visible? 'enum' DECLARED generics '{' variant% '}'
+data      = attribute* visible? ('struct' DECLARED generics ('{' named '}' | ('(' unnamed% ')')? ';') | enum)
+enum      = 'enum' DECLARED generics '{' variant% '}'
 variant   = attribute* VARIANT ('{' named '}' | '(' unnamed% ')')? ('=' NUM)?
 named     = (ghost | fielded)*
 fielded   = attribute* visible? FIELD ':' type (',' | &'}')
 unnamed   = attribute* visible? type
-impl      = attribute* 'impl' generics (TRAIT type 'for' OF)? TARGET type where OWNER members
-trait     = attribute* visible? 'trait' DECLARED generics bounds where TRAIT_OWNER members
-members   = '{' member* '}'
-alias     = visible? 'type' CONSTANT generics ('=' type)? ';'
-member    = ghost | alias | constant | cloner | function
-cloner    = 'fn' &'clone' FUNCTION '(' &('&' 'self' ')') receiver ')' '->' -('Result' '<') 'Self' -(',' 'std' '::' 'alloc' '::' 'AllocError' '>') cloning
-cloning   = '{' -('Ok' '(') 'self' '.' &'again' METHOD '(' ')' -')' '}'
+impl      = attribute* 'impl' generics (TRAIT type 'for' OF)? TARGET type where OWNER '{' member* '}'
+trait     = attribute* visible? 'trait' DECLARED generics bounds where TRAIT_OWNER '{' member* '}'
+member    = ghost | constant | cloner | function
+cloner    = 'fn' &'clone' FUNCTION '(' &('&' 'self' ')') receiver ')' '->' -('Result' '<') 'Self' cloned
+cloned    = -(',' 'std' '::' 'alloc' '::' 'AllocError' '>') '{' -('Ok' '(') 'self' '.' &'again' METHOD '(' ')' -')' '}'
 function  = attribute* visible? CONST? 'fn' FUNCTION (writer | generics) '(' receiver? parameter% ')' arrow? where clause* (block | ';')
 writer    = -('<' 'W' ':' 'fmt' '::' 'Write' '>')
 receiver  = '&'? LIFE? 'mut'? 'self' (',' | &')')
@@ -687,10 +612,10 @@ parameter = pattern ':' type
 arrow     = '->' type
 where     = ('where' predicate*)?
 predicate = !(CLAUSE_WORD | '{' | ';') type bounds (',' | &'{' | &CLAUSE_WORD)
-clause    = -(CALLABLE | CLAUSE_WORD '*'? NAME? CLAUSE)
+clause    = -(MET | CLAUSE_WORD '*'? NAME? CLAUSE)
 generics  = ('<' generic% '>')?
 generic   = 'const' BIND ':' type | (LIFE | BIND) bounds ('=' type)?
-bounds    = (':' (bound '+'?)*)?
+bounds    = (':' bound~)?
 bound     = DROP | LIFE | ('Fn' | 'FnMut' | 'FnOnce') '(' type% ')' arrow? | type_path
 type      = ('&' | '&&') LIFE? 'mut'? type | '(' type% ')' | '[' type (';' expression)? ']' | '_' | 'impl' bound | formatter | type_path
 formatter = 'fmt' '::' 'Formatter' '<' -'W' FORMATTER '>'
@@ -700,38 +625,34 @@ argument  = LIFE | NUM | NAME '=' type | type
 pattern   = one ('|' one)*
 one       = ('&' | '&&') 'mut'? one | '_' | '..' | '(' pattern% ')' | '[' pattern% ']' | literal ('..=' literal)? | tagged | bind
 bind      = 'mut'? BIND ('@' one)?
-tagged    = TAG path OF_TYPE (variant_of)?
+tagged    = TAG path variant_of?
 variant_of = '(' pattern% ')' | '{' named_part% '}'
 named_part = '..' | NAME ':' pattern | 'mut'? BIND
 literal   = '-'? NUM | STR | CHAR | 'true' | 'false'
 block     = '{' statement* '}'
 statement = ';' | attribute* local | &('fn' | 'const') item | compound ';'? | expression (';' | &'}')
 local     = 'let' pattern (':' type)? ('=' expression ('else' block)?)? ';'
-compound  = compound_of (&('.' | '?') rest+)?
+compound  = (if | loop | 'match' condition '{' arm* '}' | block) (&('.' | '?') rest+)?
 if        = 'if' condition block ('else' (if | block))?
 loop      = 'while' condition block | 'for' pattern 'in' condition block | 'loop' block
-match     = 'match' condition '{' arm* '}'
 arm       = pattern ('if' expression)? '=>' (block !('.' | '?') ','? | expression (',' | &'}'))
 condition = expression
 expression = (range | operand) rest*
 range     = ('..=' | '..') operand
 operand   = ('-' | '!' | '*' | ('&' | '&&') 'mut'?)* primary
-rest      = '?' | '.' (NUM | method | NAME) | '(' passed% ')' | '[' index ']' | 'as' type | range | BINARY operand
+rest      = rest_of_let | 'as' type | range | BINARY operand
 method    = METHOD turbofish? '(' passed% ')'
 turbofish = '::' arguments
 passed    = inner
 inner     = expression
-index     = '..' &']' | inner ('..' &']')?
-primary   = literal | '(' inner% ')' | '[' (inner ';' inner | inner%) ']' | compound_of | closure | let | leave | macro | value
-compound_of = if | match | loop | block
+primary   = literal | '(' inner% ')' | '[' (inner ';' inner | inner%) ']' | compound | closure | let | leave | macro | struct_of | path
 let       = 'let' pattern '=' operand rest_of_let*
-rest_of_let = '?' | '.' (NUM | method | NAME) | '(' passed% ')' | '[' index ']'
+rest_of_let = '?' | '.' (NUM | method | NAME) | '(' passed% ')' | '[' ('..' &']' | inner ('..' &']')?) ']'
 leave     = ('return' | 'break') expression? | 'continue'
 closure   = 'move'? ('||' | '|' closed% '|') (arrow clause* block | clause clause* block | expression)
 closed    = one (':' type)?
-value     = struct_of | path
-struct_of = STRUCT path OF_TYPE '{' part% '}'
-part      = '..' NAME &'}' | (NAME | NUM) ':' inner | path
+struct_of = STRUCT path '{' part% '}'
+part      = '..' NAME &'}' | (NAME | NUM) ':' passed | path
 path      = HEAD ('::' STEP)* turbofish?
 macro     = 'matches' '!' '(' inner ',' pattern ')' | 'unreachable' '!' '(' ')' | WRITE '!' '(' 'f' ',' STR ')' | proves
 proves    = 'prove_eq' '!' '(' read ',' read ')'
@@ -745,10 +666,10 @@ WORDS = {it.upper(): lambda r, it=it: r.look().kind == it and r.take() for it in
     "UNTIL_SEMICOLON": lambda r: r.set("at", r.text.text.index(";", r.at)),
     "CLAUSE": lambda r: r.sees("{") and r.set("at", r.text.after_clause(r.look().start)),
     "CLAUSE_WORD": lambda r: r.sees("requires", "ensures") and r.set("requires", r.requires or r.sees("requires")) and r.take(),
-    "CALLABLE": lambda r: (found := OF_A_CLOSURE.match(r.text.text, r.look().start)) and r.set("at", found.end()),
+    "MET": lambda r: (it := MET.match(r.text.text, r.look().start)) and (not it[1] or r.crate == "ent_queue") and r.set("at", it.end()),
     "SCOPE": lambda r: r.sees("crate", "super") and r.add("super", "visibility" if r.drop().text == "crate" else None),
     "FORMATTER": lambda r: r.imports.get("fmt") == "std::fmt" and r.add("'_"),
-    "BIND": lambda r: r.word("NAME") and (r.names[-1].add(r.out[-1].text) or True),
+    "BIND": lambda r: r.word("NAME") and (r.names[-1].update({r.out[-1].text: None}) or True),
     "FIELD": lambda r: r.word("NAME") and r.set("fields", [*r.fields, r.out[-1].text]),
     "CONSTANT": lambda r: r.note("other", r.look().text) and r.word("BIND"),
     "VARIANT": lambda r: r.note("other", r.look().text) and r.set("variant", r.look().text) and r.word("NAME"),
@@ -757,22 +678,23 @@ WORDS = {it.upper(): lambda r, it=it: r.look().kind == it and r.take() for it in
     "ERROR": lambda r: r.set("error", r.look().text) and r.word("STR"),
     "TRAIT": lambda r: r.set("trait", "::".join(r.imports.get(it) or it for it in r.words()[0])),
     "OF": lambda r: r.set("of", r.trait),
-    "CONST": lambda r: r.sees("const") and r.take() or (r.result, r.look(1).text) in CONSTANT and r.add("const", "const"),
-    "WRITE": lambda r: r.sees("write") and (r.take() if r.result != PADDED else r.drop() and r.add_padded()),
+    "CONST": lambda r: r.sees("const") and r.take() or f"{r.result}::{r.look(1).text}" in CONSTANT and r.add("const", "const"),
+    "WRITE": lambda r: r.sees("write") and (r.take() if r.result != PADDED else r.instead("padded", "padded")),
     "TARGET": lambda r: r.set("target", r.look().text),
-    "OF_TYPE": lambda r: r.set("tag", r.target if r.out[-1].text == "Self" else r.out[-1].text),
     "OWNER": lambda r: r.set("owner", f"impl trait {r.of.split('::')[-1]}" if r.of else "impl"),
     "TRAIT_OWNER": lambda r: r.set("owner", f"trait {r.declared}"),
+    "BINARY": lambda r: r.sees(*BINARY) and (r.take().text != ">" or not r.sees(">", ">=") or r.take()),
     "STRUCT": lambda r: not r.no_struct and r.words()[1] == "{" and r.words()[0][-1][:1].isupper(),
     "TAG": lambda r: r.look().kind == "id" and (r.look(1).text in ("::", "(", "{") or r.look().text[0].isupper()),
+    "ERRS": lambda r: r.sees("Error") and r.imports.get("Error") == ERROR and r.set("errs", True),
+    "NO_DERIVE": lambda r: (r.sees("Drop") or r.word("ERRS")) and r.note("count", f"derive({r.look().text})") and r.drop(),
     "DROP": lambda r: r.sees("Drop") and r.is_provers("Drop") and r.drop() and r.note("count", "bound Drop"),
 }
 # The rules whose names are their own, those that are read in another state, and what is noted of a form.
-SCOPES = set("module struct enum impl trait function closure arm block".split())
+SCOPES = set("module data impl trait function closure arm block".split())
 STATES = {"condition": {"no_struct": True}, "inner": {"no_struct": False}, "block": {"no_struct": False, "owner": ""}}
-STATES |= {it: {"requires": False} for it in ("function", "closure")} | {it: {"tag": ""} for it in ("tagged", "struct_of")}
 STATES |= {"impl": {"owner": "", "of": "", "target": ""}, "trait": {"owner": ""}, "variant": {"error": "", "fields": []}}
-STATES |= {it: {"arms": "", "error": "", "errs": False} for it in ("struct", "enum")}
+STATES |= {"data": {"arms": "", "error": "", "errs": False, "fields": []}, "function": {"requires": False}, "closure": {"requires": False}}
 NOTES = {"cloner": ("count", "clone"), "writer": ("count", "formatter"), "ghost": ("count", "(ghost members and imports)")}
 NOTES |= {"clause": ("count", "(clauses)"), "proves": ("add", "crate::kit::prove_eq")}
 
@@ -781,10 +703,7 @@ def parsed(words):
     """A rule's right side, up to its end or a closing parenthesis, as what `Reader.match` reads."""
     choices = [[]]
     while words and words[0] != ")":
-        if words[0] == "|":
-            choices.append(words.pop(0) and [])
-        else:
-            choices[-1].append(step(words))
+        choices.append(words.pop(0) and []) if words[0] == "|" else choices[-1].append(step(words))
     return ("or", choices)
 
 
@@ -796,9 +715,10 @@ def step(words):
         part = parsed(words)
         words.pop(0)
     else:
-        part = ("text", word[1:-1]) if word[0] == "'" else ("word" if word.isupper() else "rule", word)
-    while words and words[0] in "*+?%":
-        part = (words.pop(0), part)
+        part = ("token", word[1:-1]) if word[0] == "'" else ("word" if word.isupper() else "rule", word)
+    while words and words[0] in "*+?%~":
+        part = ({"%": "commas", "~": "pluses"}.get(words[0], words[0]), part)
+        words.pop(0)
     return part
 
 
@@ -810,8 +730,7 @@ RULES = {line.split()[0]: parsed(re.findall(r"'[^']+'|\w+|\S", line.partition(" 
 
 def erase(top, crates):
     """Each file of these crates as plain Rust: its tokens, by the path of its result; and what there was in all."""
-    manifest = (top / PACKAGE).read_text()
-    if f'edition = "{EDITION}"' not in manifest:
+    if f'edition = "{EDITION}"' not in (top / PACKAGE).read_text():
         raise Refused(f"{PACKAGE}: no edition {EDITION}: an earlier one drops the values of a condition later than the kit does")
     lines = [it.partition("#")[0].replace(":", " ").split() for it in (top / "crates.txt").read_text().splitlines()]
     unit = Unit(set(crates), {it for line in lines for it in line} | {it.split("::")[0] for it in PATHS} | {"core", "alloc"})
@@ -824,17 +743,16 @@ def erase(top, crates):
             result = f"{folder.parent.name}/{'mod' if inside == 'lib' else inside}.rs"
             files.append((Text(path.read_text(), str(path.relative_to(top))), result))
     firsts = [Reader(text, result, unit).file() for text, result in files]
-    for reader, (_, result) in zip(firsts, files):
-        is_empty = not reader.out and any(it[:2] == ("fact", "ghost") for it in reader.log)
-        unit.learn(reader.log + [("fact", "empty", result.removesuffix(".rs"))] * is_empty)
+    empty = [it for it in firsts if not it.out and any(note[:2] == ("fact", "ghost") for note in it.log)]
+    unit.learn([note for it in firsts for note in it.log] + [("fact", "empty", it.result) for it in empty])
     readers = [Reader(text, result, unit, first).file() for (text, result), first in zip(files, firsts)]
-    for reader in readers:
-        unit.collect(reader.log)
-    unit.check()
+    notes = [note for it in readers for note in it.log]
+    check(notes)
     made = {result: (text.name, it.out) for (text, result), it in zip(files, readers) if not it.knows("empty", it.result)}
     others = {it for it in LEFT_OUT if (top / RESULTS / it).is_dir()}
     modules = LINTS + "".join(f" {FEATURE * (it in others)} pub mod {it};" for it in sorted({*crates, *others}))
-    return made | {"mod.rs": ("crates.txt", Text(modules, "").tokens())}, unit
+    counts = collections.Counter(name for kind, name, _ in notes if kind == "count")
+    return made | {"mod.rs": ("crates.txt", Text(modules, "").tokens())}, counts
 
 
 def difference(made, result, text):
@@ -856,10 +774,10 @@ def compare(top):
     """All differences of a repository, and what there was to compare."""
     results = {str(it.relative_to(top / RESULTS)): Text(it.read_text(), str(it.relative_to(top))) for it in (top / RESULTS).rglob("*.rs")}
     results = {it: text for it, text in results.items() if it.split("/")[0] not in LEFT_OUT}
-    made, unit = erase(top, sorted({it.split("/")[0] for it in results if "/" in it}))
+    made, counts = erase(top, sorted({it.split("/")[0] for it in results if "/" in it}))
     found = [f"{it}: no result" for it in sorted(made.keys() - results.keys())]
     found += [it for it in (difference(made, result, text) for result, text in sorted(results.items())) if it]
-    return found, made, results, unit.counts
+    return found, made, results, counts
 
 
 def mutated(text, tokens, random):
@@ -884,22 +802,35 @@ def mutate(made, results, count, seed):
     print(f"{count} changed tokens of the results, with seed {seed}: all were found")
 
 
+def report(made, counts, reasons):
+    """What differs: how often each class occurs, and the reason why it keeps the meaning."""
+    ghost = ", ".join(f"{counts[it]} {it[1:-1]}" for it in sorted(counts) if it[0] == "(")
+    tokens = sum(len(it) for _, it in made.values())
+    lines = [f"{counts[it]:5} {it}: {why}\n" for it, why in reasons.items() if counts[it]]
+    return f"two erasers agree on {len(made)} files, {tokens} tokens, without {ghost}; what differs:\n{''.join(lines)}"
+
+
 def main():
     parser = argparse.ArgumentParser(description=__doc__, formatter_class=argparse.RawDescriptionHelpFormatter)
     for option, usual in (("--mutate", 0), ("--seed", 1)):
         parser.add_argument(option, type=int, default=usual)
-    given = parser.parse_args()
+    parser.add_argument("--fit", action="store_true")
+    given, top = parser.parse_args(), pathlib.Path(__file__).resolve().parent.parent
     try:
-        found, made, results, counts = compare(pathlib.Path(__file__).resolve().parent.parent)
+        found, made, results, counts = compare(top)
     except Refused as refused:
         sys.exit(f"the second eraser refuses {refused}")
-    classes = {it: counts[it] for it in TABLE.keys() | counts.keys() if not it.startswith("(")}
-    found += [f"TABLE: {it}: {count} times" for it, count in sorted(classes.items()) if count != TABLE.get(it, (0,))[0]]
+    page = (top / PAGE).read_text()
+    block = re.search(r"(?<=second_eraser.py -->\n```text\n).*?(?=```)", page, re.DOTALL)[0]
+    reasons = dict(re.findall(r"^ *\d+ (.+?): (.+)$", block, re.MULTILINE))
+    found += [f"{PAGE}: no reason for the class {it}" for it in counts.keys() - reasons.keys() if it[0] != "("]
     if found:
         sys.exit("\n".join(found))
-    ghost = ", ".join(f"{counts[it]} {it.strip('()')}" for it in sorted(counts) if it[0] == "(")
-    print(f"two erasers agree on {len(made)} files, {sum(len(it) for _, it in made.values())} tokens, without {ghost}; what differs:")
-    print("\n".join(f"{count:5} {it}: {why}" for it, (count, why) in TABLE.items()))
+    now = report(made, counts, reasons)
+    (top / PAGE).write_text(page.replace(block, now)) if given.fit else None
+    if now != block and not given.fit:
+        sys.exit(f"{PAGE} has other counts or classes than\n{now}")
+    print(now, end="")
     mutate(made, results, given.mutate, given.seed) if given.mutate else None
 
 

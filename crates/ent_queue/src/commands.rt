@@ -15,7 +15,8 @@ use ent_shared::{Reserver, Shared};
 use ent_storage::Bundle;
 use std::alloc::Global;
 
-/// Issues the commands of one system. They take effect when the queue is applied.
+/// Issues the commands of one system. They take effect when the queue is applied: in a frame, at its
+/// sync point.
 ///
 /// A spawn reserves its handle at once, so a system knows what it will have spawned. `Q` is the
 /// queue that is filled.
@@ -68,9 +69,9 @@ impl<'a> Commands<'a> {
     ///
     /// # Errors
     ///
-    /// [`QueueFault::Memory`], and then neither the queue nor the reserver has changed.
-    /// [`QueueFault::Space`] and [`QueueFault::Quota`] as [`Shared::reserve`] returns them; the
-    /// queue then keeps the refusal, and [`QueueFault::or_memory`] lets a system go on.
+    /// [`QueueFault::Memory`], and then nothing has changed. With [`QueueFault::Space`] and
+    /// [`QueueFault::Quota`] the queue keeps the refusal, which is a fault of the sync point's report,
+    /// and [`QueueFault::or_memory`] lets the system go on.
     pub fn spawn<const INLINE: usize>(
         &mut self,
         bundle: &Bundle<INLINE>,
@@ -97,7 +98,7 @@ impl<'a> Commands<'a> {
     ///
     /// # Errors
     ///
-    /// As [`Commands::spawn`].
+    /// As of [`Commands::spawn`].
     #[tactic(auto, using(crate::proofs::Extending::extends_nothing))]
     pub fn spawn_with(&mut self, components: &[(ComponentId, i64)]) -> Result<Handle, QueueFault>
         requires { IsReady self.old }
@@ -120,11 +121,12 @@ impl<'a> Commands<'a> {
         self.spawn(&bundle)
     }
 
-    /// Reserves `n` handles at once, each of which is to have the components.
+    /// Reserves `n` handles at once, each of which is to have the components. It takes time for each
+    /// handle of the list, and of the queue, which has them too.
     ///
     /// # Errors
     ///
-    /// As [`Commands::spawn`], with [`Shared::reserve_many`] instead of [`Shared::reserve`].
+    /// As of [`Commands::spawn`].
     pub fn spawn_many<const INLINE: usize>(
         &mut self,
         n: u32,
@@ -155,7 +157,7 @@ impl<'a> Commands<'a> {
     ///
     /// # Errors
     ///
-    /// As [`Commands::spawn_many`].
+    /// As of [`Commands::spawn_many`].
     #[tactic(auto, using(crate::proofs::Extending::extends_nothing))]
     pub fn spawn_many_with(
         &mut self,

@@ -233,6 +233,8 @@ impl World {
     /// - `NotAlive` if the handle names no living entity.
     /// - `Memory` if there is no memory for the slot to wait in. The slot of the last generation
     ///   never waits, so its entity is never refused for that.
+    // Not inlined, its result goes through memory, as that of `free`.
+    #[inline(always)]
     pub fn despawn(&mut self, handle: Handle) -> Result<Freed, FreeFault>
         ensures ok { OnOk result (self.new ≡ after_despawn handle self.old) }
         ensures next { IfOk result (λ freed. freed.next ≡ next self.old.allocator.limits handle) }

@@ -36,7 +36,7 @@
 //! 1 thread and 4 threads agree
 //! ```
 
-use forgeni::{CommandQueue, Commands, ComponentId, Handle, OutOfMemory, ReserveError, World};
+use forgeni::{Commands, ComponentId, Handle, LentCommands, OutOfMemory, ReserveError, World};
 use std::error::Error;
 use std::fmt::Write;
 use std::thread;
@@ -72,7 +72,7 @@ const SYSTEMS: [System; 6] = [
 ];
 
 impl System {
-    fn run(self, commands: &mut Commands) -> Result<(), OutOfMemory> {
+    fn run(self, commands: &mut LentCommands<'_>) -> Result<(), OutOfMemory> {
         match self {
             // The queue keeps a refusal, and the sync point reports it.
             System::Launch(count) => commands
@@ -94,7 +94,7 @@ fn projectiles(commands: &Commands) -> Result<Vec<Handle>, OutOfMemory> {
     commands.view().with(AGE)
 }
 
-fn age_one(commands: &mut Commands, one: Handle) -> Result<(), OutOfMemory> {
+fn age_one(commands: &mut LentCommands<'_>, one: Handle) -> Result<(), OutOfMemory> {
     match commands.get(one, AGE) {
         Some(age) if age < LIMIT => commands.insert(one, &[(AGE, age + 1)]),
         _ => commands.despawn(one),
@@ -102,27 +102,20 @@ fn age_one(commands: &mut Commands, one: Handle) -> Result<(), OutOfMemory> {
 }
 
 /// Runs the systems on that many threads, each those of its part of the list.
-fn run_all(systems: Vec<Commands>, threads: usize) -> Result<Vec<CommandQueue>, OutOfMemory> {
-    let mut work: Vec<(System, Commands)> = SYSTEMS.into_iter().zip(systems).collect();
-    let each = work.len().div_ceil(threads);
+fn run_all(all: &mut [LentCommands<'_>], threads: usize) -> Result<(), OutOfMemory> {
+    let each = SYSTEMS.len().div_ceil(threads);
     thread::scope(|scope| {
-        let workers: Vec<_> = work
-            .chunks_mut(each)
-            .map(|part| {
-                scope.spawn(move || {
-                    part.iter_mut()
-                        .try_for_each(|(system, commands)| system.run(commands))
-                })
+        let parts = SYSTEMS.chunks(each).zip(all.chunks_mut(each));
+        let workers: Vec<_> = parts
+            .map(|(systems, part)| {
+                let mut systems = systems.iter().zip(part);
+                scope.spawn(move || systems.try_for_each(|(system, commands)| system.run(commands)))
             })
             .collect();
         workers
             .into_iter()
             .try_for_each(|worker| worker.join().expect("no system panics"))
-    })?;
-    Ok(work
-        .into_iter()
-        .map(|(_, commands)| commands.finish())
-        .collect())
+    })
 }
 
 /// Plays the game, and tells what each frame did and who is left in the end.
@@ -130,10 +123,8 @@ fn play(threads: usize) -> Result<String, Box<dyn Error>> {
     let mut story = String::new();
     let mut world = World::new();
     for frame in 0..5 {
-        let (open, systems) = world.open(SYSTEMS.len())?;
-        let queues = run_all(systems, threads)?;
-        let (closed, queues) = open.close(queues)?;
-        world = closed;
+        let (ran, queues) = world.phase(SYSTEMS.len(), |_, all| run_all(all, threads))?;
+        ran?;
         let report = world.apply(queues)?;
         let (born, alive, faults) = (report.born.len(), world.len(), report.faults.len());
         writeln!(

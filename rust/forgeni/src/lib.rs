@@ -92,8 +92,8 @@
 //! A [`World`] has the allocator and what entities are made of, by numbered components of 64 bits. It
 //! knows when each entity was born, and reports what a frame did. `run_frame` runs systems on workers; its
 //! docs say what depends on their number. Each system reads the world and issues commands, and the commands
-//! take effect in the order of the systems. With threads of your own, use [`World::open`], [`Commands`],
-//! [`OpenWorld::close`] and [`World::apply`]:
+//! take effect in the order of the systems. With threads of your own, use [`World::phase`] on a borrow, or
+//! [`World::open`], [`Commands`], [`OpenWorld::close`] and [`World::apply`]:
 //!
 //! ```
 //! use forgeni::{ComponentId, World};
@@ -135,8 +135,8 @@
 //! - [`close`](Shared::close) without some of the reservers, or with one of another phase, is an
 //!   [`Unclosed`], which has all that was handed in.
 //! - Reservers of two phases don't [meet](Reserver::meet): [`OtherPhase`], and nothing has changed.
-//! - The closure of a [`phase`](Entities::phase) ends early or panics: the allocator is back, with all
-//!   that was reserved.
+//! - The closure of a [`phase`](Entities::phase), or of [one of a world](World::phase), ends early or
+//!   panics: the allocator or the world is back, with all that was reserved.
 //! - A thread panics, and its reserver is dropped: `close` says what is missing, and
 //!   [`close_lost`](Shared::close_lost) ends the phase. The handles of the lost reserver come to
 //!   life too. [`OpenWorld::close_lost`] does the same for a world, with the queues of the others.
@@ -154,13 +154,13 @@
 //! handle without a value. A panic of the caller's own code is handed on. Where Rust has no form that
 //! returns an error if memory runs out, the process ends, as with `Vec` and `Arc`:
 //!
-//! - [`Entities::share`], [`Entities::phase`] and [`World::open`] make an `Arc`. They ask for as much memory before, and
-//!   say so if it is refused. So only another thread can take it in between.
+//! - [`Entities::share`], [`Entities::phase`], [`World::open`] and [`World::phase`] make an `Arc`. They ask for as much
+//!   memory before, and say so if it is refused. So only another thread can take it in between.
 //! - Handles of a slice or an array become an answer of a [`trace::Call`], or a call or an error of a trace is
 //!   cloned.
 //! - A [`trace::Checker`] notes the first reservation of a caller in a run. It asks for as much memory
 //!   before, as for an `Arc`.
-//! - A [`HandleMap`] is cloned, extended, collected, or used up by an iterator. `Reservers::into_inner`
+//! - A [`Bundle`] is cloned. A [`HandleMap`] is cloned, extended, collected, or used up by an iterator. `Reservers::into_inner`
 //!   makes a list.
 //! - `run_frame` with more than one worker starts threads.
 //!

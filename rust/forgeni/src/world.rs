@@ -34,6 +34,19 @@ impl World {
     /// Opens the world for `count` systems, 1 to 1,024, each with its [`Commands`]. They may go to
     /// other threads. [`OpenWorld::close`] gives the world back, with the queues of the systems.
     ///
+    /// ```
+    /// use forgeni::{ComponentId, World};
+    ///
+    /// let (open, mut systems) = World::new().open(2)?;
+    /// let cart = systems[0].spawn(&[(ComponentId(0), 5)])?;
+    /// systems[1].insert(cart, &[(ComponentId(1), 6)])?;
+    /// let queues = systems.into_iter().map(|one| one.finish()).collect();
+    /// let (mut world, queues) = open.close(queues)?;
+    /// world.apply(queues)?;
+    /// assert_eq!(world.get(cart, ComponentId(1)), Some(6));
+    /// # Ok::<(), Box<dyn std::error::Error>>(())
+    /// ```
+    ///
     /// A world that is open can't be changed:
     ///
     /// ```compile_fail

@@ -8,7 +8,8 @@ use crate::proved::ent_handle::{ComponentId, Handle, Memory};
 use crate::proved::ent_shared::{Reserver, Shared};
 use crate::proved::ent_storage::Bundle;
 
-/// Issues the commands of one system. They take effect when the queue is applied.
+/// Issues the commands of one system. They take effect when the queue is applied: in a frame, at its
+/// sync point.
 ///
 /// A spawn reserves its handle at once, so a system knows what it will have spawned. `Q` is the
 /// queue that is filled.
@@ -56,9 +57,9 @@ impl<'a> Commands<'a> {
     ///
     /// # Errors
     ///
-    /// [`QueueFault::Memory`], and then neither the queue nor the reserver has changed.
-    /// [`QueueFault::Space`] and [`QueueFault::Quota`] as [`Shared::reserve`] returns them; the
-    /// queue then keeps the refusal, and [`QueueFault::or_memory`] lets a system go on.
+    /// [`QueueFault::Memory`], and then nothing has changed. With [`QueueFault::Space`] and
+    /// [`QueueFault::Quota`] the queue keeps the refusal, which is a fault of the sync point's report,
+    /// and [`QueueFault::or_memory`] lets the system go on.
     ///
     /// <details><summary>Contract</summary>
     ///
@@ -94,7 +95,7 @@ impl<'a> Commands<'a> {
     ///
     /// # Errors
     ///
-    /// As [`Commands::spawn`].
+    /// As of [`Commands::spawn`].
     ///
     /// <details><summary>Contract</summary>
     ///
@@ -125,11 +126,12 @@ impl<'a> Commands<'a> {
         self.spawn(&bundle)
     }
 
-    /// Reserves `n` handles at once, each of which is to have the components.
+    /// Reserves `n` handles at once, each of which is to have the components. It takes time for each
+    /// handle of the list, and of the queue, which has them too.
     ///
     /// # Errors
     ///
-    /// As [`Commands::spawn`], with [`Shared::reserve_many`] instead of [`Shared::reserve`].
+    /// As of [`Commands::spawn`].
     ///
     /// <details><summary>Contract</summary>
     ///
@@ -169,7 +171,7 @@ impl<'a> Commands<'a> {
     ///
     /// # Errors
     ///
-    /// As [`Commands::spawn_many`].
+    /// As of [`Commands::spawn_many`].
     ///
     /// <details><summary>Contract</summary>
     ///

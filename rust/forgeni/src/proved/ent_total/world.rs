@@ -175,13 +175,23 @@ impl World {
         birth: Birth,
         components: &[(ComponentId, i64)],
     ) -> Result<Handle, AllocFault> {
-        if self.world.needs_flush() {
-            return Err(AllocFault::NeedsFlush);
-        }
         let Ok(bundle) = Bundle::of(components) else {
-            return Err(AllocFault::Memory);
+            return Err(self.no_bundle());
         };
         self.world.spawn(birth, &bundle)
+    }
+
+    /// Why nothing was spawned, when there is no memory for the components.
+    #[cold]
+    fn no_bundle(&self) -> AllocFault
+        // ensures needs_flush { result ≡ AllocFault.NeedsFlush ↔ (0 < self.now.world.allocator.asked) }
+        // ensures memory { result ≡ AllocFault.Memory ↔ (self.now.world.allocator.asked ≡ 0) }
+    {
+        if self.world.needs_flush() {
+            AllocFault::NeedsFlush
+        } else {
+            AllocFault::Memory
+        }
     }
 
     /// Takes a living entity out, with all its components.

@@ -305,27 +305,20 @@ impl World {
     /// - `NotAlive` if the handle names no living entity.
     /// - `Memory` if there is no memory for the slot to wait in. The slot of the last generation
     ///   never waits, so its entity is never refused for that.
-    ///
-    /// <details><summary>Contract</summary>
-    ///
-    /// In the words of the folder `specs/` of crate `ent_world`:
-    ///
-    /// ```text
-    /// ensures ok { OnOk result (self.new ≡ after_despawn handle self.old) }
-    /// ensures next { IfOk result (λ freed. freed.next ≡ next self.old.allocator.limits handle) }
-    /// ensures lived { OnOk result (lives_in self.old handle ≡ true) }
-    /// ensures needs_flush { IsErrOf result FreeFault.NeedsFlush ↔ (0 < self.old.allocator.asked) }
-    /// ensures not_alive { IsErrOf result FreeFault.NotAlive
-    ///     ↔ ((self.old.allocator.asked ≡ 0) × (lives_in self.old handle ≡ false)) }
-    /// ensures memory { IsErrOf result FreeFault.Memory
-    ///     → handle.generation ≢ self.old.allocator.limits.generations }
-    /// ensures err { OnErr result (self.new ≡ self.old) }
-    /// ensures world { IsWorld self.new }
-    /// ```
-    ///
-    /// </details>
-    #[inline]
-    pub fn despawn(&mut self, handle: Handle) -> Result<Freed, FreeFault> {
+    // Not inlined, its result goes through memory, as that of `free`.
+    #[inline(always)]
+    pub fn despawn(&mut self, handle: Handle) -> Result<Freed, FreeFault>
+        // ensures ok { OnOk result (self.new ≡ after_despawn handle self.old) }
+        // ensures next { IfOk result (λ freed. freed.next ≡ next self.old.allocator.limits handle) }
+        // ensures lived { OnOk result (lives_in self.old handle ≡ true) }
+        // ensures needs_flush { IsErrOf result FreeFault.NeedsFlush ↔ (0 < self.old.allocator.asked) }
+        // ensures not_alive { IsErrOf result FreeFault.NotAlive
+        //     ↔ ((self.old.allocator.asked ≡ 0) × (lives_in self.old handle ≡ false)) }
+        // ensures memory { IsErrOf result FreeFault.Memory
+        //     → handle.generation ≢ self.old.allocator.limits.generations }
+        // ensures err { OnErr result (self.new ≡ self.old) }
+        // ensures world { IsWorld self.new }
+    {
         let row = self.entities.row(handle);
         let freed = self.entities.free(handle)?;
         let Some(row) = row else { unreachable!() };
