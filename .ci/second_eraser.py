@@ -28,6 +28,10 @@ def named(text):
     return {f"{path.strip()}::{it}" for path, names in lists for it in names.split()}
 
 
+# The crates of the two programs, which aren't compared: they use twice as many forms and names of the kit as the others. What the first eraser
+# makes of them is run instead, beside the kit's build of the same sources (`.ci/programs.sh`). They are modules behind a feature.
+LEFT_OUT, FEATURE = {"devices", "ent_script", "spawnrun", "spawnrun_lib", "tracecheck"}, '#[cfg(feature = "programs")]'
+
 # The paths of the kit, and what stands for them.
 PATHS = {f"std::{it}": f"crate::kit::{it}" for it in "alloc collections sync thread".split()}
 PATHS |= {f"std::{it}": f"core::{it}" for it in "cmp error fmt hash marker mem num".split()}
@@ -745,7 +749,8 @@ def erase(top, crates):
     notes = [note for it in readers for note in it.log]
     check(notes)
     made = {result: (text.name, it.out) for (text, result), it in zip(files, readers) if not it.knows("empty", it.result)}
-    modules = LINTS + "".join(f" pub mod {it};" for it in crates)
+    others = {it for it in LEFT_OUT if (top / RESULTS / it).is_dir()}
+    modules = LINTS + "".join(f" {FEATURE * (it in others)} pub mod {it};" for it in sorted({*crates, *others}))
     counts = collections.Counter(name for kind, name, _ in notes if kind == "count")
     return made | {"mod.rs": ("crates.txt", Text(modules, "").tokens())}, counts
 
@@ -768,6 +773,7 @@ def difference(made, result, text):
 def compare(top):
     """All differences of a repository, and what there was to compare."""
     results = {str(it.relative_to(top / RESULTS)): Text(it.read_text(), str(it.relative_to(top))) for it in (top / RESULTS).rglob("*.rs")}
+    results = {it: text for it, text in results.items() if it.split("/")[0] not in LEFT_OUT}
     made, counts = erase(top, sorted({it.split("/")[0] for it in results if "/" in it}))
     found = [f"{it}: no result" for it in sorted(made.keys() - results.keys())]
     found += [it for it in (difference(made, result, text) for result, text in sorted(results.items())) if it]

@@ -10,7 +10,7 @@ out=$(mktemp -d)
 trap 'rm -rf "$out"' EXIT
 
 for name in spawnrun tracecheck; do
-    [ -x "$here/../crates/$name/out/$name" ] || (cd "$here/../crates/$name" && rt run >"$out/built" 2>&1)
+    [ -x "${PROGRAMS:-$here/../crates/$name/out}/$name" ] || (cd "$here/../crates/$name" && rt run >"$out/built" 2>&1)
 done
 
 # tested WORDS..: tests of the package. All that is named has to be there and to pass.
@@ -21,9 +21,11 @@ tested() {
     for test in $passed; do echo "forgeni, $test: passed"; done
 }
 
-# The first are for optimised code, as their file says. The second take no time.
-tested --release --test sizes
-tested --lib room::
+# The first are for optimised code, as their file says. The second take no time. What cargo has built is tested alone.
+if [ -z "${PROGRAMS:-}" ]; then
+    tested --release --test sizes
+    tested --lib room::
+fi
 
 python3 - "$out" <<'END'
 import sys
@@ -151,7 +153,7 @@ prints() {
     program=$1 wanted=$2 name=$3
     shift 3
     status=0
-    timeout 30 "$here/../crates/$program/out/$program" "$@" <"$out/$name.in" >"$out/printed" 2>"$out/said" || status=$?
+    timeout 30 "${PROGRAMS:-$here/../crates/$program/out}/$program" "$@" <"$out/$name.in" >"$out/printed" 2>"$out/said" || status=$?
     if [ "$status" = "$wanted" ] && cmp "$out/printed" "$out/$name.out"; then
         echo "$program $* on $name: $(wc -l <"$out/printed") lines, as computed"
     else

@@ -8,7 +8,7 @@ here=$(cd "$(dirname "$0")" && pwd)
 out=$(mktemp -d)
 trap 'rm -rf "$out"' EXIT
 
-program=$here/../crates/spawnrun/out/spawnrun
+program=${PROGRAMS:-$here/../crates/spawnrun/out}/spawnrun
 scripts=$here/data
 [ -x "$program" ] || (cd "$here/../crates/spawnrun" && rt run >"$out/built" 2>&1)
 : >"$out/nothing"

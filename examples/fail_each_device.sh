@@ -12,7 +12,7 @@ cc -O2 -shared -fPIC -o "$room/fail.so" "$here/fail_device.c" -ldl
 
 # of PROGRAM: the next runs are its.
 of() {
-    name=$1 program=$here/../crates/$1/out/$1
+    name=$1 program=${PROGRAMS:-$here/../crates/$1/out}/$1
     [ -x "$program" ] || (cd "$here/../crates/$1" && rt run </dev/null >"$room/built" 2>&1)
 }
 

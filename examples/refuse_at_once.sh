@@ -9,7 +9,7 @@ here=$(cd "$(dirname "$0")" && pwd)
 out=$(mktemp -d)
 trap 'rm -rf "$out"' EXIT
 
-program=$here/../crates/spawnrun/out/spawnrun
+program=${PROGRAMS:-$here/../crates/spawnrun/out}/spawnrun
 [ -x "$program" ] || (cd "$here/../crates/spawnrun" && rt run >"$out/built" 2>&1)
 "$program" replay <"$here/one_caller.txt" >"$out/wanted"
 

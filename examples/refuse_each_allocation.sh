@@ -4,8 +4,10 @@
 # undisturbed one does (the program may do without that piece of memory), or with status 3, `memory` on standard error and nothing else. Then
 # it runs each test of refused memory in the same way, and the files `*_refused.txt` of `crates/cases_and_examples`: they must pass, whichever
 # allocation is refused, and each of their lines must be run in at least one of these runs. It also counts what tests of things that take no
-# memory ask for. It needs `cc` on the path, and the programs, the tests and the cases as `.ci/run` built them. If a program wasn't built, it
-# needs `rt`, which then proves it first; anything else that wasn't built is left out.
+# memory ask for. With `PROGRAMS`, a folder of programs that cargo has built, it runs these, and no tests: each allocation is refused with all
+# after it, and Rust's runtime may end a program as it starts, or as a thread does. It needs `cc` on the path, and the programs, the tests and
+# the cases as `.ci/run` built them. If a program wasn't built, it needs `rt`, which then proves it first; anything else that wasn't built is
+# left out.
 set -eu
 here=$(cd "$(dirname "$0")" && pwd)
 top=$(cd "$here/.." && pwd)
@@ -13,9 +15,11 @@ room=$(mktemp -d)
 trap 'rm -rf "$room"' EXIT
 scripts=$here/data
 for name in spawnrun tracecheck; do
-    [ -x "$top/crates/$name/out/$name" ] || (cd "$top/crates/$name" && rt run </dev/null >"$room/built" 2>&1) || true
+    [ -x "${PROGRAMS:-$top/crates/$name/out}/$name" ] || (cd "$top/crates/$name" && rt run </dev/null >"$room/built" 2>&1) || true
 done
 cc -O2 -shared -fPIC -o "$room/refuse.so" "$here/refuse_allocation.c"
+# What cargo builds asks for the memory of a map before Rust's map takes it. So it has to be refused twice.
+[ -z "${PROGRAMS:-}" ] || export REFUSE_ON=1
 
 # Thousands of runs follow, so what looks at one starts no process where the shell itself can look.
 
@@ -42,6 +46,14 @@ says_memory() {
     { IFS= read -r first && ! IFS= read -r second; } <"$room/said" && [ "$first" = memory ] && [ -z "$second" ]
 }
 
+# is_of_runtime INPUT WORDS..: whether the C library or Rust's runtime takes this allocation, in a program that cargo has built: as the process
+# starts, before the program asks for any memory, about a dozen and one for each word; or as a thread starts.
+is_of_runtime() {
+    [ -n "${PROGRAMS:-}" ] || return 1
+    case $* in *--workers*) return 0 ;; esac
+    [ "$memory" = 0 ] && [ "$ended" -lt $((13 + $#)) ]
+}
+
 # Whether standard error is as in an undisturbed run, or says that there was no memory to show what was found.
 is_heard() {
     cmp -s "$room/said" "$room/wanted_said" && return
@@ -52,7 +64,7 @@ is_heard() {
 # the same number.
 each() {
     run 0 "$@"
-    wanted=$status undisturbed=0 memory=0 unshown=0 allocation=0 beyond=0
+    wanted=$status undisturbed=0 memory=0 unshown=0 allocation=0 beyond=0 ended=0
     cp "$room/printed" "$room/wanted"
     cp "$room/said" "$room/wanted_said"
     sed 's/; found [^ ]*/; found what there was no memory to show/' "$room/said" >"$room/wanted_unshown"
@@ -65,6 +77,8 @@ each() {
             beyond=0 memory=$((memory + 1))
         elif [ "$status" = "$wanted" ] && cmp -s "$room/printed" "$room/wanted" && is_heard; then
             beyond=0 undisturbed=$((undisturbed + 1))
+        elif [ "$status" = 134 ] && [ ! -s "$room/printed" ] && is_of_runtime "$@"; then
+            beyond=0 ended=$((ended + 1))
         else
             echo "$(basename "$program") $*: allocation $allocation: wrong, status $status"
             exit 1
@@ -72,7 +86,9 @@ each() {
     done
     name=$(basename "$1")
     shift
-    echo "$(basename "$program") $* on $name: status $wanted, $memory times memory, $undisturbed times undisturbed"
+    ends=''
+    [ "$ended" = 0 ] || ends=", $ended times ended by Rust's runtime"
+    echo "$(basename "$program") $* on $name: status $wanted, $memory times memory, $undisturbed times undisturbed$ends"
     [ "$memory" -gt 0 ]
     # Looking for the value of a refused script takes memory.
     [ "$name" != "${name#no_}" ] || return 0
@@ -96,7 +112,7 @@ awk 'BEGIN {
     for (i = 0; i < 50; i++) printf "%s{\"insert\":{\"hp\":%d},\"on\":{\"birth\":\"0.0.%d\"}}", i ? "," : "", i, i
     print "]]]}"
 }' >"$room/births.json"
-program=$top/crates/spawnrun/out/spawnrun
+program=${PROGRAMS:-$top/crates/spawnrun/out}/spawnrun
 printf 'alloc\nalloc\nfree 0v1\nbegin 1 2\nstep 1\nanswer 1\nflush\n' >"$room/events"
 printf '{"components":[],"frames":1}' >"$room/no_frames.json"
 printf '{"components":[],"frames":[[[7]]]}' >"$room/no_operation.json"
@@ -117,7 +133,7 @@ each "$room/no_script.json" run
 printf 'alloc => 0v1\nreserve 2 1 => 2v1\nreserve 1 1 => 1v1' >"$room/agrees"
 printf 'reserve 1 2 => 0v1 1v1\nflush => born (2)\nfree 0v1 => freed next 0v3\n' >"$room/differs"
 printf 'alloc => 0v1\nx\n' >"$room/refused_line"
-program=$top/crates/tracecheck/out/tracecheck
+program=${PROGRAMS:-$top/crates/tracecheck/out}/tracecheck
 each "$room/agrees"
 each "$room/differs" --slots 9 --generations 2
 each "$room/refused_line"
@@ -204,6 +220,8 @@ spared() {
     done
 }
 
+# The tests are those of the kit's build alone.
+[ -z "${PROGRAMS:-}" ] || exit 0
 for tests in "$top"/crates/*_tests; do
     tested "$(basename "$tests")"
     spared "$(basename "$tests")"

@@ -6,7 +6,7 @@ set -eu
 here=$(cd "$(dirname "$0")" && pwd)
 room=$(mktemp -d)
 trap 'rm -rf "$room"' EXIT
-program=$here/../crates/spawnrun/out/spawnrun
+program=${PROGRAMS:-$here/../crates/spawnrun/out}/spawnrun
 script=$here/data/spawners.json
 [ -x "$program" ] || (cd "$here/../crates/spawnrun" && rt run >"$room/built" 2>&1)
 cc -O2 -shared -fPIC -o "$room/refuse.so" "$here/refuse_thread.c" -ldl

@@ -8,7 +8,7 @@ here=$(cd "$(dirname "$0")" && pwd)
 out=$(mktemp -d)
 trap 'rm -rf "$out"' EXIT
 
-program=$here/../crates/spawnrun/out/spawnrun
+program=${PROGRAMS:-$here/../crates/spawnrun/out}/spawnrun
 [ -x "$program" ] || (cd "$here/../crates/spawnrun" && rt run -- run <"$here/two_callers.txt" >"$out/built" 2>&1) || true
 
 # list FRONT ITEM COUNT BACK

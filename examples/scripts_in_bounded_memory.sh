@@ -10,7 +10,7 @@ here=$(cd "$(dirname "$0")" && pwd)
 out=$(mktemp -d)
 trap 'rm -rf "$out"' EXIT
 
-program=$here/../crates/spawnrun/out/spawnrun
+program=${PROGRAMS:-$here/../crates/spawnrun/out}/spawnrun
 [ -x "$program" ] || (cd "$here/../crates/spawnrun" && rt run >"$out/built" 2>&1)
 
 # run KIBIBYTES NAME: the script under that limit. It sets status.

@@ -14,7 +14,7 @@ command -v script >/dev/null || { echo "there is no script of util-linux, so no 
 
 # built NAME: the program of that crate.
 built() {
-    program=$here/../crates/$1/out/$1
+    program=${PROGRAMS:-$here/../crates/$1/out}/$1
     [ -x "$program" ] || (cd "$here/../crates/$1" && rt run >"$out/built" 2>&1)
 }
 

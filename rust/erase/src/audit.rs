@@ -140,6 +140,7 @@ impl Audit<'_> {
                 is_only.then_some(at + 5)
             }
             ":" if starts(&[":", "Drop", "+"]) => None,
+            ":" if starts(&[":", "Drop", "{"]) && source.before(at - 1) != "trait" => None,
             ":" | "+" if starts(&[":", "Drop"]) || starts(&["+", "Drop"]) => Some(at + 2),
             "Drop" if starts(&["Drop", "+"]) => Some(at + 2),
             _ => self.right_end(),

@@ -208,6 +208,9 @@ impl Walk<'_> {
             (":", ">" | "," | "=") if self.source.before(at - 2) != "where" => {
                 self.take_out_after(at - 1, at + 1)
             }
+            (":", "{") if self.source.before(at - 2) == "trait" => {
+                self.take_out_after(at - 1, at + 1)
+            }
             (":", ",") if self.is_only_bound(at + 2) => self.take_out_after(at - 3, at + 2),
             _ => return Err(self.source.fault(at, "an unknown form of the bound `Drop`")),
         }
@@ -316,7 +319,9 @@ impl Walk<'_> {
     /// Whether a name without a path is known.
     pub(crate) fn is_known(&self, name: &str) -> bool {
         let prelude = self.names.forms.iter().flat_map(|forms| forms.prelude);
+        let mut bare = self.names.forms.iter().flat_map(|forms| forms.bare);
         forms::KEYWORDS.contains(&name)
+            || bare.any(|known| *known == name)
             || forms::BARE.contains(&name)
             || self.bound.contains(name)
             || self.names.items.contains(name)

@@ -143,10 +143,12 @@ pub fn are_texts(one: Option<&str>, other: Option<&str>) -> bool {
 }
 
 /// Words after which a source declares a name.
-pub const DECLARING: &[&str] = &["const", "enum", "fn", "mod", "struct", "trait", "type"];
+pub const DECLARING: &[&str] = &[
+    "const", "enum", "fn", "mod", "static", "struct", "trait", "type",
+];
 
-/// Types of the kit that have no method and lead to none. So the sources may implement a trait for them.
-pub const OPEN_TYPES: &[&str] = &["Either"];
+/// Types of Rust and of the kit that have no method and lead to none. So the sources may implement a trait for them.
+pub const OPEN_TYPES: &[&str] = &["()", "Either"];
 
 /// Methods that nearly every type has by a trait of Rust's prelude, or by a derive, or that a macro calls. A type
 /// must have no method of its own with such a name: the rules of look-up would decide which of the two is called.
@@ -192,8 +194,9 @@ pub fn is_of_std(name: &str) -> bool {
 /// the point that makes it the sources' own.
 pub const OWN_CALLS: &[(&str, &[&str])] = &[
     ("and", &["requests"]),
-    ("end", &["self"]),
+    ("end", &["progress", "self"]),
     ("flush", &["allocator", "entities", "self", "world"]),
+    ("lines", &["checking"]),
     ("read", &["applying"]),
     ("replace", &["calls"]),
     ("write", &["self"]),
@@ -603,6 +606,10 @@ pub struct Forms {
     pub runtime: Option<&'static str>,
     /// The types and traits of an `rt` that hands out the right to allocate.
     pub hands_out_right: &'static [&'static str],
+    /// Names that may be used without a path, beside `BARE`.
+    pub bare: &'static [&'static str],
+    /// Whether a file may have a `static`.
+    pub statics: bool,
 }
 
 /// A module that leads to this path, without ghost names.
@@ -641,6 +648,8 @@ pub static PACKAGE: Forms = Forms {
     associated: ASSOCIATED,
     runtime: None,
     hands_out_right: &[],
+    bare: &[],
+    statics: false,
 };
 
 const MODULES: &[Module] = &[

@@ -25,6 +25,8 @@ pub static HOST: Forms = Forms {
     associated: ASSOCIATED,
     runtime: Some("HostRuntime"),
     hands_out_right: &["AllocGlobal", "HostRuntime"],
+    bare: &[],
+    statics: false,
 };
 
 const fn import(name: &'static str, path: &'static str) -> Import {

@@ -63,6 +63,7 @@ impl Walk<'_> {
                 self.function(start, visible, at + 1, scope)?
             }
             "const" | "type" => self.declaration(at)?,
+            "static" if self.may_have_static(at, scope) => self.declaration(at)?,
             "fn" => self.function(start, visible, at, scope)?,
             "struct" | "enum" => {
                 self.layout(visible, at, scope)?;
@@ -77,6 +78,12 @@ impl Walk<'_> {
             self.first_item.get_or_insert(begin);
         }
         Ok(end)
+    }
+
+    /// Whether a `static` that nothing changes may stand here.
+    fn may_have_static(&self, at: usize, scope: Scope) -> bool {
+        let is_known = self.names.forms.iter().any(|forms| forms.statics);
+        is_known && scope == Scope::File && self.source.at(at + 1) != "mut"
     }
 
     /// The place after the item that stands here, after its attributes, if it is ghost.

@@ -28,6 +28,7 @@ mod messages;
 mod names;
 mod paths;
 pub mod plan;
+pub mod programs;
 mod scope;
 pub mod source;
 mod types;

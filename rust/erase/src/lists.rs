@@ -178,7 +178,7 @@ impl Walk<'_> {
         let open = source.partner(end - 1);
         match source.before(open) {
             _ if source.before(end) != ")" || source.before(open - 1) != "." => None,
-            "collect" => Some(vec![forms::LIST.to_owned()]),
+            "collect" | "into_bytes" => Some(vec![forms::LIST.to_owned()]),
             name if forms::is_of_std(name) => None,
             name => self.names.values.returned_by_any(name, self.names),
         }

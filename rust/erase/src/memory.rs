@@ -269,6 +269,7 @@ impl<'a> Function<'a, '_> {
         for at in range {
             match source.at(at) {
                 "(" if self.is_call(at) => self.arguments(at),
+                "(" if self.is_handed(at) => drop(self.gone.insert(at + 1, at + 4)),
                 "{" => self.parts(at),
                 _ => {}
             }
@@ -309,6 +310,14 @@ impl<'a> Function<'a, '_> {
         let before = self.source.before(open);
         let is_name = before.starts_with(|c: char| c.is_lowercase() || c == '_');
         before == ">" || is_name && !forms::KEYWORDS.contains(&before)
+    }
+
+    /// Whether the bracket here opens what a macro takes, and that begins with `in alloc;`.
+    fn is_handed(&self, open: usize) -> bool {
+        self.source.before(open) == "!"
+            && self.source.at(open + 1) == "in"
+            && self.source.at(open + 3) == ";"
+            && self.is_right(open + 2, open + 3)
     }
 
     fn arguments(&mut self, open: usize) {

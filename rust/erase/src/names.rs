@@ -12,6 +12,9 @@ use crate::source::{Fault, Source};
 use crate::types::Types;
 use std::collections::{BTreeMap, BTreeSet};
 
+/// The type of no value, as a header names it.
+const UNIT: &str = "()";
+
 /// What all sources together declare, and where the result has it.
 #[derive(Default)]
 pub struct Names {
@@ -23,8 +26,8 @@ pub struct Names {
     pub belonging: BTreeSet<String>,
     /// Their structs and enums, each with the files that declare one of this name.
     types: BTreeMap<String, BTreeSet<String>>,
-    /// Their other names for types, which may be types of std.
-    aliases: BTreeSet<String>,
+    /// Their other names for types, which may be types of std, each with the word that the type begins with.
+    aliases: BTreeMap<String, BTreeSet<String>>,
     /// Their traits.
     pub traits: BTreeSet<String>,
     /// Those of them that have ghost members only.
@@ -138,7 +141,7 @@ impl Names {
         if is_taken {
             return Err(taken(source, at + 1));
         }
-        if kind == "const" && name.contains(char::is_lowercase) {
+        if ["const", "static"].contains(&kind) && name.contains(char::is_lowercase) {
             let what = format!("a constant that looks like a variable: `{name}`");
             return Err(source.fault(at + 1, what));
         }
@@ -161,7 +164,14 @@ impl Names {
                     self.ghost_traits.insert(name.to_owned());
                 }
             }
-            "type" if !is_member => drop(self.aliases.insert(name.to_owned())),
+            "type" if !is_member && source.at(at + 2) == "=" => {
+                let of = self.aliases.entry(name.to_owned()).or_default();
+                of.insert(source.at(at + 3).to_owned());
+            }
+            "type" if !is_member => {
+                let of = self.aliases.entry(name.to_owned()).or_default();
+                of.insert(String::new());
+            }
             "fn" => {
                 if !is_member {
                     let key = (source.path.to_owned(), name.to_owned());
@@ -379,7 +389,14 @@ impl Names {
 
     /// Whether this is another name for a type, which may be a type of std.
     pub fn is_alias(&self, name: &str) -> bool {
-        self.aliases.contains(name) && !self.types.contains_key(name)
+        self.aliases.contains_key(name) && !self.types.contains_key(name)
+    }
+
+    /// The word that the type begins with that this other name stands for, if it stands for no other.
+    pub fn aliased(&self, name: &str) -> Option<&str> {
+        let of = self.aliases.get(name).filter(|of| of.len() == 1)?;
+        let is_own = self.types.contains_key(name);
+        of.first().filter(|_| !is_own).map(String::as_str)
     }
 
     /// Whether the free functions of this name have a condition, those of this file, or of all files of
@@ -489,6 +506,7 @@ pub(crate) fn header<'a>(source: &Source<'a>, at: usize) -> Result<Header<'a>, F
             _ if source.is_word(next) => last = source.at(next),
             "&" => refers = true,
             "::" => {}
+            "(" if source.at(next + 1) == ")" => (last, next) = (UNIT, next + 1),
             // No type of the sources begins like this.
             _ if source.token(next).kind == crate::lex::Kind::Lifetime => {}
             other => last = other,

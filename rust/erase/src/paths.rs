@@ -2,6 +2,7 @@
 
 use crate::forms::{self, Module};
 use crate::items::Scope;
+use crate::memory::elements;
 use crate::names::taken;
 use crate::source::Fault;
 use crate::walk::{Next, Walk};
@@ -21,7 +22,10 @@ impl<'a> Walk<'a> {
         let end = self.source.find(at, self.source.len(), &[";"]);
         let end = end.ok_or_else(|| self.source.fault(at, "`;` is missing"))? + 1;
         let first = self.source.at(at + 1);
-        if let Some(module) = self.module_at(at + 1)? {
+        let is_list = self.source.has(at + 1, &["std", "::", "{"]);
+        if is_list {
+            self.import_modules(at)?;
+        } else if let Some(module) = self.module_at(at + 1)? {
             let taken = self.taken(at + 1, module)?;
             if taken.has_ghosts && taken.kept.is_empty() {
                 self.cut_item(start, end)?;
@@ -40,7 +44,9 @@ impl<'a> Walk<'a> {
                 .source
                 .fault(at + 1, format!("an unknown crate: `{first}`")));
         }
-        self.check_import(at + 1, end - 1)?;
+        if !is_list {
+            self.check_import(at + 1, end - 1)?;
+        }
         self.narrow_import(at, end)?;
         if scope == Scope::File {
             let begin = self.begin_of_item(start)?;
@@ -48,6 +54,34 @@ impl<'a> Walk<'a> {
             self.first_item.get_or_insert(begin);
         }
         Ok(end)
+    }
+
+    /// An import of several modules of std becomes one of each.
+    fn import_modules(&mut self, at: usize) -> Result<(), Fault> {
+        let (open, before) = (at + 3, self.source.before(at));
+        if before == "pub" || before == ")" {
+            return Err(self.source.fault(at, "an unknown import of modules"));
+        }
+        let mut imports = Vec::new();
+        for (begin, end) in elements(self.source, open) {
+            let path = format!("std::{}", self.source.at(begin));
+            let known = self.module_of(&path).filter(|_| end == begin + 1);
+            let Some(module) = known else {
+                let what = format!("an unknown path of std: `{path}`");
+                return Err(self.source.fault(begin, what));
+            };
+            self.modules.insert(self.source.at(begin), module.names);
+            imports.push(format!("use {}", module.to));
+        }
+        let end = self.source.partner(open) + 1;
+        self.replace(at, end, imports.join(";\n"));
+        Ok(())
+    }
+
+    /// The module with this path.
+    fn module_of(&self, path: &str) -> Option<&'static Module> {
+        let all = self.names.forms.iter().flat_map(|forms| forms.modules);
+        all.rev().find(|module| module.path == path)
     }
 
     /// Whether an import of the sources is that of a ghost trait, which goes.
@@ -188,6 +222,7 @@ impl<'a> Walk<'a> {
 
     /// What may be called by a path that begins with this type or module.
     fn associated(&self, first: &str) -> Option<&'static [&'static str]> {
+        let first = self.names.aliased(first).unwrap_or(first);
         let all = self.names.forms.iter().flat_map(|forms| forms.associated);
         all.rev()
             .find(|known| known.0 == first)

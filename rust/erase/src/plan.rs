@@ -6,14 +6,27 @@ use crate::erase;
 use crate::forms::{Layout, LAYOUTS, PACKAGE};
 use crate::host::HOST;
 use crate::names::Names;
+use crate::programs::PROGRAMS;
 use crate::source::{Fault, Source};
 use std::collections::BTreeMap;
 use std::error::Error;
-use std::fs;
 use std::path::{Path, PathBuf};
+use std::{fs, io};
 
 /// The crates that the package's face calls. They are erased with all that they stand on.
 const TOPS: &[&str] = &["ent_replay", "ent_runner", "ent_total"];
+
+/// The programs, with their crates. The package has them behind its feature of this name.
+const PROGRAM_CRATES: &[&str] = &[
+    "devices",
+    "ent_script",
+    "spawnrun",
+    "spawnrun_lib",
+    "tracecheck",
+];
+
+/// That feature.
+const PROGRAM_FEATURE: &str = "programs";
 
 /// The tests of those crates, and what only the tests in plain Rust use.
 const TESTS: &[&str] = &["cases_and_examples", "devices", "ent_tests"];
@@ -65,7 +78,8 @@ pub static TESTED: Target = Target {
 /// The texts of the files that are to be, by their paths in the repository.
 pub type Files = BTreeMap<PathBuf, String>;
 
-/// Erases the crates of the package. The repository is the folder of `crates.txt`.
+/// Erases the crates of the package, and those of the programs if `crates.txt` lists them. The repository is the
+/// folder of `crates.txt`.
 ///
 /// # Errors
 ///
@@ -81,7 +95,19 @@ pub fn package(repository: &Path) -> Result<Files, Box<dyn Error>> {
         let what = format!("the table LAYOUTS has `{name}` of {krate}, which isn't there");
         return Err(what.into());
     }
-    erased(&crates, &PROVED, &names)
+    let mut files = erased(&crates, &names, PROVED.folder)?;
+    let listed = listed(repository)?;
+    let is_listed = |name: &&&str| listed.lines().any(|line| names_crate(line, name));
+    let programs: Vec<&str> = PROGRAM_CRATES.iter().filter(is_listed).copied().collect();
+    let programs = read_all(repository, &programs)?;
+    let mut names = Names::new(&[&PACKAGE, &PROGRAMS]);
+    add_names(&mut names, &crates, PROVED.path)?;
+    add_names(&mut names, &programs, PROVED.path)?;
+    files.extend(erased(&programs, &names, PROVED.folder)?);
+    let all = crates.iter().chain(&programs).map(|it| it.name.as_str());
+    let head = head_of(&PROVED, all.collect(), PROGRAM_CRATES);
+    files.insert(Path::new(PROVED.folder).join("mod.rs"), head);
+    Ok(files)
 }
 
 /// Erases the tests of those crates.
@@ -91,29 +117,59 @@ pub fn package(repository: &Path) -> Result<Files, Box<dyn Error>> {
 /// As of [`package`].
 pub fn tests(repository: &Path) -> Result<Files, Box<dyn Error>> {
     let crates = crates_below(repository, TOPS)?;
-    let tests = TESTS.iter().map(|name| read(repository, name));
-    let mut tests = tests.collect::<Result<Vec<_>, _>>()?;
+    let mut tests = read_all(repository, TESTS)?;
     for krate in &mut tests {
         krate.leave_out(SCRIPTS);
     }
     let mut names = Names::new(&[&PACKAGE, &HOST]);
     add_names(&mut names, &crates, PROVED.path)?;
     add_names(&mut names, &tests, TESTED.path)?;
-    erased(&tests, &TESTED, &names)
+    let mut files = erased(&tests, &names, TESTED.folder)?;
+    let head = head_of(&TESTED, TESTS.to_vec(), &[]);
+    files.insert(Path::new(TESTED.folder).join("mod.rs"), head);
+    Ok(files)
+}
+
+/// The sources of these crates.
+fn read_all(repository: &Path, names: &[&str]) -> io::Result<Vec<Crate>> {
+    names.iter().map(|name| read(repository, name)).collect()
+}
+
+/// The list of the repository's crates.
+fn listed(repository: &Path) -> io::Result<String> {
+    fs::read_to_string(repository.join("crates.txt"))
+}
+
+/// Whether a line of the list is that of this crate.
+fn names_crate(line: &str, name: &str) -> bool {
+    line.split_once(':')
+        .and_then(|it| it.0.split_whitespace().next())
+        == Some(name)
 }
 
 /// These crates and all of the repository's that they stand on.
 fn crates_below(repository: &Path, tops: &[&str]) -> Result<Vec<Crate>, Box<dyn Error>> {
-    let listed = fs::read_to_string(repository.join("crates.txt"))?;
+    let listed = listed(repository)?;
     let tops: Vec<String> = tops.iter().map(|top| (*top).to_owned()).collect();
     let names = below(&listed, &tops)?;
     let crates = names.iter().map(|name| read(repository, name));
     Ok(crates.collect::<Result<_, _>>()?)
 }
 
-/// The results of the crates, each audited, and the file that has them as modules.
-fn erased(crates: &[Crate], target: &Target, names: &Names) -> Result<Files, Box<dyn Error>> {
-    let folder = Path::new(target.folder);
+/// The file that has the crates as modules, some of them behind a feature.
+fn head_of(target: &Target, mut names: Vec<&str>, optional: &[&str]) -> String {
+    names.sort_unstable();
+    let module = |name: &&str| match optional.contains(name) {
+        true => format!("#[cfg(feature = \"{PROGRAM_FEATURE}\")]\npub mod {name};\n"),
+        false => format!("pub mod {name};\n"),
+    };
+    let modules: String = names.iter().map(module).collect();
+    format!("{}\n{modules}", target.head)
+}
+
+/// The results of the crates, each audited.
+fn erased(crates: &[Crate], names: &Names, folder: &str) -> Result<Files, Box<dyn Error>> {
+    let folder = Path::new(folder);
     let mut files = Files::new();
     let mut faults = Vec::new();
     for krate in crates {
@@ -132,13 +188,6 @@ fn erased(crates: &[Crate], target: &Target, names: &Names) -> Result<Files, Box
     if !faults.is_empty() {
         return Err(faults.join("\n").into());
     }
-    let mut modules: Vec<&str> = crates.iter().map(|it| it.name.as_str()).collect();
-    modules.sort_unstable();
-    let modules: String = modules
-        .iter()
-        .map(|name| format!("pub mod {name};\n"))
-        .collect();
-    files.insert(folder.join("mod.rs"), format!("{}\n{modules}", target.head));
     Ok(files)
 }
 

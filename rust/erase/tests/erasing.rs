@@ -1,7 +1,7 @@
 //! Each form in a small source, with the result that is wanted.
 
 mod common;
-use common::{erased, erased_of, PATH};
+use common::{audited, erased, erased_of, PATH};
 
 /// The result of the source has to be this one, after its first line.
 #[track_caller]
@@ -560,4 +560,32 @@ fn code_stays_as_it_is_laid_out() {
          if first < &c[1]  && others[..1] > c[1..] { return Some(first); }\n    for _ in 0..=9 { loop { break; } }\n    \
          while let F::I = end {}\n    let j = loop { break 1; };\n    match a::e(x.0.1) {\n        F::G { h, .. } | F::H(h, ..) => Some(h),\n        _ => unreachable!(),\n    }\n}\n",
     );
+}
+
+#[test]
+fn several_modules_of_std_are_imported_one_by_one() {
+    gives(
+        "use std::{fmt, mem};\n\nfn a(f: &fmt::Result) {\n    mem::swap(f, f);\n}\n",
+        "use core::fmt;\nuse core::mem;\n\n#[inline]\nfn a(f: &fmt::Result) {\n    mem::swap(f, f);\n}\n",
+    );
+    let result = "use core::fmt;\nuse core::num;\n";
+    assert!(audited("use std::{fmt, mem};\n", result).is_err());
+}
+
+#[test]
+fn a_trait_of_what_may_be_dropped() {
+    gives(
+        "trait A: Drop {\n    fn b(&self);\n}\n",
+        "trait A {\n    fn b(&self);\n}\n",
+    );
+    assert!(audited("trait A: Copy {}\n", "trait A {}\n").is_err());
+}
+
+#[test]
+fn an_impl_for_no_value() {
+    gives(
+        "trait A {\n    fn b(&self);\n}\n\nimpl A for () {\n    fn b(&self) {}\n}\n",
+        "trait A {\n    fn b(&self);\n}\n\nimpl A for () {\n    #[inline]\n    fn b(&self) {}\n}\n",
+    );
+    assert!(erased("trait A {}\n\nimpl A for (u8, u8) {}\n").is_err());
 }

@@ -250,9 +250,19 @@ const REFUSED: &[(&str, usize, &str)] = &[
         "an unknown path of std: `std::fs`",
     ),
     (
-        "use std::{fmt, mem};\n",
+        "use std::{fmt, net};\n",
         1,
-        "an unknown path of std: `std::{`",
+        "an unknown path of std: `std::net`",
+    ),
+    (
+        "use std::{fmt, mem::swap};\n",
+        1,
+        "an unknown path of std: `std::mem`",
+    ),
+    (
+        "pub use std::{fmt, mem};\n",
+        1,
+        "an unknown import of modules",
     ),
     (
         "use std::mem::size_of;\n",

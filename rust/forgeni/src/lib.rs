@@ -183,6 +183,8 @@
 //!
 //! `std`, which is on by default: `run_frame` and its systems, since they start threads, and the pool
 //! `Reservers`, since it may wait. Without it the package is `no_std` with `alloc`.
+//!
+//! `programs`, which is off by default: the programs `spawnrun` and `tracecheck`, which the library has nothing of.
 #![cfg_attr(not(test), no_std)]
 #![forbid(unsafe_code)]
 #![deny(missing_docs)]
@@ -210,6 +212,11 @@ mod lending;
 mod lent;
 mod numbers;
 mod phase;
+#[cfg(feature = "programs")]
+#[doc(hidden)]
+pub mod programs;
+// The sources have labels where a proof names a loop, and values for the case that a call fails.
+#[allow(unused_assignments, unused_labels)]
 #[rustfmt::skip]
 mod proved;
 #[cfg(feature = "std")]

@@ -1,7 +1,7 @@
 //! What may stand in the result in place of what.
 
 use super::{has, pieces, Audit};
-use crate::forms::{self, Module, Renamed, OF_RIGHT};
+use crate::forms::{self, Forms, Module, Renamed, OF_RIGHT};
 use crate::names::Names;
 use crate::walk::OWN_ONLY;
 
@@ -60,6 +60,7 @@ pub(super) fn changes(krate: &str, path: &str, names: &Names) -> Vec<Change> {
         changes.push(Change::of_path(&format!("{name}::"), &format!("{path}::")));
     }
     for forms in &names.forms {
+        changes.extend(pairs_of_modules(&names.forms));
         for module in forms
             .modules
             .iter()
@@ -75,6 +76,19 @@ pub(super) fn changes(krate: &str, path: &str, names: &Names) -> Vec<Change> {
         changes.extend(forms.runtime.map(makes));
     }
     changes
+}
+
+/// An import of two modules of std is one of each.
+fn pairs_of_modules(forms: &[&'static Forms]) -> Vec<Change> {
+    let modules = || forms.iter().flat_map(|forms| forms.modules);
+    let named =
+        || modules().filter_map(|module| Some((module.path.strip_prefix("std::")?, module)));
+    let pairs = named().flat_map(|one| named().map(move |other| (one, other)));
+    let change = |((first, one), (second, other)): ((&str, &Module), (&str, &Module))| {
+        let from = format!("use std::{{{first}, {second}}};");
+        Change::new(&from, &format!("use {}; use {};", one.to, other.to))
+    };
+    pairs.map(change).collect()
 }
 
 /// Of a list of two names one is ghost, so the other one is left.

@@ -14,6 +14,10 @@ impl Audit<'_> {
         if source.at(at) == "let" && self.makes_right(at + 3) == Some(at + 8) {
             return Some(at + 9);
         }
+        if source.at(at) == "in" && at > 1 && source.has(at - 2, &["!", "("]) {
+            let end = self.right_value(at + 1)?;
+            return (source.at(end) == ";").then_some(end + 1);
+        }
         if source.at(at) == "," {
             let end = self.right_part(at + 1)?;
             return (source.at(end) != ",").then_some(end);

@@ -5,6 +5,7 @@ use erase::audit::audit;
 use erase::crates::{add_names, Crate, File};
 use erase::forms::{Forms, PACKAGE};
 use erase::host::HOST;
+use erase::programs::PROGRAMS;
 use erase::source::{Fault, Source};
 use erase::{erase, Names};
 use std::path::PathBuf;
@@ -47,6 +48,11 @@ pub fn erased(text: &str) -> Result<String, Fault> {
 /// The result of a source of a test, if its audit agrees.
 pub fn erased_test(text: &str) -> Result<String, Fault> {
     erased_with(text, &[&PACKAGE, &HOST])
+}
+
+/// The result of a source of a program, if its audit agrees.
+pub fn erased_program(text: &str) -> Result<String, Fault> {
+    erased_with(text, &[&PACKAGE, &PROGRAMS])
 }
 
 fn erased_with(text: &str, forms: &[&'static Forms]) -> Result<String, Fault> {
@@ -95,6 +101,12 @@ pub fn audited(text: &str, result: &str) -> Result<(), Fault> {
     names.add(&source)?;
     names.add_blocks(&source)?;
     audited_with(&source, result, &names)
+}
+
+/// What the audit says of the result of a source of a program.
+pub fn audited_program(text: &str, result: &str) -> Result<(), Fault> {
+    let names = names(&[&PACKAGE, &PROGRAMS], "ent_here", PATH, text)?;
+    audited_with(&Source::read(PATH, text)?, result, &names)
 }
 
 fn audited_with(source: &Source<'_>, result: &str, names: &Names) -> Result<(), Fault> {

@@ -7,10 +7,12 @@ pub use ::alloc::collections::LinkedList;
 
 use super::alloc::AllocFailed;
 use super::vec::FallibleVec;
+use ::alloc::collections::btree_map::{Entry, Iter};
 use ::alloc::vec::Vec;
 use core::ops::{Deref, DerefMut};
 
 /// A map by rising key. It is Rust's.
+#[derive(Debug, PartialEq)]
 pub struct BTreeMap<K, V>(::alloc::collections::BTreeMap<K, V>);
 
 /// At least as much memory as a node of Rust's map takes: at most 11 pairs and 12 nodes below, and where
@@ -18,9 +20,16 @@ pub struct BTreeMap<K, V>(::alloc::collections::BTreeMap<K, V>);
 #[repr(C)]
 struct Node<K, V>([Option<(K, V)>; 11], [usize; 14]);
 
-/// A map of less than 2^32 keys has no more levels than this, and an insertion makes at most one node
-/// for each, and one above.
-const LEVELS: usize = 14;
+/// How many nodes an insertion into a map of so many keys makes at most: one for each level, and one above.
+///
+/// The first 11 keys are in one node. A node that isn't the top has at least 5 keys, so each level has at least six
+/// times as many nodes as the one above.
+fn nodes_for(keys: usize) -> usize {
+    match keys {
+        0..=10 => 1,
+        _ => 2 + keys.ilog2() as usize / 2,
+    }
+}
 
 impl<K: Ord, V> BTreeMap<K, V> {
     /// The contract: no pairs. It takes no memory.
@@ -35,18 +44,20 @@ impl<K: Ord, V> BTreeMap<K, V> {
     /// and given back first. If another thread takes it meanwhile, and no other memory is left, the
     /// program ends.
     pub fn insert(&mut self, key: K, value: V) -> Result<Option<V>, AllocFailed<(K, V)>> {
-        if let Some(old) = self.0.get_mut(&key) {
-            return Ok(Some(core::mem::replace(old, value)));
+        let nodes = nodes_for(self.0.len());
+        match self.0.entry(key) {
+            Entry::Occupied(mut entry) => Ok(Some(entry.insert(value))),
+            Entry::Vacant(entry) => match Vec::<Node<K, V>>::with_capacity_fallibly(nodes) {
+                Ok(room) => {
+                    drop(core::hint::black_box(room));
+                    entry.insert(value);
+                    Ok(None)
+                }
+                Err(_) => Err(AllocFailed {
+                    value: (entry.into_key(), value),
+                }),
+            },
         }
-        match Vec::<Node<K, V>>::with_capacity_fallibly(LEVELS) {
-            Ok(room) => drop(core::hint::black_box(room)),
-            Err(_) => {
-                return Err(AllocFailed {
-                    value: (key, value),
-                })
-            }
-        }
-        Ok(self.0.insert(key, value))
     }
 }
 
@@ -61,6 +72,15 @@ impl<K, V> Deref for BTreeMap<K, V> {
 impl<K, V> DerefMut for BTreeMap<K, V> {
     fn deref_mut(&mut self) -> &mut Self::Target {
         &mut self.0
+    }
+}
+
+impl<'a, K, V> IntoIterator for &'a BTreeMap<K, V> {
+    type Item = (&'a K, &'a V);
+    type IntoIter = Iter<'a, K, V>;
+
+    fn into_iter(self) -> Self::IntoIter {
+        self.0.iter()
     }
 }
 

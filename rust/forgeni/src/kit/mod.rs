@@ -17,6 +17,8 @@ pub mod collections;
 pub mod either;
 pub mod itoa;
 pub mod padding;
+#[cfg(feature = "programs")]
+pub mod programs;
 #[cfg(test)]
 mod refusing;
 pub mod smallvec;

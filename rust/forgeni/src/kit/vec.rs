@@ -67,13 +67,12 @@ pub trait FallibleVec<T>: Sized {
         key: impl Fn(&T) -> K,
     ) -> Result<(), AllocError>;
 
-    /// The contract: copies of the items. It is for the repository's own tests, as the one below.
-    #[cfg(test)]
+    /// The contract: copies of the items.
     fn from_slice_fallibly(items: &[T]) -> Result<Self, AllocError>
     where
         T: Copy;
 
-    /// The contract: the items rise, and equal ones keep their order.
+    /// The contract: the items rise, and equal ones keep their order. It is for the repository's own tests.
     #[cfg(test)]
     fn sort_fallibly(&mut self) -> Result<(), AllocError>
     where
@@ -165,7 +164,7 @@ impl<T> FallibleVec<T> for Vec<T> {
         sort_in_cycles(self, &key)
     }
 
-    #[cfg(test)]
+    #[inline]
     fn from_slice_fallibly(items: &[T]) -> Result<Self, AllocError>
     where
         T: Copy,

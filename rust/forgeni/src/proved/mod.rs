@@ -10,12 +10,22 @@
 // sources are written is up to them.
 #![allow(dead_code, unused_imports, unused_variables, clippy::all)]
 
+#[cfg(feature = "programs")]
+pub mod devices;
 pub mod ent_alloc;
 pub mod ent_handle;
 pub mod ent_queue;
 pub mod ent_replay;
 pub mod ent_runner;
+#[cfg(feature = "programs")]
+pub mod ent_script;
 pub mod ent_shared;
 pub mod ent_storage;
 pub mod ent_total;
 pub mod ent_world;
+#[cfg(feature = "programs")]
+pub mod spawnrun;
+#[cfg(feature = "programs")]
+pub mod spawnrun_lib;
+#[cfg(feature = "programs")]
+pub mod tracecheck;

@@ -1,0 +1,28 @@
+#!/usr/bin/env bash
+# The programs `spawnrun` and `tracecheck` as cargo builds them, without a network: their kit beside an independent reader of JSON, their cases,
+# the changed answers, and the scripts of examples/ that run a program. If the gate has built the programs, both builds have to do the same on
+# random input.
+#
+#     programs.sh [CASES]     so many random cases for each comparison, by default 600
+set -eu
+cd "$(dirname "$0")/.."
+cases=${1:-600}
+cargo build --offline --quiet --release --features programs --manifest-path rust/forgeni/Cargo.toml
+(cd rust/forgeni && cargo test --offline --quiet --features programs --lib kit::)
+if cargo clippy --version >/dev/null 2>&1; then
+    (cd rust/forgeni && cargo clippy --offline --quiet --all-targets --features programs -- -D warnings)
+fi
+python3 .ci/tokens.py --texts $((cases < 5000 ? 5000 : cases))
+export PROGRAMS=$PWD/rust/forgeni/target/release
+python3 .ci/cases.py --program "$PROGRAMS/spawnrun"
+python3 .ci/cases.py --crate tracecheck --program "$PROGRAMS/tracecheck"
+python3 .ci/changed_replies.py --program "$PROGRAMS/tracecheck"
+python3 .ci/changed_answers.py --program "$PROGRAMS/tracecheck"
+for name in at_size exit_statuses fail_each_device refuse_at_once refuse_each_allocation refuse_each_thread refuse_in_little_memory \
+    scripts_in_bounded_memory tells_a_terminal; do
+    echo "== examples/$name.sh"
+    sh "examples/$name.sh"
+done
+if [ -x crates/spawnrun/out/spawnrun ] && [ -x crates/tracecheck/out/tracecheck ]; then
+    python3 .ci/both_builds.py --cases "$cases"
+fi

@@ -1,0 +1,6 @@
+//! The program `tracecheck`.
+#![forbid(unsafe_code)]
+
+fn main() -> std::process::ExitCode {
+    forgeni::programs::tracecheck()
+}

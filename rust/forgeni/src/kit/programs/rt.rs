@@ -1,0 +1,61 @@
+//! What a program is handed: all of its rights.
+//!
+//! The contracts are those of the kit's `std::rt`.
+
+use super::env::Env;
+use super::streams::Stream;
+use super::time::Clock;
+use crate::kit::alloc::AllocError;
+use crate::kit::thread::Threads;
+use std::io;
+
+/// The right to allocate. In Rust nobody has to be handed it.
+pub trait AllocGlobal {}
+
+/// The rights.
+#[derive(Clone, Copy, Debug, Default)]
+pub struct HostRuntime;
+
+impl AllocGlobal for HostRuntime {}
+
+impl Clock for HostRuntime {}
+
+impl Env for HostRuntime {}
+
+impl Threads for HostRuntime {}
+
+impl HostRuntime {
+    /// The standard input.
+    pub fn stdin(&self) -> Stream {
+        Stream::input()
+    }
+
+    /// The standard output.
+    pub fn stdout(&self) -> Stream {
+        Stream::output()
+    }
+
+    /// The standard error stream. It may be asked for twice.
+    pub fn stderr(&self) -> Stream {
+        Stream::errors()
+    }
+}
+
+impl From<AllocError> for io::Error {
+    fn from(_refused: AllocError) -> Self {
+        io::Error::from(io::ErrorKind::OutOfMemory)
+    }
+}
+
+#[cfg(test)]
+mod tests {
+    use super::*;
+
+    #[test]
+    fn refused_memory_is_an_error_of_its_kind() {
+        assert_eq!(
+            io::Error::from(AllocError).kind(),
+            io::ErrorKind::OutOfMemory
+        );
+    }
+}

@@ -1,0 +1,11 @@
+// Made of crates/devices/src/lib.rt by rust/erase. It isn't edited by hand.
+
+//! What a program reads from and writes to: a file, a terminal, or memory.
+
+mod counted;
+mod device;
+mod input;
+
+pub use counted::Counted;
+pub use device::{Failed, Sink, Source};
+pub use input::{InputFault, read_all};

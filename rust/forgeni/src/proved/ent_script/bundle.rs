@@ -1,0 +1,7 @@
+// Made of crates/ent_script/src/bundle.rt by rust/erase. It isn't edited by hand.
+
+/// Components and their values, by strictly rising number.
+///
+/// A long script has millions of bundles, and most are of one component. Such a bundle takes no
+/// memory.
+pub type Bundle = crate::proved::ent_storage::Bundle<1>;

@@ -1,0 +1,78 @@
+// Made of crates/ent_script/src/elements.rt by rust/erase. It isn't edited by hand.
+
+use alloc::vec::Vec;
+use crate::kit::programs::string::String;
+use crate::proved::ent_script::names::is_name;
+use crate::kit::programs::serde_json::{Map, Value};
+
+/// The elements of an array.
+#[inline]
+fn elements(value: &Value) -> Option<&Vec<Value>>
+    // ensures { option_map (λ list. map view list.now.items) result ≡ elements (view value.now) }
+{
+    value.as_array()
+}
+
+/// The elements of an array, if there are at most so many.
+#[inline]
+pub(super) fn at_most(value: &Value, most: usize) -> Option<&Vec<Value>>
+    // ensures { option_map (λ list. map view list.now.items) result ≡ at_most most (view value.now) }
+{
+    let list = elements(value)?;
+    if list.len() <= most { Some(list) } else { None }
+}
+
+/// The members of an object.
+#[inline]
+pub(super) fn members(value: &Value) -> Option<&Map<String, Value>>
+    // ensures { option_map (λ found. map (λ m. (string_bytes m.0, view m.1)) found.now.entries) result
+    //     ≡ members (view value.now) }
+{
+    value.as_object()
+}
+
+#[inline]
+fn is_among(key: &str, allowed: &[&str]) -> bool
+    // ensures { result ≡ list_any (λ name. bytes_eq key.now name.now) allowed.now }
+{
+    allowed.iter().any(|name| key == *name)
+}
+
+#[inline]
+fn are_among(members: &Map<String, Value>, allowed: &[&str]) -> bool
+    // ensures { result ≡ list_all (λ key. list_any (λ name. bytes_eq (string_bytes key) name.now)
+    //     allowed.now) (keys members.now) }
+{
+    members.keys().all(|key| is_among(key.as_str(), allowed))
+}
+
+/// Whether each key is one of these.
+#[inline]
+pub(super) fn are_keys_among(members: &Map<String, Value>, allowed: &[&str]) -> bool
+    // ensures { result ≡ keys_among (map (λ key. key.now) allowed.now)
+    //     (map (λ m. (string_bytes m.0, view m.1)) members.now.entries) }
+{
+    are_among(members, allowed)
+}
+
+/// The whole number in this range that it is.
+#[inline]
+pub(super) fn whole_within(value: &Value, low: u32, high: u32) -> Option<u32>
+    // ensures { result ≡ whole_within low high (view value.now) }
+{
+    let number = value.as_i64()?;
+    if low as i64 <= number && number <= high as i64 {
+        Some(number as u32)
+    } else {
+        None
+    }
+}
+
+/// The name that it is.
+#[inline]
+pub(super) fn name(value: &Value) -> Option<&str>
+    // ensures { option_map (λ text. text.now) result ≡ as_name (view value.now) }
+{
+    let text = value.as_str()?;
+    if is_name(text) { Some(text) } else { None }
+}

@@ -1,0 +1,35 @@
+// Made of crates/ent_script/src/frame.rt by rust/erase. It isn't edited by hand.
+
+use alloc::vec::Vec;
+use crate::proved::ent_script::system::System;
+
+/// The systems of a frame, in order. Contracts see the list of them.
+pub struct Frame {
+    systems: Vec<System>,
+}
+
+impl Frame {
+    /// The frame of these systems. It takes no memory.
+    #[inline]
+    pub(super) fn new(systems: Vec<System>) -> Self
+        // ensures { result ≡ systems.items }
+    {
+        Frame { systems }
+    }
+
+    /// The systems.
+    ///
+    /// <details><summary>Contract</summary>
+    ///
+    /// In the words of the folder `specs/` of crate `ent_script`:
+    ///
+    /// ```text
+    /// ensures { result.now ≡ self.now }
+    /// ```
+    ///
+    /// </details>
+    #[inline]
+    pub fn systems(&self) -> &[System] {
+        &self.systems
+    }
+}

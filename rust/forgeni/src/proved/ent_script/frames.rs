@@ -1,0 +1,328 @@
+// Made of crates/ent_script/src/frames.rt by rust/erase. It isn't edited by hand.
+
+use alloc::vec::Vec;
+use crate::kit::vec::FallibleVec;
+use crate::proved::ent_script::at::At;
+use crate::proved::ent_script::bound::Bound;
+use crate::proved::ent_script::cause::{Cause, ScriptCause};
+use crate::proved::ent_script::cutting::read_cut;
+use crate::proved::ent_script::elements::name;
+use crate::proved::ent_script::format::Format;
+use crate::proved::ent_script::frame::Frame;
+use crate::proved::ent_script::kind::{Kind, kind_of};
+use crate::proved::ent_script::names::Names;
+use crate::proved::ent_script::operation::Operation;
+use crate::proved::ent_script::part_fault::PartFault;
+use crate::proved::ent_script::parts::{binding, bundle, bundle_or_none, count, removed, target};
+use crate::proved::ent_script::read_fault::ReadFault;
+use crate::proved::ent_script::streaming::{begins_array, fault_of_array};
+use crate::proved::ent_script::system::System;
+use crate::proved::ent_handle::Memory;
+use crate::kit::programs::json::Reader;
+use crate::kit::programs::serde_json::Value;
+#[inline]
+fn operation_of_kind(
+    components: &Names<'_>,
+    bound: &Bound,
+    before: Option<usize>,
+    value: &Value,
+    kind: Kind,
+) -> Result<Operation, PartFault>
+    // requires { length components.now ≤ 256 }
+    // ensures { ReadsPart result (of_kind components.now bound.now before (view value.now) kind) }
+{
+    match kind {
+        Kind::Spawn => {
+            let bundle = bundle(components, value.get("spawn"))?;
+            let binds = binding(bound, value.get("as"))?;
+            Ok(Operation::Spawn { bundle, binds })
+        }
+        Kind::SpawnMany => {
+            let count = count(value.get("spawn_many"))?;
+            let bundle = bundle_or_none(components, value.get("with"))?;
+            let binds = binding(bound, value.get("as"))?;
+            Ok(Operation::SpawnMany {
+                count,
+                bundle,
+                binds,
+            })
+        }
+        Kind::Insert => {
+            let bundle = bundle(components, value.get("insert"))?;
+            let target = target(components, bound, before, value.get("on"))?;
+            Ok(Operation::Insert { bundle, target })
+        }
+        Kind::Remove => {
+            let component = removed(components, value.get("remove"))?;
+            let target = target(components, bound, before, value.get("on"))?;
+            Ok(Operation::Remove { component, target })
+        }
+        Kind::Despawn => {
+            let target = target(components, bound, before, value.get("despawn"))?;
+            Ok(Operation::Despawn { target })
+        }
+    }
+}
+
+/// An operation of a system whose earlier operations bind these names. A birth that it names is of
+/// a frame before the one that is said.
+#[inline]
+fn operation(
+    components: &Names<'_>,
+    bound: &Bound,
+    before: Option<usize>,
+    value: &Value,
+) -> Result<Operation, PartFault>
+    // requires { length components.now ≤ 256 }
+    // ensures { ReadsPart result (operation_of components.now bound.now before (view value.now)) }
+{
+    let kind = kind_of(value).ok_or(Cause::Shape)?;
+    operation_of_kind(components, bound, before, value, kind)
+}
+
+/// Adds the name that an operation binds, if it binds one.
+#[inline]
+fn bind(bound: &mut Bound, value: &Value) -> Result<(), Memory>
+    // ensures { OnOk result (bound.new ≡ with_part bound.old (bound_name (view value.now))) }
+{
+    let Some(part) = value.get("as") else {
+        return Ok(());
+    };
+    let Some(name) = name(part) else {
+        return Ok(());
+    };
+    bound.add(name)
+}
+
+/// The operation with this number in its system.
+#[inline]
+fn operation_at(
+    format: Format,
+    components: &Names<'_>,
+    bound: &Bound,
+    at: At,
+    value: &Value,
+) -> Result<Operation, ReadFault>
+    // requires { length components.now ≤ 256 }
+    // ensures { ReadsAs result (at_operation at.frame at.system at.operation
+    //     (operation_of components.now bound.now (births_before format at.frame)
+    //     (view value.now))) }
+{
+    let before = format.births_before(at.frame);
+    match operation(components, bound, before, value) {
+        Ok(operation) => Ok(operation),
+        Err(PartFault::Memory) => Err(ReadFault::Memory),
+        Err(PartFault::Refused(cause)) => Err(ReadFault::Operation {
+            frame: at.frame,
+            system: at.system,
+            operation: at.operation,
+            cause,
+        }),
+    }
+}
+
+/// The operation that comes next. The name that it binds is added.
+#[inline]
+fn next_operation(
+    format: Format,
+    components: &Names<'_>,
+    bound: &mut Bound,
+    at: At,
+    reader: &mut Reader<'_>,
+    depth: usize,
+) -> Result<Operation, ReadFault>
+    // requires { length components.now ≤ 256 }
+    // ensures value { (d : Data) (rest : List SpecToken)
+    //     → converted of_json (value depth reader.old) ≡ Some (d, rest)
+    //     → Streams result reader.new (at_operation at.frame at.system at.operation
+    //     (operation_of components.now bound.old (births_before format at.frame) d)) rest }
+    // ensures binds { OnOk result ((d : Data) (rest : List SpecToken)
+    //     → converted of_json (value depth reader.old) ≡ Some (d, rest)
+    //     → bound.new ≡ with_part bound.old (bound_name d)) }
+    // ensures shorter { OnOk result (length reader.new < length reader.old) }
+    // ensures no_longer { length reader.new ≤ length reader.old }
+{
+    let value = read_cut(reader, depth, 2)?;
+    let operation = operation_at(format, components, bound, at, &value)?;
+    bind(bound, &value)?;
+    Ok(operation)
+}
+
+/// The operations of a system, of which the bracket was taken. Each may use the names that those
+/// before it bind.
+#[inline]
+fn operations(
+    format: Format,
+    components: &Names<'_>,
+    frame: usize,
+    system: usize,
+    reader: &mut Reader<'_>,
+    depth: usize,
+) -> Result<System, ReadFault>
+    // requires { length components.now ≤ 256 }
+    // ensures value { (n : ℕ) (ds : Items) (rest : List SpecToken)
+    //     → converted of_items (items (value depth) n reader.old) ≡ Some (ds, rest)
+    //     → Streams result reader.new (system_of format components.now frame system (array ds))
+    //     rest }
+    // ensures shorter { OnOk result (length reader.new ≤ length reader.old) }
+    // ensures no_longer { length reader.new ≤ length reader.old }
+{
+    let limit = ReadFault::System { frame, system };
+    let mut bound = Bound::new();
+    let mut operations = Vec::new();
+    let mut number = 0;
+    'operations: while !reader.take_end_array() {
+        if number == 10_000 {
+            return Err(fault_of_array(reader, depth, 0, limit, limit));
+        }
+        let at = At {
+            frame,
+            system,
+            operation: number,
+        };
+        match next_operation(format, components, &mut bound, at, reader, depth) {
+            Ok(operation) => operations.push_fallibly(operation)?,
+            Err(fault) => {
+                return Err(fault_of_array(reader, depth, 9_999 - number, fault, limit));
+            }
+        }
+        number += 1;
+    }
+    Ok(System::new(operations))
+}
+
+/// The system that comes next.
+#[inline]
+fn system(
+    format: Format,
+    components: &Names<'_>,
+    frame: usize,
+    number: usize,
+    reader: &mut Reader<'_>,
+    depth: usize,
+) -> Result<System, ReadFault>
+    // requires { length components.now ≤ 256 }
+    // ensures value { (d : Data) (rest : List SpecToken)
+    //     → converted of_json (value depth reader.old) ≡ Some (d, rest)
+    //     → Streams result reader.new (system_of format components.now frame number d) rest }
+    // ensures shorter { OnOk result (length reader.new < length reader.old) }
+    // ensures no_longer { length reader.new ≤ length reader.old }
+{
+    if !begins_array(reader, depth)? {
+        return Err(ReadFault::System {
+            frame,
+            system: number,
+        });
+    }
+    operations(format, components, frame, number, reader, depth - 1)
+}
+
+/// The systems of a frame, of which the bracket was taken.
+#[inline]
+fn systems(
+    format: Format,
+    components: &Names<'_>,
+    frame: usize,
+    reader: &mut Reader<'_>,
+    depth: usize,
+) -> Result<Frame, ReadFault>
+    // requires { length components.now ≤ 256 }
+    // ensures value { (n : ℕ) (ds : Items) (rest : List SpecToken)
+    //     → converted of_items (items (value depth) n reader.old) ≡ Some (ds, rest)
+    //     → Streams result reader.new (frame_of format components.now frame (array ds)) rest }
+    // ensures shorter { OnOk result (length reader.new ≤ length reader.old) }
+    // ensures no_longer { length reader.new ≤ length reader.old }
+{
+    let limit = ReadFault::Frame { frame };
+    let mut systems = Vec::new();
+    let mut number = 0;
+    'systems: while !reader.take_end_array() {
+        if number == 256 {
+            return Err(fault_of_array(reader, depth, 0, limit, limit));
+        }
+        match system(format, components, frame, number, reader, depth) {
+            Ok(system) => systems.push_fallibly(system)?,
+            Err(fault) => {
+                return Err(fault_of_array(reader, depth, 255 - number, fault, limit));
+            }
+        }
+        number += 1;
+    }
+    Ok(Frame::new(systems))
+}
+
+/// The frame that comes next.
+#[inline]
+fn frame(
+    format: Format,
+    components: &Names<'_>,
+    number: usize,
+    reader: &mut Reader<'_>,
+    depth: usize,
+) -> Result<Frame, ReadFault>
+    // requires { length components.now ≤ 256 }
+    // ensures value { (d : Data) (rest : List SpecToken)
+    //     → converted of_json (value depth reader.old) ≡ Some (d, rest)
+    //     → Streams result reader.new (frame_of format components.now number d) rest }
+    // ensures shorter { OnOk result (length reader.new < length reader.old) }
+    // ensures no_longer { length reader.new ≤ length reader.old }
+{
+    if !begins_array(reader, depth)? {
+        return Err(ReadFault::Frame { frame: number });
+    }
+    systems(format, components, number, reader, depth - 1)
+}
+
+/// The frames of a script with these components, of which the bracket was taken.
+#[inline]
+fn frames_inside(
+    format: Format,
+    components: &Names<'_>,
+    reader: &mut Reader<'_>,
+    depth: usize,
+) -> Result<Vec<Frame>, ReadFault>
+    // requires { length components.now ≤ 256 }
+    // ensures value { (n : ℕ) (ds : Items) (rest : List SpecToken)
+    //     → converted of_items (items (value depth) n reader.old) ≡ Some (ds, rest)
+    //     → StreamsList result reader.new (frames_of format components.now (Some (array ds))) rest }
+    // ensures shorter { OnOk result (length reader.new ≤ length reader.old) }
+    // ensures no_longer { length reader.new ≤ length reader.old }
+{
+    let limit = ReadFault::Script(ScriptCause::Frames);
+    let mut frames = Vec::new();
+    let mut number = 0;
+    'frames: while !reader.take_end_array() {
+        if number == 1_000 {
+            return Err(fault_of_array(reader, depth, 0, limit, limit));
+        }
+        match frame(format, components, number, reader, depth) {
+            Ok(frame) => frames.push_fallibly(frame)?,
+            Err(fault) => {
+                return Err(fault_of_array(reader, depth, 999 - number, fault, limit));
+            }
+        }
+        number += 1;
+    }
+    Ok(frames)
+}
+
+/// The frames of a script with these components.
+#[inline]
+pub(super) fn frames(
+    format: Format,
+    components: &Names<'_>,
+    reader: &mut Reader<'_>,
+    depth: usize,
+) -> Result<Vec<Frame>, ReadFault>
+    // requires { length components.now ≤ 256 }
+    // ensures value { (d : Data) (rest : List SpecToken)
+    //     → converted of_json (value depth reader.old) ≡ Some (d, rest)
+    //     → StreamsList result reader.new (frames_of format components.now (Some d)) rest }
+    // ensures shorter { OnOk result (length reader.new < length reader.old) }
+    // ensures no_longer { length reader.new ≤ length reader.old }
+{
+    if !begins_array(reader, depth)? {
+        return Err(ReadFault::Script(ScriptCause::Frames));
+    }
+    frames_inside(format, components, reader, depth - 1)
+}

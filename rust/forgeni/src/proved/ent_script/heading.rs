@@ -1,0 +1,11 @@
+// Made of crates/ent_script/src/heading.rt by rust/erase. It isn't edited by hand.
+
+use crate::proved::ent_script::format::Format;
+use crate::proved::ent_alloc::Limits;
+
+/// What a script says before its components.
+#[derive(Clone, Copy)]
+pub(super) struct Heading {
+    pub(super) format: Format,
+    pub(super) limits: Limits,
+}

@@ -1,0 +1,40 @@
+// Made of crates/ent_script/src/lib.rt by rust/erase. It isn't edited by hand.
+
+//! Scripts of frames, systems and operations: their types, and how they are read from JSON.
+
+mod at;
+mod birth;
+mod bound;
+mod bundle;
+mod cause;
+mod cutting;
+mod elements;
+mod format;
+mod frame;
+mod frames;
+mod heading;
+mod kind;
+mod names;
+mod number;
+mod operation;
+mod part_fault;
+mod parts;
+mod passing;
+mod read_fault;
+mod reading;
+mod script;
+mod streaming;
+mod system;
+mod target;
+mod writing;
+
+pub use bundle::Bundle;
+pub use cause::{Cause, ScriptCause};
+pub use frame::Frame;
+pub use operation::Operation;
+pub use read_fault::ReadFault;
+pub use reading::read_script;
+pub use script::Script;
+pub use system::System;
+pub use target::Target;
+pub(crate) use writing::write_refusal;

@@ -1,0 +1,180 @@
+// Made of crates/ent_script/src/parts.rt by rust/erase. It isn't edited by hand.
+
+use crate::kit::programs::string::String;
+use crate::proved::ent_script::birth::birth;
+use crate::proved::ent_script::bound::Bound;
+use crate::proved::ent_script::bundle::Bundle;
+use crate::proved::ent_script::cause::Cause;
+use crate::proved::ent_script::elements::{members, name, whole_within};
+use crate::proved::ent_script::names::Names;
+use crate::proved::ent_script::part_fault::PartFault;
+use crate::proved::ent_script::target::Target;
+use crate::proved::ent_handle::{ComponentId, Handle};
+use crate::kit::programs::serde_json::{Map, Value};
+
+/// The number of a component.
+#[inline]
+pub(super) fn component(components: &Names<'_>, name: &str) -> Option<ComponentId>
+    // requires { length components.now ≤ 256 }
+    // ensures { result ≡ component_of components.now name.now }
+{
+    let number = components.find(name)?;
+    Some(ComponentId(number as u8))
+}
+
+/// How many, from 0 to 65,536.
+#[inline]
+pub(super) fn count(part: Option<&Value>) -> Result<u32, Cause>
+    // ensures { result ≡ count_of (option_map (λ v. view v.now) part.entry) }
+{
+    let value = part.ok_or(Cause::Count)?;
+    whole_within(value, 0, 65_536).ok_or(Cause::Count)
+}
+
+/// The number of the name that is bound: that of the name if it is bound, and else the next.
+#[inline]
+pub(super) fn binding(bound: &Bound, part: Option<&Value>) -> Result<Option<usize>, Cause>
+    // ensures { result ≡ binding_of bound.now (option_map (λ v. view v.now) part.entry) }
+{
+    let Some(value) = part else {
+        return Ok(None);
+    };
+    let name = name(value).ok_or(Cause::Name)?;
+    Ok(Some(bound.find(name).unwrap_or(bound.len())))
+}
+
+/// The component that a removal is of.
+#[inline]
+pub(super) fn removed(components: &Names<'_>, part: Option<&Value>) -> Result<ComponentId, Cause>
+    // requires { length components.now ≤ 256 }
+    // ensures { result ≡ removed_of components.now (option_map (λ v. view v.now) part.entry) }
+{
+    let value = part.ok_or(Cause::Component)?;
+    let name = value.as_str().ok_or(Cause::Component)?;
+    component(components, name).ok_or(Cause::Component)
+}
+
+/// A birth of a frame before this one. Without a frame no target has a birth.
+#[inline]
+fn target_birth(before: Option<usize>, text: &str) -> Result<Target, Cause>
+    // ensures { result ≡ target_birth before text.now }
+{
+    let before = before.ok_or(Cause::Target)?;
+    Ok(Target::Birth(birth(before, text)?))
+}
+
+#[inline]
+fn target_at(
+    components: &Names<'_>,
+    bound: &Bound,
+    before: Option<usize>,
+    key: &str,
+    text: &str,
+) -> Result<Target, Cause>
+    // requires { length components.now ≤ 256 }
+    // ensures { result ≡ target_at components.now bound.now before key.now text.now }
+{
+    if key == "name" {
+        let number = bound.find(text).ok_or(Cause::Name)?;
+        Ok(Target::Name(number))
+    } else if key == "handle" {
+        let handle = Handle::read_text(text.as_bytes()).map_err(|_| Cause::Handle)?;
+        Ok(Target::Handle(handle))
+    } else if key == "each" {
+        let id = component(components, text).ok_or(Cause::Component)?;
+        Ok(Target::Each(id))
+    } else if key == "birth" {
+        target_birth(before, text)
+    } else {
+        Err(Cause::Target)
+    }
+}
+
+/// The only member of an object.
+#[inline]
+fn only(members: &Map<String, Value>) -> Option<(&str, &Value)>
+    // ensures { option_map {U = List ℕ × Data} (λ m. (m.0.now, view m.1.now)) result
+    //     ≡ only (map (λ m. (string_bytes m.0, view m.1)) members.now.entries) }
+{
+    if members.len() != 1 {
+        return None;
+    }
+    let (key, value) = members.first_key_value()?;
+    Some((key.as_str(), value))
+}
+
+/// Which entities an operation is for. A birth is of a frame before the one that is said.
+#[inline]
+pub(super) fn target(
+    components: &Names<'_>,
+    bound: &Bound,
+    before: Option<usize>,
+    part: Option<&Value>,
+) -> Result<Target, Cause>
+    // requires { length components.now ≤ 256 }
+    // ensures { result ≡ target_of components.now bound.now before
+    //     (option_map (λ v. view v.now) part.entry) }
+{
+    let found = members(part.ok_or(Cause::Target)?).ok_or(Cause::Target)?;
+    let (key, value) = only(found).ok_or(Cause::Target)?;
+    let text = value.as_str().ok_or(Cause::Target)?;
+    target_at(components, bound, before, key, text)
+}
+
+/// The component and the value of a bundle's member.
+#[inline]
+fn item(components: &Names<'_>, key: &str, value: &Value) -> Result<(ComponentId, i64), Cause>
+    // requires { length components.now ≤ 256 }
+    // ensures { result ≡ item_of components.now (key.now, view value.now) }
+{
+    let id = component(components, key).ok_or(Cause::Component)?;
+    let number = value.as_i64().ok_or(Cause::Value)?;
+    Ok((id, number))
+}
+
+#[inline]
+fn items(
+    components: &Names<'_>,
+    members: &Map<String, Value>,
+) -> Result<Bundle, PartFault>
+    // requires { length components.now ≤ 256 }
+    // ensures { ReadsPart result (bundle_by components.now
+    //     (map (λ m. (string_bytes m.0, view m.1)) members.now.entries)) }
+{
+    let mut bundle = Bundle::with_capacity(members.len().min(components.len()))?;
+    for (key, value) in members {
+        let (id, number) = item(components, key.as_str(), value)?;
+        bundle.put(id, number)?;
+    }
+    Ok(bundle)
+}
+
+/// Components and their values.
+#[inline]
+pub(super) fn bundle(
+    components: &Names<'_>,
+    part: Option<&Value>,
+) -> Result<Bundle, PartFault>
+    // requires { length components.now ≤ 256 }
+    // ensures { ReadsPart result (read_bundle components.now
+    //     (option_map (λ v. view v.now) part.entry)) }
+{
+    let found = members(part.ok_or(Cause::Bundle)?).ok_or(Cause::Bundle)?;
+    items(components, found)
+}
+
+/// A bundle that may be absent.
+#[inline]
+pub(super) fn bundle_or_none(
+    components: &Names<'_>,
+    part: Option<&Value>,
+) -> Result<Bundle, PartFault>
+    // requires { length components.now ≤ 256 }
+    // ensures { ReadsPart result (with_of components.now
+    //     (option_map (λ v. view v.now) part.entry)) }
+{
+    if part.is_none() {
+        return Ok(Bundle::new());
+    }
+    bundle(components, part)
+}

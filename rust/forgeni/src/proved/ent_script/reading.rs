@@ -1,0 +1,278 @@
+// Made of crates/ent_script/src/reading.rt by rust/erase. It isn't edited by hand.
+
+use alloc::vec::Vec;
+use crate::kit::programs::string::String;
+use crate::kit::vec::FallibleVec;
+use crate::proved::ent_script::cause::ScriptCause;
+use crate::proved::ent_script::cutting::read_cut;
+use crate::proved::ent_script::elements::{are_keys_among, members, name, whole_within};
+use crate::proved::ent_script::format::Format;
+use crate::proved::ent_script::frame::Frame;
+use crate::proved::ent_script::frames::frames;
+use crate::proved::ent_script::heading::Heading;
+use crate::proved::ent_script::names::Names;
+use crate::proved::ent_script::passing::pass_value;
+use crate::proved::ent_script::read_fault::ReadFault;
+use crate::proved::ent_script::script::Script;
+use crate::proved::ent_script::streaming::read_elements;
+use crate::proved::ent_alloc::Limits;
+use crate::kit::programs::json::{Reader, Scratch, Token};
+use crate::kit::programs::serde_json::Value;
+
+/// The whole number in this range that a part is, or this one if the part is absent.
+#[inline]
+fn number_or(part: Option<&Value>, absent: u32, low: u32, high: u32) -> Option<u32>
+    // ensures { result ≡ or_absent absent (whole_of low high)
+    //     (option_map (λ v. view v.now) part.entry) }
+{
+    match part {
+        None => Some(absent),
+        Some(value) => whole_within(value, low, high),
+    }
+}
+
+/// The format that a part says. One that is absent is 1.
+#[inline]
+fn format(part: Option<&Value>) -> Result<Format, ScriptCause>
+    // ensures { result ≡ format_of (option_map (λ v. view v.now) part.entry) }
+{
+    let number = number_or(part, 1, 1, 2).ok_or(ScriptCause::Format)?;
+    if number == 1 {
+        Ok(Format::One)
+    } else {
+        Ok(Format::Two)
+    }
+}
+
+/// The heading, after the tests of all that stands before it.
+#[inline]
+fn heading(value: &Value) -> Result<Heading, ScriptCause>
+    // ensures { result ≡ heading_of (view value.now) }
+{
+    let found = members(value).ok_or(ScriptCause::Top)?;
+    let keys = ["format", "slots", "generations", "components", "frames"];
+    if !are_keys_among(found, &keys) {
+        return Err(ScriptCause::Key);
+    }
+    let format = format(value.get("format"))?;
+    let slots = number_or(value.get("slots"), u32::MAX, 1, u32::MAX).ok_or(ScriptCause::Slots)?;
+    let most = (1 << 31) - 1;
+    let generations = number_or(value.get("generations"), most, 1, most).ok_or(
+        ScriptCause::Generations,
+    )?;
+    let limits = Limits::new(slots, generations).ok_or(ScriptCause::Slots)?;
+    Ok(Heading { format, limits })
+}
+
+/// The name that a value is, if it is none of these.
+#[inline]
+fn new_name<'a>(names: &Names<'_>, value: &'a Value) -> Option<&'a str>
+    // ensures { option_map (λ text. text.now) result ≡ new_name names.now (view value.now) }
+{
+    let text = name(value)?;
+    if names.find(text).is_some() {
+        None
+    } else {
+        Some(text)
+    }
+}
+
+/// The names that all of the values are, no two the same.
+#[inline]
+fn different_names<'a>(values: &'a [Value]) -> Result<Names<'a>, ReadFault>
+    // ensures names { ReadsAs result (in_script (numbered (component_at (map view values.now)) 0
+    //     (map view values.now))) }
+    // ensures few { IfOk result (λ names. length names ≤ length values.now) }
+{
+    let mut names = Names::new();
+    for value in values {
+        let text = new_name(&names, value).ok_or(ScriptCause::Components)?;
+        names.add(text)?;
+    }
+    Ok(names)
+}
+
+/// The names as texts of their own.
+#[inline]
+fn owned(names: &[&str]) -> Result<Vec<String>, ReadFault>
+    // ensures ok { IfOk result (λ texts. map string_bytes texts.items
+    //     ≡ map (λ name. name.now) names.now) }
+    // ensures err { IfErr result (λ fault. fault ≡ Memory) }
+{
+    let mut texts = Vec::with_capacity_fallibly(names.len())?;
+    for name in names {
+        texts.push_fallibly(String::from_str(*name)?)?;
+    }
+    Ok(texts)
+}
+
+/// How deep arrays and objects nest at most.
+const DEPTH: usize = 127;
+
+/// The heading that a text means. If the text is no JSON, that is found first.
+#[inline]
+fn heading_in(text: &str, scratch: &mut Scratch) -> Result<Heading, ReadFault>
+    // ensures { ReadsAs result (heading_of_text text.now) }
+{
+    let mut reader = Reader::new(text, scratch)?;
+    let value = read_cut(&mut reader, DEPTH, 1)?;
+    if reader.next().is_some() {
+        return Err(ReadFault::Json);
+    }
+    Ok(heading(&value)?)
+}
+
+/// Takes the brace that begins an object, if one is next.
+#[inline]
+fn opens(reader: &mut Reader<'_>) -> bool
+    // ensures { MatchBool result (reader.old ≡ begin_object ∷ reader.new)
+    //     (begins_object reader.old ≡ false) }
+{
+    matches!(reader.next(), Some(Token::BeginObject))
+}
+
+/// The elements of `components`, each cut, of an object of which the brace was taken. Of a key that
+/// stands twice the last counts.
+#[inline]
+fn components_inside(
+    reader: &mut Reader<'_>,
+    depth: usize,
+) -> Result<Option<Vec<Value>>, ReadFault>
+    // ensures found { (n : ℕ) (ms : Members) (rest : List SpecToken)
+    //     → converted (λ ms. of_members ms no_members) (members (value depth) n reader.old)
+    //     ≡ Some (ms, rest)
+    //     → FindsElements result (option_and_then (at_most 256)
+    //     (get_member (codes "components") ms)) }
+    // ensures few { IfOk result (λ found. IfSome found (λ values. length values.items ≤ 256)) }
+{
+    let mut found = None;
+    'members: while let Some(key) = reader.next_key()? {
+        if key == "components" {
+            found = None;
+            found = read_elements(reader, depth, 0, 256)?;
+        } else {
+            pass_value(reader, depth)?;
+        }
+    }
+    Ok(found)
+}
+
+/// The elements of the `components` of a text, each cut, if it is JSON.
+#[inline]
+fn components_in(
+    text: &str,
+    scratch: &mut Scratch,
+) -> Result<Option<Vec<Value>>, ReadFault>
+    // ensures found { (d : Data) → read text.now ≡ Some d
+    //     → FindsElements result (option_and_then (at_most 256) (get (codes "components") d)) }
+    // ensures few { IfOk result (λ found. IfSome found (λ values. length values.items ≤ 256)) }
+{
+    let mut reader = Reader::new(text, scratch)?;
+    if !opens(&mut reader) {
+        return Ok(None);
+    }
+    components_inside(&mut reader, DEPTH - 1)
+}
+
+#[inline]
+fn ran_out(read: &Result<Vec<Frame>, ReadFault>) -> bool
+    // ensures { result ≡ ran_out read.now }
+{
+    matches!(read, Err(ReadFault::Memory))
+}
+
+/// The frames of an object of which the brace was taken. Of a key that stands twice the last
+/// counts.
+#[inline]
+fn frames_inside(
+    format: Format,
+    components: &Names<'_>,
+    reader: &mut Reader<'_>,
+    depth: usize,
+) -> Result<Vec<Frame>, ReadFault>
+    // requires { length components.now ≤ 256 }
+    // ensures { (n : ℕ) (ms : Members) (rest : List SpecToken)
+    //     → converted (λ ms. of_members ms no_members) (members (value depth) n reader.old)
+    //     ≡ Some (ms, rest)
+    //     → ReadsList result (frames_of format components.now (get_member (codes "frames") ms)) }
+{
+    let mut found = Err(ReadFault::Script(ScriptCause::Frames));
+    'members: while let Some(key) = reader.next_key()? {
+        if key == "frames" {
+            found = Err(ReadFault::Script(ScriptCause::Frames));
+            found = frames(format, components, reader, depth);
+            if ran_out(&found) {
+                return Err(ReadFault::Memory);
+            }
+        } else {
+            pass_value(reader, depth)?;
+        }
+    }
+    found
+}
+
+/// The frames of a text with these components, if it is JSON.
+#[inline]
+fn frames_in(
+    format: Format,
+    components: &Names<'_>,
+    text: &str,
+    scratch: &mut Scratch,
+) -> Result<Vec<Frame>, ReadFault>
+    // requires { length components.now ≤ 256 }
+    // ensures { (d : Data) → read text.now ≡ Some d
+    //     → ReadsList result (frames_of format components.now (get (codes "frames") d)) }
+{
+    let mut reader = Reader::new(text, scratch)?;
+    if !opens(&mut reader) {
+        return Err(ReadFault::Script(ScriptCause::Frames));
+    }
+    frames_inside(format, components, &mut reader, DEPTH - 1)
+}
+
+/// The script that a text with this heading means.
+#[inline]
+fn script_in(
+    heading: Heading,
+    text: &str,
+    scratch: &mut Scratch,
+) -> Result<Script, ReadFault>
+    // ensures { (d : Data) → read text.now ≡ Some d → in_script (heading_of d) ≡ Ok heading
+    //     → ReadsAs result (script_of d) }
+{
+    let values = components_in(text, scratch)?.ok_or(ScriptCause::Components)?;
+    let components = different_names(&values)?;
+    let frames = frames_in(heading.format, &components, text, scratch)?;
+    let names = owned(components.as_slice())?;
+    Ok(Script::new(heading.limits, names, frames))
+}
+
+/// The script that a JSON text means.
+///
+/// It takes time linear in the text, but for look-ups of names in logarithmic time. The text is
+/// read more than once, and no more than one operation is kept at a time as a value.
+///
+/// # Errors
+///
+/// `Json` if `serde_json` reads no value from the text; `Script`, `Frame`, `System` or `Operation`
+/// with the first test that the value fails. `Memory` if memory ran out.
+///
+/// <details><summary>Contract</summary>
+///
+/// In the words of the folder `specs/` of crate `ent_script`:
+///
+/// ```text
+/// ensures exact { ReadsAs result (script_of_text text.now) }
+/// ensures ranges { IfOk result IsScript }
+/// ```
+///
+/// </details>
+#[inline]
+pub fn read_script(text: &[u8]) -> Result<Script, ReadFault> {
+    let Ok(checked) = crate::kit::programs::simdutf8::basic::from_utf8(text) else {
+        return Err(ReadFault::Json);
+    };
+    let mut scratch = Scratch::new();
+    let heading = heading_in(checked, &mut scratch)?;
+    script_in(heading, checked, &mut scratch)
+}

@@ -1,0 +1,80 @@
+// Made of crates/ent_script/src/script.rt by rust/erase. It isn't edited by hand.
+
+use alloc::vec::Vec;
+use crate::kit::programs::string::String;
+use crate::proved::ent_script::frame::Frame;
+use crate::proved::ent_alloc::Limits;
+
+/// A script: the limits of its allocator, the names of its components, and its frames in order.
+/// The component at index `i` has the number `i`.
+pub struct Script {
+    limits: Limits,
+    components: Vec<String>,
+    frames: Vec<Frame>,
+}
+
+impl Script {
+    /// The script of these parts. It takes no memory.
+    #[inline]
+    pub(super) fn new(limits: Limits, components: Vec<String>, frames: Vec<Frame>) -> Self
+        // ensures { result ≡ record {
+        //   limits = limits;
+        //   components = map string_bytes components.items;
+        //   frames = frames.items;
+        // } }
+    {
+        Script {
+            limits,
+            components,
+            frames,
+        }
+    }
+
+    /// The limits of its allocator.
+    ///
+    /// <details><summary>Contract</summary>
+    ///
+    /// In the words of the folder `specs/` of crate `ent_script`:
+    ///
+    /// ```text
+    /// ensures { result ≡ self.now.limits }
+    /// ```
+    ///
+    /// </details>
+    #[inline]
+    pub fn limits(&self) -> Limits {
+        self.limits
+    }
+
+    /// The names of its components, in the order of their numbers.
+    ///
+    /// <details><summary>Contract</summary>
+    ///
+    /// In the words of the folder `specs/` of crate `ent_script`:
+    ///
+    /// ```text
+    /// ensures { map string_bytes result.now ≡ self.now.components }
+    /// ```
+    ///
+    /// </details>
+    #[inline]
+    pub fn components(&self) -> &[String] {
+        &self.components
+    }
+
+    /// Its frames.
+    ///
+    /// <details><summary>Contract</summary>
+    ///
+    /// In the words of the folder `specs/` of crate `ent_script`:
+    ///
+    /// ```text
+    /// ensures { result.now ≡ self.now.frames }
+    /// ```
+    ///
+    /// </details>
+    #[inline]
+    pub fn frames(&self) -> &[Frame] {
+        &self.frames
+    }
+}

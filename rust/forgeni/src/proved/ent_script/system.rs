@@ -1,0 +1,35 @@
+// Made of crates/ent_script/src/system.rt by rust/erase. It isn't edited by hand.
+
+use alloc::vec::Vec;
+use crate::proved::ent_script::operation::Operation;
+
+/// The operations of a system, in order. Contracts see the list of them.
+pub struct System {
+    operations: Vec<Operation>,
+}
+
+impl System {
+    /// The system of these operations. It takes no memory.
+    #[inline]
+    pub(super) fn new(operations: Vec<Operation>) -> Self
+        // ensures { result ≡ operations.items }
+    {
+        System { operations }
+    }
+
+    /// The operations.
+    ///
+    /// <details><summary>Contract</summary>
+    ///
+    /// In the words of the folder `specs/` of crate `ent_script`:
+    ///
+    /// ```text
+    /// ensures { result.now ≡ self.now }
+    /// ```
+    ///
+    /// </details>
+    #[inline]
+    pub fn operations(&self) -> &[Operation] {
+        &self.operations
+    }
+}

@@ -1,0 +1,17 @@
+// Made of crates/spawnrun/src/main.rt by rust/erase. It isn't edited by hand.
+
+//! Runs schedules of allocator events and scripts of frames: `spawnrun replay` and `spawnrun run`
+//! read one on standard input, and write what it gave.
+
+use crate::kit::programs::rt::HostRuntime;
+use crate::proved::spawnrun_lib::start;
+use std::io::IsTerminal;
+use std::process::ExitCode;
+
+#[inline]
+pub fn main(rt: HostRuntime) -> ExitCode {
+    let terminal = rt.stderr();
+    let tells = terminal.is_terminal();
+    let errors = rt.stderr();
+    ExitCode::from(start(&rt, rt.stdin(), rt.stdout(), errors, terminal, tells))
+}

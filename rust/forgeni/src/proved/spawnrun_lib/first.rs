@@ -1,0 +1,271 @@
+// Made of crates/spawnrun_lib/src/first.rt by rust/erase. It isn't edited by hand.
+
+//! The first of several keys, members or names that fails its test.
+
+use crate::kit::programs::string::String;
+use crate::proved::spawnrun_lib::part::Part;
+use crate::kit::programs::serde_json::{Map, Value};
+
+// The members of an object.
+#[inline]
+fn members(value: &Value) -> Option<&Map<String, Value>>
+    // ensures { option_map (λ found. map (λ m. (string_bytes m.0, view m.1)) found.now.entries) result
+    //     ≡ members (view value.now) }
+{
+    value.as_object()
+}
+
+/// The first key that is none of a script's.
+#[inline]
+pub(super) fn unknown_key(script: &Value) -> Part<'_>
+    // ensures { place_of result ≡ key_place (option_and_then (key_but (is_among script_keys))
+    //     (members (view script.now))) }
+{
+    let known = ["format", "slots", "generations", "components", "frames"];
+    let Some(members) = members(script) else {
+        return Part::Absent;
+    };
+    match first_key(members, &known) {
+        Some(key) => Part::Key(key),
+        None => Part::Absent,
+    }
+}
+
+// The first key that is none of these.
+#[inline]
+fn first_key<'a>(members: &'a Map<String, Value>, known: &[&str]) -> Option<&'a str>
+    // ensures { option_map (λ key. key.now) result
+    //     ≡ key_but (is_among (map (λ key. key.now) known.now))
+    //     (map (λ m. (string_bytes m.0, view m.1)) members.now.entries) }
+{
+    for (key, _value) in members.iter() {
+        if !is_among(key.as_str(), known) {
+            return Some(key.as_str());
+        }
+    }
+    None
+}
+
+// Whether it is one of these.
+#[inline]
+fn is_among(key: &str, known: &[&str]) -> bool
+    // ensures { result ≡ list_any (λ name. bytes_eq key.now name.now) known.now }
+{
+    known.iter().any(|name| key == *name)
+}
+
+/// The first member of an object whose value is no whole number.
+#[inline]
+pub(super) fn unwhole_member(bundle: Option<&Value>) -> Part<'_>
+    // ensures { place_of result ≡ member_place (option_and_then unwhole_in
+    //     (option_and_then members (option_map (λ v. view v.now) bundle.entry))) }
+{
+    let Some(bundle) = bundle else {
+        return Part::Absent;
+    };
+    let Some(members) = members(bundle) else {
+        return Part::Absent;
+    };
+    first_unwhole(members)
+}
+
+// The first member whose value is no whole number.
+#[inline]
+fn first_unwhole(members: &Map<String, Value>) -> Part<'_>
+    // ensures { place_of result ≡ member_place (unwhole_in
+    //     (map (λ m. (string_bytes m.0, view m.1)) members.now.entries)) }
+{
+    for (key, value) in members.iter() {
+        if !value.is_i64() {
+            return Part::Member(key.as_str(), value);
+        }
+    }
+    Part::Absent
+}
+
+/// The first component of an operation that the script doesn't list: of the bundle, or that is
+/// removed, or of the target.
+#[inline]
+pub(super) fn unlisted_component<'a>(
+    script: &'a Value,
+    bundle: Option<&'a Value>,
+    removed: Option<&'a Value>,
+    target: Option<&'a Value>,
+) -> Part<'a>
+    // ensures { place_of result ≡ component_place (is_listed (listed_in (view script.now)))
+    //     (option_map (λ v. view v.now) bundle.entry) (option_map (λ v. view v.now) removed.entry)
+    //     (option_map (λ v. view v.now) target.entry) }
+{
+    let listed = listed_in(script);
+    match unlisted_key(bundle, listed) {
+        Some(key) => Part::Key(key),
+        None => unlisted_value(removed, target, listed),
+    }
+}
+
+// What is removed, if it is not listed, or else what stands in the target.
+#[inline]
+fn unlisted_value<'a>(
+    removed: Option<&'a Value>,
+    target: Option<&'a Value>,
+    listed: &[Value],
+) -> Part<'a>
+    // ensures { place_of result ≡ removed_place (is_listed (map view listed.now))
+    //     (option_map (λ v. view v.now) removed.entry) (option_map (λ v. view v.now) target.entry) }
+{
+    match removed {
+        Some(removed) if !names_one_of(removed, listed) => Part::Refused(removed),
+        _ => Part::of(target),
+    }
+}
+
+// Whether it is the name of a listed component.
+#[inline]
+fn names_one_of(value: &Value, listed: &[Value]) -> bool
+    // ensures { result ≡ unwrap_or (option_map (is_listed (map view listed.now))
+    //     (as_str (view value.now))) false }
+{
+    match value.as_str() {
+        Some(text) => is_listed(text, listed),
+        None => false,
+    }
+}
+
+// The components that the script lists.
+#[inline]
+fn listed_in(script: &Value) -> &[Value]
+    // ensures { map view result.now ≡ listed_in (view script.now) }
+{
+    match script.get("components") {
+        Some(value) => elements_of(value),
+        None => &[],
+    }
+}
+
+// The elements of an array, or none if it is something else.
+#[inline]
+fn elements_of(value: &Value) -> &[Value]
+    // ensures { map view result.now ≡ unwrap_or (elements (view value.now)) [] }
+{
+    match value.as_array() {
+        Some(list) => list.as_slice(),
+        None => &[],
+    }
+}
+
+// The first key of the bundle that is not listed.
+#[inline]
+fn unlisted_key<'a>(bundle: Option<&'a Value>, listed: &[Value]) -> Option<&'a str>
+    // ensures { option_map (λ key. key.now) result
+    //     ≡ option_and_then (key_but (is_listed (map view listed.now)))
+    //     (option_and_then members (option_map (λ v. view v.now) bundle.entry)) }
+{
+    first_unlisted(members(bundle?)?, listed)
+}
+
+// The first key that is not listed.
+#[inline]
+fn first_unlisted<'a>(members: &'a Map<String, Value>, listed: &[Value]) -> Option<&'a str>
+    // ensures { option_map (λ key. key.now) result ≡ key_but (is_listed (map view listed.now))
+    //     (map (λ m. (string_bytes m.0, view m.1)) members.now.entries) }
+{
+    for (key, _value) in members.iter() {
+        if !is_listed(key.as_str(), listed) {
+            return Some(key.as_str());
+        }
+    }
+    None
+}
+
+// Whether one of the values is this text.
+#[inline]
+fn is_listed(text: &str, listed: &[Value]) -> bool
+    // ensures { result ≡ list_any (λ v. is_text text.now (view v)) listed.now }
+{
+    listed.iter().any(|value| is_text(text, value))
+}
+
+#[inline]
+fn is_text(text: &str, value: &Value) -> bool
+    // ensures { result ≡ is_text text.now (view value.now) }
+{
+    match value.as_str() {
+        Some(own) => text == own,
+        None => false,
+    }
+}
+
+/// The components, if they are too many, or the first that is no name or that an earlier one is
+/// too.
+#[inline]
+pub(super) fn bad_component(components: Option<&Value>) -> Part<'_>
+    // ensures { place_of result ≡ names_place (option_map (λ v. view v.now) components.entry) }
+{
+    match components {
+        Some(value) => bad_element(value),
+        None => Part::Absent,
+    }
+}
+
+#[inline]
+fn bad_element(value: &Value) -> Part<'_>
+    // ensures { place_of result ≡ names_place (Some (view value.now)) }
+{
+    let Some(list) = array(value) else {
+        return Part::Refused(value);
+    };
+    if list.len() > 256 {
+        return Part::Long(list.len());
+    }
+    bad_name(list)
+}
+
+// The elements of an array.
+#[inline]
+fn array(value: &Value) -> Option<&[Value]>
+    // ensures { option_map (λ list. map view list.now) result ≡ elements (view value.now) }
+{
+    match value.as_array() {
+        Some(list) => Some(list.as_slice()),
+        None => None,
+    }
+}
+
+// The first that is no name or that an earlier one is too.
+#[inline]
+fn bad_name(list: &[Value]) -> Part<'_>
+    // ensures { place_of result ≡ bad_name [] (map view list.now) }
+{
+    for (number, value) in list.iter().enumerate() {
+        let Some(text) = name(value) else {
+            return Part::Refused(value);
+        };
+        if is_listed(text, &list[..number]) {
+            return Part::Twice(text);
+        }
+    }
+    Part::Absent
+}
+
+// The name that it is, by the rules of scripts.
+#[inline]
+fn name(value: &Value) -> Option<&str>
+    // ensures { option_map (λ text. text.now) result ≡ as_name (view value.now) }
+{
+    let text = value.as_str()?;
+    if is_name(text) { Some(text) } else { None }
+}
+
+#[inline]
+fn is_name(text: &str) -> bool
+    // ensures { result ≡ is_name text.now }
+{
+    1 <= text.len() && text.len() <= 32 && are_name_bytes(text.as_bytes())
+}
+
+#[inline]
+fn are_name_bytes(bytes: &[u8]) -> bool
+    // ensures { result ≡ list_all is_name_byte bytes.now }
+{
+    bytes.iter().all(|byte| byte.is_ascii_lowercase() || byte.is_ascii_digit() || *byte == b'_')
+}

@@ -1,0 +1,50 @@
+// Made of crates/spawnrun_lib/src/frame.rt by rust/erase. It isn't edited by hand.
+
+//! One frame of a script.
+
+use alloc::vec::Vec;
+use crate::kit::vec::FallibleVec;
+use crate::proved::spawnrun_lib::script_system::ScriptSystem;
+use crate::proved::ent_handle::Memory;
+use crate::proved::ent_runner::{NoGate, run_frame};
+use crate::proved::ent_script::System;
+use crate::proved::ent_world::{SyncReport, World};
+use crate::kit::thread::Threads;
+
+/// The systems of a script, as a frame runs them.
+#[inline]
+fn runnable<'a>(systems: &'a [System]) -> Result<Vec<ScriptSystem<'a>>, Memory>
+    // ensures { IfOk result (λ runnable. runnable.items ≡ systems.now) }
+{
+    let mut runnable = Vec::with_capacity_fallibly(systems.len())?;
+    for system in systems {
+        runnable.push_reserved(ScriptSystem::new(system));
+    }
+    Ok(runnable)
+}
+
+/// Runs a frame of these systems on that many workers, with its sync point.
+#[inline]
+pub(super) fn run<R>(
+    rt: &R,
+    world: &mut World,
+    systems: &[System],
+    workers: usize,
+) -> Result<SyncReport, Memory>
+where
+    R: Threads + Sync,
+    // requires flushed { world.old.allocator.asked ≡ 0 }
+    // requires systems { length systems.now ≤ 256 }
+    // requires some { 0 < workers }
+    // requires few { workers ≤ 64 }
+    // ensures flushed { OnOk result (world.new.allocator.asked ≡ 0) }
+    // ensures went { IfOk result (λ report. (queues : List (List Command))
+    //     × Ends MayIssue systems.now workers world.old queues world.new
+    //     report.born.items report.faults.items) }
+{
+    let runnable = runnable(systems)?;
+    match run_frame(rt, world, &runnable, workers, &NoGate) {
+        Ok(report) => Ok(report.sync),
+        Err(_) => Err(Memory),
+    }
+}

@@ -1,0 +1,54 @@
+// Made of crates/spawnrun_lib/src/lib.rt by rust/erase. It isn't edited by hand.
+
+//! The program `spawnrun` but for its `main`: devices, the whole input, the command line, the runs
+//! of schedules and of scripts, and what is said of an input that is refused.
+//!
+//! A run of a script does what its systems do, frame after frame over one world, and returns the
+//! text of it.
+//!
+//! `main` is one call of `start`, which hands the arguments and the standard streams to `execute`.
+//! All that happens from then on has a contract, over any devices, so that tests can use devices in
+//! memory.
+
+mod bindings;
+mod bytes;
+mod change;
+mod first;
+mod found;
+mod frame;
+mod frame_text;
+mod output;
+mod part;
+mod program;
+mod progress;
+mod replaying;
+mod roll;
+mod running;
+mod schedule;
+mod script;
+mod script_run;
+mod script_system;
+mod show;
+mod shown;
+mod spawning;
+mod starting;
+mod status;
+mod task;
+mod wants;
+mod work;
+mod world_text;
+
+pub use crate::proved::devices::{Counted, Failed, Sink, Source};
+pub use frame_text::write_frame;
+pub use program::{execute, refuse_words};
+pub use progress::Progress;
+pub use replaying::replay;
+pub(crate) use running::run;
+pub(crate) use script_run::run_script;
+pub use script_system::ScriptSystem;
+pub use show::Show;
+pub use starting::start;
+pub use status::Status;
+pub use task::{LineFault, Task, command_line};
+pub use work::INPUT_LIMIT;
+pub use world_text::write_world;

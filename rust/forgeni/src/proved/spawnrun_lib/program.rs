@@ -1,0 +1,175 @@
+// Made of crates/spawnrun_lib/src/program.rt by rust/erase. It isn't edited by hand.
+
+//! The program: what its words ask for, done between two devices, and what it says on the error
+//! stream.
+
+use crate::kit::programs::format;
+use crate::kit::programs::string::String;
+use crate::proved::spawnrun_lib::progress::Progress;
+use crate::proved::spawnrun_lib::replaying::replay;
+use crate::proved::spawnrun_lib::running::run;
+use crate::proved::spawnrun_lib::status::Status;
+use crate::proved::spawnrun_lib::task::{LineFault, Task, command_line};
+use crate::proved::devices::{Sink, Source};
+use crate::kit::alloc::AllocError;
+use crate::kit::programs::string::AsStr;
+use std::io;
+use std::io::ErrorKind;
+use crate::kit::thread::Threads;
+
+// The exit status for words that are no command line of the program, and for a request for help.
+const LINE_FAULT: u8 = 2;
+
+/// Does what the words after the program's name ask for, and returns the exit status.
+///
+/// | Status | Meaning | On the error stream |
+/// |---|---|---|
+/// | 0 | The task was done. | nothing |
+/// | 1 | The input was refused. One line of output names the test. | what the test wants and finds |
+/// | 2 | The words are no command line, or ask for help. No device is used. | clap's text |
+/// | 3 | Memory ran out. Nothing was written. | `memory` |
+/// | 4 | A call of the input or the output failed. | `device` |
+///
+/// A failure of the error stream changes no status. `progress` is told how far the task is.
+///
+/// <details><summary>Contract</summary>
+///
+/// In the words of the folder `specs/` of crate `spawnrun_lib`:
+///
+/// ```text
+/// ensures statuses { result ≤ 4 }
+///
+/// // A replay or a run was done, or its input refused.
+/// ensures done { result ≡ 0 → AsksTo (map S.text words.now) (λ task. HasDone (Gives task)
+///     (I.remaining input.old) (O.written output.old) (O.written output.new)) }
+/// ensures refused { result ≡ 1 → AsksTo (map S.text words.now) (λ task. HasRefused (Fails task)
+///     (I.remaining input.old) (O.written output.old) (O.written output.new)) }
+///
+/// // The words are no command line, or ask for help. They have no other status, but 3 for want of
+/// // memory.
+/// ensures faulty { result ≡ 2 → IsFaulty (map S.text words.now) }
+/// ensures taken { takes program (map S.text words.now) ≡ true → result ≢ 2 }
+/// ensures unfaulty { result ≢ 2 → result ≢ 3 → fault_of program (map S.text words.now) ≡ [] }
+/// ensures unused_input { result ≡ 2 → input.new ≡ input.old }
+/// ensures unused_output { result ≡ 2 → output.new ≡ output.old }
+///
+/// ensures memory { result ≡ 3 → output.new ≡ output.old }
+/// ensures device { result ≡ 4 → OneFails
+///     (I.failures input.old) (I.failures input.new)
+///     (O.failures output.old) (O.failures output.new) }
+/// ensures input_unfailed { result ≢ 4 → I.failures input.new ≡ I.failures input.old }
+/// ensures output_unfailed { result ≢ 4 → O.failures output.new ≡ O.failures output.old }
+/// ensures unread { I.failures input.new ≢ I.failures input.old → output.new ≡ output.old }
+///
+/// // How much of the input is taken.
+/// ensures reads { I.failures input.new ≡ I.failures input.old → result ≢ 2 → result ≢ 3
+///     → IfSome (I.remaining input.old) (λ all.
+///     Takes (I.remaining input.old) (I.remaining input.new)
+///     (min (length all) (input_limit + 1))) }
+/// ensures stops { I.failures input.new ≡ I.failures input.old
+///     → TakesAtMost (I.remaining input.old) (I.remaining input.new) (input_limit + 1) }
+///
+/// // What the error stream tells.
+/// ensures quiet { result ≡ 0 → errors.new ≡ errors.old }
+/// ensures advised { result ≡ 1 → E.failures errors.new ≡ E.failures errors.old
+///     → AsksTo (map S.text words.now) (λ task. HasAdvised (Fails task)
+///     (I.remaining input.old) (E.written errors.old) (E.written errors.new)) }
+/// ensures memory_said { result ≡ 3 → E.failures errors.new ≡ E.failures errors.old
+///     → Appends (E.written errors.old) (E.written errors.new) (codes "memory\n") }
+/// ensures device_said { result ≡ 4 → E.failures errors.new ≡ E.failures errors.old
+///     → Appends (E.written errors.old) (E.written errors.new) (codes "device\n") }
+/// ```
+///
+/// </details>
+#[inline]
+pub fn execute<R, S: AsStr, I: Source, O: Sink, E: Sink, P: Progress>(
+    rt: &R,
+    words: &[S],
+    input: &mut I,
+    output: &mut O,
+    errors: &mut E,
+    progress: &mut P,
+) -> u8
+where
+    R: Threads + Sync,
+{
+    match command_line(words) {
+        Ok(task) => {
+            let status = match task {
+                Task::Replay(limits) => replay(input, output, errors, progress, limits),
+                Task::Run { workers, show } => {
+                    run(rt, input, output, errors, progress, workers, show)
+                }
+            };
+            finish(errors, status)
+        }
+        Err(LineFault::Line(error)) => refuse_line(format!("{error}"), errors),
+        Err(LineFault::Memory) => finish(errors, Status::Memory),
+    }
+}
+
+// Ends the program with clap's text on words that are no command line, if there was memory for it.
+#[inline]
+fn refuse_line<E: Sink>(text: Result<String, AllocError>, errors: &mut E) -> u8
+    // ensures status { OnOk text (result ≡ 2) }
+    // ensures text_said { IfOk text (λ text. E.failures errors.new ≡ E.failures errors.old
+    //     → Appends (E.written errors.old) (E.written errors.new) (string_bytes text)) }
+    // ensures memory { OnErr text (result ≡ 3) }
+    // ensures memory_said { OnErr text (E.failures errors.new ≡ E.failures errors.old
+    //     → Appends (E.written errors.old) (E.written errors.new) (codes "memory\n")) }
+{
+    match text {
+        Ok(text) => {
+            let _ = errors.put(text.as_bytes());
+            LINE_FAULT
+        }
+        Err(AllocError) => finish(errors, Status::Memory),
+    }
+}
+
+/// Ends the program if its words can't be read, and returns the exit status: 3 if memory ran out, 2
+/// if a word is no UTF-8, else 4. It says on the error stream what `execute` says then.
+///
+/// <details><summary>Contract</summary>
+///
+/// In the words of the folder `specs/` of crate `spawnrun_lib`:
+///
+/// ```text
+/// ensures status { result ≡ words_status (error_kind error.now) }
+/// ensures memory_said { result ≡ 3 → E.failures errors.new ≡ E.failures errors.old
+///     → Appends (E.written errors.old) (E.written errors.new) (codes "memory\n") }
+/// ensures text_said { result ≡ 2 → E.failures errors.new ≡ E.failures errors.old
+///     → Appends (E.written errors.old) (E.written errors.new)
+///     (codes "error: invalid UTF-8 was detected in one or more arguments\n") }
+/// ensures device_said { result ≡ 4 → E.failures errors.new ≡ E.failures errors.old
+///     → Appends (E.written errors.old) (E.written errors.new) (codes "device\n") }
+/// ```
+///
+/// </details>
+#[inline]
+pub fn refuse_words<E: Sink>(error: &io::Error, errors: &mut E) -> u8 {
+    match error.kind() {
+        ErrorKind::OutOfMemory => finish(errors, Status::Memory),
+        ErrorKind::InvalidData => {
+            let _ = errors.put(b"error: invalid UTF-8 was detected in one or more arguments\n");
+            LINE_FAULT
+        }
+        _ => finish(errors, Status::Device),
+    }
+}
+
+// Says on the error stream what the output doesn't show, and gives the status its number.
+#[inline]
+fn finish<E: Sink>(errors: &mut E, status: Status) -> u8
+    // ensures number { result ≡ exit_number status }
+    // ensures quiet { result ≤ 1 → errors.new ≡ errors.old }
+    // ensures said { E.failures errors.new ≡ E.failures errors.old
+    //     → Appends (E.written errors.old) (E.written errors.new) (said status) }
+{
+    let _ = match status {
+        Status::Done | Status::Refused => Ok(()),
+        Status::Memory => errors.put(b"memory\n"),
+        Status::Device => errors.put(b"device\n"),
+    };
+    status.number()
+}

@@ -1,0 +1,82 @@
+// Made of crates/spawnrun_lib/src/roll.rt by rust/erase. It isn't edited by hand.
+
+use alloc::vec::Vec;
+use crate::proved::ent_handle::{Birth, Handle, Memory};
+use crate::proved::ent_world::View;
+
+// How many births are looked up by a look at each entity before the entities are listed. The list
+// takes memory, and the time of a sort.
+const LOOKS: u32 = 16;
+
+/// The entities of a view in the order of their births, listed once many births are looked up.
+pub(super) struct Roll {
+    handles: Vec<Handle>,
+    looks: u32,
+}
+
+impl Roll {
+    /// Nobody is listed. It takes no memory.
+    #[inline]
+    pub(super) fn new() -> Self
+        // ensures { result ≡ [] }
+    {
+        Roll {
+            handles: Vec::new(),
+            looks: 0,
+        }
+    }
+
+    /// The handle of the entity with that birth, the least if there are several.
+    #[inline]
+    pub(super) fn find(&mut self, view: &View<'_>, birth: Birth) -> Result<Option<Handle>, Memory>
+        // requires { IsRollOf view.now self.old }
+        // ensures roll { IsRollOf view.now self.new }
+        // ensures found { IfOk result (λ found.
+        //     IfSome found (λ handle. IsOfBirth view.now birth (handle ∷ []))) }
+        // ensures none { IfOk result (λ found. IfNone found (IsOfBirth view.now birth [])) }
+
+        // Memory is wanted for the list alone, and not for a list of nobody.
+        // ensures memory { OnErr result (view.now.entities ≢ map.empty) }
+    {
+        if self.looks < LOOKS {
+            self.looks += 1;
+            return Ok(view.of_birth(birth));
+        }
+        if self.handles.is_empty() {
+            self.handles = view.by_birth()?;
+        }
+        Ok(of_birth(&self.handles, view, birth))
+    }
+}
+
+/// The same among the handles of all entities, in the order of births.
+#[inline]
+fn of_birth(handles: &[Handle], view: &View<'_>, birth: Birth) -> Option<Handle>
+    // requires { ListsAll view.now.entities handles.now }
+    // ensures found { IfSome result (λ handle. IsOfBirth view.now birth (handle ∷ [])) }
+    // ensures none { IfNone result (IsOfBirth view.now birth []) }
+{
+    let first = *handles.get(first_from(handles, view, birth))?;
+    if view.birth(first) == Some(birth) {
+        Some(first)
+    } else {
+        None
+    }
+}
+
+/// How many of the handles have an earlier birth.
+#[inline]
+fn first_from(handles: &[Handle], view: &View<'_>, birth: Birth) -> usize
+    // requires { ListsAll view.now.entities handles.now }
+    // ensures { IsFirstFrom view.now birth handles.now result }
+{
+    handles.partition_point(|handle| is_before(view, *handle, birth))
+}
+
+/// Whether the entity has an earlier birth.
+#[inline]
+fn is_before(view: &View<'_>, handle: Handle, birth: Birth) -> bool
+    // ensures { result ≡ is_before view.now birth handle }
+{
+    view.birth(handle) < Some(birth)
+}

@@ -1,0 +1,120 @@
+// Made of crates/spawnrun_lib/src/script_run.rt by rust/erase. It isn't edited by hand.
+
+//! The run of a whole script.
+
+use alloc::vec::Vec;
+use crate::proved::spawnrun_lib::frame;
+use crate::proved::spawnrun_lib::frame_text::write_frame;
+use crate::proved::spawnrun_lib::progress::Progress;
+use crate::proved::spawnrun_lib::show::Show;
+use crate::proved::spawnrun_lib::world_text::write_world;
+use crate::proved::ent_handle::Memory;
+use crate::proved::ent_script::{Frame, Script};
+use crate::proved::ent_world::World;
+use crate::kit::thread::Threads;
+
+/// Runs the frames one after the other, and appends the text of each.
+#[inline]
+fn run_frames<R, P: Progress>(
+    rt: &R,
+    world: &mut World,
+    frames: &[Frame],
+    workers: usize,
+    show: Show,
+    progress: &mut P,
+) -> Result<Vec<u8>, Memory>
+where
+    R: Threads + Sync,
+    // requires flushed { world.old.allocator.asked ≡ 0 }
+    // requires systems { AreFew frames.now }
+    // requires some { 0 < workers }
+    // requires few { workers ≤ 64 }
+    // ensures went { IfOk result (λ text. HaveGone frames.now workers show world.old world.new
+    //     text.items) }
+{
+    let mut text = Vec::new();
+    for (number, systems) in frames.iter().enumerate() {
+        progress.tell(number, frames.len());
+        let report = frame::run(rt, world, systems.systems(), workers)?;
+        write_frame(number as u64, &report, show, &mut text)?;
+    }
+    Ok(text)
+}
+
+/// Runs the frames over a world that begins empty, and appends the text of the world that they
+/// leave.
+#[inline]
+fn report<R, P: Progress>(
+    rt: &R,
+    script: &Script,
+    workers: usize,
+    show: Show,
+    progress: &mut P,
+) -> Result<Vec<u8>, Memory>
+where
+    R: Threads + Sync,
+    // requires ranges { IsScript script.now }
+    // requires some { 0 < workers }
+    // requires few { workers ≤ 64 }
+    // ensures { IfOk result (λ text. IsReport script.now workers show text.items) }
+{
+    let mut world = World::new(script.limits());
+    let frames = script.frames();
+    let mut text = run_frames(rt, &mut world, frames, workers, show, progress)?;
+    write_world(&world, script.components(), show, &mut text)?;
+    Ok(text)
+}
+
+/// Runs a script over a world that begins empty, on 1 to 64 workers, and returns the report: the
+/// text of each frame and of the world that the last one leaves. The script is one that
+/// `ent_script` has read.
+///
+/// With several workers, which entity gets which handle may differ from run to run. If the script
+/// names no handle and no request is refused, the text by births is the same in each run. No
+/// request is refused if the script spawns no more entities in all than it has slots. What a frame
+/// has done is kept as text alone, so memory grows with the world, the text and the longest frame.
+///
+/// Before each frame `progress` is told how many are done. `()` is for who doesn't want to know.
+///
+/// # Errors
+///
+/// `Memory` if memory was refused at any point of the run.
+#[inline]
+pub(crate) fn run_script<R, P: Progress>(
+    rt: &R,
+    script: &Script,
+    workers: usize,
+    show: Show,
+    progress: &mut P,
+) -> Result<Vec<u8>, Memory>
+where
+    R: Threads + Sync,
+    // requires ranges { IsScript script.now }
+    // requires some { 0 < workers }
+    // requires few { workers ≤ 64 }
+    // ensures report { IfOk result (λ text. IsReport script.now workers show text.items) }
+
+    // The others are laws of the definitions: they follow from `report` and `ranges`, so a body
+    // that meets `report` meets them. One worker has no other report.
+    // ensures only { workers ≡ 1 → IfOk result (λ text. (other : List ℕ)
+    //     → IsReport script.now workers show other → text.items ≡ other) }
+
+    // However the frames went, and whatever the limits are.
+    // ensures given_once { IfOk result (λ text. (executions : List Execution)
+    //     → IsReportOf script.now workers show executions text.items
+    //     → AreGivenOnce (handles_in_run executions)) }
+
+    // A script that names no handle has one text by births, however many workers run it, if no line
+    // of the text tells of a refused request.
+    // ensures same { show ≡ Show.Births → IsWithoutHandles script.now → IfOk result (λ text.
+    //     TellsNoRefusal text.items → text.items ≡ text_alone script.now) }
+
+    // And in any case, if all its operations request no more handles than it has slots: then no
+    // request is refused.
+    // ensures enough { show ≡ Show.Births → IsWithoutHandles script.now → HasEnoughSlots script.now
+    //     → IfOk result (λ text. text.items ≡ text_alone script.now) }
+{
+    let report = report(rt, script, workers, show, progress);
+    progress.end();
+    report
+}

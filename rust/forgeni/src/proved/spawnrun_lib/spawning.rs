@@ -1,0 +1,117 @@
+// Made of crates/spawnrun_lib/src/spawning.rt by rust/erase. It isn't edited by hand.
+
+use alloc::vec::Vec;
+use crate::kit::vec::FallibleVec;
+use crate::proved::spawnrun_lib::bindings::Bindings;
+use crate::proved::ent_handle::Memory;
+use crate::proved::ent_queue::{Commands, QueueFault};
+use crate::proved::ent_script::Bundle;
+
+/// Spawns one entity, and binds the name to the list of its handle. After a refusal, which the
+/// queue keeps, nothing is bound.
+///
+/// # Errors
+///
+/// `Memory`: nothing was issued.
+#[inline]
+pub(super) fn spawn(
+    bundle: &Bundle,
+    binds: Option<usize>,
+    names: &mut Bindings,
+    commands: &mut Commands<'_>,
+) -> Result<(), Memory>
+    // requires { IsReady commands.old }
+    // ensures extends { Extends commands.old commands.new }
+    // ensures issued { OnOk result ((view : View) → HasIssued view (Spawn bundle.now binds)
+    //     commands.old commands.new names.old names.new) }
+    // ensures err { OnErr result (queue_of commands.new ≡ queue_of commands.old) }
+{
+    match binds {
+        Some(name) => spawn_named(bundle, name, names, commands),
+        None => match commands.spawn(bundle) {
+            Err(QueueFault::Memory) => Err(Memory),
+            _ => Ok(()),
+        },
+    }
+}
+
+#[inline]
+fn spawn_named(
+    bundle: &Bundle,
+    name: usize,
+    names: &mut Bindings,
+    commands: &mut Commands<'_>,
+) -> Result<(), Memory>
+    // requires { IsReady commands.old }
+    // ensures extends { Extends commands.old commands.new }
+    // ensures issued { OnOk result ((view : View) → HasIssued view (Spawn bundle.now (Some name))
+    //     commands.old commands.new names.old names.new) }
+    // ensures err { OnErr result (queue_of commands.new ≡ queue_of commands.old) }
+{
+    names.reach(name)?;
+    let mut list = Vec::with_capacity_fallibly(1)?;
+    match commands.spawn(bundle) {
+        Ok(handle) => {
+            list.push_reserved(handle);
+            names.bind(name, list);
+            Ok(())
+        }
+        Err(QueueFault::Memory) => Err(Memory),
+        Err(_) => Ok(()),
+    }
+}
+
+/// Spawns so many entities, and binds the name to their handles. After a refusal, which the queue
+/// keeps, nothing is bound.
+///
+/// # Errors
+///
+/// `Memory`: nothing was issued.
+#[inline]
+pub(super) fn spawn_many(
+    count: u32,
+    bundle: &Bundle,
+    binds: Option<usize>,
+    names: &mut Bindings,
+    commands: &mut Commands<'_>,
+) -> Result<(), Memory>
+    // requires { IsReady commands.old }
+    // ensures extends { Extends commands.old commands.new }
+    // ensures issued { OnOk result ((view : View) → HasIssued view (SpawnMany count bundle.now binds)
+    //     commands.old commands.new names.old names.new) }
+    // ensures err { OnErr result (queue_of commands.new ≡ queue_of commands.old) }
+{
+    match binds {
+        Some(name) => spawn_many_named(count, bundle, name, names, commands),
+        None => match commands.spawn_many(count, bundle) {
+            Err(QueueFault::Memory) => Err(Memory),
+            _ => Ok(()),
+        },
+    }
+}
+
+#[inline]
+fn spawn_many_named(
+    count: u32,
+    bundle: &Bundle,
+    name: usize,
+    names: &mut Bindings,
+    commands: &mut Commands<'_>,
+) -> Result<(), Memory>
+    // requires { IsReady commands.old }
+    // ensures extends { Extends commands.old commands.new }
+    // ensures issued { OnOk result ((view : View)
+    //     → HasIssued view (SpawnMany count bundle.now (Some name))
+    //     commands.old commands.new names.old names.new) }
+    // ensures err { OnErr result (queue_of commands.new ≡ queue_of commands.old) }
+{
+    names.reach(name)?;
+    match commands.spawn_many(count, bundle) {
+        Ok(handles) => {
+            names.bind(name, handles);
+            Ok(())
+        }
+        Err(QueueFault::Memory) => Err(Memory),
+        Err(_) => Ok(()),
+    }
+}

@@ -1,0 +1,247 @@
+// Made of crates/spawnrun_lib/src/task.rt by rust/erase. It isn't edited by hand.
+
+//! What the words after the program's name ask for.
+
+use crate::proved::spawnrun_lib::show::Show;
+use crate::kit::programs::clap::error::ErrorKind;
+use crate::kit::programs::clap::{Arg, ArgMatches, Command};
+use crate::proved::ent_alloc::Limits;
+use crate::kit::alloc::AllocError;
+use crate::kit::programs::string::AsStr;
+
+// The values of `--show`.
+static SHOWN: [&str; 2] = ["births", "handles"];
+
+// What help ends with.
+const PROGRAM_END: &str = "A script of one line, for 'spawnrun run':\n  \
+     {\"components\":[\"hp\"],\"frames\":[[[{\"spawn\":{\"hp\":20}}]]]}\n\n\
+     Exit status:\n  \
+     0  the input was accepted, and all of the output was written\n  \
+     1  the input was refused: one line of output names the test that it fails\n  \
+     2  the words are no command line, or ask for help\n  \
+     3  memory ran out, and nothing was written\n  \
+     4  reading or writing failed";
+
+const RUN_END: &str = "A script of one line:\n  \
+     {\"components\":[\"hp\"],\"frames\":[[[{\"spawn\":{\"hp\":20}}]]]}\n\n\
+     'spawnrun --help' names the exit statuses.";
+
+const REPLAY_END: &str =
+    "A schedule of one line:\n  alloc\n\n'spawnrun --help' names the exit statuses.";
+
+/// What the program is asked to do.
+#[derive(Clone, Copy, Debug, PartialEq, Eq)]
+pub enum Task {
+    /// To run the schedule on standard input over an allocator of these limits.
+    Replay(Limits),
+    /// To run the script on standard input.
+    Run {
+        /// How many workers run the systems of a frame, from 1 to 64.
+        workers: usize,
+        /// What names an entity in the output.
+        show: Show,
+    },
+}
+
+/// Why words ask for no task.
+#[derive(Debug)]
+pub enum LineFault {
+    /// They are no command line of the program, or they ask for help. The error's `Display` is the
+    /// text to show.
+    Line(crate::kit::programs::clap::Error),
+    /// Memory ran out while they were read.
+    Memory,
+}
+
+impl From<crate::kit::programs::clap::Error> for LineFault {
+    #[inline]
+    fn from(error: crate::kit::programs::clap::Error) -> Self {
+        if error.kind() == ErrorKind::OutOfMemory {
+            LineFault::Memory
+        } else {
+            LineFault::Line(error)
+        }
+    }
+}
+
+impl From<AllocError> for LineFault {
+    #[inline]
+    fn from(_refused: AllocError) -> Self {
+        LineFault::Memory
+    }
+}
+
+#[inline]
+fn number_option<'a>(
+    name: &'a str,
+    most: u32,
+    default: &'a str,
+    help: &'a str,
+) -> Arg<'a>
+    // ensures rule { rule_of result ≡ number_option name.entry.now most default.entry.now }
+    // ensures own { result.global ≡ false }
+{
+    let range = crate::kit::programs::clap::value_parser!(u32).range(1..=i64::from(most));
+    Arg::new(name)
+        .long(name)
+        .value_name("N")
+        .value_parser(range)
+        .default_value(default)
+        .help(help)
+}
+
+// An option that takes one of these names.
+#[inline]
+fn name_option<'a>(
+    name: &'a str,
+    names: &'a [&'a str],
+    default: &'a str,
+    help: &'a str,
+) -> Arg<'a>
+    // ensures rule { rule_of result ≡ name_option name.entry.now names.entry default.entry.now }
+    // ensures own { result.global ≡ false }
+{
+    Arg::new(name)
+        .long(name)
+        .value_name("WHAT")
+        .value_parser(names)
+        .default_value(default)
+        .help(help)
+}
+
+#[inline]
+fn replay_command<'a>() -> Result<Command<'a>, AllocError>
+    // ensures app { IfOk result (λ c. app_of c ≡ replay_command) }
+    // ensures own { IfOk result (λ c. (fields_of c).has_globals ≡ false) }
+{
+    let slots = number_option(
+        "slots",
+        u32::MAX,
+        "4294967295",
+        "How many slots may be made",
+    );
+    let generations = number_option(
+        "generations",
+        (1 << 31) - 1,
+        "2147483647",
+        "The last generation of a slot",
+    );
+    Command::new("replay")
+        .about("Runs the schedule of allocator events on standard input")
+        .after_help(REPLAY_END)
+        .arg(slots)?
+        .arg(generations)
+}
+
+#[inline]
+fn run_command<'a>(shown: &'a [&'a str]) -> Result<Command<'a>, AllocError>
+    // ensures app { IfOk result (λ c. app_of c ≡ run_command shown.entry) }
+    // ensures own { IfOk result (λ c. (fields_of c).has_globals ≡ false) }
+{
+    let workers = number_option(
+        "workers",
+        64,
+        "1",
+        "How many workers run the systems of a frame",
+    );
+    let show = name_option("show", shown, "births", "What names an entity");
+    Command::new("run")
+        .about("Runs the script of frames on standard input")
+        .after_help(RUN_END)
+        .arg(workers)?
+        .arg(show)
+}
+
+// The program without its subcommands.
+#[inline]
+fn top_command<'a>() -> Command<'a>
+    // ensures { app_of result ≡ top_command }
+{
+    Command::new("spawnrun")
+        .about("Runs schedules and scripts over Bevy's entity allocator")
+        .after_help(PROGRAM_END)
+        .no_binary_name(true)
+        .disable_help_subcommand(true)
+        .subcommand_required(true)
+}
+
+#[inline]
+fn program<'a>(shown: &'a [&'a str]) -> Result<Command<'a>, AllocError>
+    // ensures { IfOk result (λ c. app_of c ≡ program_of shown.entry) }
+{
+    let replay = replay_command()?;
+    let run = run_command(shown)?;
+    top_command()
+        .subcommand(replay)?
+        .subcommand(run)?
+        .bin_name("spawnrun")
+}
+
+#[inline]
+fn limits_of(options: &ArgMatches<'_>) -> Limits
+    // requires slots { HasNumber (codes "slots") 4294967295 (given options.now) }
+    // requires generations { HasNumber (codes "generations") 2147483647 (given options.now) }
+    // ensures slots { option_number (codes "slots") (given options.now) ≡ Some result.slots }
+    // ensures generations { option_number (codes "generations") (given options.now)
+    //     ≡ Some result.generations }
+    // ensures within { AreLimits result }
+{
+    let slots = options.get_one::<u32>("slots").unwrap();
+    let generations = options.get_one::<u32>("generations").unwrap();
+    Limits::new(slots, generations).unwrap()
+}
+
+#[inline]
+fn workers_of(options: &ArgMatches<'_>) -> usize
+    // requires { HasNumber (codes "workers") 64 (given options.now) }
+    // ensures number { option_number (codes "workers") (given options.now) ≡ Some result }
+    // ensures within { AreWorkers result }
+{
+    options.get_one::<usize>("workers").unwrap()
+}
+
+#[inline]
+fn show_of(options: &ArgMatches<'_>) -> Show
+    // requires { HasShow (given options.now) }
+    // ensures { first_of (codes "show") (given options.now) ≡ Some (show_text result) }
+{
+    if options.get_str("show").unwrap() == "handles" {
+        Show::Handles
+    } else {
+        Show::Births
+    }
+}
+
+/// Reads the task from the words after the program's name.
+///
+/// # Errors
+///
+/// - `Line` if clap finds a fault in the words, or if they ask for help.
+/// - `Memory` if memory ran out. Words that clap takes are refused for this alone.
+///
+/// <details><summary>Contract</summary>
+///
+/// In the words of the folder `specs/` of crate `spawnrun_lib`:
+///
+/// ```text
+/// ensures asked { IfOk result (AsksFor (map S.text words.now)) }
+/// ensures taken { OnOk result (fault_of program (map S.text words.now) ≡ []) }
+/// ensures fault { IfErr result (IsFaultIn (map S.text words.now)) }
+/// ensures refused { IfErr result (λ fault.
+///     takes program (map S.text words.now) ≡ true → fault ≡ LineFault.Memory) }
+/// ```
+///
+/// </details>
+#[inline]
+pub fn command_line<S: AsStr>(words: &[S]) -> Result<Task, LineFault> {
+    let matches = program(&SHOWN)?.try_get_matches_from(words)?;
+    let (name, options) = matches.subcommand().unwrap();
+    match name {
+        "replay" => Ok(Task::Replay(limits_of(options))),
+        "run" => Ok(Task::Run {
+            workers: workers_of(options),
+            show: show_of(options),
+        }),
+        _ => unreachable!(),
+    }
+}

@@ -1,0 +1,145 @@
+// Made of crates/spawnrun_lib/src/work.rt by rust/erase. It isn't edited by hand.
+
+//! The work on an input: all of it is read, something is made of it, and that is written.
+
+use alloc::vec::Vec;
+use crate::kit::vec::FallibleVec;
+use crate::proved::spawnrun_lib::found::Found;
+use crate::proved::spawnrun_lib::output::{refuse, write};
+use crate::proved::spawnrun_lib::progress::Progress;
+use crate::proved::spawnrun_lib::status::Status;
+use crate::proved::spawnrun_lib::wants::size_wants;
+use crate::proved::devices::{InputFault, Sink, Source, read_all};
+use crate::proved::ent_handle::Memory;
+
+/// The longest input that the program reads, in bytes.
+pub const INPUT_LIMIT: usize = 67_108_864;
+
+/// What is made of an input.
+pub(super) enum Product {
+    /// The input is accepted, and this is the output.
+    Output(Vec<u8>),
+    /// It is refused.
+    Refusal(Refusal),
+}
+
+/// What is said of an input that is refused.
+pub(super) struct Refusal {
+    /// The line of output.
+    pub line: Vec<u8>,
+    /// What the test wants that the input fails.
+    pub wants: &'static str,
+    /// What the test found.
+    pub found: Found,
+}
+
+/// Work on an input that was read whole.
+pub(super) trait Work {
+    /// Makes it, if there is memory for it, and tells how far it is.
+    fn make<P: Progress>(
+        self,
+        input: Vec<u8>,
+        progress: &mut P,
+    ) -> Result<Product, Memory>;
+        // requires { can_make self }
+        // ensures { IfOk result (IsProductOf (gives self) (fails self) input.items) }
+}
+
+/// Reads all of the input, does the work, and writes what it made.
+///
+/// Nothing is made before the whole input is read, and nothing is written before all of the output
+/// is made. An input of more than 67,108,864 bytes is refused, and just one byte more than that is
+/// taken of it.
+///
+/// After `Memory`, or a failure of the input, the output is as it was. `Device` is one failed call
+/// of one of the two devices.
+///
+/// Only a refused input is told to the error stream: what the input has to be, and what was found
+/// instead. If the error stream fails, nothing else changes.
+#[inline]
+pub(super) fn do_work<W: Work, I: Source, O: Sink, E: Sink, P: Progress>(
+    input: &mut I,
+    output: &mut O,
+    errors: &mut E,
+    progress: &mut P,
+    work: W,
+) -> Status
+    // requires { W.can_make work }
+    // ensures done { result ≡ Status.Done → HasDone (W.gives work)
+    //     (I.remaining input.old) (O.written output.old) (O.written output.new) }
+    // ensures refused { result ≡ Status.Refused → HasRefused (W.fails work)
+    //     (I.remaining input.old) (O.written output.old) (O.written output.new) }
+    // ensures memory { result ≡ Status.Memory → output.new ≡ output.old }
+
+    // The failures of the two devices.
+    // ensures device { result ≡ Status.Device → OneFails
+    //     (I.failures input.old) (I.failures input.new)
+    //     (O.failures output.old) (O.failures output.new) }
+    // ensures input_unfailed { result ≢ Status.Device → I.failures input.new ≡ I.failures input.old }
+    // ensures output_unfailed { result ≢ Status.Device
+    //     → O.failures output.new ≡ O.failures output.old }
+    // ensures unread { I.failures input.new ≢ I.failures input.old → output.new ≡ output.old }
+
+    // What the error stream tells.
+    // ensures quiet { result ≢ Status.Refused → errors.new ≡ errors.old }
+    // ensures advised { result ≡ Status.Refused → E.failures errors.new ≡ E.failures errors.old
+    //     → HasAdvised (W.fails work)
+    //     (I.remaining input.old) (E.written errors.old) (E.written errors.new) }
+
+    // What is taken of an input that didn't fail: all of it, or one byte more than the limit.
+    // ensures reads { I.failures input.new ≡ I.failures input.old → result ≢ Status.Memory
+    //     → IfSome (I.remaining input.old) (λ all.
+    //     Takes (I.remaining input.old) (I.remaining input.new)
+    //     (min (length all) (input_limit + 1))) }
+    // ensures stops { I.failures input.new ≡ I.failures input.old
+    //     → TakesAtMost (I.remaining input.old) (I.remaining input.new) (input_limit + 1) }
+{
+    match product_of(input, progress, work) {
+        Ok(Product::Output(text)) => write(output, &text, Status::Done),
+        Ok(Product::Refusal(refusal)) => refuse(output, errors, &refusal),
+        Err(status) => status,
+    }
+}
+
+// Reads all of the input, and makes what the work makes of it. If nothing is made, it gives the
+// status with which the work ends.
+#[inline]
+fn product_of<W: Work, I: Source, P: Progress>(
+    input: &mut I,
+    progress: &mut P,
+    work: W,
+) -> Result<Product, Status>
+    // requires { W.can_make work }
+    // ensures gives { IfOk result (λ product. IfSome (I.remaining input.old) (λ all.
+    //     IsProductOf (Accepts (W.gives work)) (Refuses (W.fails work)) all product)) }
+    // ensures ends { IfErr result (λ status. (status ≡ Status.Memory) ⊎ (status ≡ Status.Device)) }
+    // ensures failed { result ≡ Err Status.Device
+    //     → I.failures input.new ≡ I.failures input.old + 1 }
+    // ensures unfailed { result ≢ Err Status.Device → I.failures input.new ≡ I.failures input.old }
+    // ensures reads { result ≢ Err Status.Memory → result ≢ Err Status.Device
+    //     → IfSome (I.remaining input.old) (λ all.
+    //     Takes (I.remaining input.old) (I.remaining input.new)
+    //     (min (length all) (input_limit + 1))) }
+    // ensures stops { result ≢ Err Status.Device
+    //     → TakesAtMost (I.remaining input.old) (I.remaining input.new) (input_limit + 1) }
+{
+    match read_all(input, INPUT_LIMIT) {
+        Ok(bytes) => Ok(work.make(bytes, progress)?),
+        Err(InputFault::TooLong) => Ok(Product::Refusal(too_long()?)),
+        Err(InputFault::Memory) => Err(Status::Memory),
+        Err(InputFault::Device) => Err(Status::Device),
+    }
+}
+
+// What is said of an input that is too long.
+#[inline]
+fn too_long() -> Result<Refusal, Memory>
+    // ensures { IfOk result (λ refusal. refusal_of refusal
+    //     ≡ record { line = size_line; wants = size_wants; found = [] }) }
+{
+    Ok(Refusal {
+        line: Vec::from_slice_fallibly(b"refused size\n")?,
+        wants: size_wants(),
+        found: Found::new(),
+    })
+}

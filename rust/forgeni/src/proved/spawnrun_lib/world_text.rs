@@ -1,0 +1,233 @@
+// Made of crates/spawnrun_lib/src/world_text.rt by rust/erase. It isn't edited by hand.
+
+use alloc::vec::Vec;
+use crate::kit::programs::string::String;
+use crate::proved::spawnrun_lib::bytes::{append, append_labelled, append_number, append_shown};
+use crate::proved::spawnrun_lib::show::Show;
+use crate::proved::ent_handle::{Birth, ComponentId, Handle, Memory};
+use crate::proved::ent_storage::Items;
+use crate::proved::ent_world::World;
+
+/// Appends a birth's system and ordinal, a dot before each.
+#[inline]
+fn append_within_frame(out: &mut Vec<u8>, birth: Birth) -> Result<(), Memory>
+    // ensures ok { OnOk result (out.new.items ≡ out.old.items ++ within_frame_text birth) }
+    // ensures kept { OnErr result (take (vec_len out.old) out.new.items ≡ out.old.items) }
+    // ensures full { OnErr result (vec_capacity out.old
+    //     < vec_len out.old + length (within_frame_text birth)) }
+    // ensures capacity { vec_capacity out.old ≤ vec_capacity out.new }
+{
+    append_labelled(out, b".", birth.system)?;
+    append_labelled(out, b".", birth.ordinal)
+}
+
+#[inline]
+fn append_birth(out: &mut Vec<u8>, birth: Birth) -> Result<(), Memory>
+    // ensures ok { OnOk result (out.new.items ≡ out.old.items ++ birth_text birth) }
+    // ensures kept { OnErr result (take (vec_len out.old) out.new.items ≡ out.old.items) }
+    // ensures full { OnErr result (vec_capacity out.old
+    //     < vec_len out.old + length (birth_text birth)) }
+    // ensures capacity { vec_capacity out.old ≤ vec_capacity out.new }
+{
+    append_number(out, birth.frame)?;
+    append_within_frame(out, birth)
+}
+
+/// Appends a space and the name of a component, if it has one.
+#[inline]
+fn append_name(out: &mut Vec<u8>, names: &[String], id: ComponentId) -> Result<(), Memory>
+    // ensures ok { OnOk result (out.new.items
+    //     ≡ out.old.items ++ codes " " ++ component_name (map string_bytes names.now) id) }
+    // ensures kept { OnErr result (take (vec_len out.old) out.new.items ≡ out.old.items) }
+    // ensures full { OnErr result (vec_capacity out.old
+    //     < vec_len out.old + length (codes " " ++ component_name (map string_bytes names.now) id)) }
+    // ensures capacity { vec_capacity out.old ≤ vec_capacity out.new }
+{
+    append(out, b" ")?;
+    match names.get(id.0 as usize) {
+        Some(name) => append(out, name.as_bytes()),
+        None => Ok(()),
+    }
+}
+
+#[inline]
+fn append_item(out: &mut Vec<u8>, names: &[String], item: (ComponentId, i64)) -> Result<(), Memory>
+    // ensures ok { OnOk result (out.new.items
+    //     ≡ out.old.items ++ item_text (map string_bytes names.now) item) }
+    // ensures kept { OnErr result (take (vec_len out.old) out.new.items ≡ out.old.items) }
+    // ensures full { OnErr result (vec_capacity out.old
+    //     < vec_len out.old + length (item_text (map string_bytes names.now) item)) }
+    // ensures capacity { vec_capacity out.old ≤ vec_capacity out.new }
+{
+    append_name(out, names, item.0)?;
+    append_labelled(out, b"=", item.1)
+}
+
+#[inline]
+fn append_items(out: &mut Vec<u8>, names: &[String], items: Items<'_>) -> Result<(), Memory>
+    // ensures ok { OnOk result (out.new.items
+    //     ≡ out.old.items ++ flat_map (item_text (map string_bytes names.now)) items.entry) }
+    // ensures kept { OnErr result (take (vec_len out.old) out.new.items ≡ out.old.items) }
+    // ensures full { OnErr result (vec_capacity out.old < vec_len out.old + length
+    //     (flat_map (item_text (map string_bytes names.now)) items.entry)) }
+    // ensures capacity { vec_capacity out.old ≤ vec_capacity out.new }
+{
+    for item in items {
+        append_item(out, names, item)?;
+    }
+    Ok(())
+}
+
+#[inline]
+fn append_line(
+    out: &mut Vec<u8>,
+    names: &[String],
+    show: Show,
+    named: (Handle, Birth),
+    items: Items<'_>,
+) -> Result<(), Memory>
+    // ensures ok { OnOk result (out.new.items
+    //     ≡ out.old.items ++ entity_line (map string_bytes names.now) show named.0 named.1
+    //     items.entry) }
+    // ensures kept { OnErr result (take (vec_len out.old) out.new.items ≡ out.old.items) }
+    // ensures full { OnErr result (vec_capacity out.old < vec_len out.old + length
+    //     (entity_line (map string_bytes names.now) show named.0 named.1 items.entry)) }
+    // ensures capacity { vec_capacity out.old ≤ vec_capacity out.new }
+{
+    let (handle, birth) = named;
+    append_birth(out, birth)?;
+    append_shown(out, show, handle)?;
+    append_items(out, names, items)?;
+    append(out, b"\n")
+}
+
+/// Appends the line of an entity, if it is alive.
+#[inline]
+fn append_entity(
+    out: &mut Vec<u8>,
+    names: &[String],
+    show: Show,
+    world: &World,
+    handle: Handle,
+) -> Result<(), Memory>
+    // ensures ok { OnOk result (out.new.items
+    //     ≡ out.old.items ++ line_in (map string_bytes names.now) show world.now.entities handle) }
+    // ensures kept { OnErr result (take (vec_len out.old) out.new.items ≡ out.old.items) }
+    // ensures full { OnErr result (vec_capacity out.old < vec_len out.old + length
+    //     (line_in (map string_bytes names.now) show world.now.entities handle)) }
+    // ensures capacity { vec_capacity out.old ≤ vec_capacity out.new }
+{
+    let Some(birth) = world.birth(handle) else {
+        return Ok(());
+    };
+    let Some(items) = world.items(handle) else {
+        return Ok(());
+    };
+    append_line(out, names, show, (handle, birth), items)
+}
+
+#[inline]
+fn append_entities(
+    out: &mut Vec<u8>,
+    names: &[String],
+    show: Show,
+    world: &World,
+    handles: &[Handle],
+) -> Result<(), Memory>
+    // ensures ok { OnOk result (out.new.items ≡ out.old.items
+    //     ++ flat_map (line_in (map string_bytes names.now) show world.now.entities) handles.now) }
+    // ensures kept { OnErr result (take (vec_len out.old) out.new.items ≡ out.old.items) }
+    // ensures full { OnErr result (vec_capacity out.old < vec_len out.old + length
+    //     (flat_map (line_in (map string_bytes names.now) show world.now.entities) handles.now)) }
+    // ensures capacity { vec_capacity out.old ≤ vec_capacity out.new }
+{
+    for handle in handles {
+        append_entity(out, names, show, world, *handle)?;
+    }
+    Ok(())
+}
+
+#[inline]
+fn append_alive(out: &mut Vec<u8>, count: usize) -> Result<(), Memory>
+    // ensures ok { OnOk result (out.new.items ≡ out.old.items ++ alive_line count) }
+    // ensures kept { OnErr result (take (vec_len out.old) out.new.items ≡ out.old.items) }
+    // ensures full { OnErr result (vec_capacity out.old
+    //     < vec_len out.old + length (alive_line count)) }
+    // ensures capacity { vec_capacity out.old ≤ vec_capacity out.new }
+{
+    append_labelled(out, b"alive ", count)?;
+    append(out, b"\n")
+}
+
+#[inline]
+fn append_world(
+    out: &mut Vec<u8>,
+    world: &World,
+    names: &[String],
+    show: Show,
+) -> Result<(), Memory>
+    // ensures ok { OnOk result ((text : List ℕ)
+    //     × IsWorldText (map string_bytes names.now) show world.now.entities text
+    //     × (out.new.items ≡ out.old.items ++ text)) }
+    // ensures kept { OnErr result (take (vec_len out.old) out.new.items ≡ out.old.items) }
+    // ensures full { (text : List ℕ)
+    //     → IsWorldText (map string_bytes names.now) show world.now.entities text
+    //     → OnErr result ((world.now.entities ≢ finite.empty)
+    //     ⊎ (vec_capacity out.old < vec_len out.old + length text)) }
+    // ensures capacity { vec_capacity out.old ≤ vec_capacity out.new }
+{
+    let handles = world.by_birth()?;
+    append_entities(out, names, show, world, &handles)?;
+    append_alive(out, world.len())
+}
+
+/// Appends the text of a world: a line for each living entity in the order of births, as
+/// `0.1.0 1v1 hp=7`, and then how many there are, as `alive 2`.
+///
+/// `names` has the name of each component at the index of its number. A component without a name
+/// there is written as if its name were empty.
+///
+/// Beside the sort of the entities by birth, it takes time linear in what it appends.
+///
+/// # Errors
+///
+/// `Memory` if there is no memory for the list of the entities, or no room for all of the text.
+/// `out` keeps its items then. It never comes if nobody lives and `out` has room for the text.
+///
+/// <details><summary>Contract</summary>
+///
+/// In the words of the folder `specs/` of crate `spawnrun_lib`:
+///
+/// ```text
+/// ensures ok { OnOk result ((text : List ℕ)
+///     × IsWorldText (map string_bytes names.now) show world.now.entities text
+///     × (out.new.items ≡ out.old.items ++ text)) }
+/// // There is no other such text.
+/// ensures only { OnOk result ((text : List ℕ)
+///     → IsWorldText (map string_bytes names.now) show world.now.entities text
+///     → out.new.items ≡ out.old.items ++ text) }
+/// ensures err { OnErr result (out.new.items ≡ out.old.items) }
+///
+/// // Memory runs out only for the list of somebody, or for a text that lacks room.
+/// ensures full { (text : List ℕ)
+///     → IsWorldText (map string_bytes names.now) show world.now.entities text
+///     → OnErr result ((world.now.entities ≢ finite.empty)
+///     ⊎ (vec_capacity out.old < vec_len out.old + length text)) }
+/// ensures capacity { vec_capacity out.old ≤ vec_capacity out.new }
+/// ```
+///
+/// </details>
+#[inline]
+pub fn write_world(
+    world: &World,
+    names: &[String],
+    show: Show,
+    out: &mut Vec<u8>,
+) -> Result<(), Memory> {
+    let len = out.len();
+    let written = append_world(out, world, names, show);
+    if written.is_err() {
+        out.truncate(len);
+    }
+    written
+}

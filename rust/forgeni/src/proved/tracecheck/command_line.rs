@@ -1,0 +1,140 @@
+// Made of crates/tracecheck/src/command_line.rt by rust/erase. It isn't edited by hand.
+
+//! The limits that the words after the program's name ask for.
+
+use crate::kit::programs::clap::error::ErrorKind;
+use crate::kit::programs::clap::{Arg, ArgAction, ArgMatches, Command};
+use crate::proved::ent_alloc::Limits;
+use crate::kit::alloc::AllocError;
+use crate::kit::programs::string::AsStr;
+
+// What help ends with.
+const PROGRAM_END: &str = "A trace of two lines:\n  \
+     reserve 1 2 => 0v1 1v1\n  \
+     flush => born 0v1 1v1\n\n\
+     Exit status:\n  \
+     0  the trace agrees with the sequential allocator\n  \
+     1  the trace differs: the output names the line, and what the allocator answers there\n  \
+     2  the text is no trace, or the words are no command line, or ask for help\n  \
+     3  memory ran out, and nothing was written\n  \
+     4  reading or writing failed";
+
+/// Why words ask for no check.
+pub enum LineFault {
+    /// They are no command line of the program, or they ask for help. The error's `Display` is the
+    /// text to show.
+    Line(crate::kit::programs::clap::Error),
+    /// Memory ran out while they were read.
+    Memory,
+}
+
+impl From<crate::kit::programs::clap::Error> for LineFault {
+    #[inline]
+    fn from(error: crate::kit::programs::clap::Error) -> Self {
+        if error.kind() == ErrorKind::OutOfMemory {
+            LineFault::Memory
+        } else {
+            LineFault::Line(error)
+        }
+    }
+}
+
+impl From<AllocError> for LineFault {
+    #[inline]
+    fn from(_refused: AllocError) -> Self {
+        LineFault::Memory
+    }
+}
+
+#[inline]
+fn number_option<'a>(
+    name: &'a str,
+    most: u32,
+    default: &'a str,
+    help: &'a str,
+) -> Arg<'a>
+    // ensures rule { rule_of result ≡ number_option name.entry.now most default.entry.now }
+    // ensures own { result.global ≡ false }
+{
+    let range = crate::kit::programs::clap::value_parser!(u32).range(1..=i64::from(most));
+    Arg::new(name)
+        .long(name)
+        .action(ArgAction::Set)
+        .value_name("N")
+        .value_parser(range)
+        .default_value(default)
+        .help(help)
+}
+
+// The program without its options.
+#[inline]
+fn top_command<'a>() -> Command<'a>
+    // ensures { app_of result ≡ top_command }
+{
+    Command::new("tracecheck")
+        .about("Compares the trace on standard input with the proved allocator")
+        .after_help(PROGRAM_END)
+        .no_binary_name(true)
+}
+
+#[inline]
+fn program<'a>() -> Result<Command<'a>, AllocError>
+    // ensures { IfOk result (λ c. app_of c ≡ program) }
+{
+    let slots = number_option(
+        "slots",
+        u32::MAX,
+        "4294967295",
+        "How many slots may be made",
+    );
+    let generations = number_option(
+        "generations",
+        (1 << 31) - 1,
+        "2147483647",
+        "The last generation of a slot",
+    );
+    top_command()
+        .arg(slots)?
+        .arg(generations)?
+        .bin_name("tracecheck")
+}
+
+#[inline]
+fn limits_of(options: &ArgMatches<'_>) -> Limits
+    // requires slots { HasNumber (codes "slots") 4294967295 (given options.now) }
+    // requires generations { HasNumber (codes "generations") 2147483647 (given options.now) }
+    // ensures slots { option_number (codes "slots") (given options.now) ≡ Some result.slots }
+    // ensures generations { option_number (codes "generations") (given options.now)
+    //     ≡ Some result.generations }
+    // ensures within { AreLimits result }
+{
+    let slots = options.get_one::<u32>("slots").unwrap();
+    let generations = options.get_one::<u32>("generations").unwrap();
+    Limits::new(slots, generations).unwrap()
+}
+
+/// Reads the limits from the words after the program's name.
+///
+/// # Errors
+///
+/// - `Line` if clap finds a fault in the words, or if they ask for help.
+/// - `Memory` if memory ran out. Words that clap takes are refused for this alone.
+///
+/// <details><summary>Contract</summary>
+///
+/// In the words of the folder `specs/` of crate `tracecheck`:
+///
+/// ```text
+/// ensures asked { IfOk result (AsksFor (map S.text words.now)) }
+/// ensures taken { OnOk result (fault_of program (map S.text words.now) ≡ []) }
+/// ensures fault { IfErr result (IsFaultIn (map S.text words.now)) }
+/// ensures refused { IfErr result (λ fault.
+///     takes program (map S.text words.now) ≡ true → fault ≡ LineFault.Memory) }
+/// ```
+///
+/// </details>
+#[inline]
+pub fn command_line<S: AsStr>(words: &[S]) -> Result<Limits, LineFault> {
+    let matches = program()?.try_get_matches_from(words)?;
+    Ok(limits_of(&matches))
+}

@@ -1,0 +1,26 @@
+// Made of crates/tracecheck/src/main.rt by rust/erase. It isn't edited by hand.
+
+//! Compares a recorded trace of an entity allocator with the proved one: `tracecheck` reads it on
+//! standard input, and writes whether it agrees, or the first line that doesn't.
+
+mod checking;
+mod command_line;
+mod lines;
+mod program;
+mod progress;
+mod running;
+mod status;
+mod verdict;
+
+use crate::kit::programs::rt::HostRuntime;
+use program::start;
+use std::io::IsTerminal;
+use std::process::ExitCode;
+
+#[inline]
+pub fn main(rt: HostRuntime) -> ExitCode {
+    let terminal = rt.stderr();
+    let tells = terminal.is_terminal();
+    let errors = rt.stderr();
+    ExitCode::from(start(&rt, rt.stdin(), rt.stdout(), errors, terminal, tells))
+}
