@@ -79,7 +79,7 @@ READS, WITHOUT_METHODS = {"cursor"}, {"", "either::Either"}
 # Types with a layout of their own, the one of which the results derive the equality, and those of data, which derives more in the results.
 LAYOUTS = dict.fromkeys(named("ent_replay: Log; ent_total: Commands Reserver"), "#[repr(align(128))]")
 LAYOUTS |= {"ent_handle::Handle": "#[repr(transparent)]"}
-WORD_TYPE, DATA = "ent_handle::Handle", named("ent_replay: Call CheckError Difference FlushReply Reservation ReserveReply")
+WORD_TYPE, DATA = "ent_handle::Handle", named("ent_replay: Call CheckError Difference FlushReply Log Reservation ReserveReply")
 EQUALITY = {"PartialEq": "#[inline]fneq(&self,other:&Self)->bool{self.bits==other.bits}}", "Eq": "}"}
 # The file whose texts keep a width, and functions with another name.
 PADDED, RENAMED = "ent_handle/text", {"Entities::new": "with_exact_limits"}

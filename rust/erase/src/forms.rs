@@ -499,6 +499,7 @@ const DATA: &[(&str, &[&str])] = &[(
         "CheckError",
         "Difference",
         "FlushReply",
+        "Log",
         "Reservation",
         "ReserveReply",
     ],

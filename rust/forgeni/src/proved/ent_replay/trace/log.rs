@@ -13,7 +13,7 @@ use crate::proved::ent_handle::Memory;
 ///
 /// Each thread has one of its own, and appends to it without a lock. It keeps no time: the checker
 /// needs none.
-#[derive(Debug)]
+#[derive(Debug, Clone, PartialEq, Eq, Hash)]
 #[repr(align(128))]
 pub struct Log {
     caller: u32,
