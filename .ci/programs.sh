@@ -8,6 +8,14 @@ set -eu
 cd "$(dirname "$0")/.."
 cases=${1:-600}
 cargo build --offline --quiet --release --features programs --manifest-path rust/forgeni/Cargo.toml
+# README's first commands.
+(
+    cd rust/forgeni
+    cargo run --offline --quiet --release --features programs --bin spawnrun -- replay < ../../examples/one_caller.txt |
+        tail -n 1 | grep -qx 'born 2v1 0v2'
+    cargo run --offline --quiet --release --features programs --bin spawnrun -- run --show handles < ../../examples/data/reuse.json |
+        tail -n 1 | grep -qx 'alive 4'
+)
 (cd rust/forgeni && cargo test --offline --quiet --features programs --lib kit::)
 if cargo clippy --version >/dev/null 2>&1; then
     (cd rust/forgeni && cargo clippy --offline --quiet --all-targets --features programs -- -D warnings)
