@@ -3,6 +3,8 @@
 
 extern crate alloc;
 
+#[path = "../handle_list.rs"]
+mod handle_list;
 #[path = "../../../forgeni/src/kit/mod.rs"]
 #[allow(dead_code)] // Not all of it is used here.
 mod kit;
