@@ -21,6 +21,8 @@ from pieces import TRACE, Program
 TOP = pathlib.Path(__file__).resolve().parent.parent.parent
 # The first eraser erases these crates and those that they use.
 CRATES = ["ent_replay", "ent_runner", "ent_total"]
+# Their types for which the eraser has a layout.
+TYPES = {"ent_replay": "pub struct Log;\n", "ent_total": "pub struct Commands;\npub struct Reserver;\n"}
 # How a program's first note begins: its number stands in the last six digits.
 MARK = "true 1000000000000"
 
@@ -82,7 +84,8 @@ def outputs(folder, numbers, text):
     write(tried / "crates/programs/src/programs.rt", text)
     write(erased / "crates.txt", "".join(f"{it}:\n" for it in CRATES))
     for crate in CRATES:
-        write(erased / "crates" / crate / "src/lib.rt", "//! A crate.\n#![tactic(auto)]\n" + "\npub mod programs;\n" * (crate == CRATES[0]))
+        module = "\npub mod programs;\n" * (crate == CRATES[0])
+        write(erased / "crates" / crate / "src/lib.rt", "//! A crate.\n#![tactic(auto)]\n" + module + TYPES.get(crate, ""))
     write(erased / "crates" / CRATES[0] / "src/programs.rt", text)
     (erased / "rust/forgeni/src/proved").mkdir(parents=True)
     how = {"stdout": subprocess.PIPE, "stderr": subprocess.PIPE, "text": True}
