@@ -7,6 +7,7 @@
 extern crate alloc;
 
 mod cases;
+#[path = "../../forgeni/src/handle_list.rs"]
 mod handle_list;
 #[allow(dead_code, unused_imports, unused_macros)] // Not all that the eraser may name is used.
 mod host;

@@ -205,6 +205,7 @@ mod errors;
 #[cfg(feature = "std")]
 mod frames;
 mod handle;
+mod handle_list;
 pub mod handle_map;
 #[allow(dead_code, missing_docs, unreachable_pub)]
 mod kit;

@@ -45,7 +45,6 @@ use crate::proved::ent_replay::trace::{write_difference, write_line};
 use alloc::vec::Vec;
 use core::error::Error;
 use core::fmt;
-use core::hash::{Hash, Hasher};
 use core::ops::Deref;
 use core::str;
 
@@ -55,18 +54,6 @@ pub use crate::proved::ent_replay::trace::{Log, Recorder, Reservation};
 pub use crate::proved::ent_replay::HandleList;
 
 // ---- lists of handles
-
-impl Clone for HandleList {
-    fn clone(&self) -> Self {
-        Self::new(self.to_vec())
-    }
-}
-
-impl Hash for HandleList {
-    fn hash<H: Hasher>(&self, state: &mut H) {
-        self.as_slice().hash(state);
-    }
-}
 
 impl Deref for HandleList {
     type Target = [Handle];

@@ -3,7 +3,7 @@
 
 extern crate alloc;
 
-#[path = "../handle_list.rs"]
+#[path = "../../../forgeni/src/handle_list.rs"]
 mod handle_list;
 #[path = "../../../forgeni/src/kit/mod.rs"]
 #[allow(dead_code)] // Not all of it is used here.

@@ -1,4 +1,5 @@
-//! Impls that the package has by hand, and that calls and replies of traces need for what they derive.
+//! Lists of handles in traces: impls of Rust's traits that calls and replies need for what they derive.
+//! The erased tests take this file too.
 
 use crate::proved::ent_replay::HandleList;
 use core::hash::{Hash, Hasher};
