@@ -34,3 +34,11 @@ pub mod Looked
 pub mod InOrder
 pub mod Histories
 pub mod RowsOfLiving
+pub mod ImageWords
+pub mod ImageSlots
+pub mod ImageLinked
+pub mod ImageRead
+pub mod ImageSound
+pub mod ImageRefused
+pub mod ImageHeader
+pub mod ImageOf

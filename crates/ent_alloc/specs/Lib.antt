@@ -7,6 +7,8 @@ pub mod Living
 pub mod Sound
 pub mod Reserved
 pub mod Entities
+pub mod Image
+pub mod ImageRecords
 pub mod Fault
 pub mod Spent
 pub mod History

@@ -26,8 +26,8 @@ without_placeholder l =
     else l
 
 -- how many handles one caller may request between two flushes
-unfoldable pub credit : ℕ
-credit = 2 ^ 40
+unfoldable pub quota : ℕ
+quota = 2 ^ 40
 
 -- limits are stored as the pair of their numbers
 abbrev pub limits_code : Coded Limits

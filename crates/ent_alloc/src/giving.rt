@@ -29,10 +29,11 @@ impl Entities {
     ///
     /// In each case nothing has changed, and no handle was given.
     ///
-    /// - [`AllocError::NeedsFlush`](AllocFault::NeedsFlush) if handles were requested since the last flush, even if the
-    ///   request was refused.
+    /// - [`AllocError::NeedsFlush`](AllocFault::NeedsFlush) if handles were requested since the
+    ///   last flush, even if the request was refused.
     /// - [`AllocError::Space`](AllocFault::Space) if fewer than `n` handles can be given.
-    /// - [`AllocError::Memory`](AllocFault::Memory) if there is no memory for the list or for new slots.
+    /// - [`AllocError::Memory`](AllocFault::Memory) if there is no memory for the list or for new
+    ///   slots.
     pub fn alloc_many(&mut self, alloc: Global, n: u32) -> Result<Vec<Handle>, AllocFault>
         ensures handles { IfOk result (λ handles. handles.items ≡ take n self.old.allocator.pool) }
         ensures within { IfOk result (λ handles.

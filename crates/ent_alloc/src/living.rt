@@ -11,8 +11,8 @@ use std::marker::Model;
 
 /// The handles of the living entities, by rising slot.
 ///
-/// [`Entities::iter`](crate::Entities::iter) makes it. It borrows the allocator and copies nothing. Between two handles it
-/// looks at each slot once. After the last handle it looks at none.
+/// [`Entities::iter`](crate::Entities::iter) makes it. It borrows the allocator and copies nothing.
+/// Between two handles it looks at each slot once. After the last handle it looks at none.
 #[derive(Clone, Drop)]
 pub struct Living<'a> {
     records: &'a [SlotRecord],

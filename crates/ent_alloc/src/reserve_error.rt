@@ -34,8 +34,8 @@ pub enum ReserveError {
 }
 
 impl ReserveError {
-    /// What a system makes of the error. The queue keeps a refusal, and the system goes on. Only
-    /// want of memory ends the system:
+    /// The error as a system returns it. The queue keeps a refusal, and the system goes on. Only
+    /// being out of memory ends the system:
     ///
     /// ```
     /// use forgeni::{OutOfMemory, ReserveError};

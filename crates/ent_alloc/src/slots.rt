@@ -1,5 +1,5 @@
 ghost use Rattle.std.specs.Prelude.{◌≡◌, ℕ, ◌+◌, ◌-◌, ◌^◌, ◌<◌, ◌≤◌, ◌↔◌, ◌⊎◌, ◌≢◌};
-ghost use Rattle.std.specs.Prelude.{IsTrue, IfOk, OnOk, OnErr, IfSome, OnSome, IfNone, true, []};
+ghost use Rattle.std.specs.Prelude.{◌*◌, IsTrue, IfOk, IfErr, OnOk, OnErr, IfSome, OnSome, IfNone, true, []};
 ghost use Rattle.std.specs.Prelude.{◌∷◌, ◌++◌};
 ghost use Rattle.std.specs.Prelude.{length, take, drop, pos, slice_get, vec_len, vec_capacity, AllPairs};
 ghost use Rattle.std.specs.FinSet as set;
@@ -7,7 +7,11 @@ ghost use Rattle.std.specs.FinMap as maps;
 ghost use Rattle.ent_alloc.specs.Limits.{AreLimits};
 ghost use Rattle.ent_alloc.specs.Sequential.{fresh as fresh_handles, following, stands_in};
 ghost use Rattle.ent_alloc.specs.Slots.{lives, row_kept, waits_from};
+ghost use Rattle.ent_alloc.specs.Image.{slots_bytes, AreSlots};
 
+use crate::cloning::{overwrite, reserve_for};
+use crate::image_fault::ImageFault;
+use crate::image_slots::{SlotLists, read_slots, write_slots};
 use crate::limits::Limits;
 use crate::living::Living;
 use crate::slot_record;
@@ -19,10 +23,10 @@ use std::marker::Model;
 /// The slots that were made, and those of them that wait for their next occupant.
 #[derive(Drop)]
 pub(crate) struct Slots {
-    limits: Limits,
-    records: Vec<SlotRecord>,
-    pending: Vec<u32>,
-    live: u32,
+    pub(crate) limits: Limits,
+    pub(crate) records: Vec<SlotRecord>,
+    pub(crate) pending: Vec<u32>,
+    pub(crate) live: u32,
 }
 
 impl Model for Slots {
@@ -288,5 +292,73 @@ impl Slots {
         let index = handle.index();
         self.records[index as usize].occupancy = Occupancy::Retired;
         self.live -= 1;
+    }
+
+    /// The same slots once more.
+    pub(crate) fn try_clone(&self, alloc: Global) -> Result<Slots, Memory>
+        ensures ok { IfOk result (λ clone. clone ≡ self.now) }
+        ensures memory { OnErr result (0 < self.now.made) }
+    {
+        let mut clone = Slots::new(alloc, self.limits);
+        clone.try_clone_from(self)?;
+        Ok(clone)
+    }
+
+    /// Becomes the same as another. All room is asked for first: if memory runs out, nothing has
+    /// changed.
+    pub(crate) fn try_clone_from(&mut self, source: &Slots) -> Result<(), Memory>
+        ensures ok { OnOk result (self.new ≡ source.now) }
+        ensures err { OnErr result (self.new ≡ self.old) }
+        ensures memory { OnErr result ((self.old.made < source.now.made)
+            ⊎ (length self.old.pending < length source.now.pending)) }
+    {
+        reserve_for(&mut self.records, source.records.len())?;
+        reserve_for(&mut self.pending, source.pending.len())?;
+        overwrite(&mut self.records, &source.records);
+        overwrite(&mut self.pending, &source.pending);
+        self.limits = source.limits;
+        self.live = source.live;
+        Ok(())
+    }
+
+    /// Appends what an image has of the slots. There is room for it.
+    pub(crate) fn write_image(&self, out: &mut Vec<u8>)
+        requires { vec_len out.old + 12 * self.now.made ≤ vec_capacity out.old }
+        ensures written { out.new.items ≡ out.old.items ++ slots_bytes self.now }
+        ensures slots { AreSlots self.now }
+    {
+        write_slots(&self.records, out);
+    }
+
+    /// The slots that an image has: that many, of which so many wait.
+    pub(crate) fn read_image(
+        alloc: Global,
+        limits: Limits,
+        made: u32,
+        waiting: u32,
+        bytes: &[u8],
+    ) -> Result<Slots, ImageFault>
+        requires long { length bytes.now ≡ 12 * made }
+        requires few { made ≤ limits.slots }
+        ensures found { IfOk result (λ r. slots_bytes r ≡ bytes.now) }
+        ensures slots { IfOk result AreSlots }
+        ensures limits { IfOk result (λ r. r.limits ≡ limits) }
+        ensures made { IfOk result (λ r. r.made ≡ made) }
+        ensures waiting { IfOk result (λ r. length r.pending ≡ waiting) }
+        ensures refused { IfErr result (λ fault. fault ≢ ImageFault.Memory → (r : Roster)
+            → AreSlots r → r.limits ≡ limits → r.made ≡ made → length r.pending ≡ waiting
+            → slots_bytes r ≢ bytes.now) }
+    {
+        let SlotLists {
+            records,
+            pending,
+            live,
+        } = read_slots(alloc, limits, made, waiting, bytes)?;
+        Ok(Slots {
+            limits,
+            records,
+            pending,
+            live,
+        })
     }
 }

@@ -15,7 +15,7 @@ use Rattle.ent_shared.specs.Phase.{Shared, Reserver}
 use Rattle.ent_shared.specs.Record.{after_reservation, reservation_at}
 use Rattle.ent_shared.specs.Replies.{Reserves}
 use Rattle.ent_queue.specs.Command.{Command, Refused, HasRange, IsRefusal}
-use Rattle.ent_queue.specs.Reserving.{stands_for, cost, FitsCredit, FitCredit, Gains, IsReturned}
+use Rattle.ent_queue.specs.Reserving.{stands_for, cost, FitsQuota, FitQuota, Gains, IsReturned}
 use Rattle.ent_queue.specs.Reserving.{refused_by}
 use Rattle.ent_alloc.specs.Fault.{as_reserve_error}
 use Rattle.std.proofs.lemmas.List.{map-append}
@@ -25,13 +25,13 @@ pub gains_nothing : (r : Record) → Gains r [] r
 gains_nothing r = grind (arith, common_steps)
 
 -- a command that stands for no reservation
-pub gains_none : (r : Record) (c : Command) → stands_for c ≡ [] → FitsCredit r.left c
+pub gains_none : (r : Record) (c : Command) → stands_for c ≡ [] → FitsQuota r.left c
     → Gains r (c ∷ []) r
 gains_none r c none within = grind (arith, common_steps)
 
 -- a command that stands for one reservation
 pub gains_one : (r : Record) (high : ℤ) (n : ℕ) (c : Command) → n ≤ r.left → stands_for c
-    ≡ (n, (reservation_at r high n).reply) ∷ [] → FitsCredit r.left c
+    ≡ (n, (reservation_at r high n).reply) ∷ [] → FitsQuota r.left c
     → Gains r (c ∷ []) (after_reservation r high n)
 gains_one r high n c enough one within = record {
   start = refl;
@@ -54,8 +54,8 @@ map_both : {X Y : Type 0} (f : X → Y) (xs ys : List X) → map f (xs ++ ys) �
 map_both f [] ys = refl
 map_both f (x ∷ xs) ys = ap (λ zs. f x ∷ zs) (map_both f xs ys)
 
-within_both : (left : ℕ) (cs ds : List Command) → FitCredit left cs
-    → FitCredit (left - sum_by cost cs) ds → FitCredit left (cs ++ ds)
+within_both : (left : ℕ) (cs ds : List Command) → FitQuota left cs
+    → FitQuota (left - sum_by cost cs) ds → FitQuota left (cs ++ ds)
 within_both left [] ds first second = search (rules)
 within_both left (c ∷ cs) ds first second =
     grind (arith, common_steps, sum_by-cons cost c cs, within_both (left - cost c) cs ds)
@@ -72,14 +72,14 @@ gains_then a b c cs ds first second = record {
   callers = grind (arith, common_steps);
   left = omega (arith, first.left, second.left, sum_by-append cost cs ds);
   within = within_both a.left cs ds first.within
-      (subst (λ n. FitCredit n ds) (omega (arith, first.left)) second.within);
+      (subst (λ n. FitQuota n ds) (omega (arith, first.left)) second.within);
 }
 
 module _ (shared : Shared) (before after : Reserver) (n : ℕ) where
   -- what was given
   pub served_gains : (hs : List Handle) (c : Command) → IsReturned shared before after n (Ok hs)
       → (0 < n → stands_for c ≡ (n, Ok hs) ∷ []) → (n ≡ 0 → hs ≡ [] → stands_for c ≡ [])
-      → (n ≤ before.own.left → FitsCredit before.own.left c) → Gains before.own (c ∷ []) after.own
+      → (n ≤ before.own.left → FitsQuota before.own.left c) → Gains before.own (c ∷ []) after.own
   served_gains hs c replied one none within = elim (cases_lt before.own.left n) [
     | inl short ↦ let no = (replied.quota short).0 in absurd (cc)
     | inr enough ↦ search (rules, cases_lt, gains_one, gains_none)

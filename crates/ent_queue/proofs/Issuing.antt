@@ -14,7 +14,7 @@ use Rattle.ent_alloc.specs.declared.reserve_error.ReserveError.TheVariants as fa
 use Rattle.ent_storage.specs.Bundle.{Bundle}
 use Rattle.ent_queue.specs.Command.{Command, Spawn, SpawnMany, Refused}
 use Rattle.ent_queue.specs.Commands.{Issued, IsReady, Extends, queue_of, reserver_of, shared_of}
-use Rattle.ent_queue.specs.Reserving.{stands_for, FitsCredit, Gains, IsReturned, queued, as_list}
+use Rattle.ent_queue.specs.Reserving.{stands_for, FitsQuota, Gains, IsReturned, queued, as_list}
 use Rattle.ent_queue.specs.Reserving.{refused_by}
 use Rattle.ent_alloc.specs.Fault.{as_reserve_error}
 use Rattle.ent_queue.proofs.Gaining.{gains_nothing, gains_none, served_gains, refused_gains}
@@ -38,7 +38,7 @@ many_request hs items n e some = search rules
 
 -- a command that reserves nothing, or no command
 pub added_none : (r : Record) (c : Command) (result : Result (Unit {0}) Memory)
-    (old new : List Command) → stands_for c ≡ [] → FitsCredit r.left c
+    (old new : List Command) → stands_for c ≡ [] → FitsQuota r.left c
     → OnOk result (new ≡ old ++ c ∷ []) → OnErr result (new ≡ old) → Added old new r r
 added_none r c it old new none within ok err = grind (arith, common_steps, gains_none)
 

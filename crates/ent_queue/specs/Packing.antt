@@ -33,7 +33,7 @@ item_bytes item = item.0.0 ∷ bytes_8 (cast_unsigned w64 item.1)
 abbrev pub bundle_bytes : Bundle → List ℕ
 bundle_bytes items = bytes_2 (length items) ++ flat_map item_bytes items
 
--- 1 and how many handles were left, or 2 and how much credit
+-- 1 and how many handles were left, or 2 and how much quota
 abbrev pub refusal_bytes : Refusal → List ℕ
 refusal_bytes (Space wanted left) = 1 ∷ bytes_8 left
 refusal_bytes (Quota left) = 2 ∷ bytes_8 left

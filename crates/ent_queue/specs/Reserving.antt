@@ -29,25 +29,25 @@ stands_for (Refused wanted (Space same left)) =
     (wanted, Err (record { wanted = same; left = left })) ∷ []
 stands_for (Refused wanted (Quota left)) = []
 
--- how much credit it has cost
+-- how much quota it has cost
 abbrev pub cost : Command → ℕ
 cost c = sum_by (λ (request : ℕ × Result (List Handle) OutOfSpace). request.0) (stands_for c)
 
--- It fits the credit that was left; a refusal for want of credit says what was left, and more was
+-- It fits the quota that was left; a refusal for lack of quota says what was left, and more was
 -- wanted.
-abbrev pub FitsCredit : ℕ → Command → Type 0
-FitsCredit left (Refused wanted (Quota rest)) = (rest ≡ left) × (left < wanted)
-FitsCredit left (Refused wanted (Space same rest)) = wanted ≤ left
-FitsCredit left (Spawn h items) = 1 ≤ left
-FitsCredit left (SpawnMany hs items) = length hs ≤ left
-FitsCredit left (Insert h items) = Unit {0}
-FitsCredit left (Remove h id) = Unit {0}
-FitsCredit left (Despawn h) = Unit {0}
+abbrev pub FitsQuota : ℕ → Command → Type 0
+FitsQuota left (Refused wanted (Quota rest)) = (rest ≡ left) × (left < wanted)
+FitsQuota left (Refused wanted (Space same rest)) = wanted ≤ left
+FitsQuota left (Spawn h items) = 1 ≤ left
+FitsQuota left (SpawnMany hs items) = length hs ≤ left
+FitsQuota left (Insert h items) = Unit {0}
+FitsQuota left (Remove h id) = Unit {0}
+FitsQuota left (Despawn h) = Unit {0}
 
 -- each command at its turn
-abbrev pub FitCredit : ℕ → List Command → Type 0
-FitCredit left [] = Unit {0}
-FitCredit left (c ∷ cs) = FitsCredit left c × FitCredit (left - cost c) cs
+abbrev pub FitQuota : ℕ → List Command → Type 0
+FitQuota left [] = Unit {0}
+FitQuota left (c ∷ cs) = FitsQuota left c × FitQuota (left - cost c) cs
 
 -- The reserver has gained the reservations of these commands and no others, in order.
 pub record Gains (before : Record) (commands : List Command) (after : Record) : Type 0 where
@@ -59,7 +59,7 @@ pub record Gains (before : Record) (commands : List Command) (after : Record) : 
       ≡ flat_map stands_for commands
   pub callers : All (λ (r : Reservation). r.caller ≡ before.number) reservations
   pub left : after.left + sum_by cost commands ≡ before.left
-  pub within : FitCredit before.left commands
+  pub within : FitQuota before.left commands
 
 -- the result of a reservation as the queue hands it on
 abbrev pub queued : {X : Type 0} → Result X Refusal → Result X QueueFault

@@ -16,7 +16,7 @@ use Rattle.ent_shared.specs.declared.record.Reservation.{Reservation}
 use Rattle.ent_shared.specs.declared.record.Record.{Record}
 use Rattle.ent_shared.specs.Record.{own_reservations, opened, opened_records}
 use Rattle.ent_shared.specs.Rule.{cursor_of, weigh, HasItsReply, IsKept, IsStart, IsRuled, IsClosed}
-use Rattle.ent_shared.proofs.Words.{left_of, numbered, all_credit}
+use Rattle.ent_shared.proofs.Words.{left_of, numbered, all_quota}
 
 module _ (start : Allocator) (count : ℕ) where
   abbrev St : Type 0
@@ -56,7 +56,7 @@ module _ (start : Allocator) (count : ℕ) where
   kept-opened at number le = record {
     start_is = refl;
     caller = All-nil (λ (c : Reservation). c.caller ≡ number);
-    credit = record { credit = omega arith; floor = refl };
+    quota = record { quota = omega arith; floor = refl };
     marks = search (rules, All-nil);
   }
 
@@ -106,5 +106,5 @@ module _ (start : Allocator) (count : ℕ) where
         some = λ f. grind (arith, sums (weigh f), k.spans.all f);
         all = λ whole f. sym (whole_weighs (λ (r : Record). sum_by f (own_reservations r.entries))
             s.views id v there (k.records ∙ sym whole)) ∙ k.spans.all f;
-        credit = grind (arith, sums left_of, all_credit start count s k);
+        quota = grind (arith, sums left_of, all_quota start count s k);
       }

@@ -18,7 +18,7 @@ use mir.Val.{to_z, of_z}
 use Rattle.ent_handle.specs.Handle.{Handle}
 use Rattle.ent_alloc.specs.declared.space.Space.{Space}
 use Rattle.ent_alloc.specs.Entities.{Entities}
-use Rattle.ent_alloc.specs.Limits.{credit}
+use Rattle.ent_alloc.specs.Limits.{quota}
 use Rattle.ent_alloc.specs.Sequential.{Allocator, available, cursor, top, asked_at, pool_at, listed}
 use Rattle.ent_alloc.specs.Sequential.{settled}
 use Rattle.ent_alloc.specs.Sound.{IsSound}
@@ -87,7 +87,7 @@ pub record Lost (here start : Allocator) (count : ℕ) (records : List Record) (
     pub asked : ℕ
     pub some_asked : sum_by requested_by records ≤ asked
     pub all_asked : length records ≡ count → sum_by requested_by records ≡ asked
-    pub most_asked : sum_by (λ (r : Record). r.left) records + asked ≤ count * credit
+    pub most_asked : sum_by (λ (r : Record). r.left) records + asked ≤ count * quota
     pub reached : All (λ (r : Record). cursor (after_loss start asked) ≤ℤ r.mark) records
     pub whole : length records ≡ count → cursor (after_loss start asked)
         ≡ cursor (history.after_history start (history_of records))
@@ -145,7 +145,7 @@ module _ (start : Allocator) (sound : IsSound start) (flushed : start.asked ≡ 
         asked = asked;
         some_asked = k.some requested;
         all_asked = λ all_here. k.all all_here requested;
-        most_asked = k.credit;
+        most_asked = k.quota;
         reached = λ i d lt. let mark = (k.each i d lt).marks.mark in omega (arith, ints);
         whole = λ all_here.
             let other = final_cursor start count records at k sound flushed all_here in

@@ -16,7 +16,7 @@ use Rattle.ent_shared.specs.declared.record.Reservation.{Reservation}
 use Rattle.ent_shared.specs.declared.record.RecordEntry.{RecordEntry}
 use Rattle.ent_shared.specs.declared.record.RecordEntry.TheVariants.{Own, Met}
 use Rattle.ent_shared.specs.declared.record.Record.{Record}
-use Rattle.ent_alloc.specs.Limits.{credit}
+use Rattle.ent_alloc.specs.Limits.{quota}
 use Rattle.ent_shared.specs.Record.{low, reservations_in, own_reservations, known_reservations}
 use Rattle.ent_shared.specs.Record.{requested_by, reservation_at, after_reservation}
 use Rattle.ent_shared.specs.Moves.{after_meeting}
@@ -47,14 +47,14 @@ requested-reserved r high n = search (rules, sum_by-append, sum_by-cons, add-zer
 pub requested-met : (r met : Record) → requested_by (after_meeting r met) ≡ requested_by r
 requested-met r met = search (rules, own-met)
 
-pub credit-reserved : (r : Record) (high : ℤ) (n : ℕ) → n ≤ r.left → r.left + requested_by r
-    ≡ credit → (after_reservation r high n).left + requested_by (after_reservation r high n)
-    ≡ credit
-credit-reserved r high n within adds_up = let more = requested-reserved r high n in omega arith
+pub quota-reserved : (r : Record) (high : ℤ) (n : ℕ) → n ≤ r.left → r.left + requested_by r
+    ≡ quota → (after_reservation r high n).left + requested_by (after_reservation r high n)
+    ≡ quota
+quota-reserved r high n within adds_up = let more = requested-reserved r high n in omega arith
 
-pub credit-met : (r met : Record) → r.left + requested_by r ≡ credit → (after_meeting r met).left
-    + requested_by (after_meeting r met) ≡ credit
-credit-met r met adds_up = ap (λ (k : ℕ). r.left + k) (requested-met r met) ∙ adds_up
+pub quota-met : (r met : Record) → r.left + requested_by r ≡ quota → (after_meeting r met).left
+    + requested_by (after_meeting r met) ≡ quota
+quota-met r met adds_up = ap (λ (k : ℕ). r.left + k) (requested-met r met) ∙ adds_up
 
 -- own reservations are known
 pub all_own : (P : Reservation → Type 0) (es : List RecordEntry) → All P (known_reservations es)
@@ -131,11 +131,11 @@ kept_reserved start at log n r within top k =
       caller = subst (All (λ (d : Reservation). d.caller ≡ r.number)) (sym (own-made es c))
           (All-append (λ (d : Reservation). d.caller ≡ r.number) own (c ∷ []) k.caller
           (all_one (λ (d : Reservation). d.caller ≡ r.number) c refl));
-      credit = record {
-        credit = credit-reserved r at n within k.credit.credit;
+      quota = record {
+        quota = quota-reserved r at n within k.quota.quota;
         floor =
             rw (own-made es c, floor-made start own c (all_own Q es lower) (omega (arith, ints)))
-            (rw (k.start_is, k.credit.floor) refl);
+            (rw (k.start_is, k.quota.floor) refl);
       };
       marks = record {
         mark = omega (arith, ints);
@@ -163,9 +163,9 @@ kept_met start at log r met k m =
       start_is = k.start_is;
       caller = subst (All (λ (d : Reservation). d.caller ≡ r.number)) (sym (own-met es cs))
           k.caller;
-      credit = record {
-        credit = credit-met r met k.credit.credit;
-        floor = rw (own-met es cs) k.credit.floor;
+      quota = record {
+        quota = quota-met r met k.quota.quota;
+        floor = rw (own-met es cs) k.quota.floor;
       };
       marks = record {
         mark = grind (arith, ints);

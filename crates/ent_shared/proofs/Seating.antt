@@ -4,7 +4,7 @@ use Rattle.std.proofs.lemmas.Grind.{common_steps}
 use Rattle.std.proofs.Common.{arith, append-nil, rules, ◌≡◌, ℕ, ◌-◌, ◌≤◌, ℤ, pos, ◌-ℤ◌, ◌≤ℤ◌, List}
 use Rattle.std.proofs.Common.{[], ◌∷◌, ◌++◌}
 use Rattle.ent_shared.proofs.Laws.{handles_of-append}
-use Rattle.ent_shared.proofs.Records.{own-made, known-more, credit-reserved, credit-met}
+use Rattle.ent_shared.proofs.Records.{own-made, known-more, quota-reserved, quota-met}
 use Rattle.ent_shared.proofs.Weighing.{all_one}
 use Rattle.std.proofs.lemmas.List.Elements.{All-append, All-weaker}
 use Rattle.std.proofs.lemmas.Int.{ints}
@@ -27,7 +27,7 @@ pub seated_reservation : (views after : List (List Record)) (number left n : ℕ
     → high ≤ℤ (own_of views).mark → n ≤ (own_of views).left
     → now ≡ (after_reservation (own_of views) high n).floor → IsSeated after number (left - n) now
 seated_reservation views after number left n was high now seated is le within floor =
-    grind (arith, common_steps, All-weaker, ints, known-more, All-append, all_one, credit-reserved)
+    grind (arith, common_steps, All-weaker, ints, known-more, All-append, all_one, quota-reserved)
 
 -- the same, from what the code's step says
 pub of_stepped : (shared : Shared) (r : Reserver) (views after : List (List Record))
@@ -37,11 +37,11 @@ pub of_stepped : (shared : Shared) (r : Reserver) (views after : List (List Reco
     → after ≡ (after_reservation (own_of views) high n ∷ []) ∷ []
     → IsOf shared (record { word = now; own = own_of after })
 of_stepped shared r views after number left n high floor was now view seated of within same gains =
-    search (rules, credit-reserved, seated.left_is, view, gains)
+    search (rules, quota-reserved, seated.left_is, view, gains)
 
 pub of_met : (shared : Shared) (r met after : Reserver) → IsOf shared r → after
     ≡ record r { own = after_meeting r.own met.own } → IsOf shared after
-of_met shared r met after of is = search (rules, credit-met)
+of_met shared r met after of is = search (rules, quota-met)
 
 -- what a reserver was given before, and then what the reply lists
 pub given_now : (views after : List (List Record)) (old : Reserver) (word : TableId)

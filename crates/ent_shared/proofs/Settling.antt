@@ -155,7 +155,7 @@ floor_of_all start at log [] all = refl
 floor_of_all start at log (r ∷ records) all =
     let kept = All-head (IsKept start at log) r records all in
     let rest = floor_of_all start at log records (All-tail (IsKept start at log) r records all) in
-    (λ i. int_min (kept.credit.floor i) (rest i))
+    (λ i. int_min (kept.quota.floor i) (rest i))
     ∙ sym (floor-append start (own_reservations r.entries)
     (flat_map (λ (x : Record). own_reservations x.entries) records))
 

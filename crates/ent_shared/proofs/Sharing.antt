@@ -10,7 +10,7 @@ use Rattle.atomic_table.specs.Table.{Me}
 use Rattle.ent_handle.specs.Handle.{handle_cmp}
 use Rattle.ent_alloc.specs.Sequential.{Allocator, cursor}
 use Rattle.ent_shared.specs.declared.record.Record.{Record}
-use Rattle.ent_alloc.specs.Limits.{credit}
+use Rattle.ent_alloc.specs.Limits.{quota}
 use Rattle.ent_shared.specs.Record.{opened, opened_records}
 use Rattle.ent_shared.specs.Phase.{Reserver, IsOf, own_of, IsSeated}
 
@@ -52,7 +52,7 @@ module _ (start : Allocator) (n number : ℕ) (word seat : TableId) (made : List
   next_is = ap (λ (m : Me (Unit {0}) (List Record)). m.0) d.left ∙ opened-first start number n below
 
   pub next_seated : (views : List (List Record)) (floor : ℤ) → views ≡ take 1 me.0 ∷ [] → floor
-      ≡ cursor start → IsSeated views number credit floor
+      ≡ cursor start → IsSeated views number quota floor
   next_seated views floor is at = search (rules, next_is)
 
   pub shared_more : (later : TableId) (after : Me (Unit {0}) (List Record)) (r : Reserver) → later

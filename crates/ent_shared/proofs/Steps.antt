@@ -18,7 +18,7 @@ use Rattle.ent_shared.specs.Seats.{GoesByRecords}
 use Rattle.ent_shared.proofs.Weighing.{all_one, sum_at, all_at}
 use Rattle.ent_shared.proofs.Regrouping.{sum_regrouped, length-regrouped, all_regrouped}
 use Rattle.ent_shared.proofs.Moving.{splits}
-use Rattle.ent_alloc.specs.Limits.{credit}
+use Rattle.ent_alloc.specs.Limits.{quota}
 use Rattle.ent_alloc.specs.Sequential.{Allocator, cursor}
 use Rattle.ent_shared.specs.declared.record.Reservation.{Reservation}
 use Rattle.ent_shared.specs.declared.record.Record.{Record}
@@ -55,8 +55,8 @@ module _ (start : Allocator) (count : ℕ) where
       let mine = all_at (All (IsKept start high log)) s.views id (r ∷ []) at k.each in
       let kept : IsKept start high log r = mine 0 r (omega arith) in
       let mark = kept.marks.mark in
-      let sum = kept.credit.credit in
-      let small : n ≤ credit = omega arith in
+      let sum = kept.quota.quota in
+      let small : n ≤ quota = omega arith in
       let least = word_least start count s k in
       let greatest = word_greatest start count s k in
       let next : (get_or s.words 0 0 + (2 ^ 64 - n)) % 2 ^ 64 ≡ word - n =

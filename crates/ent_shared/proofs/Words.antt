@@ -11,7 +11,7 @@ use lib.IntN.{nat_abs}
 use mir.Syntax.{w64}
 use mir.Val.{SFits, to_z, of_z}
 use Rattle.atomic_table.specs.Table.{State}
-use Rattle.ent_alloc.specs.Limits.{credit}
+use Rattle.ent_alloc.specs.Limits.{quota}
 use Rattle.ent_alloc.specs.Sequential.{Allocator}
 use Rattle.ent_shared.specs.declared.record.Reservation.{Reservation}
 use Rattle.ent_shared.specs.declared.record.Record.{Record}
@@ -55,14 +55,14 @@ unfolding offset
 word_is at top few is = omega (arith, ints)
 
 -- what a reservation leaves of the word
-pub lowered : (word n : ℕ) → offset ≤ word + 2 ^ 50 → word < offset + 2 ^ 32 → n ≤ credit
+pub lowered : (word n : ℕ) → offset ≤ word + 2 ^ 50 → word < offset + 2 ^ 32 → n ≤ quota
     → (word + (2 ^ 64 - n)) % 2 ^ 64 ≡ word - n
-unfolding offset credit
+unfolding offset quota
 lowered word n least greatest within = omega arith
 
-pub lowered_cursor : (word n : ℕ) → offset ≤ word + 2 ^ 50 → n ≤ credit → cursor_of (word - n)
+pub lowered_cursor : (word n : ℕ) → offset ≤ word + 2 ^ 50 → n ≤ quota → cursor_of (word - n)
     ≡ cursor_of word -ℤ pos n
-unfolding offset credit
+unfolding offset quota
 lowered_cursor word n least within = omega (arith, ints)
 
 module _ {X : Type 0} where
@@ -74,9 +74,9 @@ module _ {X : Type 0} where
       let rest = sum_parts f g h m xs (λ i d lt. all (suc i) d (omega arith)) in
       search (rules, add-mul, sum_by-cons, all 0 x (omega arith))
 
--- the credit of all reservers is no more than this
-pub few_asked : (n count : ℕ) → n ≤ count * credit → count ≤ 1024 → n ≤ 2 ^ 50
-unfolding credit
+-- the quota of all reservers is no more than this
+pub few_asked : (n count : ℕ) → n ≤ count * quota → count ≤ 1024 → n ≤ 2 ^ 50
+unfolding quota
 few_asked n count le few = omega arith
 
 -- how many of a seat's records have this number
@@ -94,26 +94,26 @@ module _ (start : Allocator) (count : ℕ) where
   abbrev Rule : St → Type 0
   Rule = IsRuled start count
 
-  -- what the records of a seat have left and what they have requested is their credit
-  view_credit : (at : ℤ) (log : List Reservation) (view : List Record)
-      → All (IsKept start at log) view → left_of view + weigh requested view ≡ length view * credit
-  view_credit at log [] all = omega arith
-  view_credit at log (r ∷ view) all =
-      let here = (all 0 r (omega arith)).credit.credit in
-      let rest = view_credit at log view (λ i d lt. all (suc i) d (omega arith)) in
+  -- what the records of a seat have left and what they have requested is their quota
+  view_quota : (at : ℤ) (log : List Reservation) (view : List Record)
+      → All (IsKept start at log) view → left_of view + weigh requested view ≡ length view * quota
+  view_quota at log [] all = omega arith
+  view_quota at log (r ∷ view) all =
+      let here = (all 0 r (omega arith)).quota.quota in
+      let rest = view_quota at log view (λ i d lt. all (suc i) d (omega arith)) in
       search (rules, sum_by-cons, suc-mul)
 
   -- and so it is with the records of all seats
-  pub all_credit : (s : St) (k : Rule s) → sum_by left_of s.views + sum_by requested k.spans.log
-      ≡ count * credit
-  all_credit s k =
+  pub all_quota : (s : St) (k : Rule s) → sum_by left_of s.views + sum_by requested k.spans.log
+      ≡ count * quota
+  all_quota s k =
       let each = All-weaker (All (IsKept start (cursor_of k.word) k.spans.log))
-      (λ (v : List Record). left_of v + weigh requested v ≡ length v * credit)
-      (view_credit (cursor_of k.word) k.spans.log) s.views k.each in
+      (λ (v : List Record). left_of v + weigh requested v ≡ length v * quota)
+      (view_quota (cursor_of k.word) k.spans.log) s.views k.each in
       grind (arith, common_steps, sum_parts)
 
-  all_asked : (s : St) (k : Rule s) → sum_by requested k.spans.log ≤ count * credit
-  all_asked s k = let all = all_credit s k in omega arith
+  all_asked : (s : St) (k : Rule s) → sum_by requested k.spans.log ≤ count * quota
+  all_asked s k = let all = all_quota s k in omega arith
 
   pub word_least : (s : St) (k : Rule s) → offset ≤ k.word + 2 ^ 50
   word_least s k =

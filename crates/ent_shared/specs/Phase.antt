@@ -7,7 +7,7 @@ use Rattle.std.specs.FinMap as maps
 use Rattle.atomic_table.specs.Seated.{TableId, table_id_coded}
 use Rattle.ent_handle.specs.Handle.{handle_cmp, handle_code}
 use Rattle.ent_alloc.specs.Entities.{Entities}
-use Rattle.ent_alloc.specs.Limits.{credit}
+use Rattle.ent_alloc.specs.Limits.{quota}
 use Rattle.ent_alloc.specs.Sequential.{Allocator, allocator_code, opening}
 use Rattle.ent_alloc.specs.Sound.{IsSound}
 use Rattle.ent_shared.specs.contracts.record.Record as recorded
@@ -53,8 +53,8 @@ pub record IsOf (shared : Shared) (r : Reserver) : Type 0 where
   pub word : r.word ≡ shared.word
   pub start : r.own.start ≡ shared.start
   pub number : r.own.number < shared.count
-  -- the credit adds up: what is left and what it has requested
-  pub credit : r.own.left + requested_by r.own ≡ credit
+  -- the quota adds up: what is left and what it has requested
+  pub quota : r.own.left + requested_by r.own ≡ quota
 
 -- no reserver's record
 abbrev pub blank : Record
@@ -84,7 +84,7 @@ pub record IsSeated (views : List (List Record)) (number left : ℕ) (floor : �
   pub left_is : left ≡ (own_of views).left
   pub floor_is : floor ≡ (own_of views).floor
   pub below : IsBelow (own_of views).mark (own_of views).entries
-  pub credit : (own_of views).left + requested_by (own_of views) ≡ credit
+  pub quota : (own_of views).left + requested_by (own_of views) ≡ quota
 
 -- the allocator and its rows lie unchanged beside the word
 pub record IsPhase (entities : Entities) (count : ℕ) (key : Opening) (word : TableId)

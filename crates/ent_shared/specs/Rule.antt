@@ -4,7 +4,7 @@ use Rattle.std.specs.Prelude.{All, Contains, length, nat_le, if◌then◌else◌
 use Rattle.std.specs.List.{sum_by}
 use Rattle.std.specs.Int.{int_min}
 use Rattle.atomic_table.specs.Table.{State, Me}
-use Rattle.ent_alloc.specs.Limits.{credit}
+use Rattle.ent_alloc.specs.Limits.{quota}
 use Rattle.ent_alloc.specs.Sequential.{Allocator, cursor, top, pool_at, reply_from}
 use Rattle.ent_shared.specs.declared.record.Reservation.{Reservation}
 use Rattle.ent_shared.specs.declared.record.RecordEntry.{RecordEntry}
@@ -55,9 +55,9 @@ abbrev pub least_floor : ℤ → List Record → ℤ
 least_floor high [] = high
 least_floor high (r ∷ rs) = int_min r.floor (least_floor high rs)
 
--- The credit adds up: what is left and what was requested.
-pub record CreditAddsUp (start : Allocator) (r : Record) : Type 0 where
-  pub credit : r.left + requested_by r ≡ credit
+-- The quota adds up: what is left and what was requested.
+pub record QuotaAddsUp (start : Allocator) (r : Record) : Type 0 where
+  pub quota : r.left + requested_by r ≡ quota
   pub floor : r.floor ≡ floor_of start (own_reservations r.entries)
 
 -- each own reservation begins at or below the end of every reservation of which an earlier entry
@@ -80,7 +80,7 @@ pub record MarksInOrder (at : ℤ) (log : List Reservation) (r : Record) : Type 
 pub record IsKept (start : Allocator) (at : ℤ) (log : List Reservation) (r : Record) : Type 0 where
   pub start_is : r.start ≡ start
   pub caller : All (λ (c : Reservation). c.caller ≡ r.number) (own_reservations r.entries)
-  pub credit : CreditAddsUp start r
+  pub quota : QuotaAddsUp start r
   pub marks : MarksInOrder at log r
 
 -- nothing was requested, and the top keeps the word in its range
@@ -123,5 +123,5 @@ pub record IsClosed (start : Allocator) (count : ℕ) (records : List Record) (a
   pub numbers : (k : ℕ) → count_by (λ (r : Record). r.number == k) records ≤ 1
   pub some : (f : Reservation → ℕ) → weigh f records ≤ sum_by f log
   pub all : length records ≡ count → (f : Reservation → ℕ) → weigh f records ≡ sum_by f log
-  pub credit : sum_by (λ (r : Record). r.left) records
-      + sum_by (λ (c : Reservation). c.requested) log ≤ count * credit
+  pub quota : sum_by (λ (r : Record). r.left) records
+      + sum_by (λ (c : Reservation). c.requested) log ≤ count * quota

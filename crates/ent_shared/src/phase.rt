@@ -13,7 +13,7 @@ use ent_handle::Memory;
 use std::alloc::Global;
 
 /// Shares a flushed allocator among `n` reservers, 1 to 1,024, each of which may request
-/// [`CREDIT`](ent_alloc::CREDIT) handles. Bevy has no such limits; they are this project's own.
+/// [`QUOTA`](ent_alloc::QUOTA) handles. Bevy has no such limits; they are this project's own.
 ///
 /// # Errors
 ///

@@ -2,10 +2,10 @@ ghost use Rattle.std.specs.Prelude.{◌≡◌};
 
 use crate::record::Record;
 use crate::seats::RecordsBadge;
-use ent_alloc::CREDIT;
+use ent_alloc::QUOTA;
 use std::marker::Model;
 
-/// The right of one caller to reserve from a shared allocator, and what is left of its credit.
+/// The right of one caller to reserve from a shared allocator, and what is left of its quota.
 ///
 /// [`share`](crate::share) makes them, and [`Shared::close`](crate::Shared::close) takes them back.
 /// A caller that reserves in a thread of its own takes one along.
@@ -31,18 +31,18 @@ impl Model for Reserver {
 
 impl Reserver {
     ghost use Rattle.std.specs.Prelude.{◌≡◌, ◌+◌};
-    ghost use Rattle.ent_alloc.specs.Limits.{credit};
+    ghost use Rattle.ent_alloc.specs.Limits.{quota};
     ghost use Rattle.ent_shared.specs.Record.{requested_by};
     ghost use Rattle.ent_shared.specs.Phase.{own_of, IsSeated};
 
     pub(crate) fn new(badge: RecordsBadge<Record>, number: usize, floor: i64) -> Self
-        requires { IsSeated badge.views number credit floor }
+        requires { IsSeated badge.views number quota floor }
         ensures { result ≡ record { word = badge.table_id; own = own_of badge.views } }
     {
         Reserver {
             badge,
             number,
-            left: CREDIT,
+            left: QUOTA,
             floor,
         }
     }
@@ -54,11 +54,11 @@ impl Reserver {
         self.number
     }
 
-    /// How many handles it may still request in this phase: [`CREDIT`] less what it has requested,
+    /// How many handles it may still request in this phase: [`QUOTA`] less what it has requested,
     /// served or not.
     pub fn left(&self) -> u64
         ensures left { result ≡ self.now.own.left }
-        ensures credit { result + requested_by self.now.own ≡ credit }
+        ensures quota { result + requested_by self.now.own ≡ quota }
     {
         self.left
     }

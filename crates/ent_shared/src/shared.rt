@@ -4,7 +4,7 @@ ghost use Rattle.std.specs.Prelude.{Ok, Err, IfOk, OnOk, OnErr, OnSome, IsTrue, 
 ghost use Rattle.std.specs.FinSet as set;
 ghost use Rattle.std.specs.FinMap as map;
 ghost use Rattle.ent_handle.specs.Handle.{Handle as HandleValue};
-ghost use Rattle.ent_alloc.specs.Limits.{credit};
+ghost use Rattle.ent_alloc.specs.Limits.{quota};
 ghost use Rattle.ent_alloc.specs.Sequential.{cursor, after_flush};
 ghost use Rattle.ent_alloc.specs.History.{IsLegal, after_history, given_in};
 ghost use Rattle.ent_alloc.specs.Sound.{IsLive};
@@ -132,8 +132,8 @@ impl Shared {
     ///
     /// # Errors
     ///
-    /// - [`Refused::Quota`] if no credit is left. Nothing has changed.
-    /// - [`Refused::Space`] if the pool is empty. The request is taken from the credit all the
+    /// - [`Refused::Quota`] if no quota is left. Nothing has changed.
+    /// - [`Refused::Space`] if the pool is empty. The request is taken from the quota all the
     ///   same.
     pub fn reserve(&self, reserver: &mut Reserver) -> Result<Handle, Refused>
         requires { IsOf self.now reserver.old }
@@ -167,9 +167,9 @@ impl Shared {
     ///
     /// # Errors
     ///
-    /// - [`Refused::Quota`] if `n` is above the credit that is left. Nothing has changed.
+    /// - [`Refused::Quota`] if `n` is above the quota that is left. Nothing has changed.
     /// - [`Refused::Space`] if the pool has fewer than `n` handles. The request is taken from the
-    ///   credit all the same, and the pool gives no more until the next flush.
+    ///   quota all the same, and the pool gives no more until the next flush.
     pub fn reserve_many(&self, reserver: &mut Reserver, n: u32) -> Result<Reserved<'_>, Refused>
         requires { IsOf self.now reserver.old }
         ensures stays { IsOf self.now reserver.new }
@@ -276,11 +276,11 @@ impl Shared {
         ensures rows_of_living { HasRowsOfLiving result }
 
         // It counts what the reservers that are here have requested, and of the others no more than
-        // their credit.
+        // their quota.
         ensures least { sum_by (λ r. requested_by r.own) reservers.items
             ≤ result.allocator.asked }
         ensures most { sum_by (λ r. r.own.left) reservers.items + result.allocator.asked
-            ≤ self.count * credit }
+            ≤ self.count * quota }
         ensures reached { All (λ r. cursor result.allocator ≤ℤ r.own.mark) reservers.items }
 
         // If all are here, it counts what they have requested, and the cursor is where `close`

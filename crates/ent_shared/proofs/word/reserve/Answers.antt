@@ -14,7 +14,7 @@ fetch_sub-found-requires c = (
   search rules,
   search rules,
   reserves_at _ _ _ _ _ _ _ _ (seat c) c.into_seat-seat.ensures.3 c.into.ensures c.requires.some
-      c.requires.credit,
+      c.requires.quota,
 )
 
 -- what the step tells

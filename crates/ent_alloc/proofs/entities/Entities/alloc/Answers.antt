@@ -51,7 +51,7 @@ made c rest room =
     (ap length c.in_default.ensures.none) room (search (rules, c.in_ok-make_one.ensures.first))
     c.make_one.new.self (c.in_ok-make_one.ensures.ok ∙ ap (λ (x : Roster). made_roster x h) same)
 
--- want of memory is no want of slots
+-- lack of memory is no lack of slots
 not_space : (result : Result Handle AllocFault) → IsErrAnd result (λ e. e ≡ Memory)
     → IsErrOf result Space → ⊥
 not_space (Ok h) is same = is

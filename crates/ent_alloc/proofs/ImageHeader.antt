@@ -1,0 +1,114 @@
+-- What stands before the slots of an image, byte by byte.
+use Rattle.std.proofs.Common.{rules, ◌≡◌, ◌≢◌, refl, sym, ap, ◌∙◌, ℕ, ◌^◌, ◌<◌, List, []}
+use Rattle.std.proofs.Common.{◌++◌, length, arith}
+use Rattle.std.specs.Int.{w64, from_le_bytes}
+use Rattle.std.proofs.lemmas.Nat.{from_le_bytes-to_le_bytes_8}
+use Rattle.std.proofs.lemmas.List.{length-append, append_assoc}
+use Rattle.ent_alloc.specs.Image.{word, long, magic, version, numbers_bytes, header_bytes}
+use Rattle.ent_alloc.specs.ImageRecords.{AreNumbers}
+use Rattle.ent_alloc.specs.declared.image.Header.{Header}
+use Rattle.ent_alloc.proofs.ImageWords.{length-word, same_words, same_parts}
+
+pub length-long : (n : ℕ) → length (long n) ≡ 8
+unfolding long
+length-long n = refl
+
+from_long : (n : ℕ) → n < 2 ^ 64 → from_le_bytes w64 (long n) ≡ n
+unfolding long
+from_long n h = from_le_bytes-to_le_bytes_8 n h
+
+pub same_long : (m n : ℕ) → m < 2 ^ 64 → n < 2 ^ 64 → long m ≡ long n → m ≡ n
+same_long m n hm hn same = sym (from_long m hm) ∙ ap (from_le_bytes w64) same ∙ from_long n hn
+
+pub same_longs : (m n : ℕ) (xs ys : List ℕ) → m < 2 ^ 64 → n < 2 ^ 64 → long m ++ xs ≡ long n ++ ys
+    → (m ≡ n) × (xs ≡ ys)
+same_longs m n xs ys hm hn same =
+    let parts = same_parts 8 (long m) xs (long n) ys (length-long m) (length-long n) same in
+    (same_long m n hm hn parts.0, parts.1)
+
+-- the letters as a number
+abbrev pub letters : ℕ
+letters = 20633732756164422
+
+pub letters_are : long letters ≡ magic
+unfolding long
+letters_are = refl
+
+pub length-numbers_bytes : (h : Header) → length (numbers_bytes h) ≡ 28
+unfolding numbers_bytes
+length-numbers_bytes h = search (rules, length-append, length-word, length-long)
+
+pub length-header_bytes : (h : Header) → length (header_bytes h) ≡ 40
+unfolding header_bytes
+length-header_bytes h = search (rules, length-append, length-word, length-numbers_bytes)
+
+-- the header, number by number
+pub header_is : (h : Header) → header_bytes h ≡ long letters ++ (word version ++ numbers_bytes h)
+unfolding header_bytes
+header_is h = ap (λ ms. ms ++ (word version ++ numbers_bytes h)) (sym letters_are)
+
+pub header_then : (h : Header) (rest : List ℕ) → header_bytes h ++ rest
+    ≡ long letters ++ (word version ++ (numbers_bytes h ++ rest))
+header_then h rest = ap (◌++ rest) (header_is h)
+    ∙ append_assoc (long letters) (word version ++ numbers_bytes h) rest
+    ∙ ap (long letters ++◌) (append_assoc (word version) (numbers_bytes h) rest)
+
+pub numbers_then : (h : Header) (rest : List ℕ) → numbers_bytes h ++ rest ≡ word h.slots
+    ++ (word h.generations ++ (word h.made ++ (word h.waiting ++ (word h.reserved
+    ++ (long h.asked ++ rest)))))
+unfolding numbers_bytes
+numbers_then h rest = search (rules, append_assoc)
+
+-- headers that are spelled alike are one
+pub same_header : (h k : Header) (xs ys : List ℕ) → AreNumbers h → AreNumbers k
+    → header_bytes h ++ xs ≡ header_bytes k ++ ys → (h ≡ k) × (xs ≡ ys)
+same_header h k xs ys is_h is_k same =
+    let cut = same_parts 40 (header_bytes h) xs (header_bytes k) ys (length-header_bytes h)
+    (length-header_bytes k) same in
+    let spelled = sym (header_then h []) ∙ ap (◌++ []) cut.0 ∙ header_then k [] in
+    let first = same_longs letters letters _ _ (omega arith) (omega arith) spelled in
+    let second = same_words version version _ _ (omega arith) (omega arith) first.1 in
+    let numbers = sym (numbers_then h []) ∙ second.1 ∙ numbers_then k [] in
+    let slots = same_words h.slots k.slots _ _ is_h.slots is_k.slots numbers in
+    let generations =
+    same_words h.generations k.generations _ _ is_h.generations is_k.generations slots.1 in
+    let made = same_words h.made k.made _ _ is_h.made is_k.made generations.1 in
+    let waiting = same_words h.waiting k.waiting _ _ is_h.waiting is_k.waiting made.1 in
+    let reserved = same_words h.reserved k.reserved _ _ is_h.reserved is_k.reserved waiting.1 in
+    let asked = same_longs h.asked k.asked _ _ is_h.asked is_k.asked reserved.1 in (
+      λ i. record {
+        slots = slots.0 i;
+        generations = generations.0 i;
+        made = made.0 i;
+        waiting = waiting.0 i;
+        reserved = reserved.0 i;
+        asked = asked.0 i;
+      },
+      cut.1,
+    )
+
+-- ---- what is no header
+
+pub too_short : (bytes : List ℕ) → length bytes < 40 → (h : Header) (rest : List ℕ) → bytes
+    ≢ header_bytes h ++ rest
+too_short bytes short h rest same =
+    let long = ap length same ∙ length-append (header_bytes h) rest in
+    omega (arith, long, length-header_bytes h)
+
+pub other_magic : (number : ℕ) (bytes : List ℕ) → number < 2 ^ 64 → number ≢ letters
+    → (h : Header) (rest : List ℕ) → long number ++ bytes ≢ header_bytes h ++ rest
+other_magic number bytes below other h rest same =
+    other (same_longs number letters _ _ below (omega arith) (same ∙ header_then h rest)).0
+
+pub other_version : (number : ℕ) (bytes : List ℕ) → number < 2 ^ 32 → number ≢ version
+    → (h : Header) (rest : List ℕ) → long letters ++ (word number ++ bytes) ≢ header_bytes h ++ rest
+other_version number bytes below other h rest same =
+    let after = same_longs letters letters _ _ (omega arith) (omega arith)
+    (same ∙ header_then h rest) in
+    other (same_words number version _ _ below (omega arith) after.1).0
+
+-- ---- parts that are appended one by one
+
+pub appended_8 : (o a b c d e f g h : List ℕ) → o ++ a ++ b ++ c ++ d ++ e ++ f ++ g ++ h ≡ o
+    ++ (a ++ (b ++ (c ++ (d ++ (e ++ (f ++ (g ++ h)))))))
+appended_8 o a b c d e f g h = search (rules, append_assoc)

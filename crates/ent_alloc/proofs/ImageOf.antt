@@ -1,0 +1,209 @@
+-- The image of a sound allocator: its numbers fit, it tells the allocator, and that of what was read
+-- is what was read.
+use Rattle.std.proofs.Common.{◌≡◌, ◌≢◌, refl, sym, ap, ◌∙◌, subst, ℕ, ◌+◌, ◌-◌, ◌*◌, ◌<◌}
+use Rattle.std.proofs.Common.{◌≤◌, List, ◌++◌, length, take, drop, filter, arith, Ok, Err, Result}
+use Rattle.std.proofs.Common.{IfOk, IfErr, IsErrAnd, ◌⊎◌, inl, inr}
+use Rattle.ent_alloc.specs.declared.image_fault.ImageFault.{ImageFault}
+use Rattle.ent_alloc.specs.declared.image_fault.ImageFault.TheVariants.{Magic, Version, Limits, Counts}
+use Rattle.ent_alloc.specs.declared.image_fault.ImageFault.TheVariants.{Length, Requests, Slot}
+use Rattle.ent_alloc.specs.declared.image_fault.ImageFault.TheVariants.{Position, Memory}
+use Rattle.std.proofs.lemmas.Grind.{common_steps}
+use Rattle.std.proofs.lemmas.List.{length-append, length-reverse, length-drop, length-take-le}
+use Rattle.ent_alloc.specs.Roster.{Roster}
+use Rattle.ent_alloc.specs.Sequential.{Allocator, available, top, is_old}
+use Rattle.ent_alloc.specs.Sound.{IsSound}
+use Rattle.ent_alloc.specs.Entities.{Entities, idle, allocator_of, entities_of, AreReserved}
+use Rattle.ent_alloc.specs.Image.{slot, slot_bytes, slots_bytes, AreSlots, HasImage, roster, header}
+use Rattle.ent_alloc.specs.Image.{header_bytes, image}
+use Rattle.ent_alloc.specs.ImageRecords.{AreServed, AreNumbers}
+use Rattle.ent_alloc.specs.declared.image.Header.{Header}
+use Rattle.ent_alloc.proofs.PoolLaw.{length-taken}
+use Rattle.ent_alloc.proofs.Meaning.{length-idle, top_is}
+use Rattle.ent_alloc.proofs.Settled.{settled-sound}
+use Rattle.ent_alloc.proofs.MeaningOfRequests.{settled_is}
+use Rattle.ent_alloc.proofs.ImageWords.{length-slot_bytes, length-pieces, piece, same_slot}
+use Rattle.ent_alloc.proofs.ImageSlots.{few, small, same_roster}
+use Rattle.ent_alloc.proofs.ImageSound.{roster_slots, idle_is, same_entities, slots_sound, roster_is}
+use Rattle.ent_alloc.proofs.ImageHeader.{same_header}
+
+-- ---- slots
+
+pub length-slots_bytes : (r : Roster) → length (slots_bytes r) ≡ 12 * r.made
+unfolding slots_bytes
+length-slots_bytes r = length-pieces (λ index. slot_bytes (slot r index)) 12
+    (λ index. length-slot_bytes (slot r index)) 0 r.made
+
+slot_in : (r : Roster) (index : ℕ) → index < r.made
+    → take 12 (drop (12 * index) (slots_bytes r)) ≡ slot_bytes (slot r index)
+unfolding slots_bytes
+slot_in r index lt =
+    let at : 0 + index ≡ index = omega arith in
+    piece (λ index. slot_bytes (slot r index)) 12 (λ index. length-slot_bytes (slot r index)) 0
+    r.made index lt ∙ ap (λ k. slot_bytes (slot r k)) at
+
+-- slots with one image are the same
+same_slots : (r q : Roster) → AreSlots r → AreSlots q → r.limits ≡ q.limits → r.made ≡ q.made
+    → length r.pending ≡ length q.pending → slots_bytes r ≡ slots_bytes q → r ≡ q
+same_slots r q is_r is_q limits made long same =
+    same_roster r q is_r is_q limits made long (λ index lt.
+    same_slot (slot r index) (slot q index) (small r is_r index) (small q is_q index)
+    (sym (slot_in r index lt) ∙ ap (λ bytes. take 12 (drop (12 * index) bytes)) same
+    ∙ slot_in q index (omega arith)))
+
+-- ---- an allocator with its image
+
+module _ (e : Entities) (has : HasImage e) where
+  abbrev s : Allocator
+  s = e.allocator
+
+  pub top_as : length (roster e).pending ≡ top s
+  top_as = length-reverse (filter (is_old s.made) (available s))
+
+  pub few_wait : top s ≤ s.made
+  few_wait = let most = few (roster e) (roster_slots e has) in omega (arith, top_as)
+
+  long_available : length (available s) ≡ top s + (s.limits.slots - s.made)
+  long_available =
+      let idle_long = ap length (idle_is e has) in
+      let counted = length-idle (roster e) in
+      omega (arith, top_as)
+
+  -- how many were requested, and how many of them are reserved
+  pub served : AreServed s.asked (length s.taken) (top s + (s.limits.slots - s.made))
+  served =
+      let all = length-append s.taken (s.aside ++ s.pool) in
+      let rest = length-append s.aside s.pool in
+      let pool = ap length has.sound.pool ∙ length-drop s.asked (available s) in
+      let long = long_available in
+      record {
+        asked_in = has.asked;
+        least = omega arith;
+        within = omega arith;
+        all = λ enough. length-taken s has.sound (omega arith);
+      }
+
+  pub numbers_fit : AreNumbers (header e)
+  numbers_fit =
+      let limits = has.sound.limits in
+      let made = has.sound.made in
+      let requests = served in
+      record {
+        slots = limits.slots;
+        generations = omega (arith, limits.generations);
+        made = omega (arith, limits.slots);
+        waiting = omega (arith, limits.slots, few_wait);
+        reserved = omega (arith, limits.slots, requests.within, few_wait);
+        asked = omega (arith, has.asked);
+      }
+
+-- what the bytes begin with, if they are its image
+pub told : (e : Entities) (h : Header) (rest : List ℕ) → HasImage e → AreNumbers h
+    → image e ≡ header_bytes h ++ rest → (header e ≡ h) × (slots_bytes (roster e) ≡ rest)
+told e h rest has fits same = same_header (header e) h _ rest (numbers_fit e has) fits same
+
+-- an image tells the allocator
+pub same_image : (d e : Entities) → HasImage d → HasImage e → image d ≡ image e → d ≡ e
+same_image d e is_d is_e same =
+    let parts = same_header (header d) (header e) (slots_bytes (roster d)) (slots_bytes (roster e))
+    (numbers_fit d is_d) (numbers_fit e is_e) same in
+    let numbers = parts.0 in
+    let slots = same_slots (roster d) (roster e) (roster_slots d is_d) (roster_slots e is_e)
+    (λ i. record { slots = (numbers i).slots; generations = (numbers i).generations })
+    (ap (λ (h : Header). h.made) numbers)
+    (top_as d is_d ∙ ap (λ (h : Header). h.waiting) numbers ∙ sym (top_as e is_e)) parts.1 in
+    same_entities d e is_d is_e slots (ap (λ (h : Header). h.asked) numbers)
+    (ap (λ (h : Header). h.reserved) numbers)
+
+-- ---- slots and requests that were read
+
+-- their numbers
+abbrev pub numbers : Roster → ℕ → ℕ → Header
+numbers r asked given = record {
+  slots = r.limits.slots;
+  generations = r.limits.generations;
+  made = r.made;
+  waiting = length r.pending;
+  reserved = given;
+  asked = asked;
+}
+
+module _ (r : Roster) (asked given : ℕ) (are : AreSlots r)
+    (requests : AreServed asked given (length r.pending + (r.limits.slots - r.made))) where
+  pub reserved_are : AreReserved r asked given
+  reserved_are =
+      let rest = slots_sound r are in
+      let long = length-idle r in
+      record {
+        sound = subst IsSound (sym (settled_is r asked given)) (settled-sound (allocator_of r 0 0)
+            rest refl given asked requests.least (λ enough. requests.all (omega arith)));
+        asked_in = requests.asked_in;
+        given_in = requests.within;
+        given_least = requests.least;
+        given_all = requests.all;
+        rows = are.rows_of_living;
+      }
+
+module _ (r : Roster) (asked given : ℕ) (are : AreSlots r) (reserved : AreReserved r asked given)
+  where
+    pub has_image : HasImage (entities_of r asked given)
+    has_image = record {
+      sound = reserved.sound;
+      rows_of_living = are.rows_of_living;
+      rows = are.rows;
+      asked = reserved.asked_in;
+    }
+
+    pub image_is : image (entities_of r asked given)
+        ≡ header_bytes (numbers r asked given) ++ slots_bytes r
+    image_is =
+        let waits = top_is r asked given reserved.given_least reserved.sound in
+        let given_is = length-take-le given (idle r)
+        (let all = length-idle r in omega (arith, reserved.given_in)) in
+        let slots = roster_is r asked given reserved in
+        λ i. header_bytes (record {
+          slots = r.limits.slots;
+          generations = r.limits.generations;
+          made = r.made;
+          waiting = waits i;
+          reserved = given_is i;
+          asked = asked;
+        }) ++ slots_bytes (slots i)
+
+-- ---- what reading returns
+
+-- a fault that is handed on
+pub handed_on : {T : Type 0} (result : Result T ImageFault) (fault : ImageFault)
+    (P : ImageFault → Type 0) → IsErrAnd result (λ y. y ≡ fault) → P fault → IfErr result P
+handed_on (Ok x) fault P is holds = tt
+handed_on (Err y) fault P is holds = subst P (sym is) holds
+
+memory_or_not : (fault : ImageFault) → (fault ≡ Memory) ⊎ (fault ≢ Memory)
+memory_or_not Memory = inl refl
+memory_or_not Magic = inr (λ is. grind (arith, common_steps))
+memory_or_not (Version version) = inr (λ is. grind (arith, common_steps))
+memory_or_not Limits = inr (λ is. grind (arith, common_steps))
+memory_or_not Counts = inr (λ is. grind (arith, common_steps))
+memory_or_not (Length expected) = inr (λ is. grind (arith, common_steps))
+memory_or_not Requests = inr (λ is. grind (arith, common_steps))
+memory_or_not (Slot index) = inr (λ is. grind (arith, common_steps))
+memory_or_not (Position position) = inr (λ is. grind (arith, common_steps))
+
+-- what is read of an image is its allocator
+pub exact : (bytes : List ℕ) (result : Result Entities ImageFault)
+    → IfOk result (λ e. image e ≡ bytes) → IfOk result HasImage
+    → IfErr result (λ fault. fault ≢ Memory → (e : Entities) → HasImage e → image e ≢ bytes)
+    → (e : Entities) → HasImage e → image e ≡ bytes → (result ≡ Ok e) ⊎ (result ≡ Err Memory)
+exact bytes (Ok d) found has refused e is same =
+    inl (ap Ok (same_image d e has is (found ∙ sym same)))
+exact bytes (Err fault) found has refused e is same = elim (memory_or_not fault) [
+  | inl memory ↦ inr (ap Err memory)
+  | inr other ↦ absurd (refused other e is same)
+]
+
+-- and has what the allocator had
+pub kept_by_image : (P : Entities → Type 0) (bytes : List ℕ) (result : Result Entities ImageFault)
+    → IfOk result (λ e. image e ≡ bytes) → IfOk result HasImage
+    → (e : Entities) → HasImage e → image e ≡ bytes → P e → IfOk result P
+kept_by_image P bytes (Ok d) found has e is same holds =
+    subst P (sym (same_image d e has is (found ∙ sym same))) holds
+kept_by_image P bytes (Err fault) found has e is same holds = tt

@@ -1,0 +1,12 @@
+use Rattle.ent_alloc.proofs.ImageOf.{exact, kept_by_image}
+use Rattle.ent_alloc.specs.Spent.{AreSpent}
+use Rattle.ent_alloc.proofs.entities.Entities.read_image.Goals as goal
+
+pub returns-clause-exact : goal.returns-clause-exact
+returns-clause-exact c = exact c.args.bytes.now c.of_image.result c.of_image.ensures.found
+    c.of_image.ensures.has_image c.of_image.ensures.refused
+
+pub returns-clause-given_once : goal.returns-clause-given_once
+returns-clause-given_once c e given has same spent =
+    kept_by_image (λ r. AreSpent r.allocator given) c.args.bytes.now c.of_image.result
+    c.of_image.ensures.found c.of_image.ensures.has_image e has same spent

@@ -1,0 +1,67 @@
+ghost use Rattle.std.specs.Prelude.{◌≡◌};
+ghost use Rattle.ent_alloc.specs.declared.image_fault.ImageFault.TheVariants.{Memory as ImageMemory};
+
+use ent_handle::Memory;
+use std::alloc::AllocError;
+use thiserror::Error;
+
+/// Why bytes were not read as the image of an allocator: the first fault from the left.
+#[derive(Clone, Copy, Debug, PartialEq, Eq, Hash, Error)]
+pub enum ImageFault {
+    /// The bytes don't begin as an image does.
+    #[error("not an image of an allocator")]
+    Magic,
+    /// The image is of another version of the format.
+    #[error("version {version} is not known")]
+    Version {
+        /// The version that the image names.
+        version: u32,
+    },
+    /// The limits are none that an allocator may have.
+    #[error("limits out of range")]
+    Limits,
+    /// More slots were made than the limits allow, or more wait than were made.
+    #[error("more slots than there may be")]
+    Counts,
+    /// There are fewer bytes than an image of so many slots has, or more.
+    #[error("{expected} bytes expected")]
+    Length {
+        /// How many bytes the image has to have.
+        expected: u64,
+    },
+    /// So many handles can't be reserved where so many were asked for.
+    #[error("requests that can't have been made")]
+    Requests,
+    /// The slot is none that an allocator may have: a generation out of range, a word that names no
+    /// kind of slot, or a position that is past the last one or that another slot waits at.
+    #[error("slot {index} is damaged")]
+    Slot {
+        /// The index of the slot.
+        index: u32,
+    },
+    /// No slot waits at a position.
+    #[error("no slot waits at position {position}")]
+    Position {
+        /// The position, counted from that of the slot that is given last.
+        position: u32,
+    },
+    /// Out of memory.
+    #[error("out of memory")]
+    Memory,
+}
+
+impl From<AllocError> for ImageFault {
+    ghost from_gives = { λ _ fault. fault ≡ ImageMemory };
+
+    fn from(_refused: AllocError) -> Self {
+        ImageFault::Memory
+    }
+}
+
+impl From<Memory> for ImageFault {
+    ghost from_gives = { λ _ fault. fault ≡ ImageMemory };
+
+    fn from(_refused: Memory) -> Self {
+        ImageFault::Memory
+    }
+}
