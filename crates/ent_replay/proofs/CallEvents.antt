@@ -98,7 +98,7 @@ module _ (s : Allocator) (spent : FinMap nat_cmp ℕ) (calls : FinMap nat_cmp St
         (finite.insert calls caller (begun n))
     begin-consistent h n is small enough = record {
       sound = h.sound;
-      credit = search (rules, ℕ_discrete, get-inserted, get-insert_other);
+      quota = search (rules, ℕ_discrete, get-inserted, get-insert_other);
       asked =
           let before = h.asked in
           let waits = sum_below-changed (λ q. awaited (finite.get calls q))
@@ -200,7 +200,7 @@ module _ (s : Allocator) (spent : FinMap nat_cmp ℕ) (calls : FinMap nat_cmp St
           → AreConsistent (after_take s call.requested) spent (finite.insert calls caller stepped)
       step-consistent h waits = record {
         sound = after_take-sound s call.requested h.sound;
-        credit = h.credit;
+        quota = h.quota;
         asked =
             let before = h.asked in
             let all = sum_below-changed (λ q. awaited (finite.get calls q))
@@ -271,7 +271,7 @@ module _ (s : Allocator) (spent : FinMap nat_cmp ℕ) (calls : FinMap nat_cmp St
           → AreConsistent s spent (finite.remove calls caller)
       answer-consistent h span passed = record {
         sound = h.sound;
-        credit = h.credit;
+        quota = h.quota;
         asked =
             let before = h.asked in
             let all = sum_below-changed (λ q. awaited (finite.get calls q))

@@ -12,7 +12,7 @@ use Rattle.std.specs.FinMap.{FinMap, get-empty, len-empty, empty_of_len}
 use Rattle.std.proofs.lemmas.Bool.Decides.{nat_tests}
 use Rattle.std.proofs.lemmas.List.Sorted.{length_permutation}
 use Rattle.ent_handle.specs.Handle.{Handle}
-use Rattle.ent_alloc.specs.Limits.{credit}
+use Rattle.ent_alloc.specs.Limits.{quota}
 use Rattle.ent_alloc.specs.Sequential.{Allocator, top, next, born, after_alloc, after_free}
 use Rattle.ent_alloc.specs.Sequential.{after_flush}
 use Rattle.ent_alloc.specs.Sound.{IsSound}
@@ -70,7 +70,7 @@ module _ (s : Allocator) (spent : FinMap nat_cmp ℕ) (calls : FinMap nat_cmp St
       → IsSound t → t.asked ≡ s.asked → AreConsistent t spent calls
   quiet_played h none t sound same = record {
     sound = sound;
-    credit = h.credit;
+    quota = h.quota;
     asked = let before = h.asked in omega arith;
     requests = h.requests;
     spans = λ q call span is _. absurd (absent q call is);
@@ -84,11 +84,11 @@ module _ (s : Allocator) (spent : FinMap nat_cmp ℕ) (calls : FinMap nat_cmp St
   -- what was asked for, and what is still to be, is within what a span can have
   pub asked-bound : AreConsistent s spent calls → s.asked
       + sum_below (λ q. awaited (finite.get calls q)) callers ≤ 2 ^ 50
-  unfolding credit
+  unfolding quota
   asked-bound h =
       let before = h.asked in
       let bound : sum_below (λ q. unwrap_or (finite.get spent q) 0) callers ≤ callers
-      * credit = sum_below-bound (λ q. unwrap_or (finite.get spent q) 0) credit callers h.credit in
+      * quota = sum_below-bound (λ q. unwrap_or (finite.get spent q) 0) quota callers h.quota in
       omega arith
 
   -- ---- events that need the allocator to themselves
@@ -176,7 +176,7 @@ module _ (s : Allocator) (spent : FinMap nat_cmp ℕ) (calls : FinMap nat_cmp St
         calls
     flush-consistent played = record {
       sound = after_flush-sound s played.sound;
-      credit = λ q. let nothing : unwrap_or (finite.get (finite.empty {X = ℕ} {R = nat_cmp}) q) 0
+      quota = λ q. let nothing : unwrap_or (finite.get (finite.empty {X = ℕ} {R = nat_cmp}) q) 0
           ≡ 0 = ap (λ o. unwrap_or o 0) (get-empty nat_cmp q) in omega arith;
       asked =
           let waits : sum_below (λ q. awaited (finite.get calls q)) callers

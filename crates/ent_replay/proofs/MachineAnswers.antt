@@ -1,4 +1,4 @@
--- What a test of a machine's answer tells, and what a refusal for want of memory has to be.
+-- What a test of a machine's answer tells, and what a refusal for lack of memory has to be.
 use Rattle.std.proofs.Common.{rules, ◌≡◌, sym, ◌∙◌, ℕ, ◌<◌, Bool, true, false, nat_lt, List, []}
 use Rattle.std.proofs.Common.{◌∷◌, length, drop, filter, slice_get, Option, Some, None, Result, Ok}
 use Rattle.std.proofs.Common.{Err, arith, subst}
@@ -19,7 +19,7 @@ use Rattle.ent_replay.proofs.Maps.{no_test}
 use Rattle.std.specs.Ordering.{nat_cmp}
 use Rattle.ent_replay.specs.declared.stored_call.StoredCall.{StoredCall}
 
--- The machine did what the step says, or refused for want of memory: told of the values that a
+-- The machine did what the step says, or refused for lack of memory: told of the values that a
 -- contract sees.
 pub done : (on : MachineState → Returned) (inside now : MachineState) → inside ≡ now
     → (result answer : Result Outcome ReplayFault) → result ≡ answer → (after next : MachineState)

@@ -5,7 +5,7 @@ use Rattle.std.specs.Prelude.{Some, None, Result, Err, ◌⊎◌}
 use Rattle.std.specs.Option.{unwrap_or, option_map}
 use Rattle.std.specs.Ordering.{nat_cmp}
 use Rattle.std.specs.FinMap as finite
-use Rattle.ent_alloc.specs.Limits.{credit}
+use Rattle.ent_alloc.specs.Limits.{quota}
 use Rattle.ent_alloc.specs.Sequential.{Allocator, top, pool_at, reply_from}
 use Rattle.ent_alloc.specs.Sound.{IsSound}
 use Rattle.ent_alloc.specs.Spent as given
@@ -50,11 +50,11 @@ pub record HasPassed (s : Allocator) (n : ℕ) (span : Span) : Type 0 where
   pub low : span.low ≡ span.high -ℤ pos n
 
 -- What was asked for, and what the open calls will ask for, is within what the callers have spent
--- of their credit. What is kept for the open calls was given once.
+-- of their quota. What is kept for the open calls was given once.
 pub record AreConsistent (s : Allocator) (spent : finite.FinMap nat_cmp ℕ)
     (calls : finite.FinMap nat_cmp StoredCall) : Type 0 where
   pub sound : IsSound s
-  pub credit : (q : ℕ) → unwrap_or (finite.get spent q) 0 ≤ credit
+  pub quota : (q : ℕ) → unwrap_or (finite.get spent q) 0 ≤ quota
   pub asked : s.asked + sum_below (λ q. awaited (finite.get calls q)) callers
       ≤ sum_below (λ q. unwrap_or (finite.get spent q) 0) callers
   pub requests : (q : ℕ) (call : StoredCall) → finite.get calls q ≡ Some call

@@ -43,7 +43,7 @@ outcome_text (outcomes.Cursor cursor) = codes "cursor " ++ signed_decimal cursor
 outcome_text (outcomes.Handles handles) = handles_text handles
 outcome_text (outcomes.Space wanted left) = space_text wanted left
 
--- want of memory has no text, since no line is written of it
+-- lack of memory has no text, since no line is written of it
 abbrev pub replay_fault_text : ReplayFault → List ℕ
 replay_fault_text faults.Busy = codes "busy"
 replay_fault_text faults.NotOpen = codes "not open"

@@ -10,7 +10,7 @@ use Rattle.std.specs.Coded.{Coded, code_by, coded×, coded_ℕ, coded_list, code
 use Rattle.std.specs.FinMap as map
 use Rattle.std.specs.FinSet as set
 use Rattle.ent_handle.specs.Handle.{Handle, handle_code}
-use Rattle.ent_alloc.specs.Limits.{Limits, credit}
+use Rattle.ent_alloc.specs.Limits.{Limits, quota}
 use Rattle.ent_alloc.specs.Sequential.{Allocator, allocator_code, opening, cursor, is_fresh, next}
 use Rattle.ent_alloc.specs.Sequential.{after_take, reply_to, born, after_flush, after_alloc}
 use Rattle.ent_alloc.specs.Sequential.{after_free}
@@ -96,7 +96,7 @@ on_free s h =
     )
     else say s outcome.NotAlive))
 
--- it also renews the credit of every caller
+-- it also renews the quota of every caller
 abbrev pub on_flush : MachineState → Returned
 on_flush s =
     if is_busy s then refuse s fault.Busy else (
@@ -116,7 +116,7 @@ spent_by s caller = unwrap_or (map.get s.spent caller) 0
 
 -- how many it may still request
 abbrev pub left_of : MachineState → ℕ → ℕ
-left_of s caller = credit - spent_by s caller
+left_of s caller = quota - spent_by s caller
 
 abbrev pub begin_with : MachineState → ℕ → ℕ → Option OpenCall → Returned
 begin_with s caller n (Some call) = refuse s fault.AlreadyOpen

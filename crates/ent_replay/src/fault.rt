@@ -18,10 +18,10 @@ pub enum ReplayFault {
     /// A second `Step` of one call.
     #[error("the call has made its step")]
     AlreadyStepped,
-    /// A `Begin` whose request is above the caller's credit.
-    #[error("the credit left is {left}")]
+    /// A `Begin` whose request is above the caller's quota.
+    #[error("the quota left is {left}")]
     Quota {
-        /// The credit that is left.
+        /// The quota that is left.
         left: u64,
     },
     /// There is no such caller.

@@ -6,10 +6,11 @@ ghost use Rattle.std.specs.Ordering.{eq_of_both, on};
 
 use ent_handle::{Handle, Memory};
 use std::alloc::Global;
+use std::fmt;
 use std::marker::Model;
 
 /// The handles of an answer, in their order.
-#[derive(Debug, Drop)]
+#[derive(Drop)]
 pub struct HandleList {
     handles: Vec<Handle>,
 }
@@ -72,6 +73,13 @@ impl HandleList {
     {
         let HandleList { handles } = self;
         handles
+    }
+}
+
+impl fmt::Debug for HandleList {
+    fn fmt<W: fmt::Write>(&self, f: &mut fmt::Formatter<W>) -> fmt::Result {
+        let handles = self.as_slice();
+        write!(f, "{handles:?}")
     }
 }
 

@@ -16,7 +16,7 @@ use crate::fault::ReplayFault;
 use crate::handle_list::HandleList;
 use crate::outcome::Outcome;
 use crate::stored_call::StoredCall;
-use ent_alloc::{AllocFault, CREDIT, Entities, FreeFault, Limits, Reserved};
+use ent_alloc::{AllocFault, Entities, FreeFault, Limits, QUOTA, Reserved};
 use ent_handle::{Handle, Memory};
 use std::alloc::Global;
 use std::marker::Model;
@@ -60,7 +60,7 @@ pub struct RunMemory {
 
 impl Machine {
     /// Makes a machine over an allocator without entities. No call is open, and every caller has
-    /// its full credit of 2^40 handles.
+    /// its full quota of 2^40 handles.
     ///
     /// # Errors
     ///
@@ -87,7 +87,7 @@ impl Machine {
     /// - `Busy`: `Alloc`, `Free` or `Flush` while a call is open.
     /// - `Caller`: `Begin`, `Step` or `Answer` of a caller above 1,023. It is tested before the
     ///   faults below.
-    /// - `AlreadyOpen`, and then `Quota` if the request is above the caller's credit: `Begin`.
+    /// - `AlreadyOpen`, and then `Quota` if the request is above the caller's quota: `Begin`.
     /// - `NotOpen`, and then `AlreadyStepped`: `Step`.
     /// - `NotOpen`, and then `NotStepped`: `Answer`.
     /// - `Memory`: tested last, and only if the event makes a slot, frees a handle whose slot isn't
@@ -204,7 +204,7 @@ impl Machine {
             return Err(ReplayFault::AlreadyOpen);
         }
         let spent = self.spent.get(caller).unwrap_or(0);
-        let left = CREDIT - spent;
+        let left = QUOTA - spent;
         if left < u64::from(n) {
             return Err(ReplayFault::Quota { left });
         }

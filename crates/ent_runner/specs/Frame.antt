@@ -7,11 +7,11 @@ use Rattle.std.specs.List.{All, AllPairs, flat_map, range_with_len}
 use Rattle.std.specs.List.Sorted.{IsPermutation}
 use Rattle.ent_handle.specs.Handle.{Handle}
 use Rattle.ent_alloc.specs.declared.space.Space.{Space}
-use Rattle.ent_alloc.specs.Limits.{credit}
+use Rattle.ent_alloc.specs.Limits.{quota}
 use Rattle.ent_alloc.specs.Sequential.{available, born}
 use Rattle.ent_alloc.specs.History.{Call, IsLegal, after_history}
 use Rattle.ent_queue.specs.Command.{Command}
-use Rattle.ent_queue.specs.Reserving.{stands_for, FitCredit}
+use Rattle.ent_queue.specs.Reserving.{stands_for, FitQuota}
 use Rattle.ent_world.specs.World.{World}
 use Rattle.ent_world.specs.OpenWorld.{View}
 use Rattle.ent_world.specs.Sync.{sync, IsStop, IfStopped}
@@ -46,12 +46,12 @@ requests_by caller history =
     (filter (λ (call : Call). call.caller == caller) history)
 
 -- What a worker has done that ran these systems, one after the other: its calls are the
--- reservations of their queues, and each fitted the credit that the worker had left.
+-- reservations of their queues, and each fitted the quota that the worker had left.
 pub record IsWork (queues : List (List Command)) (history : List Call) (worker : ℕ)
     (systems : List ℕ) : Type 0 where
   pub rising : AllPairs (λ m n. m < n) systems
   pub calls : requests_by worker history ≡ flat_map stands_for (commands_of queues systems)
-  pub within : FitCredit credit (commands_of queues systems)
+  pub within : FitQuota quota (commands_of queues systems)
 
 -- The queues are what the systems may issue if that many workers run them, and the history has the
 -- calls of these workers and no others.

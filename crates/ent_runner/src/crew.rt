@@ -30,7 +30,7 @@ pub(crate) struct Room {
     pub(crate) unused: Vec<Claimer>,
     pub(crate) workers: Vec<Worker>,
     /// For each worker a list with room for its first queue, so that only a worker that has run a
-    /// system may stop.
+    /// system may stop. If all workers run as many systems, no list grows.
     pub(crate) issued: Vec<Vec<SystemQueue>>,
     pub(crate) returned: Returned,
 }
@@ -48,7 +48,7 @@ impl Room {
             claims,
             unused,
             workers: Vec::with_capacity(alloc, workers)?,
-            issued: lists_for_one(alloc, workers)?,
+            issued: lists_of_room(alloc, workers, systems / workers + 1)?,
             returned: Returned::new(alloc, systems, workers)?,
         })
     }
@@ -67,14 +67,19 @@ impl Returned {
     }
 }
 
-/// That many lists, each with room for one queue.
-fn lists_for_one(alloc: Global, count: usize) -> Result<Vec<Vec<SystemQueue>>, AllocError>
+/// That many lists, each with room for so many queues, and at least for one.
+fn lists_of_room(
+    alloc: Global,
+    count: usize,
+    room: usize,
+) -> Result<Vec<Vec<SystemQueue>>, AllocError>
+    requires { 0 < room }
     ensures count { IfOk result (λ lists. length lists.items ≡ count) }
     ensures each { IfOk result (λ lists. All IsRoomForOne lists.items) }
 {
     let mut lists = Vec::with_capacity(alloc, count)?;
     for _ in 0..count {
-        lists.push_reserved(Vec::with_capacity(alloc, 1)?);
+        lists.push_reserved(Vec::with_capacity(alloc, room)?);
     }
     Ok(lists)
 }

@@ -1,25 +1,20 @@
 -- One law, with a step for each test of the format: a value that is cut means the same.
 use Rattle.std.proofs.lemmas.List.{take-map}
 use Rattle.std.proofs.Common.{arith, rules, ◌≡◌, ℕ, suc, ◌+◌, List, [], ◌∷◌, map, refl, Option}
-use Rattle.std.proofs.Common.{option_map, Result, Ok, is_some, ok_or, codes}
+use Rattle.std.proofs.Common.{option_map, Result, Ok, ok_or, codes}
 use Rattle.std.proofs.lemmas.Grind.{common_steps}
-use Rattle.std.specs.List.{list_all}
 use Rattle.serde_json.specs.Data.{Data, Members, no_members, member}
 use Rattle.serde_json.specs.Find.{get, get_member, as_str}
 use Rattle.ent_script.specs.Cut.{cut, cut_members}
 use Rattle.ent_script.specs.Json.{members, pairs_of, keys_among, whole, whole_within}
 use Rattle.ent_script.specs.Names.{as_name}
-use Rattle.ent_script.specs.Reading.{◌>>=◌, has_keys, items_of, read_bundle, with_of, count_of}
-use Rattle.ent_script.specs.Reading.{binding_of, removed_of, target_of, is_spawn, is_spawn_many}
-use Rattle.ent_script.specs.Reading.{is_insert, is_remove, is_despawn, kind_of, of_kind}
-use Rattle.ent_script.specs.Reading.{operation_of, bound_name, format_of, heading_of, or_absent}
+use Rattle.ent_script.specs.Reading.{◌>>=◌, items_of, read_bundle, with_of, count_of}
+use Rattle.ent_script.specs.Reading.{binding_of, removed_of, target_of}
+use Rattle.ent_script.specs.Reading.{format_of, heading_of, or_absent}
 use Rattle.ent_script.specs.Reading.{numbered, component_at}
 use Rattle.ent_script.specs.declared.cause.ScriptCause.{ScriptCause}
 use Rattle.ent_script.specs.declared.cause.ScriptCause.TheVariants as script_cause
 use Rattle.ent_script.specs.declared.heading.Heading.{Heading}
-use Rattle.ent_script.specs.declared.kind.Kind.{Kind}
-use Rattle.ent_script.specs.declared.kind.Kind.TheVariants as kinds
-use Rattle.ent_script.specs.declared.cause.Cause.TheVariants as cause
 
 get_member-cut : (l : ℕ) (k : List ℕ) (ms : Members) → get_member k (cut_members l ms) ≡ option_map
     (cut l) (get_member k ms)
@@ -54,21 +49,6 @@ among_cut : (l : ℕ) (allowed : List (List ℕ)) (ms : List (List ℕ × Data))
 among_cut l allowed [] = refl
 among_cut l allowed (m ∷ ms) = search (rules, among_cut l allowed ms)
 
-all_cut : (l : ℕ) (required : List (List ℕ)) (d : Data) → list_all
-    (λ key. is_some (get key (cut (suc l) d))) required ≡ list_all (λ key. is_some (get key d))
-    required
-all_cut l [] d = refl
-all_cut l (k ∷ ks) d = search (rules, get-cut, all_cut l ks d)
-
-has_keys-cut : (l : ℕ) (required allowed : List (List ℕ)) (d : Data) → has_keys required allowed
-    (cut (suc l) d) ≡ has_keys required allowed d
-unfolding has_keys
-has_keys-cut l required allowed d = simp (all_cut l, members-cut l) (search (rules, among_cut))
-
-kind_of-cut : (l : ℕ) (d : Data) → kind_of (cut (suc l) d) ≡ kind_of d
-unfolding is_spawn is_spawn_many is_insert is_remove is_despawn
-kind_of-cut l d = simp has_keys-cut
-
 -- ---- the parts of an operation
 
 items_of-cut : (l : ℕ) (components : List (List ℕ)) (ms : List (List ℕ × Data)) → items_of
@@ -76,57 +56,34 @@ items_of-cut : (l : ℕ) (components : List (List ℕ)) (ms : List (List ℕ × 
 items_of-cut l components [] = refl
 items_of-cut l components (m ∷ ms) = grind (arith, common_steps, items_of-cut l components ms)
 
-bundle-cut : (l : ℕ) (components : List (List ℕ)) (o : Option Data) → read_bundle components
+pub bundle-cut : (l : ℕ) (components : List (List ℕ)) (o : Option Data) → read_bundle components
     (option_map (cut (suc l)) o) ≡ read_bundle components o
 unfolding read_bundle
 bundle-cut l components it = search (rules, members-cut, items_of-cut)
 
-with-cut : (l : ℕ) (components : List (List ℕ)) (o : Option Data) → with_of components
+pub with-cut : (l : ℕ) (components : List (List ℕ)) (o : Option Data) → with_of components
     (option_map (cut (suc l)) o) ≡ with_of components o
 with-cut l components it = search (rules, bundle-cut)
 
-count-cut : (l : ℕ) (o : Option Data) → count_of (option_map (cut l) o) ≡ count_of o
+pub count-cut : (l : ℕ) (o : Option Data) → count_of (option_map (cut l) o) ≡ count_of o
 unfolding count_of
 count-cut l it = search (rules, whole-cut)
 
-binding-cut : (l : ℕ) (bound : List (List ℕ)) (o : Option Data) → binding_of bound
+pub binding-cut : (l : ℕ) (bound : List (List ℕ)) (o : Option Data) → binding_of bound
     (option_map (cut l) o) ≡ binding_of bound o
 unfolding binding_of
 binding-cut l bound it = search (rules, as_name-cut)
 
-removed-cut : (l : ℕ) (components : List (List ℕ)) (o : Option Data) → removed_of components
+pub removed-cut : (l : ℕ) (components : List (List ℕ)) (o : Option Data) → removed_of components
     (option_map (cut l) o) ≡ removed_of components o
 unfolding removed_of
 removed-cut l components it = search (rules, as_str-cut)
 
-target-cut : (l : ℕ) (components bound : List (List ℕ)) (before : Option ℕ) (o : Option Data)
+pub target-cut : (l : ℕ) (components bound : List (List ℕ)) (before : Option ℕ) (o : Option Data)
     → target_of components bound before (option_map (cut (suc l)) o)
     ≡ target_of components bound before o
 unfolding target_of
 target-cut l components bound before it = search (rules, members-cut, as_str-cut)
-
-of_kind-cut : (components bound : List (List ℕ)) (before : Option ℕ) (d : Data) (kind : Kind)
-    → of_kind components bound before (cut 2 d) kind ≡ of_kind components bound before d kind
-unfolding of_kind
-of_kind-cut components bound before d kinds.Spawn = simp (get-cut 1, bundle-cut 0, binding-cut 1)
-of_kind-cut components bound before d kinds.SpawnMany = simp (
-  get-cut 1,
-  count-cut 1,
-  with-cut 0,
-  binding-cut 1,
-)
-of_kind-cut components bound before d kinds.Insert = simp (get-cut 1, bundle-cut 0, target-cut 0)
-of_kind-cut components bound before d kinds.Remove = simp (get-cut 1, removed-cut 1, target-cut 0)
-of_kind-cut components bound before d kinds.Despawn = simp (get-cut 1, target-cut 0)
-
--- an operation
-pub operation_of-cut : (components bound : List (List ℕ)) (before : Option ℕ) (d : Data)
-    → operation_of components bound before (cut 2 d) ≡ operation_of components bound before d
-unfolding operation_of
-operation_of-cut components bound before d = search (rules, kind_of-cut, of_kind-cut)
-
-pub bound_name-cut : (d : Data) → bound_name (cut 2 d) ≡ bound_name d
-bound_name-cut d = search (rules, get-cut, as_name-cut)
 
 numbered-cut : {A E : Type 0} (f g : ℕ → Data → Result A E) (l n : ℕ) (ds : List Data) →
     ((m : ℕ) (d : Data) → f m (cut l d) ≡ g m d) → numbered f n (map (cut l) ds) ≡ numbered g n ds

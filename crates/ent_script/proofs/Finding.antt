@@ -6,7 +6,7 @@ use Rattle.json.specs.Json as json
 use Rattle.json.specs.Json.{Parse, parse_map, after_end_array, read_key, items, members, value}
 use Rattle.json.proofs.Grammar.{value_is}
 use Rattle.serde_json.specs.Data.{Data, Items, no_items, item, Members, put}
-use Rattle.serde_json.specs.Find.{as_array, get}
+use Rattle.serde_json.specs.Find.{as_array, as_object, get}
 use Rattle.json.specs.Lex.{tokens}
 use Rattle.ent_script.specs.Streaming.{begins_object}
 use Rattle.serde_json.specs.Read.{of_json, of_items, of_members, converted, read}
@@ -79,6 +79,11 @@ module _ (p : Parse json.Json) where
 pub no_array : (depth : ℕ) (t : Token) (ts r : List Token) (d : Data) → (t ≡ Token.begin_array → ⊥)
     → converted of_json (value depth (t ∷ ts)) ≡ Some (d, r) → as_array d ≡ None
 no_array depth t ts r d other e = search (rules, mapped, converted-object, impossible, value_is)
+
+pub no_object_at : (depth : ℕ) (t : Token) (ts r : List Token) (d : Data)
+    → (t ≡ Token.begin_object → ⊥) → converted of_json (value depth (t ∷ ts)) ≡ Some (d, r)
+    → as_object d ≡ None
+no_object_at depth t ts r d other e = search (rules, mapped, converted-array, impossible, value_is)
 
 -- after no token there is no value
 pub no_token : (depth : ℕ) (r : List Token) (d : Data) {P : Type 0} → converted of_json

@@ -3,7 +3,6 @@ pub mod NamesLaws
 pub mod BoundLaws
 pub mod Bundles
 pub mod Faults
-pub mod Keys
 pub mod Numbering
 pub mod Texts
 pub mod Births
@@ -17,6 +16,7 @@ pub mod CutMeanings
 pub mod Listing
 pub mod Operations
 pub mod Puts
+pub mod Keyed
 pub mod Whole
 pub mod Headings
 pub mod PartRanges

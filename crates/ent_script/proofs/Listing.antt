@@ -14,7 +14,7 @@ use Rattle.ent_script.specs.Json.{list_of}
 use Rattle.ent_script.specs.Reading.{◌>>=◌, numbered, ReadsList}
 use Rattle.ent_script.specs.Streaming.{Streams, StreamsList, FaultOfArray, ran_out}
 use Rattle.ent_script.specs.declared.read_fault.ReadFault.{ReadFault}
-use Rattle.ent_script.specs.declared.read_fault.ReadFault.TheVariants.{Json, Memory}
+use Rattle.ent_script.specs.declared.read_fault.ReadFault.TheVariants.{Memory}
 use Rattle.ent_script.proofs.Numbering.{onto, onto_one}
 use Rattle.ent_script.proofs.Finding.{next_item, last_item}
 

@@ -7,9 +7,10 @@ use Rattle.json.specs.Token.{Token}
 use Rattle.json.specs.Json.{items, members, value}
 use Rattle.json.proofs.Grammar.{left_some}
 use Rattle.serde_json.specs.Data.{Data, Items, Members, array, object, no_members}
-use Rattle.serde_json.specs.Find.{as_array, get}
+use Rattle.serde_json.specs.Find.{as_array, as_object, get}
 use Rattle.serde_json.specs.Read.{of_json, of_items, of_members, converted, read}
 use Rattle.ent_script.specs.Passing.{left}
+use Rattle.ent_script.specs.Fields.{BeginsObject}
 use Rattle.ent_script.specs.Streaming.{BeginsArray, begins_object}
 use Rattle.ent_script.proofs.Cuts.{opened_object}
 use Rattle.ent_script.proofs.Finding.{whole_text, no_object}
@@ -23,6 +24,17 @@ module _ (depth : ℕ) (b : Bool) (ts : List Token) (d : Data) (rest : List Toke
 
   pub no_array_begun : b ≡ false → (as_array d ≡ None) × (ts ≡ rest)
   no_array_begun is = subst (λ (x : Bool). BeginsArray depth (Ok x) ts d rest) is begins
+
+-- whether the value was an object
+module _ (depth : ℕ) (b : Bool) (ts : List Token) (d : Data) (rest : List Token)
+    (begins : BeginsObject depth (Ok b) ts d rest) where
+  pub object_begun : b ≡ true → (ms : Members) × (d ≡ object ms)
+      × (converted (λ ms. of_members ms no_members) (members (value (depth - 1)) (length ts) ts)
+      ≡ Some (ms, rest))
+  object_begun is = subst (λ (x : Bool). BeginsObject depth (Ok x) ts d rest) is begins
+
+  pub no_object_begun : b ≡ false → (as_object d ≡ None) × (ts ≡ rest)
+  no_object_begun is = subst (λ (x : Bool). BeginsObject depth (Ok x) ts d rest) is begins
 
 -- whether the text is an object
 module _ (text : List ℕ) (d : Data) (read_as : read text ≡ Some d) (all : List Token)

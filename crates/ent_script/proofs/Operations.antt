@@ -1,5 +1,5 @@
 -- Reading the operations of a system one after another, with the names that they bind.
-use Rattle.std.proofs.Common.{rules, ◌≡◌, ℕ, zero, suc, ◌+◌, ◌-◌, List, [], ◌∷◌, ◌++◌, length, take}
+use Rattle.std.proofs.Common.{rules, ◌≡◌, ℕ, zero, suc, ◌+◌, List, [], ◌∷◌, ◌++◌, length, take}
 use Rattle.std.proofs.Common.{drop, Some, None, Result, Ok, Bool, cond, ok_or, ap, ◌∙◌, arith}
 use Rattle.std.proofs.Common.{add-one}
 use Rattle.std.proofs.lemmas.Grind.{common_steps}
@@ -10,28 +10,21 @@ use Rattle.json.specs.Json as json
 use Rattle.json.specs.Json.{Parse, after_end_array, items}
 use Rattle.serde_json.specs.Data.{Data, Items}
 use Rattle.serde_json.specs.Read.{of_json, of_items, converted}
-use Rattle.serde_json.specs.View.{view}
-use Rattle.serde_json.specs.declared.value.Value.{Value}
 use Rattle.ent_script.specs.Cut.{cut}
 use Rattle.ent_script.specs.Json.{list_of}
 use Rattle.ent_script.specs.Names.{with_part, names_in}
 use Rattle.ent_script.specs.Reading.{◌>>=◌, numbered, bound_name}
 use Rattle.ent_script.specs.Streaming.{Streams}
 use Rattle.ent_script.specs.declared.read_fault.ReadFault.{ReadFault}
-use Rattle.ent_script.specs.declared.read_fault.ReadFault.TheVariants.{Json}
-use Rattle.ent_script.proofs.CutMeanings.{bound_name-cut}
 use Rattle.ent_script.proofs.Finding.{next_item}
 use Rattle.ent_script.proofs.Listing.{listed}
 use Rattle.ent_script.proofs.Numbering.{onto, onto_one}
 
 -- a cut value that was read, and the value that the tokens have
-pub cut_read : (p : Parse json.Json) (ts left rest : List Token) (d was : Data) (v : Value)
-    → converted of_json (p ts) ≡ Some (was, left) → view v ≡ cut 2 was
-    → converted of_json (p ts) ≡ Some (d, rest) → (view v ≡ cut 2 d) × (left ≡ rest)
+pub cut_read : (p : Parse json.Json) (ts left rest : List Token) (d was v : Data)
+    → converted of_json (p ts) ≡ Some (was, left) → v ≡ cut 1 was
+    → converted of_json (p ts) ≡ Some (d, rest) → (v ≡ cut 1 d) × (left ≡ rest)
 cut_read p ts left rest d was v found seen e = grind (arith, common_steps)
-
-pub bound_read : (v : Value) (d : Data) → view v ≡ cut 2 d → bound_name (view v) ≡ bound_name d
-bound_read v d seen = ap bound_name seen ∙ bound_name-cut d
 
 abbrev tail_of : List Data → List Data
 tail_of [] = []

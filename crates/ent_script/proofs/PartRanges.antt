@@ -12,7 +12,6 @@ use Rattle.ent_handle.specs.declared.component.ComponentId.{ComponentId}
 use Rattle.ent_handle.specs.Component.{component_cmp}
 use Rattle.ent_storage.specs.Bundle.{with_put}
 use Rattle.ent_script.specs.declared.format.Format.{Format}
-use Rattle.ent_script.specs.declared.format.Format.TheVariants as format
 use Rattle.ent_script.specs.declared.kind.Kind.{Kind}
 use Rattle.ent_script.specs.declared.kind.Kind.TheVariants as kinds
 use Rattle.ent_script.specs.Json.{at_most, whole_within}

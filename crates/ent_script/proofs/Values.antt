@@ -37,7 +37,7 @@ elements_seen (Some v) o e = search (rules, list_of-items_view)
 pub length_of_views : (vs : List Value) → length (map view vs) ≡ length vs
 length_of_views vs = length-map vs view
 
-any_lent : (key : List ℕ) (allowed : List (Bor (List ℕ)))
+pub any_lent : (key : List ℕ) (allowed : List (Bor (List ℕ)))
     → list_any (λ name. bytes_eq key name.now) allowed ≡ list_any (λ name. bytes_eq key name)
     (map (λ name. name.now) allowed)
 any_lent key [] = refl

@@ -8,3 +8,5 @@ pub mod Ranges
 pub mod Passing
 pub mod Cut
 pub mod Streaming
+pub mod Part
+pub mod Fields

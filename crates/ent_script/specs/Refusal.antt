@@ -37,7 +37,7 @@ abbrev pub operation_text : ℕ → ℕ → ℕ → Cause → List ℕ
 operation_text f s o c =
     spaced_number f ++ spaced_number s ++ spaced_number o ++ 32 ∷ operation_cause_text c
 
--- want of memory has no text, since no line is written of it
+-- lack of memory has no text, since no line is written of it
 abbrev pub refusal_text : ReadFault → List ℕ
 refusal_text fault.Json = codes "refused json"
 refusal_text (fault.Script c) = codes "refused script " ++ script_cause_text c

@@ -33,7 +33,8 @@ pub(crate) fn members(value: &Value) -> Option<&Map<String, Value>>
     value.as_object()
 }
 
-fn is_among(key: &str, allowed: &[&str]) -> bool
+/// Whether the key is one of these.
+pub(crate) fn is_among(key: &str, allowed: &[&str]) -> bool
     ensures { result ≡ list_any (λ name. bytes_eq key.now name.now) allowed.now }
 {
     allowed.iter().any(|name| key == *name)

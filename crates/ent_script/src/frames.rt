@@ -1,21 +1,21 @@
 ghost use Rattle.std.specs.Prelude.{◌≡◌, ℕ, ◌<◌, ◌≤◌, List, length, Some, OnOk};
 ghost use Rattle.json.specs.Json.{value, items};
 ghost use Rattle.json.specs.Token.{Token as SpecToken};
-ghost use Rattle.serde_json.specs.Data.{Data, Items, array};
+ghost use Rattle.serde_json.specs.Data.{Data, Items, Members, array, object};
 ghost use Rattle.serde_json.specs.Read.{of_json, of_items, converted};
-ghost use Rattle.serde_json.specs.View.{view};
+ghost use Rattle.ent_script.specs.Fields.{AreFields, of_fields};
 ghost use Rattle.ent_script.specs.Names.{with_part};
-ghost use Rattle.ent_script.specs.Reading.{of_kind, operation_of, bound_name, at_operation};
+ghost use Rattle.ent_script.specs.Reading.{operation_of, bound_name, at_operation};
 ghost use Rattle.ent_script.specs.Reading.{system_of, frame_of};
 ghost use Rattle.ent_script.specs.Reading.{births_before};
 ghost use Rattle.ent_script.specs.Reading.{ReadsPart, ReadsAs};
+ghost use Rattle.ent_script.specs.declared.read_fault.ReadFault.TheVariants as fault;
 ghost use Rattle.ent_script.specs.Streaming.{Streams, StreamsList, frames_of};
 
 use crate::at::At;
 use crate::bound::Bound;
 use crate::cause::{Cause, ScriptCause};
-use crate::cutting::read_cut;
-use crate::elements::name;
+use crate::fields::{Fields, read_fields};
 use crate::format::Format;
 use crate::frame::Frame;
 use crate::kind::{Kind, kind_of};
@@ -24,35 +24,34 @@ use crate::operation::Operation;
 use crate::part_fault::PartFault;
 use crate::parts::{binding, bundle, bundle_or_none, count, removed, target};
 use crate::read_fault::ReadFault;
-use crate::streaming::{begins_array, fault_of_array};
+use crate::streaming::{begins_array, begins_object, fault_of_array};
 use crate::system::System;
 use ent_handle::Memory;
 use json::Reader;
-use serde_json::Value;
 use std::alloc::Global;
 
-#[tactic(auto, unfolding(crate::specs::Reading::of_kind))]
+#[tactic(auto, unfolding(crate::specs::Fields::of_fields), using(crate::proofs::Keyed::lent))]
 fn operation_of_kind(
     alloc: Global,
     components: &Names<'_>,
     bound: &Bound,
     before: Option<usize>,
-    value: &Value,
+    fields: &Fields<'_>,
     kind: Kind,
 ) -> Result<Operation, PartFault>
     requires { length components.now ≤ 256 }
-    ensures { ReadsPart result (of_kind components.now bound.now before (view value.now) kind) }
+    ensures { ReadsPart result (of_fields components.now bound.now before fields.now kind) }
 {
     match kind {
         Kind::Spawn => {
-            let bundle = bundle(alloc, components, value.get("spawn"))?;
-            let binds = binding(bound, value.get("as"))?;
+            let bundle = bundle(alloc, components, fields.spawn.as_ref())?;
+            let binds = binding(bound, fields.binds.as_ref())?;
             Ok(Operation::Spawn { bundle, binds })
         }
         Kind::SpawnMany => {
-            let count = count(value.get("spawn_many"))?;
-            let bundle = bundle_or_none(alloc, components, value.get("with"))?;
-            let binds = binding(bound, value.get("as"))?;
+            let count = count(fields.spawn_many.as_ref())?;
+            let bundle = bundle_or_none(alloc, components, fields.with.as_ref())?;
+            let binds = binding(bound, fields.binds.as_ref())?;
             Ok(Operation::SpawnMany {
                 count,
                 bundle,
@@ -60,17 +59,17 @@ fn operation_of_kind(
             })
         }
         Kind::Insert => {
-            let bundle = bundle(alloc, components, value.get("insert"))?;
-            let target = target(components, bound, before, value.get("on"))?;
+            let bundle = bundle(alloc, components, fields.insert.as_ref())?;
+            let target = target(components, bound, before, fields.on.as_ref())?;
             Ok(Operation::Insert { bundle, target })
         }
         Kind::Remove => {
-            let component = removed(components, value.get("remove"))?;
-            let target = target(components, bound, before, value.get("on"))?;
+            let component = removed(components, fields.remove.as_ref())?;
+            let target = target(components, bound, before, fields.on.as_ref())?;
             Ok(Operation::Remove { component, target })
         }
         Kind::Despawn => {
-            let target = target(components, bound, before, value.get("despawn"))?;
+            let target = target(components, bound, before, fields.despawn.as_ref())?;
             Ok(Operation::Despawn { target })
         }
     }
@@ -84,26 +83,39 @@ fn operation(
     components: &Names<'_>,
     bound: &Bound,
     before: Option<usize>,
-    value: &Value,
+    fields: &Fields<'_>,
 ) -> Result<Operation, PartFault>
     requires { length components.now ≤ 256 }
-    ensures { ReadsPart result (operation_of components.now bound.now before (view value.now)) }
+    ensures { (ms : Members) → AreFields fields.now ms
+        → ReadsPart result (operation_of components.now bound.now before (object ms)) }
 {
-    let kind = kind_of(value).ok_or(Cause::Shape)?;
-    operation_of_kind(alloc, components, bound, before, value, kind)
+    let kind = kind_of(fields).ok_or(Cause::Shape)?;
+    operation_of_kind(alloc, components, bound, before, fields, kind)
 }
 
 /// Adds the name that an operation binds, if it binds one.
-fn bind(alloc: Global, bound: &mut Bound, value: &Value) -> Result<(), Memory>
-    ensures { OnOk result (bound.new ≡ with_part bound.old (bound_name (view value.now))) }
+fn bind(alloc: Global, bound: &mut Bound, fields: &Fields<'_>) -> Result<(), Memory>
+    ensures { OnOk result ((ms : Members) → AreFields fields.now ms
+        → bound.new ≡ with_part bound.old (bound_name (object ms))) }
 {
-    let Some(part) = value.get("as") else {
+    let Some(part) = fields.binds.as_ref() else {
         return Ok(());
     };
-    let Some(name) = name(part) else {
+    let Some(name) = part.name() else {
         return Ok(());
     };
     bound.add(alloc, name)
+}
+
+fn fault_at(at: At, cause: Cause) -> ReadFault
+    ensures { result ≡ fault.Operation at.frame at.system at.operation cause }
+{
+    ReadFault::Operation {
+        frame: at.frame,
+        system: at.system,
+        operation: at.operation,
+        cause,
+    }
 }
 
 /// The operation with this number in its system.
@@ -113,23 +125,18 @@ fn operation_at(
     components: &Names<'_>,
     bound: &Bound,
     at: At,
-    value: &Value,
+    fields: &Fields<'_>,
 ) -> Result<Operation, ReadFault>
     requires { length components.now ≤ 256 }
-    ensures { ReadsAs result (at_operation at.frame at.system at.operation
-        (operation_of components.now bound.now (births_before format at.frame)
-        (view value.now))) }
+    ensures { (ms : Members) → AreFields fields.now ms
+        → ReadsAs result (at_operation at.frame at.system at.operation
+        (operation_of components.now bound.now (births_before format at.frame) (object ms))) }
 {
     let before = format.births_before(at.frame);
-    match operation(alloc, components, bound, before, value) {
+    match operation(alloc, components, bound, before, fields) {
         Ok(operation) => Ok(operation),
         Err(PartFault::Memory) => Err(ReadFault::Memory),
-        Err(PartFault::Refused(cause)) => Err(ReadFault::Operation {
-            frame: at.frame,
-            system: at.system,
-            operation: at.operation,
-            cause,
-        }),
+        Err(PartFault::Refused(cause)) => Err(fault_at(at, cause)),
     }
 }
 
@@ -154,9 +161,12 @@ fn next_operation(
     ensures shorter { OnOk result (length reader.new < length reader.old) }
     ensures no_longer { length reader.new ≤ length reader.old }
 {
-    let value = read_cut(alloc, reader, depth, 2)?;
-    let operation = operation_at(alloc, format, components, bound, at, &value)?;
-    bind(alloc, bound, &value)?;
+    if !begins_object(reader, depth)? {
+        return Err(fault_at(at, Cause::Shape));
+    }
+    let fields = read_fields(alloc, reader, depth - 1)?;
+    let operation = operation_at(alloc, format, components, bound, at, &fields)?;
+    bind(alloc, bound, &fields)?;
     Ok(operation)
 }
 

@@ -1,17 +1,19 @@
-ghost use Rattle.std.specs.Prelude.{◌≡◌, ℕ, ◌≤◌, List, length, map, option_map, string_bytes};
-ghost use Rattle.serde_json.specs.Data.{Data};
+ghost use Rattle.std.specs.Prelude.{◌≡◌, ◌≤◌, [], ◌∷◌, length, map, option_map, string_bytes};
 ghost use Rattle.serde_json.specs.View.{view};
 ghost use Rattle.ent_script.specs.Reading.{component_of, item_of, bundle_by, read_bundle, with_of};
 ghost use Rattle.ent_script.specs.Reading.{removed_of, target_birth, target_at, target_of};
 ghost use Rattle.ent_script.specs.Reading.{count_of};
-ghost use Rattle.ent_script.specs.Reading.{binding_of, only, ReadsPart};
+ghost use Rattle.ent_script.specs.Reading.{binding_of, ReadsPart};
+ghost use Rattle.ent_script.specs.Json.{pairs_of};
+ghost use Rattle.ent_script.specs.Part.{data_of, members_of};
 
 use crate::birth::birth;
 use crate::bound::Bound;
 use crate::bundle::Bundle;
 use crate::cause::Cause;
-use crate::elements::{members, name, whole_within};
 use crate::names::Names;
+use crate::object::Object;
+use crate::part::Part;
 use crate::part_fault::PartFault;
 use crate::target::Target;
 use ent_handle::{ComponentId, Handle};
@@ -29,33 +31,33 @@ pub(crate) fn component(components: &Names<'_>, name: &str) -> Option<ComponentI
 
 /// How many, from 0 to 65,536.
 #[tactic(auto, unfolding(crate::specs::Reading::count_of))]
-pub(crate) fn count(part: Option<&Value>) -> Result<u32, Cause>
-    ensures { result ≡ count_of (option_map (λ v. view v.now) part.entry) }
+pub(crate) fn count(part: Option<&Part<'_>>) -> Result<u32, Cause>
+    ensures { result ≡ count_of (option_map (λ p. data_of p.now) part.entry) }
 {
     let value = part.ok_or(Cause::Count)?;
-    whole_within(value, 0, 65_536).ok_or(Cause::Count)
+    value.at_most(65_536).ok_or(Cause::Count)
 }
 
 /// The number of the name that is bound: that of the name if it is bound, and else the next.
 #[tactic(auto, unfolding(crate::specs::Reading::binding_of))]
-pub(crate) fn binding(bound: &Bound, part: Option<&Value>) -> Result<Option<usize>, Cause>
-    ensures { result ≡ binding_of bound.now (option_map (λ v. view v.now) part.entry) }
+pub(crate) fn binding(bound: &Bound, part: Option<&Part<'_>>) -> Result<Option<usize>, Cause>
+    ensures { result ≡ binding_of bound.now (option_map (λ p. data_of p.now) part.entry) }
 {
     let Some(value) = part else {
         return Ok(None);
     };
-    let name = name(value).ok_or(Cause::Name)?;
+    let name = value.name().ok_or(Cause::Name)?;
     Ok(Some(bound.find(name).unwrap_or(bound.len())))
 }
 
 /// The component that a removal is of.
 #[tactic(auto, unfolding(crate::specs::Reading::removed_of))]
-pub(crate) fn removed(components: &Names<'_>, part: Option<&Value>) -> Result<ComponentId, Cause>
+pub(crate) fn removed(components: &Names<'_>, part: Option<&Part<'_>>) -> Result<ComponentId, Cause>
     requires { length components.now ≤ 256 }
-    ensures { result ≡ removed_of components.now (option_map (λ v. view v.now) part.entry) }
+    ensures { result ≡ removed_of components.now (option_map (λ p. data_of p.now) part.entry) }
 {
     let value = part.ok_or(Cause::Component)?;
-    let name = value.as_str().ok_or(Cause::Component)?;
+    let name = value.text().ok_or(Cause::Component)?;
     component(components, name).ok_or(Cause::Component)
 }
 
@@ -94,32 +96,20 @@ fn target_at(
     }
 }
 
-/// The only member of an object.
-fn only(members: &Map<String, Value>) -> Option<(&str, &Value)>
-    ensures { option_map {U = List ℕ × Data} (λ m. (m.0.now, view m.1.now)) result
-        ≡ only (map (λ m. (string_bytes m.0, view m.1)) members.now.entries) }
-{
-    if members.len() != 1 {
-        return None;
-    }
-    let (key, value) = members.first_key_value()?;
-    Some((key.as_str(), value))
-}
-
 /// Which entities an operation is for. A birth is of a frame before the one that is said.
 #[tactic(auto, unfolding(crate::specs::Reading::target_of))]
 pub(crate) fn target(
     components: &Names<'_>,
     bound: &Bound,
     before: Option<usize>,
-    part: Option<&Value>,
+    part: Option<&Part<'_>>,
 ) -> Result<Target, Cause>
     requires { length components.now ≤ 256 }
     ensures { result ≡ target_of components.now bound.now before
-        (option_map (λ v. view v.now) part.entry) }
+        (option_map (λ p. data_of p.now) part.entry) }
 {
-    let found = members(part.ok_or(Cause::Target)?).ok_or(Cause::Target)?;
-    let (key, value) = only(found).ok_or(Cause::Target)?;
+    let found = part.ok_or(Cause::Target)?.members().ok_or(Cause::Target)?;
+    let (key, value) = found.only().ok_or(Cause::Target)?;
     let text = value.as_str().ok_or(Cause::Target)?;
     target_at(components, bound, before, key, text)
 }
@@ -134,7 +124,7 @@ fn item(components: &Names<'_>, key: &str, value: &Value) -> Result<(ComponentId
     Ok((id, number))
 }
 
-fn items(
+fn items_of(
     alloc: Global,
     components: &Names<'_>,
     members: &Map<String, Value>,
@@ -151,18 +141,44 @@ fn items(
     Ok(bundle)
 }
 
+fn one_item(
+    alloc: Global,
+    components: &Names<'_>,
+    key: &str,
+    value: &Value,
+) -> Result<Bundle, PartFault>
+    requires { length components.now ≤ 256 }
+    ensures { ReadsPart result (bundle_by components.now ((key.now, view value.now) ∷ [])) }
+{
+    let (id, number) = item(components, key, value)?;
+    let mut bundle = Bundle::new(alloc);
+    bundle.put(id, number)?;
+    Ok(bundle)
+}
+
+fn items(alloc: Global, components: &Names<'_>, members: &Object<'_>) -> Result<Bundle, PartFault>
+    requires { length components.now ≤ 256 }
+    ensures { ReadsPart result (bundle_by components.now (pairs_of (members_of members.now))) }
+{
+    match members {
+        Object::Empty => Ok(Bundle::new(alloc)),
+        Object::One(key, value) => one_item(alloc, components, key, value),
+        Object::Many(map) => items_of(alloc, components, map),
+    }
+}
+
 /// Components and their values.
 #[tactic(auto, unfolding(crate::specs::Reading::read_bundle))]
 pub(crate) fn bundle(
     alloc: Global,
     components: &Names<'_>,
-    part: Option<&Value>,
+    part: Option<&Part<'_>>,
 ) -> Result<Bundle, PartFault>
     requires { length components.now ≤ 256 }
     ensures { ReadsPart result (read_bundle components.now
-        (option_map (λ v. view v.now) part.entry)) }
+        (option_map (λ p. data_of p.now) part.entry)) }
 {
-    let found = members(part.ok_or(Cause::Bundle)?).ok_or(Cause::Bundle)?;
+    let found = part.ok_or(Cause::Bundle)?.members().ok_or(Cause::Bundle)?;
     items(alloc, components, found)
 }
 
@@ -170,11 +186,11 @@ pub(crate) fn bundle(
 pub(crate) fn bundle_or_none(
     alloc: Global,
     components: &Names<'_>,
-    part: Option<&Value>,
+    part: Option<&Part<'_>>,
 ) -> Result<Bundle, PartFault>
     requires { length components.now ≤ 256 }
     ensures { ReadsPart result (with_of components.now
-        (option_map (λ v. view v.now) part.entry)) }
+        (option_map (λ p. data_of p.now) part.entry)) }
 {
     if part.is_none() {
         return Ok(Bundle::new(alloc));

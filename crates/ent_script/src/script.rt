@@ -62,4 +62,20 @@ impl Script {
     {
         &self.frames
     }
+
+    /// The limits, the names of the components, and the frames. It takes no memory.
+    ///
+    /// The frames are most of a long script. Whoever owns them can free each one after its run.
+    pub fn into_parts(self) -> (Limits, Vec<String>, Vec<Frame>)
+        ensures limits { result.0 ≡ self.limits }
+        ensures components { map string_bytes result.1.items ≡ self.components }
+        ensures frames { result.2.items ≡ self.frames }
+    {
+        let Script {
+            limits,
+            components,
+            frames,
+        } = self;
+        (limits, components, frames)
+    }
 }

@@ -5,6 +5,7 @@ ghost use Rattle.json.specs.Token.{Token as SpecToken};
 ghost use Rattle.serde_json.specs.Data.{Data, Items, array};
 ghost use Rattle.serde_json.specs.Read.{of_json, of_items, converted};
 ghost use Rattle.ent_script.specs.declared.read_fault.ReadFault.TheVariants.{Memory};
+ghost use Rattle.ent_script.specs.Fields.{BeginsObject};
 ghost use Rattle.ent_script.specs.Streaming.{BeginsArray, PassesAtMost, FaultOfArray};
 ghost use Rattle.ent_script.specs.Streaming.{ReadsElements};
 
@@ -26,6 +27,26 @@ pub(crate) fn begins_array(reader: &mut Reader<'_>, depth: usize) -> Result<bool
 {
     let token = reader.next().ok_or(Invalid)?;
     if let Token::BeginArray = token {
+        if depth == 0 {
+            return Err(Invalid);
+        }
+        return Ok(true);
+    }
+    pass_rest(reader, token, depth)?;
+    Ok(false)
+}
+
+/// Takes the brace that begins an object. A value that is no object is passed over.
+pub(crate) fn begins_object(reader: &mut Reader<'_>, depth: usize) -> Result<bool, Invalid>
+    ensures value { (d : Data) (rest : List SpecToken)
+        → converted of_json (value depth reader.old) ≡ Some (d, rest)
+        → BeginsObject depth result reader.new d rest }
+    ensures deep { result ≡ Ok true → 0 < depth }
+    ensures shorter { OnOk result (length reader.new < length reader.old) }
+    ensures no_longer { length reader.new ≤ length reader.old }
+{
+    let token = reader.next().ok_or(Invalid)?;
+    if let Token::BeginObject = token {
         if depth == 0 {
             return Err(Invalid);
         }

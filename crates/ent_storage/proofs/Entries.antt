@@ -1,7 +1,7 @@
 -- The map that slots stand for: its entries, and what it has at each handle.
 use Rattle.std.proofs.Common.{rules, ◌≡◌, ◌≢◌, ℕ, zero, suc, ◌+◌, ◌-◌, ◌<◌, ◌≤◌, Bool, true, false}
 use Rattle.std.proofs.Common.{cond, ◌&&◌, inl, inr, eqb, T, List, [], ◌∷◌, ◌++◌, length, get_or}
-use Rattle.std.proofs.Common.{set, replicate, None, Some, refl, arith, not, All, AllPairs}
+use Rattle.std.proofs.Common.{set, replicate, None, Some, refl, ap, ◌∙◌, arith, not, All, AllPairs}
 use Rattle.std.proofs.lemmas.Grind.{common_steps}
 use Rattle.std.proofs.lemmas.List.Kept.{AllPairs-cons}
 use Rattle.std.proofs.lemmas.Bool.{cases_eq, eq-eqb}
@@ -14,7 +14,7 @@ use Rattle.std.specs.FinMap.{find, is_sorted}
 use Rattle.std.specs.FinMap.Entries.{below_all}
 use Rattle.ent_handle.specs.Handle.{Handle, handle_cmp, handle_cmp_total}
 use Rattle.ent_handle.specs.Handle.{handle_cmp-IsAntisymmetric}
-use Rattle.ent_storage.specs.HandleMap.{HandleValues, without_slot}
+use Rattle.ent_storage.specs.HandleMap.{HandleMap, HandleValues, without_slot}
 use Rattle.ent_storage.specs.Slots.{value_under, slot_at, value_in, entries_from, map_of_slots, padded}
 use Rattle.ent_storage.specs.Slots.{count_at}
 use Rattle.ent_storage.specs.declared.handle_map.slot.Slot.{Slot}
@@ -125,6 +125,19 @@ module _ {X : Type 0} where
   -- no slots have no values
   pub map_none : map_of_slots {T = X} [] ≡ map.empty
   map_none = map.empty_of_len (map_of_slots []) (len_map [])
+
+  pub map_emptied : (slots : List (Slot X)) (len room limit other : ℕ) → slots ≡ [] → len ≡ 0
+      → limit ≡ other
+      → ◌≡◌ {A = HandleMap X}
+      (record { values = map_of_slots slots; slots = len; room = room; limit = limit })
+      (record { values = map.empty; slots = 0; room = room; limit = other })
+  map_emptied slots len room limit other none no_slots same =
+      λ i. record {
+        values = (ap map_of_slots none ∙ map_none) i;
+        slots = no_slots i;
+        room = room;
+        limit = same i;
+      }
 
   -- ---- count_at slot set
 

@@ -26,6 +26,8 @@ pub mod Rising
 pub mod TakenOut
 pub mod WithComponent
 pub mod Entries
+pub mod Clones
+pub mod Copies
 pub mod Found
 pub mod Kept
 pub mod Backwards

@@ -10,6 +10,8 @@ pub mod Living
 pub mod Fault
 pub mod HandleMap
 pub mod Limit
+pub mod Generation
 pub mod Slots
 pub mod Lends
 pub mod Retained
+pub mod Copies

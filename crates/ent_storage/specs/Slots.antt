@@ -1,6 +1,8 @@
 -- The vector of slots that stands for a map.
 use Rattle.std.specs.Prelude.{◌≡◌, ℕ, ◌+◌, ◌-◌, ◌<◌, ◌^◌, ◌==◌, if◌then◌else◌, List, [], ◌∷◌, ◌++◌}
 use Rattle.std.specs.Prelude.{length, replicate, slice_index_or, Option, None, Some}
+use Rattle.std.specs.Bool.{⊤}
+use Rattle.std.specs.List.{AllZip}
 use Rattle.std.specs.FinMap as map
 use Rattle.ent_handle.specs.Handle.{Handle}
 use Rattle.ent_storage.specs.HandleMap.{HandleValues}
@@ -61,3 +63,15 @@ module _ {T : Type 0} where
   pub record AreCounted (index : ℕ) (slots : List (Slot T)) (count : ℕ) : Type 0 where
     pub few : index + length slots < 2 ^ 32
     pub counted : count ≡ length (entries_from index slots)
+
+  -- both have no value, or both have one of the same occupant, and that of the second is a clone
+  abbrev pub IsSlotClone : (T → T → Type 0) → Slot T → Slot T → Type 0
+  IsSlotClone is_clone Vacant Vacant = ⊤
+  IsSlotClone is_clone Vacant (Occupied other w) = ⊥
+  IsSlotClone is_clone (Occupied generation v) Vacant = ⊥
+  IsSlotClone is_clone (Occupied generation v) (Occupied other w) =
+      (other ≡ generation) × is_clone v w
+
+  -- slot by slot, the second list has clones of the first one
+  abbrev pub AreSlotClones : (T → T → Type 0) → List (Slot T) → List (Slot T) → Type 0
+  AreSlotClones is_clone = AllZip (IsSlotClone is_clone)

@@ -1,15 +1,27 @@
-ghost use Rattle.std.specs.Prelude.{◌≡◌, ◌≢◌, ◌<◌, ◌≤◌, ℕ, OnOk, OnErr, None, Some, length};
+ghost use Rattle.std.specs.Prelude.{◌≡◌, ◌≢◌, ◌<◌, ◌≤◌, ℕ, OnOk, OnErr, IfOk, None, Some, length};
 ghost use Rattle.std.specs.Prelude.{List, Contains, IsTrue};
-ghost use Rattle.std.specs.List.{All};
+ghost use Rattle.std.specs.List.{All, AllZip};
 ghost use Rattle.std.specs.FinMap as map;
 ghost use Rattle.ent_handle.specs.declared.component.ComponentId.{ComponentId};
 ghost use Rattle.ent_storage.specs.Components.{with_items, missing};
+ghost use Rattle.ent_storage.specs.Copies.{IsCopy};
 ghost use Rattle.ent_storage.specs.SparseSet.{Column, no_column, HasRoomAt, IsMovedDown};
 ghost use Rattle.ent_storage.specs.Living.{column_at, value_at, components_at, AreInUse};
 
 use super::sparse_set::SparseSet;
 use ent_handle::ComponentId;
 use std::alloc::{AllocError, Global};
+
+/// A copy of each column.
+pub fn try_clone(columns: &[SparseSet], alloc: Global) -> Result<Vec<SparseSet>, AllocError>
+    ensures { IfOk result (λ copies. AllZip IsCopy columns.now copies.items) }
+{
+    let mut copies = Vec::with_capacity(alloc, columns.len())?;
+    for column in columns {
+        copies.push(column.try_clone(alloc)?)?;
+    }
+    Ok(copies)
+}
 
 /// The value of the component at the place, if the entity there has it.
 pub fn value(columns: &[SparseSet], place: usize, id: ComponentId) -> Option<i64>

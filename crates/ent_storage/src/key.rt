@@ -1,4 +1,6 @@
-ghost use Rattle.std.specs.Prelude.{◌≡◌};
+ghost use Rattle.std.specs.Prelude.{◌≡◌, ◌↔◌, IsTrue};
+ghost use Rattle.std.specs.declared.cmp.Ordering.TheVariants.{Less, Equal, Greater};
+ghost use Rattle.ent_handle.specs.Handle.{IsHandle, bits, handle_cmp};
 
 use ent_handle::Handle;
 use std::marker::Model;
@@ -39,5 +41,43 @@ impl Key {
         ensures { result ≡ self }
     {
         Handle::from_parts(self.index, self.generation)
+    }
+
+    /// The index of the handle's slot.
+    pub fn index(self) -> u32
+        ensures { result ≡ self.index }
+    {
+        self.index
+    }
+
+    /// Both numbers in one, as `Handle::to_bits` has them: one comparison of these compares both.
+    fn bits(self) -> u64
+        ensures bits { result ≡ bits self }
+        ensures in_range { IsHandle self }
+    {
+        (u64::from(self.generation) << 32) + u64::from(self.index)
+    }
+
+    /// Whether it is the key of the handle.
+    pub fn is_of(self, handle: Handle) -> bool
+        ensures { IsTrue result ↔ (handle_cmp self handle ≡ Equal) }
+    {
+        self.bits() == handle.to_bits()
+    }
+
+    /// Whether it comes before the handle. The indices are compared first, since most differ.
+    pub fn is_before(self, handle: Handle) -> bool
+        ensures { IsTrue result ↔ (handle_cmp self handle ≡ Less) }
+    {
+        self.index < handle.index()
+            || self.index == handle.index() && self.generation < handle.generation()
+    }
+
+    /// Whether it comes after the handle.
+    pub fn is_after(self, handle: Handle) -> bool
+        ensures { IsTrue result ↔ (handle_cmp self handle ≡ Greater) }
+    {
+        handle.index() < self.index
+            || self.index == handle.index() && handle.generation() < self.generation
     }
 }

@@ -12,6 +12,7 @@ ghost use Rattle.ent_storage.specs.BirthOrder.{IsLeastOf};
 
 use super::columns;
 use super::items::Items;
+use super::key::Key;
 use super::order::least_of_birth;
 use super::sparse_set::SparseSet;
 use ent_handle::{Birth, ComponentId, Handle};
@@ -68,6 +69,23 @@ impl Living {
             used: Vec::new(alloc),
             alloc,
         }
+    }
+
+    /// The same entities, with at least the same room.
+    pub fn try_clone(&self) -> Result<Self, AllocError>
+        ensures entities { IfOk result (λ copy. copy.entities ≡ self.now.entities) }
+        ensures room { IfOk result (λ copy. self.now.room ≤ copy.room) }
+    {
+        let mut residents = Vec::with_capacity(self.alloc, self.residents.capacity())?;
+        residents.extend_from_slice(&self.residents)?;
+        let mut used = Vec::with_capacity(self.alloc, self.used.len())?;
+        used.extend_from_slice(&self.used)?;
+        Ok(Living {
+            residents,
+            columns: columns::try_clone(&self.columns, self.alloc)?,
+            used,
+            alloc: self.alloc,
+        })
     }
 
     /// How many entities there are.
@@ -264,12 +282,12 @@ fn births(alloc: Global, residents: &[Resident]) -> Result<Vec<(Birth, Handle)>,
         .collect(alloc)
 }
 
-/// Whether the entity at the place has that handle.
-pub fn has_handle_at(living: &Living, handle: Handle, place: usize) -> bool
-    ensures { result ≡ has_handle_at living.now.entities handle (Some place) }
+/// Whether the entity at the place has the handle of that key.
+pub fn has_key_at(living: &Living, key: Key, place: usize) -> bool
+    ensures { result ≡ has_handle_at living.now.entities key (Some place) }
 {
     match living.residents.get(place) {
-        Some(entity) => entity.handle == handle,
+        Some(entity) => key.is_of(entity.handle),
         None => false,
     }
 }

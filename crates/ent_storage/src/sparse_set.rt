@@ -1,9 +1,10 @@
-ghost use Rattle.std.specs.Prelude.{◌≡◌, ◌<◌, ◌≤◌, ℕ, ℤ, OnOk, OnErr, IfSome, None, Some};
+ghost use Rattle.std.specs.Prelude.{◌≡◌, ◌<◌, ◌≤◌, ℕ, ℤ, OnOk, OnErr, IfOk, IfSome, None, Some};
 ghost use Rattle.std.specs.Prelude.{slice_get, length};
 ghost use Rattle.std.specs.Prelude.{Contains, IsTrue};
 ghost use Rattle.std.specs.Ordering.{nat_cmp};
 ghost use Rattle.std.specs.List.{HoldsAt};
 ghost use Rattle.std.specs.FinMap as map;
+ghost use Rattle.ent_storage.specs.Copies.{IsCopy};
 ghost use Rattle.ent_storage.specs.SparseSet.{no_column, IsDense, HasRoomAt, IsMovedDown};
 
 use super::places::MOST_PLACES;
@@ -49,6 +50,20 @@ impl SparseSet {
             dense: Vec::new(alloc),
             sparse: Vec::new(alloc),
         }
+    }
+
+    /// A set with the same values.
+    pub fn try_clone(&self, alloc: Global) -> Result<Self, AllocError>
+        ensures { IfOk result (IsCopy self.now) }
+    {
+        if self.sparse.is_empty() {
+            return Ok(SparseSet::new(alloc));
+        }
+        let mut dense = Vec::with_capacity(alloc, self.dense.len())?;
+        dense.extend_from_slice(&self.dense)?;
+        let mut sparse = Vec::with_capacity(alloc, self.sparse.len())?;
+        sparse.extend_from_slice(&self.sparse)?;
+        Ok(SparseSet { dense, sparse })
     }
 
     /// The place and the value of each entity that has the component.

@@ -33,7 +33,7 @@ pub record IsSynced (queues : List (List Command)) (before after : World) (r : S
   pub born_are : r.born.items ≡ born before.allocator
   pub faults_are : r.faults.items ≡ (sync queues before).faults
 
--- It stopped there for want of memory: all births stand, and of the commands just those before.
+-- It stopped there for lack of memory: all births stand, and of the commands just those before.
 pub record IsSyncedUntil (s : Stop) (queues : List (List Command)) (before after : World)
     (r : SyncReport) : Type 0 where
   pub stop : IsStop s.system s.command s.done queues

@@ -3,7 +3,7 @@ use Rattle.std.specs.Prelude.{◌≡◌, ◌≢◌, ◌↔◌, ◌⊎◌, ◌+�
 use Rattle.std.specs.Prelude.{Err, refl, All, AllPairs, Contains, length, map, sum_by}
 use Rattle.std.specs.Coded.{Coded, code_by, coded×, coded_ℕ, coded_list}
 use Rattle.ent_handle.specs.Handle.{Handle}
-use Rattle.ent_alloc.specs.Limits.{credit}
+use Rattle.ent_alloc.specs.Limits.{quota}
 use Rattle.ent_alloc.specs.Sequential.{Allocator, cursor, after_flush}
 use Rattle.ent_alloc.specs.History.{IsLegal, after_history, given_in}
 use Rattle.ent_alloc.specs.Sound.{IsLive}
@@ -134,7 +134,7 @@ pub record IsClosed (opened : Opened) (home : List Reserver) (after : World) : T
 
 -- The phase ended with those of its reservers that are at home: the world is the one that was
 -- opened, and a front of the pool is reserved. It counts what these have requested, and of the
--- others no more than their credit. It has all handles that these got. If all are at home, it counts
+-- others no more than their quota. It has all handles that these got. If all are at home, it counts
 -- exactly what they have requested, and the cursor is where their history leaves it.
 pub record IsClosedLost (opened : Opened) (home : List Reserver) (after : World) : Type 0 where
   pub phase : after.phase ≡ opened.phase
@@ -143,7 +143,7 @@ pub record IsClosedLost (opened : Opened) (home : List Reserver) (after : World)
   pub allocator : after.allocator ≡ after_loss opened.shared.start after.allocator.asked
   pub least : sum_by (λ (r : Reserver). requested_by r.own) home ≤ after.allocator.asked
   pub most : sum_by (λ (r : Reserver). r.own.left) home + after.allocator.asked
-      ≤ opened.shared.count * credit
+      ≤ opened.shared.count * quota
   pub reached : All (λ (r : Reserver). cursor after.allocator ≤ℤ r.own.mark) home
   pub asked : length home ≡ opened.shared.count
       → sum_by (λ (r : Reserver). requested_by r.own) home ≡ after.allocator.asked

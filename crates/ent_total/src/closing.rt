@@ -2,7 +2,7 @@
 ghost use Rattle.std.specs.Prelude.{◌≡◌, ◌≢◌, ◌↔◌, ◌⊎◌, ◌+◌, ◌*◌, ◌<◌, ◌≤◌, ◌≤ℤ◌, ◌<ℤ◌, [], ◌∷◌};
 ghost use Rattle.std.specs.Prelude.{length, sum_by, All, AllPairs, Contains, IfOk, OnOk, IfErr, IsSome, IfSome};
 ghost use Rattle.ent_handle.specs.Handle.{Handle as HandleValue};
-ghost use Rattle.ent_alloc.specs.Limits.{credit};
+ghost use Rattle.ent_alloc.specs.Limits.{quota};
 ghost use Rattle.ent_alloc.specs.Sequential.{cursor, after_flush};
 ghost use Rattle.ent_alloc.specs.History.{IsLegal, after_history, given_in};
 ghost use Rattle.ent_alloc.specs.Sound.{IsLive};
@@ -142,13 +142,13 @@ impl<J: Numbering> Shared<J> {
         ensures rows_of_living { IfOk result HasRowsOfLiving }
 
         // It counts what the reservers that are here have requested, and of the others no more than
-        // their credit.
+        // their quota.
         ensures least { IfOk result (λ entities.
             sum_by (λ r. requested_by r.own) (all_home self reservers.items)
             ≤ entities.allocator.asked) }
         ensures most { IfOk result (λ entities.
             sum_by (λ r. r.own.left) (all_home self reservers.items) + entities.allocator.asked
-            ≤ self.shared.count * credit) }
+            ≤ self.shared.count * quota) }
         ensures reached { IfOk result (λ entities.
             All (λ r. cursor entities.allocator ≤ℤ r.own.mark) (all_home self reservers.items)) }
 

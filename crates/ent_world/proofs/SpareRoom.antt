@@ -1,5 +1,5 @@
 -- How many slots wait after each step of an allocator, against the room that a storage has.
-use Rattle.std.proofs.Common.{rules, ◌≡◌, sym, ap, ◌∙◌, ℕ, ◌+◌, ◌-◌, ◌≤◌, ◌<◌, true, false, List}
+use Rattle.std.proofs.Common.{rules, ◌≡◌, sym, ap, ◌∙◌, ℕ, zero, suc, ◌+◌, ◌-◌, ◌≤◌, ◌<◌, true, false, List}
 use Rattle.std.proofs.Common.{[], ◌∷◌, ◌++◌, length, drop, filter, slice_get, arith, Some, All}
 use Rattle.std.proofs.Common.{length-append}
 use Rattle.std.proofs.lemmas.Grind.{common_steps}
@@ -19,6 +19,17 @@ use Rattle.ent_alloc.proofs.Taken.{length-available, made-after_flush}
 -- where no slot was made, none waits
 pub none_made : (s : Allocator) (spare : ℕ) → IsSound s → s.made ≡ 0 → top s ≤ spare
 none_made s spare sound none = let rest = retired-rest s sound in omega (arith, rest, none)
+
+-- where a slot waits, one was made
+pub some_made : (s : Allocator) (least : ℕ) → IsSound s → least < top s → 0 < s.made
+some_made s least sound waits = let rest = retired-rest s sound in omega (arith, rest, waits)
+
+-- a copy has as much room as the storage, or there is no slot that could wait
+pub room_copied : (s : Allocator) (made spare copy : ℕ) → IsSound s → made ≡ s.made → top s ≤ spare
+    → (0 < made → spare ≤ copy) → top s ≤ copy
+room_copied s zero spare copy sound is room keeps = none_made s copy sound (sym is)
+room_copied s (suc made) spare copy sound is room keeps =
+    let kept = keeps (omega arith) in omega (arith, room, kept)
 
 -- a flush takes old handles first
 pub top-after_flush : (s : Allocator) → IsSound s → top (after_flush s) ≡ top s - length s.taken

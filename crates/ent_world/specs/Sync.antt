@@ -137,7 +137,7 @@ stops_in command (q ∷ qs) = stops (drop command q)
 abbrev pub IsStop : ℕ → ℕ → ℕ → List (List Command) → Type 0
 IsStop system command done queues = done < stops_in command (drop system queues)
 
--- what holds of a sync that stopped at a command for want of memory
+-- what holds of a sync that stopped at a command for lack of memory
 abbrev pub IfStopped : {X : Type 0} → Result X SyncFault → (ℕ → ℕ → ℕ → SyncReport → Type 0)
     → Type 0
 IfStopped (Ok x) P = Unit {0}

@@ -1,7 +1,7 @@
 ghost use Rattle.std.specs.Prelude.{◌≡◌, ◌≢◌, ◌↔◌, ◌⊎◌, ◌+◌, ◌*◌, ◌≤◌, ◌≤ℤ◌, ◌<ℤ◌, length, sum_by};
 ghost use Rattle.std.specs.Prelude.{All, AllPairs, Contains};
 ghost use Rattle.ent_handle.specs.Handle.{Handle as HandleValue};
-ghost use Rattle.ent_alloc.specs.Limits.{credit};
+ghost use Rattle.ent_alloc.specs.Limits.{quota};
 ghost use Rattle.ent_alloc.specs.Sequential.{cursor, top, after_flush};
 ghost use Rattle.ent_alloc.specs.History.{IsLegal, after_history, given_in};
 ghost use Rattle.ent_alloc.specs.Sound.{IsLive};
@@ -144,10 +144,10 @@ impl OpenWorld {
         ensures after { result.allocator ≡ after_loss self.shared.start result.allocator.asked }
 
         // It counts what the reservers that are here have requested, and of the others no more than
-        // their credit.
+        // their quota.
         ensures least { sum_by (λ r. requested_by r.own) reservers.items ≤ result.allocator.asked }
         ensures most { sum_by (λ r. r.own.left) reservers.items + result.allocator.asked
-            ≤ self.shared.count * credit }
+            ≤ self.shared.count * quota }
         ensures reached { All (λ r. cursor result.allocator ≤ℤ r.own.mark) reservers.items }
 
         // If all are here, it counts what they have requested, and the cursor is where `close`

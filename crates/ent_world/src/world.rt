@@ -25,7 +25,7 @@ use ent_storage::{Items, Storage};
 use std::alloc::Global;
 use std::marker::Model;
 
-/// Who is alive, and what each entity is made of.
+/// The living entities and their components.
 ///
 /// Contracts see it as the state of its allocator, the number of its phase, and a finite map from
 /// the handles of the living entities to their births and components (`specs/World`).

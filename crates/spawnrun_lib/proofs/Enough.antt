@@ -13,7 +13,7 @@ use Rattle.std.proofs.lemmas.List.Sums.{sum_by-cons}
 use Rattle.std.proofs.lemmas.Option.{get_or_from_slice_get, slice_get_within}
 use Rattle.ent_handle.specs.Handle.{Handle}
 use Rattle.ent_alloc.specs.declared.space.Space.{Space}
-use Rattle.ent_alloc.specs.Limits.{AreLimits, credit}
+use Rattle.ent_alloc.specs.Limits.{AreLimits, quota}
 use Rattle.ent_alloc.specs.Sequential.{Allocator, after_take, reply_to}
 use Rattle.ent_alloc.specs.History.{Call, IsLegal, after_history}
 use Rattle.ent_alloc.proofs.FreshHandles.{length-fresh}
@@ -21,7 +21,7 @@ use Rattle.ent_alloc.proofs.ListLaws.{All-left, All-right}
 use Rattle.ent_alloc.proofs.Taken.{after_take-served}
 use Rattle.ent_alloc.specs.declared.refused.Refused.TheVariants as refusal
 use Rattle.ent_queue.specs.Command.{Command, Refused}
-use Rattle.ent_queue.specs.Reserving.{stands_for, cost, FitsCredit, FitCredit}
+use Rattle.ent_queue.specs.Reserving.{stands_for, cost, FitsQuota, FitQuota}
 use Rattle.ent_world.specs.Effects.{applied}
 use Rattle.ent_world.specs.Sync.{sync, after_births}
 use Rattle.ent_world.specs.World.{World, first_world}
@@ -66,15 +66,15 @@ Request = ℕ × Result (List Handle) Space
 abbrev IsReplied : Request → Type 0
 IsReplied request = IsOk request.1
 
--- it fits the credit that is left, and the allocator has served it
-command-granted : (left : ℕ) (c : Command) → FitsCredit left c → wanted_by c ≤ left
+-- it fits the quota that is left, and the allocator has served it
+command-granted : (left : ℕ) (c : Command) → FitsQuota left c → wanted_by c ≤ left
     → All IsReplied (stands_for c) → IsGranted c
 command-granted left (Refused wanted (refusal.Space same rest)) fits within replied =
     search (rules, All-head)
 command-granted left (Refused wanted (refusal.Quota rest)) fits within replied = search rules
 command-granted left _ fits within replied = tt
 
-commands-granted : (left : ℕ) (commands : List Command) → FitCredit left commands
+commands-granted : (left : ℕ) (commands : List Command) → FitQuota left commands
     → wanted_in commands ≤ left → All IsReplied (flat_map stands_for commands)
     → All IsGranted commands
 commands-granted left [] fit within replied = All-nil IsGranted
@@ -106,7 +106,7 @@ module _ (systems : List (List Operation)) (workers : ℕ) (w : World)
     (queues : List (List Command)) (history : List Call)
     (frame : IsFrame MayIssue systems workers w queues history)
     (enough : requested_by_systems systems ≤ length w.allocator.pool)
-    (small : requested_by_systems systems ≤ credit) where
+    (small : requested_by_systems systems ≤ quota) where
   wanted : sum_by wanted_in queues ≡ requested_by_systems systems
   wanted = queues-wanted (view_of w) systems queues frame.count frame.each_system
 
@@ -127,7 +127,7 @@ module _ (systems : List (List Operation)) (workers : ℕ) (w : World)
       let most = worker-wanted MayIssue systems workers w queues history frame worker mine at in
       let same = wanted in
       flat_all IsGranted (queue_at queues) mine
-      (commands-granted credit (commands_of queues mine) work.within (omega arith)
+      (commands-granted quota (commands_of queues mine) work.within (omega arith)
       (rw (← work.calls) (All-map IsReplied (λ (call : Call). (call.requested, call.reply)) _
       (All-filter (λ (call : Call). call.caller == worker) IsServed history served.0))))
 
@@ -157,24 +157,24 @@ module _ (systems : List (List Operation)) (workers : ℕ) (w : World)
 more_granted : (workers : ℕ) (w : World) (frames : List (List (List Operation)))
     (executions : List Execution) → AreExecutions workers w frames executions
     → sum_by requested_by_systems frames ≤ length w.allocator.pool
-    → sum_by requested_by_systems frames ≤ credit → All WereGranted executions
+    → sum_by requested_by_systems frames ≤ quota → All WereGranted executions
 more_granted workers w [] [] went enough small = All-nil WereGranted
 more_granted workers w [] (e ∷ executions) went enough small = absurd went
 more_granted workers w (systems ∷ frames) [] went enough small = absurd went
 more_granted workers w (systems ∷ frames) (e ∷ executions) went enough small =
     let sums = sum_by-cons requested_by_systems systems frames in
     let here : requested_by_systems systems ≤ length w.allocator.pool = omega arith in
-    let fits : requested_by_systems systems ≤ credit = omega arith in
+    let fits : requested_by_systems systems ≤ quota = omega arith in
     let left = frame-left systems workers w e.queues e.history went.0 here fits
     (sum_by requested_by_systems frames) (omega arith) in
     search (rules, All-cons, frame-granted systems workers w e.queues e.history went.0 here fits, more_granted workers (synced w e).world frames executions went.1 left (omega arith))
 
--- In the first world each slot has a handle to give, and a worker's credit is more than all slots.
+-- In the first world each slot has a handle to give, and a worker's quota is more than all slots.
 pub granted_if_enough : (script : Script) (workers : ℕ) (executions : List Execution)
     → AreLimits script.limits
     → AreExecutions workers (first_world script.limits) script.frames executions
     → HasEnoughSlots script → All (λ e. AreGranted e.queues) executions
-unfolding credit
+unfolding quota
 granted_if_enough script workers executions limits went enough =
     let all = length-fresh 0 script.limits.slots in
     let few = limits.slots in

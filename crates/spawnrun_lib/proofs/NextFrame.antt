@@ -1,7 +1,8 @@
 -- A run whose first frames are done goes on by one frame, and ends in a report.
-use Rattle.std.proofs.Common.{rules, ◌≡◌, refl, ℕ, ◌+◌, ◌<◌, List, [], ◌∷◌, ◌++◌, length, get_or}
-use Rattle.std.proofs.Common.{take, arith, append_assoc, append-nil}
-use Rattle.std.proofs.lemmas.List.{length-take-le, take_more}
+use Rattle.std.proofs.Common.{rules, ◌≡◌, ◌∙◌, refl, sym, ap, subst, ℕ, ◌+◌, ◌≤◌, List, [], ◌∷◌}
+use Rattle.std.proofs.Common.{◌++◌, length, arith, append_assoc, append-nil}
+use Rattle.std.proofs.lemmas.List.{length-append}
+use Rattle.std.proofs.lemmas.List.Elements.{All-head, All-tail}
 use Rattle.ent_handle.specs.Handle.{Handle}
 use Rattle.ent_queue.specs.Command.{Command}
 use Rattle.ent_world.specs.World.{World}
@@ -13,7 +14,7 @@ use Rattle.spawnrun_lib.specs.declared.show.Show.{Show}
 use Rattle.spawnrun_lib.specs.FrameText.{frame_text}
 use Rattle.spawnrun_lib.specs.Report.{Execution, AreExecutions, synced, born_in, last_world}
 use Rattle.spawnrun_lib.specs.Report.{frames_text}
-use Rattle.spawnrun_lib.specs.Course.{HaveGone}
+use Rattle.spawnrun_lib.specs.Course.{AreFew, HaveGone}
 
 -- ---- one frame more
 
@@ -68,16 +69,21 @@ module _ (workers : ℕ) (show : Show) (first now after : World)
         text_is = rw (on, run.text_is, ends.born_are, ends.faults_are, run.world_is);
       }
 
--- the same by the number of a frame in the list
-pub has_run : (workers : ℕ) (show : Show) (first now after : World)
-    (frames : List (List (List Operation))) (i : ℕ)
-    (systems : List (List Operation)) (text : List ℕ) (queues : List (List Command))
-    (births : List Handle) (faults : List Fault)
-    → i < length frames → systems ≡ get_or frames i systems → HaveGone (take i frames) workers show
-    first now text → Ends MayIssue systems workers now queues after births faults
-    → HaveGone (take (i + 1) frames) workers show first after (text
-    ++ frame_text show i births faults)
-has_run workers show first now after frames i systems text queues births faults within is run ends =
-    let more : take (i + 1) frames ≡ take i frames ++ systems ∷ [] = search (rules, take_more) in
-    rw (length-take-le i frames (omega (arith, within)), ← more) at (has_gone_on workers show first
-    now after (take i frames) systems text queues births faults run ends)
+-- ---- a list of frames of which the first are taken away one by one
+
+module _ (gone old rest : List (List (List Operation))) (systems : List (List Operation))
+    (front : old ≡ systems ∷ rest) where
+  pub goes_on : (all : List (List (List Operation))) → gone ++ old ≡ all
+      → (gone ++ systems ∷ []) ++ rest ≡ all
+  goes_on all e =
+      append_assoc gone (systems ∷ []) rest ∙ (ap (λ xs. gone ++ xs) (sym front) ∙ e)
+
+  pub one_more : (number : ℕ) → number ≡ length gone → number + 1 ≡ length (gone ++ systems ∷ [])
+  one_more number is = search (rules, length-append, is)
+
+  pub next_is_few : AreFew old → length systems ≤ 256
+  next_is_few few = All-head (λ systems. length systems ≤ 256) systems rest (subst AreFew front few)
+
+  pub others_are_few : AreFew old → AreFew rest
+  others_are_few few =
+      All-tail (λ systems. length systems ≤ 256) systems rest (subst AreFew front few)

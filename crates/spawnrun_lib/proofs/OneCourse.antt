@@ -15,7 +15,7 @@ use Rattle.ent_handle.specs.declared.component.ComponentId.{ComponentId}
 use Rattle.ent_handle.specs.declared.birth.Birth.{Birth}
 use Rattle.ent_handle.specs.Handle.{Handle}
 use Rattle.ent_alloc.specs.declared.space.Space.{Space as OutOfSpace}
-use Rattle.ent_alloc.specs.Limits.{credit}
+use Rattle.ent_alloc.specs.Limits.{quota}
 use Rattle.ent_alloc.specs.Sequential.{Allocator, reply_to}
 use Rattle.ent_alloc.specs.History.{Call}
 use Rattle.ent_alloc.proofs.ListLaws.{filter_all}
@@ -39,7 +39,7 @@ use Rattle.spawnrun_lib.proofs.Served.{served_rest}
 
 -- ---- one operation
 
--- what a request for so many handles issues: a refusal if the credit is too small, else what is
+-- what a request for so many handles issues: a refusal if the quota is too small, else what is
 -- issued at the reply
 abbrev requested : Allocator → ℕ → (ℕ → Result (List Handle) OutOfSpace → List Command) → ℕ
     → List Command
@@ -94,7 +94,7 @@ same_operation view names _ s left cs ds a b p q = same_on_each view names _ _ c
 
 -- ---- one system
 
--- After the same commands the allocator, the credit and the names are the same, so the rest
+-- After the same commands the allocator, the quota and the names are the same, so the rest
 -- follows.
 same_queue : (view : View) (names : Bindings) (ops : List Operation) (s : Allocator) (left : ℕ)
     (cs ds : List Command) → IssuesAll view names ops cs → IssuesAll view names ops ds
@@ -137,7 +137,7 @@ record IsAlone (count : ℕ) (w : World) (queues : List (List Command)) (history
     rising : AllPairs (λ m n. m < n) mine
     once : IsPermutation mine (range_with_len 0 count)
     calls : history ≡ calls_of (commands_of queues mine)
-    served : IsServed w.allocator credit (commands_of queues mine)
+    served : IsServed w.allocator quota (commands_of queues mine)
 
 only_one : (ran : List (List ℕ)) → length ran ≡ 1 → (mine : List ℕ) × (slice_get ran 0 ≡ Some mine)
     × (flat_map (λ mine. mine) ran ≡ mine)
@@ -195,7 +195,7 @@ one_course systems w q r h k first second =
     let below : All (λ n. n < length systems) a.mine = All-permutation (λ n. n < length systems)
     numbers a.mine (IsPermutation-sym a.mine numbers a.once) (all_below (length systems)) in
     let each = same_queues (view_of w) systems q r
-    a.mine w.allocator credit below first.each_system second.each_system a.served
+    a.mine w.allocator quota below first.each_system second.each_system a.served
     (rw (← mine) at b.served) in
     let at = All-permutation (λ n. queue_at q n ≡ queue_at r n) a.mine numbers a.once each in
     let queues : q ≡ r = ext_get_or [] q r (first.count ∙ sym second.count)

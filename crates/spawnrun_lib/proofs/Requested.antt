@@ -115,7 +115,7 @@ wanted_by c = cost c
 abbrev pub wanted_in : List Command → ℕ
 wanted_in queue = sum_by wanted_by queue
 
--- What it has cost is no more: a refusal for want of credit has cost nothing.
+-- What it has cost is no more: a refusal for lack of quota has cost nothing.
 pub cost-wanted : (c : Command) → cost c ≤ wanted_by c
 cost-wanted it = search rules
 

@@ -1,4 +1,4 @@
--- Commands whose reservations an allocator has replied to, and the credit has allowed.
+-- Commands whose reservations an allocator has replied to, and the quota has allowed.
 use Rattle.std.proofs.Common.{rules, ℕ, ◌-◌, List, [], ◌∷◌, ◌++◌, map}
 use Rattle.std.proofs.lemmas.Grind.{flat_map-append}
 use Rattle.std.specs.List.{flat_map}
@@ -6,20 +6,20 @@ use Rattle.std.proofs.lemmas.List.{map-append}
 use Rattle.ent_alloc.specs.Sequential.{Allocator, after_take}
 use Rattle.ent_alloc.specs.History.{Call, IsLegal, after_history}
 use Rattle.ent_queue.specs.Command.{Command}
-use Rattle.ent_queue.specs.Reserving.{stands_for, cost, FitCredit}
+use Rattle.ent_queue.specs.Reserving.{stands_for, cost, FitQuota}
 use Rattle.ent_runner.specs.Frame.{first_call}
 
 -- the calls of the first worker that has issued these commands
 abbrev pub calls_of : List Command → List Call
 calls_of commands = map first_call (flat_map stands_for commands)
 
--- The allocator has replied to the reservations of the commands, and that much credit was left
+-- The allocator has replied to the reservations of the commands, and that much quota was left
 -- before.
 pub record IsServed (s : Allocator) (left : ℕ) (commands : List Command) : Type 0 where
   pub legal : IsLegal s (calls_of commands)
-  pub within : FitCredit left commands
+  pub within : FitQuota left commands
 
--- the allocator and the credit after the commands
+-- the allocator and the quota after the commands
 abbrev pub state_after : Allocator → List Command → Allocator
 state_after s commands = after_history s (calls_of commands)
 
@@ -27,8 +27,8 @@ abbrev pub left_after : ℕ → List Command → ℕ
 left_after left [] = left
 left_after left (c ∷ cs) = left_after (left - cost c) cs
 
-within_parts : (left : ℕ) (cs ds : List Command) → FitCredit left (cs ++ ds)
-    → FitCredit left cs × FitCredit (left_after left cs) ds
+within_parts : (left : ℕ) (cs ds : List Command) → FitQuota left (cs ++ ds)
+    → FitQuota left cs × FitQuota (left_after left cs) ds
 within_parts left [] ds within = (tt, within)
 within_parts left (c ∷ cs) ds within =
     let rest = within_parts (left - cost c) cs ds within.1 in ((within.0, rest.0), rest.1)

@@ -169,7 +169,7 @@ pub none_other : (found : Option (Text × List Row)) → IsAsked found
     → IfSome r (λ p. (p.0.now ≡ codes "replay" → ⊥) × (p.0.now ≡ codes "run" → ⊥)) → ⊥
 none_other found it it2 named other = search rules
 
--- an error of words that are admitted is want of memory
+-- an error of words that are admitted is lack of memory
 pub only_memory : {T : Type 0} (r : Result T LineFault) (error : Error) (admitted : Type 0)
     → IsErrAnd r (IsFaultOf error)
     → (admitted → kind_of error ≡ OutOfMemory) → IfErr r (λ fault. admitted → fault ≡ Memory)

@@ -73,6 +73,6 @@ module _ (view : View) (h k : Handle) (why : Refusal) where
     inl (inr (record { done = []; missing = h; others = []; target = refl; commands = refl })),
   )
 
-  -- a spawn that is refused for want of slots is not where a system stops
+  -- a spawn that is refused for lack of slots is not where a system stops
   refused_goes_on : MayStop (operation.Spawn one_hp (Some 0) ∷ []) view (Refused 1 why ∷ []) → ⊥
   refused_goes_on which = search rules

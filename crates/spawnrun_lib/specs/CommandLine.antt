@@ -72,6 +72,7 @@ top_command = on_top (λ top. record top {
   no_binary_name = true;
   disable_help_subcommand = true;
   subcommand_required = true;
+  has_version = true;
 }) (new_app (codes "spawnrun"))
 
 abbrev pub program_of : Bor (List (Bor Text)) → App

@@ -84,7 +84,7 @@ IssuesAll view names (op ∷ ops) queue =
 abbrev pub MayIssue : List Operation → View → List Command → Type 0
 MayIssue ops view queue = IssuesAll view unbound ops queue
 
--- ---- want of memory
+-- ---- lack of memory
 
 -- The target means these handles and more: the command for at least one of it is missing.
 pub record IsCutShort (view : View) (names : Bindings) (on : Target) (command : Handle → Command)

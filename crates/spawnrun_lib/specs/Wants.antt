@@ -66,7 +66,7 @@ operation_wants cause.Birth =
     codes "a birth must be the number of an earlier frame, of a system up to 255 and of a "
     ++ codes "spawned entity up to 4294967295, with dots between, as 0.1.2, without leading zeros"
 
--- what the test of a script wants that it fails; want of memory fails none
+-- what the test of a script wants that it fails; lack of memory fails none
 abbrev pub script_wants : ReadFault → List ℕ
 script_wants fault.Json =
     codes "the input must be a JSON text in UTF-8, its lists and objects at most 127 deep, "

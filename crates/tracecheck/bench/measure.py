@@ -1,6 +1,6 @@
-"""Runs `tracecheck` on a trace that is made while it runs, and prints the row of the table, or stops at a wrong verdict.
+"""Runs `tracecheck` by both builds on a trace that is made while it runs, and prints the row of the table, or stops at a wrong verdict.
 
-usage: measure.py PROGRAM SHAPE LINES
+usage: measure.py PROGRAM BY_CARGO SHAPE LINES
 
 The traces are those of an allocator of Bevy's form:
 
@@ -46,24 +46,33 @@ def watch(process, peak):
         time.sleep(0.001)
 
 
-def main(program, shape, lines):
-    parts = {"threads": threads, "short": short}[shape](int(lines))
-    run = subprocess.Popen([program], stdin=subprocess.PIPE, stdout=subprocess.PIPE)
+def run(program, parts):
+    """The seconds of the processor that a run takes, the most memory that it holds, in MiB, and how many lines and bytes it is given."""
+    child = subprocess.Popen([program], stdin=subprocess.PIPE, stdout=subprocess.PIPE)
     peak, count, size = [0], 0, 0
-    watched = Thread(target=watch, args=(run.pid, peak))
+    watched = Thread(target=watch, args=(child.pid, peak))
     watched.start()
-    with run.stdin as given:
+    with child.stdin as given:
         for part in parts:
             count, size = count + part.count("\n"), size + len(part)
             given.write(part.encode())
-    said = run.stdout.read().decode()
+    said = child.stdout.read().decode()
     # A process that has ended holds nothing, and is there until it is waited for.
     watched.join()
-    used = os.wait4(run.pid, 0)[2]
+    used = os.wait4(child.pid, 0)[2]
     if not said.startswith(f"agrees: {count} lines, "):
-        sys.exit(f"{shape}: {said}")
-    seconds = used.ru_utime + used.ru_stime
-    print(f"| {shape} | {count:,} | {size:,} | {seconds:.2f} | {1e9 * seconds / count:,.0f} | {peak[0] / 1024:,.1f} |")
+        sys.exit(f"{program}: {said}")
+    return used.ru_utime + used.ru_stime, peak[0] / 1024, count, size
+
+
+def main(program, by_cargo, shape, lines):
+    made = {"threads": threads, "short": short}[shape]
+    seconds, peak, count, size = run(program, made(int(lines)))
+    of_cargo, peak_of_cargo, *_ = run(by_cargo, made(int(lines)))
+    print(
+        f"| {shape} | {count:,} | {size:,} | {seconds:.2f} | {1e9 * seconds / count:,.0f} | {peak:,.1f}"
+        f" | {of_cargo:.2f} | {of_cargo / seconds:.2f} | {peak_of_cargo:,.1f} |"
+    )
 
 
 if __name__ == "__main__":

@@ -46,7 +46,7 @@ is_free app is = ap is_simple_and_free is ∙ program-free
 
 -- ---- the faults
 
--- an error of words that are admitted is want of memory
+-- an error of words that are admitted is lack of memory
 pub only_memory : {T : Type 0} (r : Result T LineFault) (error : Error) (admitted : Type 0)
     → IsErrAnd r (IsFaultOf error) → (admitted → kind_of error ≡ OutOfMemory)
     → IfErr r (λ fault. admitted → fault ≡ Memory)

@@ -33,7 +33,8 @@ generations_option = number_option (codes "generations") 2147483647 (codes "2147
 
 -- the words begin after the program's name
 abbrev pub top_command : App
-top_command = on_top (λ top. record top { no_binary_name = true }) (new_app (codes "tracecheck"))
+top_command = on_top (λ top. record top { no_binary_name = true; has_version = true })
+    (new_app (codes "tracecheck"))
 
 abbrev pub program : App
 program = with_rule (with_rule top_command slots_option) generations_option

@@ -1,8 +1,8 @@
 //! The limits that the words after the program's name ask for.
-ghost use Rattle.std.specs.Prelude.{◌≡◌, [], IfOk, IfErr, OnOk, Some, codes, map, true, false};
+ghost use Rattle.std.specs.Prelude.{◌≡◌, ◌≢◌, [], IfOk, IfErr, OnOk, Ok, Some, codes, map, true, false};
 ghost use Rattle.clap.specs.Words.{app_of, fault_of, rule_of, takes};
 ghost use Rattle.ent_alloc.specs.Limits.{AreLimits};
-ghost use Rattle.tracecheck.specs.CommandLine.{AsksFor, HasNumber, IsFaultIn, given};
+ghost use Rattle.tracecheck.specs.CommandLine.{AsksFor, HasNumber, IsFaultIn, IsFaulty, given};
 ghost use Rattle.tracecheck.specs.CommandLine.{number_option, option_number, program, top_command};
 
 use clap::error::ErrorKind;
@@ -11,14 +11,18 @@ use ent_alloc::Limits;
 use std::alloc::{AllocError, Global};
 use std::convert::AsStr;
 
+// The version of the program, which is that of the package.
+const VERSION: &str = "0.1.0";
+
 // What help ends with.
-const PROGRAM_END: &str = "A trace of two lines:\n  \
-     reserve 1 2 => 0v1 1v1\n  \
-     flush => born 0v1 1v1\n\n\
+const PROGRAM_END: &str = "It reads standard input, or the file that is named by the last word.\n\n\
+     Examples:\n  \
+     printf 'reserve 1 2 => 0v1 1v1\\nflush => born 0v1 1v1\\n' | tracecheck\n  \
+     tracecheck --slots 100 trace.txt\n\n\
      Exit status:\n  \
      0  the trace agrees with the sequential allocator\n  \
      1  the trace differs: the output names the line, and what the allocator answers there\n  \
-     2  the text is no trace, or the words are no command line, or ask for help\n  \
+     2  the text is no trace, or the words are no command line, or ask for help or the version\n  \
      3  memory ran out, and nothing was written\n  \
      4  reading or writing failed";
 
@@ -81,6 +85,7 @@ fn top_command<'a>(alloc: Global) -> Command<'a>
     ensures { app_of result ≡ top_command }
 {
     Command::new(alloc, "tracecheck")
+        .version(VERSION)
         .about("Compares the trace on standard input with the proved allocator")
         .after_help(PROGRAM_END)
         .no_binary_name(true)
@@ -137,4 +142,21 @@ pub fn command_line<S: AsStr>(alloc: Global, words: &[S]) -> Result<Limits, Line
 {
     let matches = program(alloc)?.try_get_matches_from(words)?;
     Ok(limits_of(&matches))
+}
+
+/// Whether the words ask for a check.
+///
+/// # Errors
+///
+/// Memory ran out while they were read.
+pub fn are_limits<S: AsStr>(alloc: Global, words: &[S]) -> Result<bool, AllocError>
+    ensures yes { result ≡ Ok true → fault_of program (map S.text words.now) ≡ [] }
+    ensures no { result ≡ Ok false → IsFaulty (map S.text words.now) }
+    ensures taken { takes program (map S.text words.now) ≡ true → result ≢ Ok false }
+{
+    match command_line(alloc, words) {
+        Ok(_) => Ok(true),
+        Err(LineFault::Line(_)) => Ok(false),
+        Err(LineFault::Memory) => Err(AllocError),
+    }
 }

@@ -1,7 +1,7 @@
 //! The program: what its words ask for, done between two devices, and what it writes to the error stream
 //! and to a terminal.
 ghost use Rattle.std.specs.Prelude.{◌≡◌, ◌≢◌, ◌≤◌, ◌⊎◌, IfOk, OnErr, OnOk, map, true, false};
-ghost use Rattle.std.specs.Prelude.{codes, string_bytes};
+ghost use Rattle.std.specs.Prelude.{◌<◌, codes, is_some, length, string_bytes};
 ghost use Rattle.std.specs.IoError.{error_kind};
 ghost use Rattle.std.specs.Io.KnownBytes.{Appends};
 ghost use Rattle.clap.specs.Words.{takes};
@@ -9,14 +9,16 @@ ghost use Rattle.devices.specs.Device.{OneFails};
 ghost use Rattle.tracecheck.specs.CommandLine.{IsFaulty, program};
 ghost use Rattle.tracecheck.specs.Status.{HasSaid, exit_number, said, words_status};
 
-use crate::command_line::{LineFault, command_line};
+use crate::command_line::{LineFault, are_limits, command_line};
 use crate::running::check_trace;
 use crate::status::Status;
-use devices::{Counted, Sink, Source};
+use devices::{Counted, Muted, Noting, Sink, Source, open_named};
 use std::alloc::{AllocError, Global};
+use std::cell::Cell;
 use std::convert::AsStr;
 use std::env::Env;
 use std::io::{ErrorKind, Read, Write};
+use std::rt::Files;
 use std::{env, io};
 
 // The exit status for words that are no command line of the program, and for a request for help.
@@ -61,7 +63,7 @@ pub fn execute<S: AsStr, I: Source, O: Sink, E: Sink, T: Sink>(
         → HasSaid (map S.text words.now) Status.Refused
         (I.remaining input.old) (O.written output.old) (O.written output.new) }
 
-    // Words that are no command line, or ask for help, have no other status, but 3 for want of
+    // Words that are no command line, or ask for help, have no other status, but 3 for lack of
     // memory. No device is used for them.
     ensures faulty { IsFaulty (map S.text words.now) → result ≢ 3 → result ≡ 2 }
     ensures unused_input { IsFaulty (map S.text words.now) → input.new ≡ input.old }
@@ -152,6 +154,10 @@ fn finish<E: Sink>(errors: &mut E, status: Status) -> u8
 }
 
 /// Runs the program on the words that it was started with, and returns its exit status.
+///
+/// If the last word is one too many and names a file, the program runs on the words before it, with
+/// the file for its input. If the output is a pipe whose reader has left, the status is 4, and the
+/// error stream is told nothing.
 pub fn start<R, I: Read + Drop, O: Write + Drop, E: Write + Drop, T: Write + Drop>(
     rt: &R,
     input: I,
@@ -161,18 +167,31 @@ pub fn start<R, I: Read + Drop, O: Write + Drop, E: Write + Drop, T: Write + Dro
     tells: bool,
 ) -> u8
 where
-    R: Env + AllocGlobal,
+    R: Env + Files + AllocGlobal,
     ensures { result ≤ 4 }
 {
-    let mut input = Counted::new(input);
-    let mut output = Counted::new(output);
-    let mut errors = Counted::new(errors);
+    let has_left = Cell::new(false);
+    let mut output = Counted::new(Noting::new(output, &has_left));
+    let mut errors = Counted::new(Muted::new(errors, &has_left));
     let mut terminal = Counted::new(terminal);
-    match words(rt) {
-        Ok(words) => execute(
+    let words = match words(rt) {
+        Ok(words) => words,
+        Err(error) => return refuse_words(&error, &mut errors),
+    };
+    match named_file(rt, &words) {
+        Ok(Some(file)) => execute(
+            rt.alloc(),
+            &words[..words.len() - 1],
+            &mut Counted::new(file),
+            &mut output,
+            &mut errors,
+            &mut terminal,
+            tells,
+        ),
+        Ok(None) => execute(
             rt.alloc(),
             &words,
-            &mut input,
+            &mut Counted::new(input),
             &mut output,
             &mut errors,
             &mut terminal,
@@ -187,4 +206,18 @@ fn words(rt: &(impl Env + AllocGlobal)) -> io::Result<Vec<String>> {
     let mut words = env::args(rt)?;
     let _ = words.next();
     Ok(words.collect(rt.alloc())?)
+}
+
+// The file that the last word names: the program takes the words before it, but not all of them, and
+// it is no option. An `Err` is of memory.
+fn named_file<R: Files + AllocGlobal>(rt: &R, words: &[String]) -> io::Result<Option<R::File>>
+    ensures { IfOk result (λ file. is_some file ≡ true → 0 < length words.now) }
+{
+    let Some((name, before)) = words.split_last() else {
+        return Ok(None);
+    };
+    if name.starts_with('-') || are_limits(rt.alloc(), words)? || !are_limits(rt.alloc(), before)? {
+        return Ok(None);
+    }
+    Ok(open_named(rt, name)?)
 }

@@ -56,7 +56,7 @@ impl Phase {
         self.open.view()
     }
 
-    /// Writes the credit that is left to each system.
+    /// Writes the quota that is left to each system.
     pub fn write_state(&self, out: &mut Out) {
         for reserver in &self.reservers {
             out.next(&reserver.left());

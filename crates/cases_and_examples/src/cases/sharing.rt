@@ -78,7 +78,7 @@ impl Sharing {
         }
     }
 
-    /// Writes the credit that is left to each reserver.
+    /// Writes the quota that is left to each reserver.
     pub fn write_state(&self, out: &mut Out) {
         out.show(&self.shared.count());
         for reserver in &self.reservers {

@@ -180,7 +180,7 @@ impl Out {
                 self.word(" left");
             }
             FaultKind::Quota { left } => {
-                self.word(" credit ");
+                self.word(" quota ");
                 self.show(&left);
             }
         }

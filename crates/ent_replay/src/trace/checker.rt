@@ -15,7 +15,7 @@ use crate::trace::comparer::Comparer;
 use crate::trace::log::Log;
 use crate::trace::reply::{AllocReply, FlushReply, FreeReply, ReserveReply};
 use crate::trace::reservation::Reservation;
-use ent_alloc::{Limits, State};
+use ent_alloc::{Entities, Limits, State};
 use ent_handle::Handle;
 use std::alloc::Global;
 use std::mem;
@@ -31,7 +31,8 @@ use std::mem;
 /// use forgeni::trace::Checker;
 /// use forgeni::{Entities, Limits};
 ///
-/// let (mut entities, mut checker) = (Entities::new(), Checker::new(Limits::GREATEST));
+/// let limits = Limits::GREATEST.keeping_placeholder(); // those of `Entities::new`
+/// let (mut entities, mut checker) = (Entities::new(), Checker::new(limits));
 /// checker.alloc(entities.alloc()?)?;
 /// checker.reserve(7, 2, entities.request_many(2)?)?;
 /// let mut born = Vec::new();
@@ -54,7 +55,20 @@ impl Checker {
     /// A checker of an allocator that has given nothing. It takes no memory.
     ///
     /// The limits are those of the allocator that is checked: how many slots it may make, and after
-    /// which generation it gives a slot no more. The greatest ones go as far as handles do.
+    /// which generation it gives a slot no more. The greatest ones go as far as handles do, and
+    /// include [`Handle::PLACEHOLDER`](forgeni::Handle::PLACEHOLDER).
+    ///
+    /// ```
+    /// use forgeni::trace::Checker;
+    /// use forgeni::{Entities, Limits};
+    ///
+    /// let limits = Limits::new(2, 10).expect("in range");
+    /// let mut entities = Entities::with_limits(limits);
+    /// let mut checker = Checker::new(limits.keeping_placeholder());
+    /// checker.alloc(entities.alloc()?)?;
+    /// assert_eq!((checker.calls(), checker.error()), (1, None));
+    /// # Ok::<(), Box<dyn std::error::Error>>(())
+    /// ```
     #[must_use]
     pub fn new(alloc: Global, limits: Limits) -> Self
         ensures opens { result.comparer ≡ Ok (record { allocator = opening limits; run = [] }) }
@@ -63,6 +77,33 @@ impl Checker {
         Checker {
             alloc,
             comparer: Ok(Comparer::new(alloc, limits)),
+            calls: 0,
+        }
+    }
+
+    /// A checker that begins in the middle: the allocator that is checked is in the same state as this
+    /// one, with its limits and its requests. It takes no memory.
+    ///
+    /// ```
+    /// use forgeni::Entities;
+    /// use forgeni::trace::Checker;
+    ///
+    /// let mut entities = Entities::new();
+    /// entities.alloc_many(2)?;
+    /// let mut checker = Checker::from_entities(entities.try_clone()?);
+    /// checker.alloc(entities.alloc()?)?;
+    /// checker.len(3)?;
+    /// # Ok::<(), Box<dyn std::error::Error>>(())
+    /// ```
+    #[must_use]
+    pub fn from_entities(alloc: Global, entities: Entities) -> Self
+        ensures begins { result.comparer
+            ≡ Ok (record { allocator = entities.allocator; run = [] }) }
+        ensures none { result.calls ≡ 0 }
+    {
+        Checker {
+            alloc,
+            comparer: Ok(Comparer::from_entities(alloc, entities)),
             calls: 0,
         }
     }
@@ -102,6 +143,19 @@ impl Checker {
     ///
     /// The first error is kept, and each later call returns a copy of it, or `Memory` if there is no
     /// memory for a copy. [`error`](Self::error) returns the one that is kept.
+    ///
+    /// ```
+    /// use forgeni::trace::{Call, CheckError, Checker};
+    /// use forgeni::Limits;
+    ///
+    /// let mut checker = Checker::new(Limits::GREATEST);
+    /// checker.call(Call::Alloc(None))?; // its answer isn't known
+    /// let wrong = checker.call(Call::Len(Some(2))).unwrap_err();
+    /// assert_eq!(wrong.to_string(), "differs line 2: len => 2, expected 1");
+    /// assert_eq!(checker.call(Call::Len(Some(1))), Err(wrong));
+    /// assert_eq!(checker.calls(), 2);
+    /// # Ok::<(), CheckError>(())
+    /// ```
     pub fn call(&mut self, call: Call) -> Result<(), CheckError>
         ensures takes { Takes self.old call self.new }
         ensures answers { Answers self.new.comparer result }
@@ -111,6 +165,16 @@ impl Checker {
     }
 
     /// A handle was asked for, to be alive at once.
+    ///
+    /// ```
+    /// use forgeni::trace::{AllocReply, Checker};
+    /// use forgeni::{Handle, Limits};
+    ///
+    /// let mut checker = Checker::new(Limits::new(1, 10).expect("in range"));
+    /// checker.alloc("0v1".parse::<Handle>()?)?;
+    /// checker.alloc(AllocReply::Space)?; // it may make one slot
+    /// # Ok::<(), Box<dyn std::error::Error>>(())
+    /// ```
     ///
     /// # Errors
     ///
@@ -125,6 +189,18 @@ impl Checker {
 
     /// A handle was freed.
     ///
+    /// ```
+    /// use forgeni::trace::{Checker, FreeReply};
+    /// use forgeni::{Handle, Limits};
+    ///
+    /// let mut checker = Checker::new(Limits::GREATEST);
+    /// let handle: Handle = "0v1".parse()?;
+    /// checker.alloc(handle)?;
+    /// checker.free(handle, FreeReply::Next("0v2".parse::<Handle>()?))?;
+    /// checker.free(handle, FreeReply::NotAlive)?;
+    /// # Ok::<(), Box<dyn std::error::Error>>(())
+    /// ```
+    ///
     /// # Errors
     ///
     /// As of [`call`](Self::call).
@@ -135,7 +211,19 @@ impl Checker {
         self.call(Call::Free(handle, Some(reply)))
     }
 
-    /// What is reserved was brought to life.
+    /// What is reserved was brought to life. The answer is the handles, or how many they were.
+    ///
+    /// ```
+    /// use forgeni::trace::{Checker, FlushReply};
+    /// use forgeni::{Handle, Limits};
+    ///
+    /// let mut checker = Checker::new(Limits::GREATEST);
+    /// let reserved = ["0v1".parse::<Handle>()?, "1v1".parse()?];
+    /// checker.reserve(0, 2, reserved)?;
+    /// checker.flush(reserved)?;
+    /// checker.flush(FlushReply::Count(0))?;
+    /// # Ok::<(), Box<dyn std::error::Error>>(())
+    /// ```
     ///
     /// # Errors
     ///
@@ -150,6 +238,17 @@ impl Checker {
 
     /// The state of a handle was read.
     ///
+    /// ```
+    /// use forgeni::trace::Checker;
+    /// use forgeni::{Handle, Limits, State};
+    ///
+    /// let mut checker = Checker::new(Limits::GREATEST);
+    /// let reserved: Handle = "0v1".parse()?;
+    /// checker.reserve(0, 1, reserved)?;
+    /// checker.state(reserved, State::Reserved)?;
+    /// # Ok::<(), Box<dyn std::error::Error>>(())
+    /// ```
+    ///
     /// # Errors
     ///
     /// As of [`call`](Self::call).
@@ -161,6 +260,17 @@ impl Checker {
     }
 
     /// The living were counted.
+    ///
+    /// ```
+    /// use forgeni::trace::Checker;
+    /// use forgeni::{Handle, Limits};
+    ///
+    /// let mut checker = Checker::new(Limits::GREATEST);
+    /// checker.alloc("0v1".parse::<Handle>()?)?;
+    /// checker.reserve(0, 1, "1v1".parse::<Handle>()?)?;
+    /// checker.len(1)?; // what is reserved isn't alive
+    /// # Ok::<(), Box<dyn std::error::Error>>(())
+    /// ```
     ///
     /// # Errors
     ///
@@ -174,6 +284,19 @@ impl Checker {
 
     /// Handles were reserved, for the next flush to bring to life. Other reservations may overlap
     /// this one: it may come before or after those of other callers.
+    ///
+    /// ```
+    /// use forgeni::trace::{Checker, ReserveReply};
+    /// use forgeni::{Handle, Limits};
+    ///
+    /// let mut checker = Checker::new(Limits::new(3, 10).expect("in range"));
+    /// // Caller 5 reserved before caller 2.
+    /// checker.reserve(2, 1, "2v1".parse::<Handle>()?)?;
+    /// checker.reserve(5, 2, ["0v1".parse::<Handle>()?, "1v1".parse()?])?;
+    /// checker.reserve(5, 1, ReserveReply::SpaceLeft(0))?;
+    /// checker.finish()?;
+    /// # Ok::<(), Box<dyn std::error::Error>>(())
+    /// ```
     ///
     /// # Errors
     ///
@@ -194,6 +317,19 @@ impl Checker {
     /// Takes all that a log has, in its order. The log is empty then. It overlapped what was reserved
     /// since the last other call.
     ///
+    /// ```
+    /// use forgeni::trace::{Checker, Log};
+    /// use forgeni::{Handle, Limits};
+    ///
+    /// let one: Handle = "0v1".parse()?;
+    /// let (mut checker, mut log) = (Checker::new(Limits::GREATEST), Log::new(3));
+    /// log.push(1, one)?;
+    /// checker.join(&mut log)?;
+    /// assert!(log.reservations().is_empty());
+    /// checker.flush([one])?;
+    /// # Ok::<(), Box<dyn std::error::Error>>(())
+    /// ```
+    ///
     /// # Errors
     ///
     /// As of [`call`](Self::call). The log is emptied in any case.
@@ -211,6 +347,19 @@ impl Checker {
     ///
     /// Those of one caller come in its order. Those of different callers come in no order.
     ///
+    /// ```
+    /// use forgeni::trace::{Checker, Reservation};
+    /// use forgeni::{Handle, Limits};
+    ///
+    /// let mut checker = Checker::new(Limits::GREATEST);
+    /// let one = Reservation::new(0, 1, "1v1".parse::<Handle>()?);
+    /// let other = Reservation::new(1, 1, "0v1".parse::<Handle>()?);
+    /// checker.run(vec![one, other])?;
+    /// // Slot 0 was given in that run.
+    /// assert!(checker.run(vec![Reservation::new(2, 1, "0v1".parse::<Handle>()?)]).is_err());
+    /// # Ok::<(), Box<dyn std::error::Error>>(())
+    /// ```
+    ///
     /// # Errors
     ///
     /// As of [`call`](Self::call).
@@ -225,6 +374,16 @@ impl Checker {
     }
 
     /// There are no more calls. The last reservations are compared.
+    ///
+    /// ```
+    /// use forgeni::trace::Checker;
+    /// use forgeni::{Handle, Limits};
+    ///
+    /// let mut checker = Checker::new(Limits::GREATEST);
+    /// checker.reserve(0, 1, "1v1".parse::<Handle>()?)?; // another one may come before it
+    /// assert!(checker.finish().is_err());
+    /// # Ok::<(), Box<dyn std::error::Error>>(())
+    /// ```
     ///
     /// # Errors
     ///

@@ -63,12 +63,19 @@ impl Comparer {
     pub fn new(alloc: Global, limits: Limits) -> Self
         ensures { result ≡ record { allocator = opening limits; run = [] } }
     {
+        Comparer::from_entities(alloc, Entities::new(alloc, limits))
+    }
+
+    /// One whose trace begins in the state of this allocator, with its requests. It takes no memory.
+    pub fn from_entities(alloc: Global, entities: Entities) -> Self
+        ensures { result ≡ record { allocator = entities.allocator; run = [] } }
+    {
         Comparer {
+            wanted: entities.asked(),
             alloc,
-            entities: Entities::new(alloc, limits),
+            entities,
             run: Vec::new(alloc),
             latest: ByCaller::new(alloc),
-            wanted: 0,
         }
     }
 

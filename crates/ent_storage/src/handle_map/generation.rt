@@ -7,7 +7,7 @@ use std::num::NonZeroU32;
 
 /// A generation that a handle may have. It is not 0, so a slot needs no room to say that it is
 /// vacant.
-#[derive(Drop)]
+#[derive(Clone, Copy)]
 pub(super) struct Generation {
     number: NonZeroU32,
 }
@@ -24,6 +24,22 @@ impl Model for Generation {
     ghost view = { λ g. non_zero_u32_get g.number };
 
     ghost invariant = { λ g. non_zero_u32_get g.number < 2 ^ 31 };
+
+    ghost use Rattle.ent_handle.specs.NonZero.{same_proof};
+    ghost use Rattle.ent_storage.specs.Generation.{positive, positive-positive, positive-same};
+
+    ghost inverse = { λ n. record {
+      number = record { value = positive n; ok = positive-positive n };
+    } };
+
+    ghost inverse_ok = { λ g is i.
+        let same = positive-same g.number.value g.number.ok in
+        record {
+          number = record {
+            value = same i;
+            ok = same_proof same (positive-positive g.number.value) g.number.ok i;
+          };
+        } };
 }
 
 impl Generation {

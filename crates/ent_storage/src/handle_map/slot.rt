@@ -2,13 +2,15 @@ ghost use Rattle.std.specs.Prelude.{◌≡◌, ◌+◌, ◌-◌, ◌^◌, ◌<�
 ghost use Rattle.std.specs.Prelude.{IsSome, length, option_copied, vec_capacity};
 ghost use Rattle.std.specs.Borrow.{Lends, sem};
 ghost use Rattle.ent_storage.specs.Slots.{generation_of, handle_in, any_value, value_under, count_at, padded};
+ghost use Rattle.ent_storage.specs.Slots.{IsSlotClone};
+ghost use Rattle.std.specs.List.{AppendsClones};
 
 use crate::handle_map::generation::Generation;
 use ent_handle::Handle;
 use std::alloc::AllocError;
 
 /// What stands in a slot.
-#[derive(Drop)]
+#[derive(Clone, Copy, Drop)]
 pub(super) enum Slot<T> {
     /// No value.
     Vacant,
@@ -142,4 +144,21 @@ fn add_slots<T>(slots: &mut Vec<Slot<T>>, index: usize) -> Result<(), AllocError
         slots.push_reserved(Slot::Vacant);
     }
     Ok(())
+}
+
+/// Puts clones of the other slots behind all slots. It takes no memory for none.
+pub(super) fn append_clones<T: Clone>(
+    slots: &mut Vec<Slot<T>>,
+    others: &[Slot<T>],
+) -> Result<(), AllocError>
+    ensures ok { OnOk result (AppendsClones (IsSlotClone T.is_clone)
+        slots.old.items slots.new.items others.now) }
+    ensures err { OnErr result (slots.new.items ≡ slots.old.items) }
+    ensures capacity { vec_capacity slots.old ≤ vec_capacity slots.new }
+    ensures memory { OnErr result (0 < length others.now) }
+{
+    if others.is_empty() {
+        return Ok(());
+    }
+    slots.extend_with_clones(others)
 }

@@ -8,7 +8,7 @@ use spawnrun_lib::{Show, write_frame, write_world};
 use std::alloc::Global;
 use std::process::Abort;
 
-// The greatest number of a frame, a handle whose numbers are long, and a credit that is used up.
+// The greatest number of a frame, a handle whose numbers are long, and a quota that is used up.
 const FRAME: &[u8] = b"frame 18446744073709551615 born 1 faults 2\n\
     fault 3 70 not alive 1234567v89\nfault 255 9999 quota left 1099511627776\n";
 

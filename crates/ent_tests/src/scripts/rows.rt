@@ -86,16 +86,16 @@ fn lists_that_nest_too_deep(rt: HostRuntime) -> Result<(), Fail> {
     Ok(())
 }
 
-// 256 requests of the greatest count leave 256 of a caller's credit.
-const CREDIT: &[u8] = b"begin 1 257\nbegin 1 256\nstep 1\nanswer 1\nbegin 1 1\nbegin 1 0\nstep 1\n\
+// 256 requests of the greatest count leave 256 of a caller's quota.
+const QUOTA: &[u8] = b"begin 1 257\nbegin 1 256\nstep 1\nanswer 1\nbegin 1 1\nbegin 1 0\nstep 1\n\
     answer 1\nflush\n";
 
-const CREDIT_OUTPUT: &[u8] = b"quota left 256\nopen\ncursor -1099511627776\n\
+const QUOTA_OUTPUT: &[u8] = b"quota left 256\nopen\ncursor -1099511627776\n\
     space wanted 256 left 0\nquota left 0\nopen\ncursor -1099511627776\n\nborn\n";
 
 #[test]
-fn a_credit_that_is_used_up(rt: HostRuntime) -> Result<(), Fail> {
-    let (input, output) = credit(rt.alloc())?;
+fn a_quota_that_is_used_up(rt: HostRuntime) -> Result<(), Fail> {
+    let (input, output) = quota(rt.alloc())?;
     assert!(rt;
         gives(
             &rt,
@@ -110,15 +110,15 @@ fn a_credit_that_is_used_up(rt: HostRuntime) -> Result<(), Fail> {
 }
 
 // The schedule, and what it gives.
-fn credit(alloc: Global) -> Result<(Vec<u8>, Vec<u8>), Memory> {
+fn quota(alloc: Global) -> Result<(Vec<u8>, Vec<u8>), Memory> {
     let mut input = Vec::new(alloc);
     let mut output = Vec::new(alloc);
     for number in 1..=256 {
         input.extend_from_slice(b"begin 1 4294967295\nstep 1\nanswer 1\n")?;
         output.extend_from_slice(refused_request(alloc, number)?.as_bytes())?;
     }
-    input.extend_from_slice(CREDIT)?;
-    output.extend_from_slice(CREDIT_OUTPUT)?;
+    input.extend_from_slice(QUOTA)?;
+    output.extend_from_slice(QUOTA_OUTPUT)?;
     Ok((input, output))
 }
 

@@ -1,8 +1,9 @@
-"""Runs `spawnrun replay` on a schedule, and the same in plain Rust, and prints the row of the table, or stops at a wrong outcome.
+"""Runs `spawnrun replay` on a schedule by both builds, and prints the row of the table, or stops at a wrong outcome.
 
-usage: measure.py PROGRAM ERASED SHAPE SCHEDULE OUTCOMES
+usage: measure.py PROGRAM BY_CARGO SHAPE SCHEDULE OUTCOMES
 """
 
+import os
 import re
 import subprocess
 import sys
@@ -10,7 +11,7 @@ import time
 from itertools import zip_longest
 from pathlib import Path
 
-RUNS = 10
+RUNS = int(os.environ.get("ROUNDS", 10))
 
 
 def check(output, outcomes):
@@ -48,19 +49,19 @@ def peak_memory(command, schedule):
     return 1024 * int(re.search(r"VmHWM:\s*(\d+) kB", status)[1])
 
 
-def main(program, erased, shape, schedule, outcomes):
-    command, schedule = [program, "replay"], Path(schedule)
+def main(program, by_cargo, shape, schedule, outcomes):
+    commands, schedule = [[program, "replay"], [by_cargo, "replay"]], Path(schedule)
     text, wanted = schedule.read_bytes(), Path(outcomes).read_bytes()
     lines = text.count(b"\n")
     if wanted.count(b"\n") != lines:
         sys.exit("there are not as many outcomes as events")
     # The two take turns.
-    times = [(nanoseconds(command, schedule, wanted), nanoseconds([erased], schedule, wanted)) for _ in range(RUNS)]
-    least, of_erased = map(min, zip(*times))
-    peak = peak_memory(command, schedule)
+    times = [[nanoseconds(it, schedule, wanted) for it in commands] for _ in range(RUNS)]
+    least, of_cargo = map(min, zip(*times))
+    peak, peak_of_cargo = (peak_memory(it, schedule) for it in commands)
     print(
         f"| {shape} | {lines:,} | {len(text):,} | {len(wanted):,} | {least / 1e6:,.1f} | {least / lines:,.0f}"
-        f" | {peak / 2**20:,.1f} | {peak / lines:,.0f} | {of_erased / 1e6:,.1f} | {of_erased / least:.2f} |"
+        f" | {peak / 2**20:,.1f} | {peak / lines:,.0f} | {of_cargo / 1e6:,.1f} | {of_cargo / least:.2f} | {peak_of_cargo / 2**20:,.1f} |"
     )
 
 

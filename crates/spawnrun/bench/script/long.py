@@ -1,7 +1,7 @@
 """Runs `spawnrun run` on texts of about the greatest length, two of which are no scripts, and prints the table of what it says of
-them, how much memory it holds at most, and how long it takes.
+them, how much memory each build of it holds at most, and how long it takes.
 
-usage: long.py PROGRAM
+usage: long.py PROGRAM BY_CARGO
 """
 
 import os
@@ -11,7 +11,7 @@ import tempfile
 import time
 
 LENGTH = 67_000_000  # bytes; the program takes 67,108,864
-RUNS = 3
+RUNS = int(os.environ.get("ROUNDS", 3))
 SYSTEMS = 186  # of each frame of the script
 SPAWNS = 10_000  # of each system
 
@@ -59,17 +59,27 @@ def first_line(output):
         return lines.readline().rstrip("\n")
 
 
-def main(program):
-    print("| Text | First line of output | Peak, bytes for each byte of text | s |")
-    print("|---|---|---|---|")
+def main(*programs):
+    print("| Text | First line of output | Peak, bytes for each byte of text | s | Peak by cargo | s by cargo |")
+    print("|---|---|---|---|---|---|")
     with tempfile.TemporaryDirectory() as folder:
         script, output = os.path.join(folder, "script"), os.path.join(folder, "output")
         for kind, pieces in texts():
             with open(script, "w", encoding="ascii") as given:
                 given.writelines(pieces)
-            runs = [run(program, script, output) for _ in range(RUNS)]
-            seconds, peak = min(it[0] for it in runs), max(it[1] for it in runs)
-            print(f"| {kind} | `{first_line(output)}` | {peak / os.path.getsize(script):.1f} | {seconds:.1f} |")
+            runs = {it: [] for it in programs}
+            lines = set()
+            for _ in range(RUNS):
+                for program in programs:
+                    runs[program].append(run(program, script, output))
+                    lines.add(first_line(output))
+            if len(lines) != 1:
+                sys.exit(f"of {kind} the builds say {' and '.join(sorted(lines))}")
+            length, cells = os.path.getsize(script), [kind, f"`{lines.pop()}`"]
+            for program in programs:
+                seconds, peaks = zip(*runs[program])
+                cells += [f"{max(peaks) / length:.1f}", f"{min(seconds):.1f}"]
+            print(f"| {' | '.join(cells)} |")
 
 
 if __name__ == "__main__":

@@ -1,7 +1,7 @@
-"""Runs `spawnrun run` on a script, by each of these numbers of workers in turns, and prints their rows of the table. It stops
-at a wrong report.
+"""Runs `spawnrun run` on a script by both builds, with each of these numbers of workers in turns, and prints their rows of the
+table. It stops at a wrong report.
 
-usage: measure.py PROGRAM SHAPE COMMANDS SCRIPT REPORT WORKERS..
+usage: measure.py PROGRAM BY_CARGO SHAPE COMMANDS SCRIPT REPORT WORKERS..
 """
 
 import fcntl
@@ -13,7 +13,7 @@ import time
 from itertools import zip_longest
 from pathlib import Path
 
-RUNS = 7
+RUNS = int(os.environ.get("ROUNDS", 7))
 PAGE = 4096  # the least that a pipe holds
 
 
@@ -55,21 +55,24 @@ def peak_memory(command, script):
     return 1024 * int(re.search(r"VmHWM:\s*(\d+) kB", status)[1])
 
 
-def main(program, shape, commands, script, report, *workers):
+def main(program, by_cargo, shape, commands, script, report, *workers):
     commands, script = int(commands), Path(script)
     wanted, length = Path(report).read_bytes(), script.stat().st_size
     if len(wanted) <= PAGE + 1:
         sys.exit("the report is too short to tell the memory")
-    sides = {count: [program, "run", "--workers", count] for count in workers}
-    times = {count: [] for count in workers}
+    sides = {(build, count): [build, "run", "--workers", count] for count in workers for build in (program, by_cargo)}
+    times = {side: [] for side in sides}
     for _ in range(RUNS):
-        for count, command in sides.items():
-            times[count].append(nanoseconds(command, script, wanted))
-    for count, command in sides.items():
-        least, peak = min(times[count]), peak_memory(command, script)
+        for side, command in sides.items():
+            times[side].append(nanoseconds(command, script, wanted))
+    least = {side: min(its) for side, its in times.items()}
+    peaks = {side: peak_memory(command, script) for side, command in sides.items()}
+    for count in workers:
+        kit, cargo = (program, count), (by_cargo, count)
         print(
-            f"| {shape} | {count} | {commands:,} | {length:,} | {len(wanted):,} | {least / 1e6:,.1f} | {least / commands:,.0f}"
-            f" | {peak / 2**20:,.1f} | {peak / commands:,.0f} |"
+            f"| {shape} | {count} | {commands:,} | {length:,} | {len(wanted):,} | {least[kit] / 1e6:,.1f}"
+            f" | {least[kit] / commands:,.0f} | {peaks[kit] / 2**20:,.1f} | {peaks[kit] / commands:,.0f}"
+            f" | {least[cargo] / 1e6:,.1f} | {least[cargo] / least[kit]:.2f} | {peaks[cargo] / 2**20:,.1f} |"
         )
 
 

@@ -1,11 +1,14 @@
 #!/bin/sh
-# Runs `spawnrun run` on scripts of several lengths and shapes, and prints the table of times and memory. The program is
-# that of crates/spawnrun as the gate built it, or it is built. A report that is not what the model in script.py says ends
-# it. Then it runs texts of the greatest length, of which two are no scripts, and prints the table of these.
-# It needs `rt` and `python3` on the path, Linux, and 300 MB for temporary files.
+# Runs `spawnrun run` on scripts of several lengths and shapes, and prints the table of times and memory, of the kit's build
+# and of that by cargo. The first is that of crates/spawnrun as the gate built it, or it is built. A report that is not what the
+# model in script.py says ends it. Then it runs texts of the greatest length, of which two are no scripts, and prints the table of
+# these. ROUNDS is how often each script runs, by default 7.
+# It needs `rt`, `cargo` and `python3` on the path, Linux, and 300 MB for temporary files.
 set -eu
 here=$(cd "$(dirname "$0")" && pwd)
 crate=$here/../..
+rust=$here/../../../../rust/forgeni
+by_cargo=$rust/target/release/spawnrun
 out=$(mktemp -d)
 trap 'rm -rf "$out"' EXIT
 
@@ -14,13 +17,14 @@ row() {
     shape=$1 least=$2
     shift 2
     commands=$(python3 "$here/script.py" "$least" "$shape" --report "$out/report" 2>&1 >"$out/script")
-    python3 "$here/measure.py" "$crate/out/spawnrun" "$shape" "$commands" "$out/script" "$out/report" "$@"
+    python3 "$here/measure.py" "$crate/out/spawnrun" "$by_cargo" "$shape" "$commands" "$out/script" "$out/report" "$@"
 }
 
 echo '{"components":[],"frames":[]}' >"$out/empty"
 [ -x "$crate/out/spawnrun" ] || (cd "$crate" && rt run -- run <"$out/empty" >"$out/log" 2>&1) || { tail -5 "$out/log"; exit 1; }
-echo "| Script | Workers | Commands | Input bytes | Output bytes | ms | ns a command | Peak MiB | Peak bytes a command |"
-echo "|---|---|---|---|---|---|---|---|---|"
+cargo build --offline --quiet --release --features programs --manifest-path "$rust/Cargo.toml"
+echo "| Script | Workers | Commands | Input bytes | Output bytes | ms | ns a command | Peak MiB | Peak bytes a command | ms by cargo | Ratio | Peak MiB by cargo |"
+echo "|---|---|---|---|---|---|---|---|---|---|---|---|"
 row mixed 10000 1
 row mixed 100000 1
 row mixed 1000000 1 2 4
@@ -36,4 +40,4 @@ row births 1000 1
 row births 100000 1
 row births 1000000 1
 echo
-python3 "$here/long.py" "$crate/out/spawnrun"
+python3 "$here/long.py" "$crate/out/spawnrun" "$by_cargo"

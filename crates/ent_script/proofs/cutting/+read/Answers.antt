@@ -2,7 +2,7 @@ use Rattle.std.proofs.lemmas.Grind.{common_steps}
 use Rattle.json.proofs.Grammar.{members_end, value_is, value-begin_object, read_key-shorter}
 use Rattle.std.proofs.Common.{◌≡◌, ◌-◌, ◌∷◌, length, Some, refl, ap, ◌∙◌, arith, rules, suc}
 use Rattle.json.specs.Token.{Token}
-use Rattle.json.specs.Json.{read_key, members, value}
+use Rattle.json.specs.Json.{read_key, value}
 use Rattle.json.specs.Reads.{token_of}
 use Rattle.serde_json.specs.Data.{null, boolean, number, string, object, no_members, put}
 use Rattle.serde_json.specs.View.{number_view, members_view}

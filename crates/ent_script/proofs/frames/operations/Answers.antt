@@ -1,6 +1,6 @@
 use Rattle.std.proofs.Common.{rules, ◌≡◌, ◌+◌, ◌-◌, length, None, ap, ◌∙◌, arith}
 use Rattle.std.proofs.lemmas.Grind.{common_steps}
-use Rattle.json.specs.Json.{after_end_array, items, value}
+use Rattle.json.specs.Json.{after_end_array, value}
 use Rattle.ent_script.specs.Json.{list_of}
 use Rattle.ent_script.specs.Reading.{system_of, operation_at}
 use Rattle.ent_script.specs.declared.read_fault.ReadFault.TheVariants as fault

@@ -1,5 +1,5 @@
 use Rattle.std.proofs.Common.{◌≡◌, ◌-◌, Some, ◌∙◌, refl, arith, rules}
-use Rattle.json.specs.Json.{read_key, members, value}
+use Rattle.json.specs.Json.{read_key, value}
 use Rattle.serde_json.specs.Data.{no_members, put}
 use Rattle.ent_script.proofs.Finding.{next_member, last_member, no_key}
 use Rattle.ent_script.proofs.PassedOver.{member_over, member_not_over}

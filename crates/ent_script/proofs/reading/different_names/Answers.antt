@@ -1,4 +1,4 @@
-use Rattle.std.proofs.Common.{Ok, ◌≡◌, ◌+◌, ◌∙◌, ◌∷◌, ◌++◌, [], length-append, Some, None, Err, map}
+use Rattle.std.proofs.Common.{Ok, ◌≡◌, ◌∙◌, ◌∷◌, ◌++◌, [], length-append, Some, None, Err, map}
 use Rattle.std.proofs.Common.{rules, arith}
 use Rattle.serde_json.specs.View.{view}
 use Rattle.ent_script.specs.declared.cause.ScriptCause.TheVariants as script_cause

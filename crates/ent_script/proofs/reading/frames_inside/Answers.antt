@@ -1,5 +1,5 @@
-use Rattle.std.proofs.Common.{◌≡◌, ◌-◌, Some, None, codes, sym, ◌∙◌, refl, false, arith}
-use Rattle.json.specs.Json.{read_key, members, value}
+use Rattle.std.proofs.Common.{◌≡◌, ◌-◌, Some, None, codes, sym, ◌∙◌, refl, arith}
+use Rattle.json.specs.Json.{read_key, value}
 use Rattle.serde_json.specs.Data.{no_members, put}
 use Rattle.ent_script.specs.Streaming.{frames_of}
 use Rattle.ent_script.proofs.Finding.{next_member, last_member, no_key}

@@ -1,11 +1,11 @@
 use Rattle.std.proofs.lemmas.Grind.{common_steps}
-use Rattle.std.proofs.Common.{◌≡◌, ℕ, ◌+◌, ◌-◌, List, ◌++◌, length, map, None, arith, rules}
+use Rattle.std.proofs.Common.{◌≡◌, ℕ, ◌+◌, List, ◌++◌, length, map, None, arith, rules}
 use Rattle.std.proofs.Common.{append_assoc, true, false, le-leb, Bool}
 use Rattle.std.proofs.lemmas.Bool.{lt-leb}
 use Rattle.std.proofs.lemmas.List.{map-append, append-nil}
 use Rattle.std.specs.Prelude.{Ok, nat_le}
 use Rattle.json.specs.Token.{Token}
-use Rattle.json.specs.Json.{after_end_array, items, value}
+use Rattle.json.specs.Json.{after_end_array, value}
 use Rattle.serde_json.specs.Data.{Data, Items}
 use Rattle.serde_json.specs.View.{view}
 use Rattle.serde_json.specs.declared.value.Value.{Value}

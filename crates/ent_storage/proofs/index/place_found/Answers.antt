@@ -12,14 +12,14 @@ returns-in_default c =
     sym (counted_none c.args.living.now.entities _ c.args.handle none)
 
 -- the pair that was read is the handle's
-pub returns-then-has_handle_at : goal.returns-then-has_handle_at
-returns-then-has_handle_at c =
+pub returns-then-has_key_at : goal.returns-then-has_key_at
+returns-then-has_key_at c =
     let at = rw c.in-Ok.is at c.requires.found in
     let read = get_at total same _ c.requires.sorted _ _ c.index-pairs-position.result at in
     search (rules, counted_has c.args.living.now.entities _ c.args.handle _ read)
 
-pub returns-else-has_handle_at : goal.returns-else-has_handle_at
-returns-else-has_handle_at c =
+pub returns-else-has_key_at : goal.returns-else-has_key_at
+returns-else-has_key_at c =
     let at = rw c.in-Ok.is at c.requires.found in
     let read = get_at total same _ c.requires.sorted _ _ c.index-pairs-position.result at in
     search (rules, counted_not c.args.living.now.entities _ c.args.handle _ read)

@@ -1,19 +1,35 @@
 use Rattle.std.proofs.lemmas.Grind.{common_steps}
 use Rattle.std.proofs.Common.{rules, arith}
-use Rattle.spawnrun_lib.proofs.NextFrame.{has_run}
+use Rattle.spawnrun_lib.proofs.NextFrame.{goes_on, has_gone_on, next_is_few, one_more}
+use Rattle.spawnrun_lib.proofs.NextFrame.{others_are_few}
 use Rattle.spawnrun_lib.proofs.script_run.run_frames.Goals as goal
 
-pub loop-number-preserved : goal.loop-number-preserved
-loop-number-preserved g c =
-    let systems = c.index-frames-number.result in
+pub run-requires-clause-systems : goal.run-requires-clause-systems
+run-requires-clause-systems g c =
+    let few = next_is_few c.loop-current.yielded c.loop-current.current-iterator.rest.items
+    c.next.new.self.rest.items c.in-Some.current c.in-Some.ensures.steps.0
+    c.loop-current.invariant.few in
+    search (rules, few)
+
+pub loop-current-preserved : goal.loop-current-preserved
+loop-current-preserved g c =
+    let i = c.loop-current.invariant in
+    let gone = c.loop-current.yielded in
+    let old = c.loop-current.current-iterator.rest.items in
+    let rest = c.next.new.self.rest.items in
+    let x = c.in-Some.current in
+    let front = c.in-Some.ensures.steps.0 in
     let went = c.in_ok-report.ensures.went in
     let ends = rw c.systems.ensures at went.1 in
-    search (
-      rules,
-      has_run c.args.workers c.args.show c.args.world.now
-          c.loop-number.world c.run.new.world c.args.frames.now c.loop-number.number systems
-          c.loop-number.text.items went.0,
-    )
+    let on = has_gone_on c.args.workers c.args.show c.args.world.now c.loop-current.world
+    c.run.new.world gone x c.loop-current.text.items went.0 _ _ i.run ends in
+    record {
+      all = goes_on gone old rest x front c.args.frames.items i.all;
+      counted = search (rules, one_more gone old rest x front c.loop-current.number i.counted);
+      few = others_are_few gone old rest x front i.few;
+      flushed = c.in_ok-report.ensures.flushed;
+      run = search (rules, i.counted, on);
+    }
 
 pub returns : goal.returns
 returns g c = grind (arith, common_steps)

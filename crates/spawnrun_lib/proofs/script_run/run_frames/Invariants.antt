@@ -1,9 +1,12 @@
-use Rattle.std.proofs.Common.{◌≡◌, take}
-use Rattle.spawnrun_lib.specs.Course.{HaveGone}
+use Rattle.std.proofs.Common.{◌≡◌, ◌++◌, length}
+use Rattle.spawnrun_lib.specs.Course.{AreFew, HaveGone}
 use Rattle.spawnrun_lib.proofs.script_run.run_frames.Given as goal
 
-abbrev pub invariant-loop-number : goal.invariant-loop-number
-invariant-loop-number g l = record {
+abbrev pub invariant-loop-current : goal.invariant-loop-current
+invariant-loop-current g l = record {
+  all : l.yielded ++ l.current-iterator.rest.items ≡ l.fn.frames.items;
+  counted : l.number ≡ length l.yielded;
+  few : AreFew l.current-iterator.rest.items;
   flushed : l.world.allocator.asked ≡ 0;
-  run : HaveGone (take l.number l.frames) l.workers l.show l.fn.world l.world l.text.items;
+  run : HaveGone l.yielded l.workers l.show l.fn.world l.world l.text.items;
 }

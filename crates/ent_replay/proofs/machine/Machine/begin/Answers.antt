@@ -5,7 +5,7 @@ use Rattle.std.proofs.Common.{rules, ◌≡◌, ◌+◌, ◌-◌, refl, sym, ap,
 use Rattle.std.specs.FinMap as finite
 use Rattle.ent_replay.specs.Schedule.{on_begin, event_takes_memory, left_of}
 use Rattle.std.specs.Option.{unwrap_or}
-use Rattle.ent_alloc.specs.Limits.{credit}
+use Rattle.ent_alloc.specs.Limits.{quota}
 use Rattle.ent_replay.specs.Machine.{machine_state, AreConsistent}
 use Rattle.ent_replay.specs.declared.outcome.Outcome.TheVariants as outcome
 use Rattle.ent_replay.specs.declared.fault.ReplayFault.TheVariants as fault
@@ -28,30 +28,30 @@ spent : (c : After-unwrap_or-spent) → c.unwrap_or-spent.result
 spent c = c.unwrap_or-spent.ensures ∙ ap (λ o. unwrap_or o 0) c.get-2.ensures
 
 pub overflow_sub-left : goal.overflow_sub-left
-unfolding credit
+unfolding quota
 overflow_sub-left c =
-    let within = c.self.invariant.credit c.args.caller in
+    let within = c.self.invariant.quota c.args.caller in
     let spent = spent (goal.at.overflow_sub-left c).After-unwrap_or-spent in
     omega arith
 
 pub returns-then-left-from : goal.returns-then-left-from
-unfolding credit
+unfolding quota
 returns-then-left-from c =
     let e = c.self.inside in
     let s = e.entities.allocator in
     let before = machine_state s e.spent e.calls in
     let spent = spent (goal.at.returns-then-left-from c).After-unwrap_or-spent in
-    let left : credit - c.unwrap_or-spent.result ≡ left_of before c.args.caller =
-    ap (λ n. credit - n) spent in
+    let left : quota - c.unwrap_or-spent.result ≡ left_of before c.args.caller =
+    ap (λ n. quota - n) spent in
     done (λ v. on_begin v c.args.caller c.args.n) before c.args.self.now c.self.view_is
-    (Err (fault.Quota (credit - c.unwrap_or-spent.result)))
+    (Err (fault.Quota (quota - c.unwrap_or-spent.result)))
     (Err (fault.Quota (left_of before c.args.caller)))
     (ap (λ n. Err (fault.Quota n)) left) c.args.self.now before (sym c.self.view_is)
     (begin-quota s e.spent e.calls c.args.caller (omega arith) c.args.n
     (none (goal.at.returns-then-left-from c).Else-is_some) (omega arith))
 
 pub returns-then-is_err : goal.returns-then-is_err
-unfolding credit
+unfolding quota
 returns-then-is_err c =
     let e = c.self.inside in
     let s = e.entities.allocator in
@@ -78,7 +78,7 @@ pub invariant_of-self-then-is_err-2 : goal.invariant_of-self-then-is_err-2
 invariant_of-self-then-is_err-2 c = search (rules, kept, undone, none)
 
 pub returns-then-is_err-2 : goal.returns-then-is_err-2
-unfolding credit
+unfolding quota
 returns-then-is_err-2 c =
     let e = c.self.inside in
     let s = e.entities.allocator in
@@ -100,7 +100,7 @@ more : (c : Else-is_err-2) → c.unwrap_or-spent.result
 more c spent = search (rules, on_ok)
 
 pub invariant_of-self-else-is_err-2 : goal.invariant_of-self-else-is_err-2
-unfolding credit
+unfolding quota
 invariant_of-self-else-is_err-2 c =
     let e = c.self.inside in
     let s = e.entities.allocator in
@@ -114,7 +114,7 @@ invariant_of-self-else-is_err-2 c =
     c.args.n (none at.Else-is_some) (omega arith) (omega arith)))
 
 pub returns : goal.returns
-unfolding credit
+unfolding quota
 returns c =
     let e = c.self.inside in
     let s = e.entities.allocator in

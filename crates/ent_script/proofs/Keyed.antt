@@ -1,0 +1,237 @@
+-- The keys of an operation as they are put in, and what it is by them.
+use Rattle.std.proofs.Common.{◌≡◌, ◌∙◌, ℕ, List, [], ◌∷◌, Bool, true, false, ◌&&◌, Option}
+use Rattle.std.proofs.Common.{Some, None, option_map, is_some, Ordering, Less, Equal, Greater}
+use Rattle.std.proofs.Common.{nat_cmp, is_eq, bytes_eq, refl, sym, ap, map, Bor}
+use Rattle.std.proofs.Common.{option_and_then, codes, Err}
+use Rattle.std.specs.Prelude.{option_copied}
+use Rattle.std.proofs.lemmas.Map.Text.{is_eq-slice_cmp}
+use Rattle.std.proofs.lemmas.Slice.Eq.{bytes_eq-Decides}
+use Rattle.std.specs.Cmp.Lexicographic.{slice_cmp}
+use Rattle.std.specs.List.{list_any}
+use Rattle.std.specs.Ordering.{match_ordering}
+use Rattle.serde_json.specs.Data.{Data, null, boolean, number, string, array, object, Members, no_members}
+use Rattle.serde_json.specs.Data.{member, put}
+use Rattle.serde_json.specs.Find.{get_member, as_object}
+use Rattle.ent_script.specs.Part.{data_of}
+use Rattle.ent_script.specs.declared.part.Part.{Part}
+use Rattle.ent_script.specs.Cut.{cut}
+use Rattle.ent_script.specs.Fields.{IsUnder, AreAmong, AreFields, of_fields}
+use Rattle.ent_script.specs.Json.{keys_among, pairs_of}
+use Rattle.ent_script.specs.Reading.{has_keys, is_spawn, is_spawn_many, is_insert, is_remove}
+use Rattle.ent_script.specs.Reading.{is_despawn, of_kind, operation_of, bound_name, read_bundle}
+use Rattle.ent_script.specs.Reading.{with_of, count_of, binding_of, removed_of, target_of}
+use Rattle.ent_script.specs.Names.{as_name}
+use Rattle.ent_script.specs.declared.cause.Cause.TheVariants as cause
+use Rattle.ent_script.specs.declared.fields.Fields.{Fields}
+use Rattle.ent_script.specs.declared.kind.Kind.{Kind}
+use Rattle.ent_script.specs.declared.kind.Kind.TheVariants as kinds
+use Rattle.ent_script.proofs.CutMeanings.{bundle-cut, with-cut, count-cut, binding-cut, removed-cut}
+use Rattle.ent_script.proofs.CutMeanings.{target-cut, as_name-cut}
+use Rattle.ent_script.proofs.Values.{any_lent}
+use Rattle.ent_script.proofs.Puts.{found_here, found_before}
+
+-- ---- whether each key is one of some
+
+twice : (b c : Bool) → (b && c) ≡ (b && (b && c))
+twice true c = refl
+twice false c = refl
+
+swapped : (a b c : Bool) → (a && (b && c)) ≡ (b && (a && c))
+swapped true true c = refl
+swapped true false c = refl
+swapped false true c = refl
+swapped false false c = refl
+
+abbrev one_of : List (List ℕ) → List ℕ → Bool
+one_of allowed k = list_any (λ name. bytes_eq k name) allowed
+
+among-put_at : (o : Ordering) (allowed : List (List ℕ)) (k l : List ℕ) (d e : Data) (ms : Members)
+    → slice_cmp nat_cmp k l ≡ o
+    → keys_among allowed (pairs_of (put k d ms))
+    ≡ (one_of allowed k && keys_among allowed (pairs_of ms))
+    → keys_among allowed (pairs_of (match_ordering o (member k d (member l e ms)) (member l d ms)
+    (member l e (put k d ms))))
+    ≡ (one_of allowed k && (one_of allowed l && keys_among allowed (pairs_of ms)))
+among-put_at Less allowed k l d e ms is later = refl
+among-put_at Equal allowed k l d e ms is later =
+    let same : k ≡ l = (bytes_eq-Decides k l).0 (sym (is_eq-slice_cmp k l) ∙ ap is_eq is) in
+    twice (one_of allowed l) (keys_among allowed (pairs_of ms))
+    ∙ ap (λ x. one_of allowed x && (one_of allowed l && keys_among allowed (pairs_of ms))) (sym same)
+among-put_at Greater allowed k l d e ms is later =
+    ap (λ b. one_of allowed l && b) later
+    ∙ swapped (one_of allowed l) (one_of allowed k) (keys_among allowed (pairs_of ms))
+
+pub among-put : (allowed : List (List ℕ)) (k : List ℕ) (d : Data) (ms : Members)
+    → keys_among allowed (pairs_of (put k d ms))
+    ≡ (one_of allowed k && keys_among allowed (pairs_of ms))
+among-put allowed k d no_members = refl
+among-put allowed k d (member l e ms) =
+    among-put_at (slice_cmp nat_cmp k l) allowed k l d e ms refl (among-put allowed k d ms)
+
+right : (b : Bool) → b ≡ (b && true)
+right true = refl
+right false = refl
+
+never : (b : Bool) → false ≡ (b && false)
+never true = refl
+never false = refl
+
+module _ (allowed : List (Bor (List ℕ))) (k : List ℕ) (d : Data) (ms : Members) where
+  abbrev names : List (List ℕ)
+  names = map (λ (name : Bor (List ℕ)). name.now) allowed
+
+  pub among_then : (r are : Bool) → r ≡ list_any (λ name. bytes_eq k name.now) allowed
+      → are ≡ true → AreAmong names are ms → AreAmong names r (put k d ms)
+  among_then r are is all e =
+      is ∙ any_lent k allowed ∙ right (one_of names k)
+      ∙ ap (λ b. one_of names k && b) (sym all ∙ e) ∙ sym (among-put names k d ms)
+
+  pub among_else : (are : Bool) → are ≡ false → AreAmong names are ms
+      → AreAmong names are (put k d ms)
+  among_else are none e =
+      none ∙ never (one_of names k)
+      ∙ ap (λ b. one_of names k && b) (sym none ∙ e) ∙ sym (among-put names k d ms)
+
+-- ---- what is under a key
+
+pub under_here : (name k : List ℕ) (d : Data) (ms : Members) (v : Part) → data_of v ≡ cut 1 d
+    → bytes_eq k name ≡ true → IsUnder name (Some v) (put k d ms)
+under_here name k d ms v seen e =
+    ap Some seen ∙ ap (option_map (cut 1)) (sym (found_here name k d ms e))
+
+pub under_before : (name k : List ℕ) (d : Data) (ms : Members) (f : Option Part)
+    → IsUnder name f ms → bytes_eq k name ≡ false → IsUnder name f (put k d ms)
+under_before name k d ms f under e =
+    under ∙ ap (option_map (cut 1)) (sym (found_before name k d ms e))
+
+-- a key is one name, and so no other
+pub apart : (name other k : List ℕ) → bytes_eq k name ≡ true → bytes_eq name other ≡ false
+    → bytes_eq k other ≡ false
+apart name other k e differ =
+    ap (λ x. bytes_eq x other) ((bytes_eq-Decides k name).0 e) ∙ differ
+
+there : (f : Option Part) (o : Option Data) → option_map data_of f ≡ option_map (cut 1) o
+    → is_some f ≡ is_some o
+there None None e = refl
+there (Some v) (Some d) e = refl
+there None (Some d) e = absurd (cc e)
+there (Some v) None e = absurd (cc e)
+
+-- ---- what an operation is
+
+module _ (k : List ℕ) (allowed : List (List ℕ)) (ms : Members) (f : Option Part) (among : Bool)
+    (under : IsUnder k f ms) (are : AreAmong allowed among ms) where
+  pub one_there : is_some f ≡ true → among ≡ has_keys (k ∷ []) allowed (object ms)
+  unfolding has_keys
+  one_there is =
+      are ∙ ap (λ b. (b && true) && keys_among allowed (pairs_of ms))
+      (sym is ∙ there f (get_member k ms) under)
+
+  pub one_absent : is_some f ≡ false → false ≡ has_keys (k ∷ []) allowed (object ms)
+  unfolding has_keys
+  one_absent is =
+      ap (λ b. (b && true) && keys_among allowed (pairs_of ms))
+      (sym is ∙ there f (get_member k ms) under)
+
+module _ (k l : List ℕ) (allowed : List (List ℕ)) (ms : Members) (f g : Option Part) (among : Bool)
+    (under : IsUnder k f ms) (beside : IsUnder l g ms) (are : AreAmong allowed among ms) where
+  pub two_there : is_some f ≡ true → is_some g ≡ true
+      → among ≡ has_keys (k ∷ l ∷ []) allowed (object ms)
+  unfolding has_keys
+  two_there is too =
+      are ∙ ap (λ b. (b && (true && true)) && keys_among allowed (pairs_of ms))
+      (sym is ∙ there f (get_member k ms) under)
+      ∙ ap (λ b. (is_some (get_member k ms) && (b && true)) && keys_among allowed (pairs_of ms))
+      (sym too ∙ there g (get_member l ms) beside)
+
+  pub two_first : is_some f ≡ false → false ≡ has_keys (k ∷ l ∷ []) allowed (object ms)
+  unfolding has_keys
+  two_first is =
+      ap (λ b. (b && (is_some (get_member l ms) && true)) && keys_among allowed (pairs_of ms))
+      (sym is ∙ there f (get_member k ms) under)
+
+  pub two_second : is_some f ≡ true → is_some g ≡ false
+      → false ≡ has_keys (k ∷ l ∷ []) allowed (object ms)
+  unfolding has_keys
+  two_second is too =
+      ap (λ b. (b && (false && true)) && keys_among allowed (pairs_of ms))
+      (sym is ∙ there f (get_member k ms) under)
+      ∙ ap (λ b. (is_some (get_member k ms) && (b && true)) && keys_among allowed (pairs_of ms))
+      (sym too ∙ there g (get_member l ms) beside)
+
+-- ---- what its fields mean
+
+name-cut : (o : Option Data) → option_and_then as_name (option_map (cut 1) o)
+    ≡ option_and_then as_name o
+name-cut None = refl
+name-cut (Some d) = as_name-cut 1 d
+
+pub lent : (r : Option (Bor Part)) → option_map (λ (v : Bor Part). data_of v.now) r
+    ≡ option_map data_of (option_copied r)
+lent None = refl
+lent (Some v) = refl
+
+module _ (components bound : List (List ℕ)) (before : Option ℕ) (f : Fields) (ms : Members)
+    (at : AreFields f ms) where
+  bundle_under : (k : List ℕ) (o : Option Part) → IsUnder k o ms
+      → read_bundle components (option_map data_of o) ≡ read_bundle components (get_member k ms)
+  bundle_under k o e = ap (read_bundle components) e ∙ bundle-cut 0 components (get_member k ms)
+
+  with_under : (k : List ℕ) (o : Option Part) → IsUnder k o ms
+      → with_of components (option_map data_of o) ≡ with_of components (get_member k ms)
+  with_under k o e = ap (with_of components) e ∙ with-cut 0 components (get_member k ms)
+
+  count_under : (k : List ℕ) (o : Option Part) → IsUnder k o ms
+      → count_of (option_map data_of o) ≡ count_of (get_member k ms)
+  count_under k o e = ap count_of e ∙ count-cut 1 (get_member k ms)
+
+  binding_under : (k : List ℕ) (o : Option Part) → IsUnder k o ms
+      → binding_of bound (option_map data_of o) ≡ binding_of bound (get_member k ms)
+  binding_under k o e = ap (binding_of bound) e ∙ binding-cut 1 bound (get_member k ms)
+
+  removed_under : (k : List ℕ) (o : Option Part) → IsUnder k o ms
+      → removed_of components (option_map data_of o) ≡ removed_of components (get_member k ms)
+  removed_under k o e = ap (removed_of components) e ∙ removed-cut 1 components (get_member k ms)
+
+  target_under : (k : List ℕ) (o : Option Part) → IsUnder k o ms
+      → target_of components bound before (option_map data_of o)
+      ≡ target_of components bound before (get_member k ms)
+  target_under k o e =
+      ap (target_of components bound before) e
+      ∙ target-cut 0 components bound before (get_member k ms)
+
+  pub of_fields-means : (kind : Kind) → of_fields components bound before f kind
+      ≡ of_kind components bound before (object ms) kind
+  unfolding of_kind of_fields
+  of_fields-means kinds.Spawn = rw (
+    bundle_under (codes "spawn") f.spawn at.spawn,
+    binding_under (codes "as") f.binds at.binds,
+  )
+  of_fields-means kinds.SpawnMany = rw (
+    count_under (codes "spawn_many") f.spawn_many at.spawn_many,
+    with_under (codes "with") f.«with» at.«with»,
+    binding_under (codes "as") f.binds at.binds,
+  )
+  of_fields-means kinds.Insert = rw (
+    bundle_under (codes "insert") f.insert at.insert,
+    target_under (codes "on") f.on at.on,
+  )
+  of_fields-means kinds.Remove = rw (
+    removed_under (codes "remove") f.remove at.remove,
+    target_under (codes "on") f.on at.on,
+  )
+  of_fields-means kinds.Despawn = rw (target_under (codes "despawn") f.despawn at.despawn)
+
+  pub name_under : option_and_then as_name (option_map data_of f.binds) ≡ bound_name (object ms)
+  name_under = ap (option_and_then as_name) at.binds ∙ name-cut (get_member (codes "as") ms)
+
+-- what is no object is no operation
+pub no_operation : (components bound : List (List ℕ)) (before : Option ℕ) (d : Data)
+    → as_object d ≡ None → operation_of components bound before d ≡ Err cause.Shape
+unfolding operation_of is_spawn is_spawn_many is_insert is_remove is_despawn has_keys
+no_operation components bound before null e = refl
+no_operation components bound before (boolean b) e = refl
+no_operation components bound before (number n) e = refl
+no_operation components bound before (string s) e = refl
+no_operation components bound before (array ds) e = refl
+no_operation components bound before (object ms) e = absurd (cc e)

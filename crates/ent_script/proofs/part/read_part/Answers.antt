@@ -1,0 +1,63 @@
+use Rattle.std.proofs.lemmas.Grind.{common_steps}
+use Rattle.json.proofs.Grammar.{value_is, value-begin_object}
+use Rattle.std.proofs.Common.{◌≡◌, ◌∷◌, refl, ap, arith, rules}
+use Rattle.json.specs.Token.{Token}
+use Rattle.json.specs.Json.{value}
+use Rattle.json.specs.Reads.{token_of}
+use Rattle.serde_json.specs.Data.{null, boolean, number, string, object}
+use Rattle.serde_json.specs.View.{number_view}
+use Rattle.ent_script.proofs.Turns.{converted-object}
+use Rattle.ent_script.proofs.Cuts.{opened_array}
+use Rattle.ent_script.proofs.Openings.{passed_nested}
+use Rattle.ent_script.proofs.part.read_part.Goals as goal
+
+pub returns-in_err-token-clause-json : goal.returns-in_err-token-clause-json
+returns-in_err-token-clause-json c refused = search (rules, value_is)
+
+pub returns-then-depth-eq0-clause-json : goal.returns-then-depth-eq0-clause-json
+unfolding value
+returns-then-depth-eq0-clause-json c never = grind (arith, common_steps)
+
+pub returns-in_err-read_object-in-BeginObject-clause-json :
+    goal.returns-in_err-read_object-in-BeginObject-clause-json
+returns-in_err-read_object-in-BeginObject-clause-json c refused =
+    search (rules, value-begin_object, converted-object)
+
+pub returns-in-String-clause-ok :
+    goal.returns-in-String-clause-ok
+returns-in-String-clause-ok c =
+    (string c.in-String.text.now, search (rules, value_is), refl)
+
+pub returns-in-Bool-clause-ok : goal.returns-in-Bool-clause-ok
+returns-in-Bool-clause-ok c =
+    (boolean c.in-Bool.b, search (rules, value_is), refl)
+
+pub returns-in-Null-clause-ok : goal.returns-in-Null-clause-ok
+returns-in-Null-clause-ok c =
+    (null, search (rules, value_is), refl)
+
+pub returns-in-Some-clause-ok : goal.returns-in-Some-clause-ok
+returns-in-Some-clause-ok c =
+    (number (number_view c.in-Some.number), search (rules, value_is), refl)
+
+pub returns-in-None-clause-json : goal.returns-in-None-clause-json
+returns-in-None-clause-json c refused = search (rules, value_is)
+
+pub returns-in-EndObject-clause-json : goal.returns-in-EndObject-clause-json
+returns-in-EndObject-clause-json c refused = search (rules, value_is)
+
+pub returns-in_ok-read_object-in-BeginObject-clause-ok :
+    goal.returns-in_ok-read_object-in-BeginObject-clause-ok
+returns-in_ok-read_object-in-BeginObject-clause-ok c =
+    let is : c.args.reader.now ≡ Token.begin_object ∷ c.next.new.self = grind arith in
+    let ms = c.in_ok-read_object-in-BeginObject.ensures.ok in
+    (object ms.0, search (rules, is, value-begin_object, converted-object), ap object ms.2)
+
+pub returns-in_ok-pass_rest-in-BeginArray-clause-ok :
+    goal.returns-in_ok-pass_rest-in-BeginArray-clause-ok
+returns-in_ok-pass_rest-in-BeginArray-clause-ok c =
+    let d = passed_nested c.args.depth (token_of c.in_ok-token.token) Token.begin_array
+    c.args.reader.now c.next.new.self c.pass_rest.new.reader (grind arith)
+    (ap token_of c.in-BeginArray.is) c.in_ok-pass_rest-in-BeginArray.ensures.value in
+    let ds = opened_array c.args.depth c.next.new.self c.pass_rest.new.reader d.0 d.2 in
+    (d.0, d.1, search (rules, ds))

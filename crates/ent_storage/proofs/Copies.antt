@@ -1,0 +1,62 @@
+-- Copies of columns, and the entities that they stand for.
+use Rattle.std.proofs.Common.{◌≡◌, ℕ, ℤ, zero, suc, ◌≤◌, List, [], ◌∷◌, ◌++◌, length}
+use Rattle.std.proofs.Common.{refl, ap, ◌∙◌, arith, inr, suc-ne-zero}
+use Rattle.std.proofs.lemmas.Option.{none-some}
+use Rattle.std.specs.List.{AllZip}
+use Rattle.std.specs.Ordering.{nat_cmp}
+use Rattle.std.specs.FinMap as map
+use Rattle.ent_handle.specs.declared.component.ComponentId.{ComponentId}
+use Rattle.ent_storage.specs.declared.living.Resident.{Resident}
+use Rattle.ent_storage.specs.SparseSet.{Column, Values, no_column, IsDense}
+use Rattle.ent_storage.specs.Copies.{IsCopy}
+use Rattle.ent_storage.specs.Living.{column_at, value_at, entities_from, AreColumnsOf, AreInUse}
+use Rattle.ent_storage.proofs.EntitiesOfResidents.{same_from}
+use Rattle.ent_storage.proofs.InUse.{in_use_changed}
+
+-- without room for a place there are no values
+pub no_places : (dense : List (ℕ × ℤ)) (sparse : List ℕ) → IsDense dense sparse → length sparse ≡ 0
+    → map.from_entries {R = nat_cmp} dense ≡ map.empty
+no_places [] sparse is none = refl
+no_places ((p, v) ∷ dense) [] is none = absurd (none-some _ (is.entry 0 p v refl))
+no_places ((p, v) ∷ dense) (s ∷ sparse) is none = absurd (suc-ne-zero _ none)
+
+-- one column more
+pub copies_more : (old new : List Column) (x y : Column) → AllZip IsCopy old new → IsCopy x y
+    → AllZip IsCopy (old ++ x ∷ []) (new ++ y ∷ [])
+copies_more [] [] x y all is = (is, tt)
+copies_more [] (b ∷ new) x y all is = absurd all
+copies_more (a ∷ old) [] x y all is = absurd all
+copies_more (a ∷ old) (b ∷ new) x y all is = (all.0, copies_more old new x y all.1 is)
+
+pub copies_length : (old new : List Column) → AllZip IsCopy old new → length new ≡ length old
+copies_length [] [] all = refl
+copies_length [] (b ∷ new) all = absurd all
+copies_length (a ∷ old) [] all = absurd all
+copies_length (a ∷ old) (b ∷ new) all = ap suc (copies_length old new all.1)
+
+pub copy_at : (old new : List Column) → AllZip IsCopy old new → (number : ℕ)
+    → IsCopy (column_at old number) (column_at new number)
+copy_at [] [] all number = record { values = refl; none = λ e. e }
+copy_at [] (b ∷ new) all number = absurd all
+copy_at (a ∷ old) [] all number = absurd all
+copy_at (a ∷ old) (b ∷ new) all zero = all.0
+copy_at (a ∷ old) (b ∷ new) all (suc number) = copy_at old new all.1 number
+
+module _ (old new : List Column) (all : AllZip IsCopy old new) where
+  value_copied : (p : ℕ) (id : ComponentId) → value_at new p id ≡ value_at old p id
+  value_copied p id = ap (λ (m : Values). map.get m p) (copy_at old new all id.0).values
+
+  pub entities_copied : (residents : List Resident)
+      → entities_from 0 residents new ≡ entities_from 0 residents old
+  entities_copied residents = same_from 0 residents old new (λ p id from below. value_copied p id)
+
+  pub columns_copied : (count : ℕ) → AreColumnsOf count old → AreColumnsOf count new
+  columns_copied count are = record {
+    none_beyond = λ place id beyond. value_copied place id ∙ are.none_beyond place id beyond;
+    numbered = rw (copies_length old new all) are.numbered;
+  }
+
+  pub in_use_copied : (used : List ℕ) → AreInUse used old → AreInUse used new
+  in_use_copied used =
+      let longer : length old ≤ length new = omega (arith, copies_length old new all) in
+      in_use_changed used old new longer (λ n none. inr ((copy_at old new all n).none none))

@@ -1,0 +1,8 @@
+use Rattle.std.proofs.Common.{take}
+use Rattle.std.specs.List.{AllZip}
+use Rattle.ent_storage.specs.Copies.{IsCopy}
+use Rattle.ent_storage.proofs.columns.try_clone.Given as goal
+
+-- the columns that were passed have copies
+abbrev pub invariant-loop-column : goal.invariant-loop-column
+invariant-loop-column l = AllZip IsCopy (take l.column-index l.columns) l.copies.items

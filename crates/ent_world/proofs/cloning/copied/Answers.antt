@@ -1,0 +1,28 @@
+use Rattle.std.proofs.Common.{rules, ◌≡◌, ◌≢◌, ap, ◌∙◌, ℕ, ◌<◌, ◌⊎◌, inl, inr, arith}
+use Rattle.std.proofs.Common.{Result, Ok, Err, OnErr}
+use Rattle.std.specs.FinMap as map
+use Rattle.ent_handle.specs.Handle.{handle_cmp}
+use Rattle.ent_storage.specs.EntityMap.{Entity, EntityMap}
+use Rattle.ent_world.proofs.cloning.copied.Goals.{else-slots-eq0-via-else-slots-eq0}
+use Rattle.ent_world.proofs.cloning.copied.Goals.{else-slots-eq0-via-then-slots-eq0+else-entities-eq0}
+use Rattle.ent_world.proofs.cloning.copied.Goals as goal
+
+-- what is so anyhow is so after a refusal
+anyhow : {T E : Type 0} (r : Result T E) (P : Type 0) → P → OnErr r P
+anyhow (Ok x) P so = tt
+anyhow (Err e) P so = so
+
+some_entity : (m : EntityMap) (len : ℕ) → len ≡ map.len m → len ≢ 0 → m ≢ map.empty
+some_entity m len is some none = some (is ∙ ap map.len none ∙ map.len-empty handle_cmp Entity)
+
+pub returns-then-entities-eq0-clause-entities : goal.returns-then-entities-eq0-clause-entities
+returns-then-entities-eq0-clause-entities c = search (rules, map.empty_of_len)
+
+pub returns-clause-memory : goal.returns-clause-memory
+returns-clause-memory c =
+    let m = c.args.storage.now.entities in
+    anyhow c.try_clone.result ((0 < c.args.slots) ⊎ (m ≢ map.empty)) (elim c.else-slots-eq0.branch [
+      | else-slots-eq0-via-then-slots-eq0+else-entities-eq0 w ↦
+          inr (some_entity m c.len-entities.result c.len-entities.ensures.value w.if-entities-eq0.false)
+      | else-slots-eq0-via-else-slots-eq0 w ↦ inl (omega (arith, w.if-slots-eq0.false))
+    ])
