@@ -87,13 +87,19 @@ pub fn run_frame<S: System + Sync>(
     systems: &[S],
     workers: usize,
 ) -> Result<Report, FrameError> {
+    let panics = Panics::default();
     let mut guarded = Vec::new();
     if guarded.try_reserve_exact(systems.len()).is_err() {
         return Err(FrameError::Memory);
     }
-    guarded.extend(systems.iter().map(Guarded::new));
+    let numbered = systems.iter().enumerate();
+    guarded.extend(numbered.map(|(number, system)| Guarded {
+        system,
+        number,
+        panics: &panics,
+    }));
     let ran = ent_total::run_frame(&StdThreads, world, &guarded, workers, &NoGate);
-    if let Some(panic) = guarded.into_iter().find_map(Guarded::panic) {
+    if let Some(panic) = first(panics) {
         resume_unwind(panic);
     }
     Ok(ran?.sync)
@@ -102,26 +108,22 @@ pub fn run_frame<S: System + Sync>(
 /// What a panic was raised with.
 type Panic = Box<dyn Any + Send>;
 
+/// The panics of a frame, each with the number of its system. A panic may panic when it is dropped, so all
+/// are kept until the world is back.
+type Panics = Mutex<Vec<(usize, Panic)>>;
+
+/// The panic of the first system that had one, if one had.
+fn first(panics: Panics) -> Option<Panic> {
+    let panics = panics.into_inner().unwrap_or_else(PoisonError::into_inner);
+    let first = panics.into_iter().min_by_key(|panic| panic.0);
+    first.map(|(_, panic)| panic)
+}
+
 /// A system whose panics don't leave it: the proved code that calls it knows none.
 struct Guarded<'a, S> {
     system: &'a S,
-    panic: Mutex<Option<Panic>>,
-}
-
-impl<'a, S: System> Guarded<'a, S> {
-    fn new(system: &'a S) -> Self {
-        Self {
-            system,
-            panic: Mutex::new(None),
-        }
-    }
-
-    /// The panic of the system, if it had one.
-    fn panic(self) -> Option<Panic> {
-        self.panic
-            .into_inner()
-            .unwrap_or_else(PoisonError::into_inner)
-    }
+    number: usize,
+    panics: &'a Panics,
 }
 
 impl<S: System> System for Guarded<'_, S> {
@@ -131,7 +133,8 @@ impl<S: System> System for Guarded<'_, S> {
         // Nothing that a panic leaves half done is looked at: what was issued is dropped.
         let run = AssertUnwindSafe(|| self.system.run(view, commands));
         catch_unwind(run).unwrap_or_else(|panic| {
-            *self.panic.lock().unwrap_or_else(PoisonError::into_inner) = Some(panic);
+            let mut panics = self.panics.lock().unwrap_or_else(PoisonError::into_inner);
+            panics.push((self.number, panic));
             Err(OutOfMemory)
         })
     }

@@ -7,6 +7,7 @@ use alloc::vec::{self, Vec};
 use core::alloc::Layout;
 use core::error::Error;
 use core::fmt;
+use core::hash::{Hash, Hasher};
 use core::iter::FusedIterator;
 use core::ops::{Index, IndexMut};
 
@@ -61,14 +62,15 @@ impl<T: fmt::Debug> fmt::Debug for HandleMap<T> {
 }
 
 /// The clone has the same limit. If memory runs out, the process ends, as when a `Vec` is cloned.
+/// [`try_clone`](HandleMap::try_clone) returns an error instead.
 impl<T: Clone> Clone for HandleMap<T> {
     fn clone(&self) -> Self {
-        let slots = self.keys().next_back();
-        let slots = slots.map_or(0, |last| last.index() as usize + 1);
-        let mut clone = Self::with_capacity(slots).unwrap_or_else(|_| out_of_memory::<T>());
-        clone.extend(self.iter().map(|(handle, value)| (handle, value.clone())));
-        clone.set_limit(self.limit());
-        clone
+        self.try_clone().unwrap_or_else(|_| out_of_memory::<T>())
+    }
+
+    fn clone_from(&mut self, source: &Self) {
+        self.try_clone_from(source)
+            .unwrap_or_else(|_| out_of_memory::<T>());
     }
 }
 
@@ -232,6 +234,13 @@ impl<T> fmt::Display for Uninserted<T> {
 }
 
 impl<T> Error for Uninserted<T> {}
+
+impl<T: Hash> Hash for Uninserted<T> {
+    fn hash<H: Hasher>(&self, state: &mut H) {
+        self.value.hash(state);
+        self.error.hash(state);
+    }
+}
 
 /// Drops the value.
 impl<T> From<Uninserted<T>> for InsertError {

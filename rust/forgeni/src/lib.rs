@@ -1,9 +1,10 @@
-//! Entity handles from a proved allocator.
+//! Entity handles for game engines, from a proved allocator.
 //!
-//! [`Entities`] gives out the handles of entities and knows which are alive, like the allocators of
-//! Bevy and hecs. It was proved in Rattle, which is Rust with contracts: what a call does to the
-//! allocator's state is a theorem about its source. This package is that source in plain Rust, and
-//! the contract of each proved call is below its docs.
+//! [`Entities`] hands out the handles of entities and knows which are alive, as the allocators of Bevy
+//! and hecs do. Threads reserve handles at the same time, without a lock. The source was proved in
+//! Rattle, which is Rust with contracts: what a call does to the allocator's state is a theorem about
+//! its source. This package is that source in plain Rust, and each proved call has its contract below
+//! its docs.
 //!
 //! ```
 //! use forgeni::{Entities, State};
@@ -26,8 +27,8 @@
 //! # Threads
 //!
 //! [`Entities::share`] lends the allocator to a [`Reserver`] for each thread. A reservation is one
-//! atomic step and takes no lock, and no two threads are given the same handle. [`Shared::close`]
-//! ends the phase, and the next [`flush`](Entities::flush) brings to life what was reserved.
+//! atomic step and takes no lock, and no two threads are given the same handle. [`Shared::close`] ends
+//! the phase, and the next [`flush`](Entities::flush) brings to life what was reserved.
 //!
 //! ```
 //! use forgeni::Entities;
@@ -54,19 +55,20 @@
 //! # Ok::<(), Box<dyn std::error::Error>>(())
 //! ```
 //!
-//! While the allocator is shared it is inside the [`Shared`], so nothing but reservations can
-//! happen: `alloc`, `free` and `state` don't compile. [`Shared::is_alive`], [`Shared::row`] and
-//! [`Shared::iter`] still say what was alive when the phase was opened.
+//! While the allocator is shared, nothing but reservations can happen: `alloc`, `free` and `state`
+//! don't compile. [`Shared::is_alive`], [`Shared::row`] and [`Shared::iter`] still say what was alive
+//! when the phase was opened.
 //!
-//! [`Entities::phase`] does both on a borrow: it lends reservers to a closure, and at the end the
-//! allocator is back. A task system, where any thread may run any task, takes reservers from a pool
-//! (`Reservers`).
+//! [`Entities::phase`] does all this on a borrow: it lends the reservers to a closure. At the closure's
+//! end the allocator is back, even if the closure returns early or panics. If any thread may run any
+//! task, take reservers from a pool (`Reservers::with`).
 //!
 //! # Components
 //!
-//! A [`HandleMap`] has a value of any type for each of some handles, as a secondary map of a slot
-//! map has. An `Entities` with a map for each type of component is all that many engines need, and
-//! the example `particles` is a small one.
+//! A [`HandleMap`] has a value of any type for each of some handles, as a secondary map of a slot map
+//! has: at most one value for each slot, in one vector by slot. So a look-up is one access and a
+//! comparison. We recommend one map for each type of component, as in the example `particles`. Use
+//! [`Storage`] and [`World`] for births, reports, and frames that don't depend on the workers (below).
 //!
 //! ```
 //! use forgeni::{Entities, HandleMap};
@@ -90,9 +92,11 @@
 //! # Worlds and frames
 //!
 //! A [`World`] has the allocator and what entities are made of, by numbered components of 64 bits. It
-//! knows when each entity was born, and reports what a frame did. `run_frame` runs systems on workers; its
-//! docs say what depends on their number. Each system reads the world and issues commands, and the commands
-//! take effect in the order of the systems. With threads of your own, use [`World::phase`] on a borrow, or
+//! knows when each entity was born. [`Storage`] keeps such components beside an `Entities` of your own.
+//!
+//! A system reads the world as the frame began, and issues commands. A spawn reserves at once. The
+//! commands take effect in the order of the systems. `run_frame` runs systems on workers; its docs say
+//! what depends on their number. With threads of your own, use [`World::phase`] on a borrow, or
 //! [`World::open`], [`Commands`], [`OpenWorld::close`] and [`World::apply`]:
 //!
 //! ```
@@ -120,71 +124,124 @@
 //! # Ok::<(), Box<dyn std::error::Error>>(())
 //! ```
 //!
+//! # Saves and snapshots
+//!
+//! [`Entities::write_image`] writes an allocator as bytes, and [`Entities::read_image`] reads it back.
+//! [`Entities::try_clone_from`] takes a snapshot, or goes back to one, and so do those of [`World`] and
+//! [`HandleMap`]. Handles that were given after a save or a snapshot are given anew then.
+//!
+//! ```
+//! use forgeni::Entities;
+//!
+//! let mut entities = Entities::new();
+//! let first = entities.alloc()?;
+//! let mut snapshot = Entities::new();
+//! snapshot.try_clone_from(&entities)?;
+//! let mut save = Vec::new();
+//! entities.write_image(&mut save)?;
+//!
+//! let second = entities.alloc()?;
+//! entities.free(first)?;
+//! entities.try_clone_from(&snapshot)?;
+//! assert!(entities.is_alive(first) && !entities.is_alive(second));
+//!
+//! let mut loaded = Entities::read_image(&save)?;
+//! assert!(loaded.is_alive(first));
+//! assert_eq!(loaded.alloc()?, second);
+//! # Ok::<(), Box<dyn std::error::Error>>(())
+//! ```
+//!
 //! # An allocator of your own
 //!
-//! A [`trace::Checker`] takes the calls of another allocator with their answers, and finds the first answer
-//! that isn't the proved one's. It takes the reservations of threads in any order.
+//! A [`trace::Checker`] takes the calls of another allocator with their answers, and finds the first
+//! answer that isn't the proved one's. It takes the reservations of threads in any order.
 //!
 //! # What may go wrong
 //!
-//! Each error goes by `?` into a `Box<dyn Error + Send + Sync>`. One that hands something back has it
-//! in its fields, and `into_parts` takes it apart from the plain error.
+//! Each error converts by `?` into a `Box<dyn Error + Send + Sync>`. One that hands something back has
+//! it in its fields, and `into_parts` separates it from the plain error.
 //!
-//! - An `Entities` that is used while it is shared, a `Reserver` after its phase was closed, or one
-//!   `Reserver` by two threads at once doesn't compile.
-//! - [`close`](Shared::close) without some of the reservers, or with one of another phase, is an
-//!   [`Unclosed`], which has all that was handed in.
-//! - Reservers of two phases don't [meet](Reserver::meet): [`OtherPhase`], and nothing has changed.
-//! - The closure of a [`phase`](Entities::phase), or of [one of a world](World::phase), ends early or
+//! - **Wrong use of a phase** doesn't compile: using an `Entities` while it is shared, a `Reserver`
+//!   after its phase was closed, or one `Reserver` on two threads at once.
+//! - **[`close`](Shared::close) without all reservers**, or with one of another phase, returns an
+//!   [`Unclosed`], which has all that was handed in. For a world and its queues it is an
+//!   [`Unfinished`].
+//! - **Reservers of two phases** don't [meet](Reserver::meet): [`OtherPhase`], and nothing has changed.
+//! - **A closure of a [`phase`](Entities::phase)**, or of [one of a world](World::phase), ends early or
 //!   panics: the allocator or the world is back, with all that was reserved.
-//! - A thread panics, and its reserver is dropped: `close` says what is missing, and
-//!   [`close_lost`](Shared::close_lost) ends the phase. The handles of the lost reserver come to
-//!   life too. [`OpenWorld::close_lost`] does the same for a world, with the queues of the others.
-//! - A system panics in `run_frame`: its panic is handed on, and the world is as before but for what
-//!   was reserved.
-//! - A reserver that is forgotten ([`core::mem::forget`]) counts as in use for good. The phase goes
+//! - **A thread panics and its reserver is dropped**: `close` says what is missing, and
+//!   [`close_lost`](Shared::close_lost) ends the phase. The handles of the lost reserver come to life
+//!   too. [`OpenWorld::close_lost`] does the same for a world, with the queues of the other systems.
+//!   What the lost system had reserved comes to life without components.
+//! - **A system panics in `run_frame`**: no command is applied, the panic is handed on, and the next
+//!   flush brings to life what was reserved. Nothing else has changed.
+//! - **A reserver is forgotten** ([`core::mem::forget`]): it counts as in use for good. The phase goes
 //!   on, and can't be closed.
-//! - The `Shared` is dropped: its reservers still reserve, and the allocator goes with the last of
-//!   them.
-//! - Queues are applied to another world than that of their phase: [`SyncError::OtherWorld`].
-//! - Memory runs out: an `Err`. Nothing has changed then, unless a sync point stopped
-//!   ([`Stopped`]) or a frame is lost.
+//! - **The `Shared` is dropped**: its reservers still reserve, and the allocator is dropped with the
+//!   last of them.
+//! - **Queues are applied to another world** than that of their phase: [`SyncError::OtherWorld`], which
+//!   hands them back.
+//! - **Bytes aren't the image of an allocator**: an [`ImageFault`]. What is read has exactly these bytes
+//!   for its image, whoever wrote them.
+//! - **Memory runs out**: an `Err`. Nothing has changed, unless a sync point stopped ([`Stopped`], and
+//!   [`Stopped::go_on`] goes on from there) or a frame is lost.
 //!
-//! Only two calls panic: `Reservers::with` of a pool without reservers, and a map that is indexed by a
-//! handle without a value. A panic of the caller's own code is handed on. Where Rust has no form that
-//! returns an error if memory runs out, the process ends, as with `Vec` and `Arc`:
+//! Only two calls panic: `Reservers::with` of a pool without reservers, and indexing a map by a handle
+//! without a value. A panic of the caller's own code is handed on. Some things have no stable form in
+//! Rust that can fail. If memory runs out there, the process ends, as with `Vec` and `Arc`:
 //!
-//! - [`Entities::share`], [`Entities::phase`], [`World::open`] and [`World::phase`] make an `Arc`. They ask for as much
-//!   memory before, and say so if it is refused. So only another thread can take it in between.
-//! - Handles of a slice or an array become an answer of a [`trace::Call`], or a call or an error of a trace is
-//!   cloned.
-//! - A [`trace::Checker`] notes the first reservation of a caller in a run. It asks for as much memory
-//!   before, as for an `Arc`.
-//! - A [`Bundle`] is cloned. A [`HandleMap`] is cloned, extended, collected, or used up by an iterator. `Reservers::into_inner`
-//!   makes a list.
+//! - [`Entities::share`], [`Entities::phase`], [`World::open`] and [`World::phase`] make an `Arc`. They
+//!   first allocate as much as it needs, and return an error if that fails. So only another thread can
+//!   take the memory in between.
+//! - A slice or an array of handles becomes an answer of a [`trace::Call`], or a call or an error of a
+//!   trace is cloned.
+//! - A [`trace::Checker`] notes the first reservation of a caller in a run. It first allocates as much,
+//!   as for an `Arc`.
+//! - An [`Entities`], a [`Storage`] or a [`World`] is cloned by `Clone`. `try_clone` returns an error
+//!   instead.
+//! - A [`Bundle`] is cloned. A [`HandleMap`] is cloned, extended, collected, or used up by an iterator.
+//!   `Reservers::into_inner` makes a list.
 //! - `run_frame` with more than one worker starts threads.
 //!
 //! # Proved, trusted, tested
 //!
-//! Proved is the source, call by call: [`Entities`], [`Shared`], [`Reserver`], [`HandleMap`], [`Storage`],
-//! [`World`], [`Commands`], [`trace::Checker`] and their parts are the proved types. The clauses of a
-//! contract use the words of the folders `specs/` of this repository. Rattle's kit makes the proofs,
+//! **Proved** is the source, call by call: [`Entities`], [`Shared`], [`Reserver`], [`HandleMap`],
+//! [`Storage`], [`World`], [`Commands`], [`trace::Checker`] and their parts are the proved types. The
+//! clauses of a contract use the words of the folders `specs/` of the repository. The proofs are made
 //! before what only they need is taken out of the source.
 //!
-//! Trusted are the program that takes it out (`rust/erase`), the module `kit`, which has Rust's own
-//! types in place of those of Rattle's kit, rustc and its libraries, and that no number is given to
-//! two phases or worlds. The proofs know no unwinding: trusted is that none goes through a call.
+//! **Trusted** are the prover, the program that takes it out (`rust/erase`), the module `kit`, which
+//! has Rust's own types in place of those of Rattle's library, rustc and its libraries, and that no
+//! number is given to two phases or worlds. The proofs know no unwinding: trusted is that no panic goes
+//! through a proved call.
 //!
-//! By hand, and tested, are the impls of Rust's traits, the calls that take a closure, the pool, and
-//! the threads of a frame. No code by hand decides what an allocator, a world or a frame does.
-//! All calls are tested too, beside models in plain Rust.
+//! **By hand**, and tested, are impls of Rust's traits, calls that take a closure, the pool, and the
+//! threads of a frame. No code by hand decides what an allocator, a world or a frame does. All calls
+//! are tested too, beside models in plain Rust.
 //!
 //! # Features
 //!
 //! `std`, which is on by default: `run_frame` and its systems, since they start threads, and the pool
 //! `Reservers`, since it may wait. Without it the package is `no_std` with `alloc`.
 //!
-//! `programs`, which is off by default: the programs `spawnrun` and `tracecheck`, which the library has nothing of.
+//! `programs`, which is off by default: the programs `spawnrun` and `tracecheck`, and the pictures that
+//! they draw. The library is the same without it.
+//!
+//! `serde`, which is off by default: the traits of the crate serde.
+//!
+//! | | in a format that people read, such as JSON | in any other |
+//! |---|---|---|
+//! | [`Handle`] | its text: `"12v3"` | the `u64` of [`to_bits`](Handle::to_bits) |
+//! | [`HandleMap`] | a map by rising slot: `{"0v1":5,"12v3":6}` | the same |
+//! | [`Entities`] | a list of numbers, the bytes of its [image](Entities::write_image) | these bytes |
+//! | [`ComponentId`] | its number: `7` | the same, a `u8` |
+//! | [`Birth`] | its frame, system and ordinal: `[2,0,1]` | the same, a `u64` and two `u32` |
+//! | [`Limits`] | its slots and generations: `[1000,4]` | the same, two `u32` |
+//!
+//! Reading returns an error for what isn't a handle, an image or a limit, and for two handles of one
+//! slot in a map. A map that is read has no limit, so a forged handle could make it take gigabytes. If a
+//! save may be forged, make a map with a limit, and have it read: `map.deserialize(deserializer)`, by the trait
+//! `DeserializeSeed`.
 #![cfg_attr(not(test), no_std)]
 #![forbid(unsafe_code)]
 #![deny(missing_docs)]
@@ -199,7 +256,11 @@ extern crate alloc;
 #[cfg(any(feature = "std", test))]
 extern crate std;
 
+mod cloning;
 mod component;
+#[cfg(feature = "programs")]
+#[path = "../drawing/mod.rs"]
+mod drawing;
 mod entities;
 mod errors;
 #[cfg(feature = "std")]
@@ -224,7 +285,10 @@ mod proved;
 mod reservers;
 #[cfg(test)]
 mod room;
+#[cfg(feature = "serde")]
+mod serde_impls;
 mod sharing;
+mod shown;
 mod storage;
 mod sync;
 #[cfg(feature = "std")]
@@ -237,7 +301,7 @@ mod world_phase;
 
 pub use component::{Birth, ComponentId};
 pub use entities::{Entities, Freed, Living, State};
-pub use errors::{Absent, AllocError, FreeError, OutOfMemory, Refused, ReserveError};
+pub use errors::{Absent, AllocError, FreeError, ImageFault, OutOfMemory, Refused, ReserveError};
 #[cfg(feature = "std")]
 pub use frames::{run_frame, FrameError};
 pub use handle::{Handle, ParseHandleError};

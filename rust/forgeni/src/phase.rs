@@ -67,7 +67,7 @@ impl Entities {
         let mut lending = Lending::begin(
             self,
             |entities| entities.share(callers).map_err(Unshared::into_parts),
-            back,
+            closed,
         )?;
         let (shared, reservers) = lending.parts();
         let mut lent = Vec::new();
@@ -79,7 +79,7 @@ impl Entities {
 }
 
 /// The allocator, after a phase that had all its reservers.
-fn back((shared, reservers): (Shared, Vec<Reserver>)) -> Entities {
+pub(crate) fn closed((shared, reservers): (Shared, Vec<Reserver>)) -> Entities {
     let closed = shared.close(reservers);
     closed.expect("all reservers of the phase are here, and nobody else has one")
 }

@@ -1,6 +1,7 @@
 //! An allocator that many threads reserve from at once.
 
 use crate::numbers::next_number;
+use crate::phase::closed;
 use crate::proved::ent_total::share;
 use crate::Entities;
 use alloc::vec::Vec;
@@ -48,7 +49,11 @@ impl Entities {
     /// Rust's `Arc` ends the process if memory runs out. So as much memory is asked for before, and the
     /// process ends only if another thread takes it in between.
     pub fn share(self, callers: usize) -> Result<(Shared, Vec<Reserver>), Unshared> {
-        Ok(share(self, callers)?.numbered(next_number()))
+        let opening = share(self, callers)?;
+        opening.numbered(next_number()).map_err(|phase| Unshared {
+            entities: closed(phase),
+            error: ShareError::Memory,
+        })
     }
 }
 

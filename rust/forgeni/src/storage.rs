@@ -3,6 +3,7 @@
 use alloc::alloc::handle_alloc_error;
 use core::alloc::Layout;
 use core::fmt;
+use core::hash::{Hash, Hasher};
 use core::iter::FusedIterator;
 
 pub use crate::proved::ent_queue::Bundle;
@@ -58,3 +59,9 @@ impl PartialEq for Bundle {
 }
 
 impl Eq for Bundle {}
+
+impl Hash for Bundle {
+    fn hash<H: Hasher>(&self, state: &mut H) {
+        self.items().hash(state);
+    }
+}

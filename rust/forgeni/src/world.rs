@@ -1,8 +1,9 @@
 //! Worlds: what their proved sources can't have.
 
 use crate::numbers::next_number;
-use crate::proved::ent_total::{new_world, open};
-use crate::Limits;
+use crate::proved::ent_total::{clone_world, clone_world_from, new_world, open};
+use crate::world_phase::closed;
+use crate::{Limits, OutOfMemory, ShareError};
 use alloc::vec::Vec;
 use core::error::Error;
 use core::fmt;
@@ -29,6 +30,59 @@ impl World {
     #[must_use]
     pub fn with_limits(limits: Limits) -> Self {
         new_world(limits, next_number())
+    }
+
+    /// Another world in the same state: the same entities are alive, with the same births and
+    /// components, the same handles are reserved, and to the same calls both return the same. From then
+    /// on each goes its own way.
+    ///
+    /// Each has queues of its own: those of a phase of one are [`SyncError::OtherWorld`] to the other.
+    ///
+    /// ```
+    /// use forgeni::World;
+    ///
+    /// let mut world = World::new();
+    /// let cart = world.spawn(&[])?;
+    /// let mut clone = world.try_clone()?;
+    /// clone.despawn(cart)?;
+    /// assert!(world.contains(cart) && !clone.contains(cart));
+    /// # Ok::<(), Box<dyn std::error::Error>>(())
+    /// ```
+    ///
+    /// # Errors
+    ///
+    /// [`OutOfMemory`]. It never comes if no entity was ever alive.
+    ///
+    /// [`SyncError::OtherWorld`]: crate::SyncError::OtherWorld
+    pub fn try_clone(&self) -> Result<Self, OutOfMemory> {
+        clone_world(self, next_number())
+    }
+
+    /// Takes over the state of another world, as [`try_clone`](Self::try_clone) copies it. What this one
+    /// had before is gone, and queues of its phases are of another world now. The entities and their
+    /// components are copied into new memory. This is how a game that predicts goes back to a frame that
+    /// the server has confirmed:
+    ///
+    /// ```
+    /// use forgeni::World;
+    ///
+    /// let mut world = World::new();
+    /// let cart = world.spawn(&[])?;
+    /// let mut confirmed = World::new();
+    /// confirmed.try_clone_from(&world)?;
+    /// world.despawn(cart)?;
+    /// world.try_clone_from(&confirmed)?;
+    /// assert!(world.contains(cart));
+    /// # Ok::<(), Box<dyn std::error::Error>>(())
+    /// ```
+    ///
+    /// Handles that were given since the clone was made are given anew afterwards. Keep none of them.
+    ///
+    /// # Errors
+    ///
+    /// [`OutOfMemory`]. Nothing has changed then. It never comes if no entity of the source was ever alive.
+    pub fn try_clone_from(&mut self, source: &Self) -> Result<(), OutOfMemory> {
+        clone_world_from(self, source, next_number())
     }
 
     /// Opens the world for `count` systems, 1 to 1,024, each with its [`Commands`]. They may go to
@@ -58,16 +112,18 @@ impl World {
     /// # Errors
     ///
     /// [`Unopened`] has the error, and the world as it was. The error is the first of these that
-    /// holds: [`ShareError::NeedsFlush`](crate::ShareError::NeedsFlush),
-    /// [`ShareError::Count`](crate::ShareError::Count),
-    /// [`ShareError::Memory`](crate::ShareError::Memory).
+    /// holds: [`ShareError::NeedsFlush`], [`ShareError::Count`], [`ShareError::Memory`].
     ///
     /// # Aborts
     ///
     /// Rust's `Arc` ends the process if memory runs out. So as much memory is asked for before, and the
     /// process ends only if another thread takes it in between.
     pub fn open(self, count: usize) -> Result<(OpenWorld, Vec<Commands>), Unopened> {
-        Ok(open(self, count)?.numbered(next_number()))
+        let opening = open(self, count)?;
+        opening.numbered(next_number()).map_err(|phase| Unopened {
+            world: closed(phase).0,
+            error: ShareError::Memory,
+        })
     }
 }
 
@@ -110,6 +166,14 @@ impl fmt::Debug for CommandQueue {
             .finish_non_exhaustive()
     }
 }
+
+impl Clone for View<'_> {
+    fn clone(&self) -> Self {
+        *self
+    }
+}
+
+impl Copy for View<'_> {}
 
 impl fmt::Debug for View<'_> {
     fn fmt(&self, out: &mut fmt::Formatter<'_>) -> fmt::Result {

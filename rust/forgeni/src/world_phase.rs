@@ -65,7 +65,7 @@ impl World {
 }
 
 /// The world after a phase that had all its systems, and their queues.
-fn closed((open, systems): (OpenWorld, Vec<Commands>)) -> (World, Queues) {
+pub(crate) fn closed((open, systems): (OpenWorld, Vec<Commands>)) -> (World, Queues) {
     let closed = open.close(systems.into_iter().map(Commands::finish).collect());
     closed.expect("all systems of the phase are here, and nobody else has one")
 }

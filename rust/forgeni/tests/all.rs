@@ -5,11 +5,13 @@
 mod common;
 mod worlds;
 
+mod clones;
 mod errors;
 #[cfg(feature = "std")]
 mod frames;
 mod handle_map;
 mod handles;
+mod image;
 mod like_bevy;
 mod like_hecs;
 mod like_slotmap;

@@ -85,8 +85,8 @@ fn maps_of<T: Copy + Default>(slot: usize) {
         map.retain(|one, _| one.index() < 2 * N);
     });
 
-    // Room for the slots that have values, and a list of handles.
-    let clone = exactly(slot * 2 * BYTES, || map.clone());
+    // Room for all slots, and a list of handles.
+    let clone = exactly(slot * 3 * BYTES, || map.clone());
     exactly(HANDLE * 2 * BYTES, || clone.into_iter());
 
     let mut far = HandleMap::new();
@@ -271,7 +271,7 @@ mod threads {
         let system = |_: &View<'_>, _: &mut SystemCommands<'_>| Ok(());
         for count in [1 << 8, 1 << 11] {
             let (mut world, systems) = (World::new(), vec![system; count]);
-            let most = (3 * 32 + 4 * 40) * count + 1_024;
+            let most = (24 + 2 * 32 + 40) * count + 1_024;
             let (_, kept) =
                 held(|| at_most(most, || run_frame(&mut world, &systems, 1).expect("memory")));
             assert_eq!(kept, 0);

@@ -2,10 +2,10 @@
 
 use forgeni::{
     Absent, AllocError, CloseError, CommandQueue, Commands, ComponentId, Entities, Fault,
-    FinishError, FreeError, Freed, GoOnError, Handle, HandleMap, InsertError, Lent, Limits,
-    OpenWorld, OtherPhase, OutOfMemory, ParseHandleError, Queues, Refused, Report, ReserveError,
-    Reserver, ShareError, Shared, State, Stop, Stopped, Storage, StorageError, SyncError, Unclosed,
-    Unfinished, Uninserted, Unopened, Unshared, World,
+    FinishError, FreeError, Freed, GoOnError, Handle, HandleMap, ImageFault, InsertError, Lent,
+    Limits, OpenWorld, OtherPhase, OutOfMemory, ParseHandleError, Queues, Refused, Report,
+    ReserveError, Reserver, ShareError, Shared, State, Stop, Stopped, Storage, StorageError,
+    SyncError, Unclosed, Unfinished, Uninserted, Unopened, Unshared, View, World,
 };
 use std::error::Error;
 
@@ -23,6 +23,7 @@ fn each_error_travels() {
     travels::<FreeError>();
     travels::<GoOnError>();
     travels::<Uninserted<String>>();
+    travels::<ImageFault>();
     travels::<InsertError>();
     travels::<ShareError>();
     travels::<OtherPhase>();
@@ -55,6 +56,14 @@ fn each_type_is_send_and_sync() {
     shared_by_threads::<HandleMap<String>>();
     #[cfg(feature = "std")]
     shared_by_threads::<(forgeni::Reservers, forgeni::Reservers<Lent<'_>>)>();
+}
+
+fn copied<T: Copy>() {}
+
+#[test]
+fn what_is_small_is_copied() {
+    copied::<(Handle, Limits, State, Freed, ComponentId)>();
+    copied::<(Fault, Stop, View<'_>, OutOfMemory)>();
 }
 
 type Boxed = Box<dyn Error + Send + Sync>;

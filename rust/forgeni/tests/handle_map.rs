@@ -4,7 +4,7 @@
 use crate::common::{handle, seeds, Numbers};
 use forgeni::{Handle, HandleMap, InsertError};
 use std::cell::Cell;
-use std::collections::{HashMap, VecDeque};
+use std::collections::{HashMap, HashSet, VecDeque};
 use std::fmt::Debug;
 use std::panic::{catch_unwind, resume_unwind, AssertUnwindSafe};
 use std::rc::Rc;
@@ -271,6 +271,65 @@ fn each_value_is_dropped_once() {
     });
 }
 
+/// What another map is cloned into drops its own values, whether it has room or not.
+#[test]
+fn a_clone_drops_what_was_there() {
+    let map = |value: &Rc<u32>, count| -> HandleMap<Rc<u32>> {
+        let values = (0..count).map(|index| (handle(index, 1), Rc::clone(value)));
+        values.collect()
+    };
+    for (before, after) in [(9, 5), (5, 5), (5, 900), (0, 3), (3, 0)] {
+        let (old, new) = (Rc::new(1), Rc::new(2));
+        let (mut target, source) = (map(&old, before), map(&new, after));
+        target.try_clone_from(&source).expect("memory");
+        let counts = || (Rc::strong_count(&old), Rc::strong_count(&new));
+        let after = after as usize;
+        assert_eq!((target.len(), counts()), (after, (1, 1 + 2 * after)));
+        assert!(target == source && target.values().all(|value| **value == 2));
+        drop(source);
+        assert_eq!(counts(), (1, 1 + after));
+        drop(target);
+        assert_eq!(counts(), (1, 1));
+    }
+}
+
+/// A value whose clone panics if its number is 3.
+struct Unclonable(u32);
+
+impl Clone for Unclonable {
+    fn clone(&self) -> Self {
+        if self.0 == 3 {
+            // This panic prints nothing.
+            resume_unwind(Box::new(3));
+        }
+        Unclonable(self.0)
+    }
+}
+
+/// A panic of a value's clone is handed on. A map with room for the source is empty then, and a map
+/// without it is as it was.
+#[test]
+fn a_clone_that_panics() {
+    let map = |count| -> HandleMap<Unclonable> {
+        let values = (0..count).map(|index| (handle(index, 1), Unclonable(index + 2)));
+        values.collect()
+    };
+    for (before, after) in [(9, 0), (1, 1)] {
+        let (mut target, source) = (map(before), map(6));
+        let cloned = catch_unwind(AssertUnwindSafe(|| target.try_clone_from(&source)));
+        assert!(cloned.is_err());
+        assert_eq!((target.len(), target.iter().count()), (after, after));
+        assert_eq!(target.get(handle(0, 1)).is_some(), after > 0);
+        let value = Unclonable(8);
+        assert!(target.insert(handle(7, 1), value).is_ok());
+        assert_eq!(
+            (target.len(), target.iter().count()),
+            (after + 1, after + 1)
+        );
+        assert_eq!((source.len(), source.iter().count()), (6, 6));
+    }
+}
+
 /// A map that outgrows its room many times keeps all that it has.
 #[test]
 fn growth_keeps_all() {
@@ -310,6 +369,11 @@ fn occupants_of_one_slot() {
         refused.to_string(),
         "a later occupant of the slot has a value"
     );
+    let other = forgeni::Uninserted {
+        value: "again",
+        error: InsertError::Memory,
+    };
+    assert_eq!(HashSet::from([refused, other, refused]).len(), 2);
     assert_eq!(refused.into_parts(), ("again", InsertError::Later));
     assert_eq!(map[second], "second");
     // With the later one gone the earlier one may come again.
@@ -392,6 +456,9 @@ fn limits() {
     refused(&mut clone, handle(2, 2));
     clone.set_limit(9);
     assert_eq!((clone == map, clone.limit(), map.limit()), (true, 9, 2));
+    let mut target: HandleMap<u8> = [(handle(7, 1), 6)].into_iter().collect();
+    target.clone_from(&map);
+    assert_eq!((target == map, target.limit()), (true, 2));
     clone.extend([
         (handle(9, 1), 3),
         (handle(8, 1), 4),

@@ -166,7 +166,7 @@ fn the_end_of_a_quota() {
 
 /// The commands of a system have the same quota. Each spawn above it is a fault.
 #[test]
-fn the_end_of_a_credit() {
+fn commands_at_the_end_of_a_quota() {
     const ALL: ComponentId = ComponentId(0);
     let (open, mut systems) = World::with_limits(limits(1, 1)).open(1).expect("opened");
     let only = &mut systems[0];

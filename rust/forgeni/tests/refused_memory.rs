@@ -10,8 +10,8 @@ use common::{handle, this_program};
 use forgeni::trace::{Call, CheckError, Checker, FreeReply, Log, Reservation};
 use forgeni::{
     AllocError, Birth, CommandQueue, Commands, ComponentId, Entities, Fault, FreeError, GoOnError,
-    Handle, HandleMap, InsertError, Limits, OpenWorld, OutOfMemory, Queues, Report, ReserveError,
-    ShareError, State, Stop, Storage, StorageError, SyncError, World,
+    Handle, HandleMap, ImageFault, InsertError, Limits, OpenWorld, OutOfMemory, Queues, Report,
+    ReserveError, ShareError, State, Stop, Storage, StorageError, SyncError, World,
 };
 use refusing::{refusing, Refusal};
 
@@ -115,6 +115,30 @@ fn alloc_and_free() {
 }
 
 #[test]
+fn an_image_of_an_allocator() {
+    each_in_turn(|refusal| {
+        let entities = three();
+        let mut image = vec![5];
+        let (written, refused) = refusing(refusal, || entities.write_image(&mut image));
+        written.unwrap_or_else(|OutOfMemory| {
+            assert!(refused > 0 && image == [5]);
+            entities.write_image(&mut image).expect("memory");
+        });
+        assert_eq!(image.len(), 1 + 40 + 12 * 3);
+        refused
+    });
+    each_in_turn(|refusal| {
+        let mut image = vec![];
+        three().write_image(&mut image).expect("memory");
+        let read = || Entities::read_image(&image);
+        let (mut again, refused) = insist(refusal, ImageFault::Memory, read);
+        assert_eq!((again.len(), again.total(), again.top()), (2, 3, 1));
+        assert_eq!(again.alloc(), Ok(handle(1, 2)));
+        refused
+    });
+}
+
+#[test]
 fn a_flush_of_requests() {
     let wanted: Vec<Handle> = (3..100).map(|index| handle(index, 1)).collect();
     each_in_turn(|refusal| {
@@ -162,6 +186,151 @@ fn a_flush_into_a_list() {
         assert_eq!((flushed, none, list.len()), (Ok(()), 0, 98));
         refused
     });
+}
+
+/// An allocator with so many slots, of which every third waits, and with requests.
+fn requested(slots: u32) -> Entities {
+    let mut entities = Entities::new();
+    for one in entities.alloc_many(slots).expect("memory") {
+        if one.index() % 3 == 0 {
+            entities.free(one).expect("memory");
+        }
+    }
+    entities.request_many(2).expect("handles");
+    entities
+}
+
+/// What is alive, and the counts of the rest.
+fn told(entities: &Entities) -> (Vec<Handle>, [u64; 4]) {
+    let counts = [entities.total(), entities.top(), entities.reserved()].map(u64::from);
+    let [made, top, reserved] = counts;
+    let living = entities.iter().collect();
+    (living, [made, top, reserved, entities.asked()])
+}
+
+#[test]
+fn clones() {
+    for slots in [1, 3_000, 100_000] {
+        let source = requested(slots);
+        let whole = told(&source);
+        each_in_turn(|refusal| {
+            let (clone, refused) = insist(refusal, OutOfMemory, || source.try_clone());
+            assert_eq!(told(&clone), whole);
+            refused
+        });
+        each_in_turn(|refusal| {
+            let (mut clone, row) = smaller(slots);
+            let before = told(&clone);
+            let (done, refused) = refusing(refusal, || clone.try_clone_from(&source));
+            done.unwrap_or_else(|OutOfMemory| {
+                assert!(refused > 0);
+                assert_eq!((told(&clone), clone.row(handle(2, 1))), (before, row));
+                clone.try_clone_from(&source).expect("memory");
+            });
+            assert_eq!(
+                (told(&clone), clone.row(handle(2, 1))),
+                (whole.clone(), None)
+            );
+            refused
+        });
+    }
+}
+
+/// An allocator with fewer slots than this, and the row of the handle 2v1.
+fn smaller(slots: u32) -> (Entities, Option<u32>) {
+    if slots < 3 {
+        return (Entities::new(), None);
+    }
+    let mut entities = three();
+    entities.try_set_row(handle(2, 1), 9).expect("alive");
+    entities.request().expect("a handle");
+    (entities, Some(9))
+}
+
+/// A world of three entities, of which the first has gone, with a handle that is reserved.
+fn small_world() -> (World, Handle) {
+    let mut world = World::new();
+    for hp in 0..3 {
+        world.spawn(&[(HP, hp)]).expect("memory");
+    }
+    world.despawn(handle(0, 1)).expect("alive");
+    let (open, mut systems) = world.open(1).expect("memory");
+    let soon = systems[0].spawn(&[]).expect("memory");
+    let queues = systems.into_iter().map(Commands::finish).collect();
+    (open.close(queues).expect("closed").0, soon)
+}
+
+/// An entity, its birth and a component.
+type Made = (Handle, Option<Birth>, Option<i64>);
+
+/// The frame, whether a handle is reserved, and the living.
+fn seen(world: &World) -> (u64, bool, Vec<Made>) {
+    let all = world.by_birth().expect("memory").into_iter();
+    let all = all.map(|one| (one, world.birth(one), world.get(one, HP)));
+    (world.frame(), world.needs_flush(), all.collect())
+}
+
+#[test]
+fn clones_of_worlds() {
+    let (source, soon) = small_world();
+    let whole = seen(&source);
+    assert_eq!(whole.2.len(), 2);
+    let goes_on = |mut clone: World| {
+        assert_eq!(seen(&clone), whole);
+        clone.flush().expect("memory");
+        assert!(clone.contains(soon) && clone.len() == 3);
+    };
+    each_in_turn(|refusal| {
+        let (clone, refused) = insist(refusal, OutOfMemory, || source.try_clone());
+        goes_on(clone);
+        refused
+    });
+    each_in_turn(|refusal| {
+        let mut target = World::new();
+        target.spawn(&[(HP, 70)]).expect("memory");
+        let before = seen(&target);
+        let (done, refused) = refusing(refusal, || target.try_clone_from(&source));
+        done.unwrap_or_else(|OutOfMemory| {
+            assert!(refused > 0);
+            assert_eq!(seen(&target), before);
+            target.try_clone_from(&source).expect("memory");
+        });
+        goes_on(target);
+        refused
+    });
+    let none = Refusal::All { after: 0 };
+    let mut target = small_world().0;
+    let (cleared, refused) = refusing(none, || target.try_clone_from(&World::new()));
+    assert_eq!(
+        (cleared, refused, target.len(), target.frame()),
+        (Ok(()), 0, 0, 0)
+    );
+    let (clone, refused) = refusing(none, || World::new().try_clone());
+    assert_eq!((clone.map(|clone| clone.len()), refused), (Ok(0), 0));
+}
+
+/// Once the lists had as much room, nothing is asked for. Nor is for what has no slots.
+#[test]
+fn clones_into_room() {
+    let none = Refusal::All { after: 0 };
+    let fresh = requested(0);
+    let (clone, refused) = refusing(none, || fresh.try_clone());
+    assert_eq!(
+        (clone.map(|clone| told(&clone)), refused),
+        (Ok(told(&fresh)), 0)
+    );
+    for slots in [0, 1, 3_000, 100_000] {
+        let source = requested(slots);
+        let mut target = requested(slots);
+        common::flushed(&mut target);
+        while target.top() > 0 {
+            target.alloc().expect("a slot waits");
+        }
+        // Nothing waits any more, but there is room for as much as did.
+        let back = || target.try_clone_from(&source);
+        assert_eq!(refusing(none, back), (Ok(()), 0), "{slots}");
+        assert_eq!(told(&target), told(&source));
+    }
 }
 
 #[test]
@@ -391,6 +560,133 @@ fn calls_of_a_map() {
         assert!(capacity >= 1000);
         refused + also
     });
+}
+
+/// A map with a value for each of the first slots.
+fn numbers(count: u32) -> HandleMap<u64> {
+    let numbers = (0..count).map(|index| (handle(index, 2), u64::from(index)));
+    numbers.collect()
+}
+
+/// Whether the map is one of these numbers, and has that limit.
+fn has_numbers(map: &HandleMap<u64>, count: u32, limit: u32) -> bool {
+    let numbers = (0..count).map(|index| (handle(index, 2), u64::from(index)));
+    map.len() == count as usize
+        && map.limit() == limit
+        && map.iter().map(|(one, value)| (one, *value)).eq(numbers)
+}
+
+/// A clone that is refused changes neither map, and what is done with one of two later leaves the other.
+#[test]
+fn clones_of_a_map() {
+    let none = Refusal::All { after: 0 };
+    for count in [1, 3_000, 70_001] {
+        let mut source = numbers(count);
+        source.set_limit(count + 1);
+        each_in_turn(|refusal| {
+            let (mut clone, refused) = insist(refusal, OutOfMemory, || source.try_clone());
+            assert!(has_numbers(&clone, count, count + 1));
+            clone.insert(handle(0, 3), 9).expect("memory");
+            clone.set_limit(0);
+            assert!(has_numbers(&source, count, count + 1));
+            refused
+        });
+        each_in_turn(|refusal| {
+            let mut target = HandleMap::with_limit(7);
+            if count > 1_000 {
+                target.insert(handle(6, 9), 5).expect("memory");
+            }
+            let before = (target.len(), target.slots(), target.capacity());
+            let (cloned, refused) = refusing(refusal, || target.try_clone_from(&source));
+            if cloned.is_err() {
+                assert!(refused > 0);
+                let after = (target.len(), target.slots(), target.capacity());
+                assert_eq!((after, target.limit()), (before, 7));
+                assert_eq!(target.get(handle(6, 9)), (count > 1_000).then_some(&5));
+                target.try_clone_from(&source).expect("memory");
+            }
+            assert!(has_numbers(&target, count, count + 1));
+
+            // With room for it, another one is cloned without memory.
+            target.remove(handle(0, 2));
+            let (cloned, unasked) = refusing(none, || target.try_clone_from(&source));
+            assert_eq!((cloned, unasked), (Ok(()), 0));
+            assert!(has_numbers(&target, count, count + 1));
+            assert!(has_numbers(&source, count, count + 1));
+            refused
+        });
+    }
+    let (empty, mut target) = (HandleMap::with_limit(3), numbers(70_001));
+    let room = target.capacity();
+    let (clone, unasked) = refusing(none, || {
+        target
+            .try_clone_from(&empty)
+            .expect("no memory is asked for");
+        empty.try_clone().expect("no memory is asked for")
+    });
+    assert_eq!(unasked, 0);
+    assert!(has_numbers(&target, 0, 3) && has_numbers(&clone, 0, 3));
+    assert_eq!((target.slots(), target.capacity()), (0, room));
+}
+
+/// A storage of the first slots. An entity has a component in two of three slots.
+fn stored(count: u32) -> Storage {
+    let mut storage = Storage::new();
+    for index in 0..count {
+        let one = handle(index, 2);
+        let ordinal = index;
+        let born = storage.born(one, Birth { ordinal, ..BIRTH });
+        born.expect("memory");
+        if index % 3 > 0 {
+            let items = [(HP, i64::from(index)), (ComponentId(9), 9)];
+            let items = &items[..index as usize % 3];
+            storage.insert(one, items).expect("memory");
+        }
+    }
+    storage
+}
+
+/// Whether the storage is one of these.
+fn is_stored(storage: &Storage, count: u32) -> bool {
+    let is_there = |index| {
+        let (one, ordinal) = (handle(index, 2), index);
+        let hp = (index % 3 > 0).then_some(i64::from(index));
+        storage.birth(one) == Some(Birth { ordinal, ..BIRTH })
+            && storage.get(one, HP) == hp
+            && storage.get(one, ComponentId(9)) == (index % 3 > 1).then_some(9)
+            && storage.items(one).map(|items| items.len()) == Some(index as usize % 3)
+    };
+    storage.len() == count as usize && (0..count).all(is_there)
+}
+
+/// A clone that is refused leaves the storage, and what is done with one of two later leaves the other.
+#[test]
+fn clones_of_a_storage() {
+    for count in [1, 3_000, 70_001] {
+        let source = stored(count);
+        each_in_turn(|refusal| {
+            let (mut clone, refused) = insist(refusal, OutOfMemory, || source.try_clone());
+            assert!(is_stored(&clone, count) && clone.spare() >= source.spare());
+            let last = handle(count - 1, 2);
+            clone.insert(last, &MANY).expect("memory");
+            clone.despawn(handle(0, 2)).expect("it lives");
+            clone.born(handle(count, 1), BIRTH).expect("memory");
+            assert!(is_stored(&source, count));
+            refused
+        });
+        let (mut source, clone) = (stored(count), source.try_clone().expect("memory"));
+        for index in (0..count).rev() {
+            source.despawn(handle(index, 2)).expect("it lives");
+        }
+        assert!(is_stored(&clone, count));
+        // Nobody lives in it, and it has room.
+        let empty = source.try_clone().expect("memory");
+        assert!(is_stored(&empty, 0) && empty.spare() >= count as usize);
+    }
+    let new = Storage::new();
+    let (clone, unasked) = refusing(Refusal::All { after: 0 }, || new.try_clone());
+    assert_eq!(unasked, 0);
+    assert!(is_stored(&clone.expect("no memory is asked for"), 0));
 }
 
 /// Two entities lived, and one of them still does. Then three callers reserved.

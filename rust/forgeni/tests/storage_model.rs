@@ -4,6 +4,7 @@ use crate::common::{handle, seeds, Numbers};
 use crate::worlds::{any_birth, any_component, any_components, Components};
 use forgeni::{Birth, Bundle, ComponentId, Handle, Storage, StorageError};
 use std::collections::btree_map::{BTreeMap, Entry};
+use std::collections::HashSet;
 
 /// The handles and births of a storage: few, so that they meet often.
 fn any_handle(numbers: &mut Numbers) -> Handle {
@@ -18,7 +19,7 @@ fn run(seed: u64) {
         let place = format!("seed {seed}, step {step}");
         let one = any_handle(&mut numbers);
         let id = any_component(&mut numbers);
-        match numbers.below(6) {
+        match numbers.below(7) {
             0 | 1 => {
                 let birth = any_birth(&mut numbers);
                 let wanted = match model.entry(one) {
@@ -45,6 +46,8 @@ fn run(seed: u64) {
                 };
                 assert_eq!(storage.insert(one, &components), wanted, "{place}: insert");
             }
+            // The clone goes on, and the original is dropped.
+            5 => storage = storage.clone(),
             _ => {
                 let wanted = match model.get_mut(&one) {
                     Some((_, held)) => Ok(held.remove(&id)),
@@ -191,4 +194,23 @@ fn bundles() {
     let text = "{ComponentId(2): -3, ComponentId(7): 1}";
     assert_eq!(format!("{bundle:?}"), text);
     assert!(Bundle::new().items().is_empty());
+}
+
+/// Of equal bundles one alone is in a set, also if one of them has had more components and lies on the heap.
+#[test]
+fn equal_bundles_have_one_hash() {
+    let many: Vec<_> = (0..9).map(|id| (ComponentId(id), 1)).collect();
+    let each = many.iter().map(|one| Bundle::of(&[*one]).expect("memory"));
+    let mut all: HashSet<Bundle> = each.collect();
+    assert_eq!(all.len(), 9);
+    for count in 0..many.len() {
+        let bundle = Bundle::of(&many[..count]).expect("memory");
+        let mut other = Bundle::default();
+        for (id, value) in many[..count].iter().rev() {
+            other.put(*id, value + 1).expect("memory");
+            other.put(*id, *value).expect("memory");
+        }
+        assert_eq!(all.insert(bundle), count != 1, "{count}");
+        assert!(!all.insert(other), "{count}");
+    }
 }

@@ -251,7 +251,7 @@ fn values_of_worlds() {
     let report = world.apply(queues).expect("memory");
     debugs([(
         &report as &dyn Debug,
-        "SyncReport { born: [1v1], faults: [Fault { system: 1, command: 1, kind: NotAlive(7v1) }] }",
+        "Report { born: [1v1], faults: [Fault { system: 1, command: 1, kind: NotAlive(7v1) }] }",
     )]);
 }
 
@@ -331,7 +331,7 @@ fn values_of_traces() {
     };
     let text = "differs line 4: len => 2, expected 3";
     let debug =
-        "Difference { number: 4, told: Len(Some(2)), expected: Len(Some(3)), front: HandleList { handles: [0v1, 1v2] }, cursor: -1 }";
+        "Difference { number: 4, told: Len(Some(2)), expected: Len(Some(3)), front: [0v1, 1v2], cursor: -1 }";
     let error = CheckError::Differs(difference.clone());
     displays([
         (&difference as &dyn Display, text),
@@ -355,7 +355,7 @@ fn values_of_traces() {
         (&recorder, "Recorder { calls: 1, .. }"),
         (
             &log,
-            "Log { caller: 6, reservations: [Reservation { number: 0, caller: 6, requested: 1, reply: Handles(HandleList { handles: [0v1] }) }] }",
+            "Log { caller: 6, reservations: [Reservation { number: 0, caller: 6, requested: 1, reply: Handles([0v1]) }] }",
         ),
     ]);
 }
@@ -405,6 +405,9 @@ mod frames {
             error: OutOfMemory,
         };
         displays([(&unpooled as &dyn Display, MEMORY)]);
-        debugs([(&unpooled as &dyn Debug, "Unpooled { error: Memory, .. }")]);
+        debugs([(
+            &unpooled as &dyn Debug,
+            "Unpooled { error: OutOfMemory, .. }",
+        )]);
     }
 }

@@ -1,6 +1,6 @@
 //! Frames of systems that compute, on some workers, beside threads of plain Rust.
 
-use crate::{median, timed, Run};
+use crate::{counted, median, timed, Places, Run};
 use forgeni::{run_frame, OutOfMemory, System, SystemCommands, View, World};
 use std::hint::black_box;
 use std::sync::atomic::{AtomicUsize, Ordering};
@@ -34,6 +34,10 @@ fn computed(steps: u64) -> u64 {
 pub fn table() {
     println!("| Systems | Workers | Here, microseconds | Plain Rust | Ratio |");
     println!("|---|---|---|---|---|");
+    if counted::is_on() {
+        let sides: [Places; 2] = [[|| here(1, 0); 8], [|| by_threads(1, 0); 8]];
+        return counted::run("empty, one worker", SYSTEMS as u32, &sides);
+    }
     for (name, steps) in [("empty", 0), ("compute", STEPS)] {
         for workers in [1, 2, 4] {
             let (mut ours, mut plain) = (Vec::new(), Vec::new());

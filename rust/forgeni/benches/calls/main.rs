@@ -8,9 +8,12 @@
 //! installed.
 
 mod births;
+mod clones;
 mod components;
+mod counted;
 mod entities;
 mod frames;
+mod images;
 mod peers;
 #[path = "../plain/mod.rs"]
 mod plain;
@@ -77,6 +80,14 @@ fn main() {
         sync::table();
         println!();
     }
+    if wanted("clones") {
+        clones::table();
+        println!();
+    }
+    if wanted("images") {
+        images::table();
+        println!();
+    }
     if wanted("births") {
         births::table();
         println!();
@@ -112,7 +123,9 @@ fn shift<const PLACE: usize>() {
     }
 }
 
-#[inline(always)]
+/// Does the work, and looks at the clock before and after it. It is a function of its own, so that a
+/// tool can count what is done in it.
+#[inline(never)]
 fn timed(work: impl FnOnce() -> u64) -> Run {
     let start = Instant::now();
     let sum = black_box(work());
@@ -158,6 +171,10 @@ fn line_of_two(rounds: usize, name: &str, count: u32, ours: Places, plain: Place
 
 /// Prints the cells of the first two sides, and hands back the nanoseconds a step of each side.
 fn cells(rounds: usize, name: &str, count: u32, sides: &[Places]) -> Vec<f64> {
+    if counted::is_on() {
+        counted::run(name, count, sides);
+        return vec![1.0; sides.len()];
+    }
     let times = times(rounds, name, sides);
     let each: Vec<f64> = times
         .iter()

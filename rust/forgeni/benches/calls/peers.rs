@@ -1,5 +1,6 @@
 //! The same work over the crates slotmap and sharded-slab, where `run.sh` found them.
 
+use crate::clones::TakesOver;
 use crate::components::Components;
 use crate::{Places, Run};
 
@@ -11,6 +12,7 @@ pub struct Slots {
     pub rising: Option<Places>,
     pub scattered: Option<Places>,
     pub components: Option<Components>,
+    pub taken_over: Option<fn(u32) -> TakesOver>,
 }
 
 #[cfg(not(slotmap))]
@@ -21,6 +23,7 @@ pub const SLOTS: Slots = Slots {
     rising: None,
     scattered: None,
     components: None,
+    taken_over: None,
 };
 
 #[cfg(sharded_slab)]
@@ -34,6 +37,7 @@ pub use slots::SLOTS;
 #[cfg(slotmap)]
 mod slots {
     use super::Slots;
+    use crate::clones::TakesOver;
     use crate::components::{Components, Side, Walked};
     use crate::entities::{by_step, READS, SCATTERED};
     use crate::{places, shift, timed, Run, COUNT};
@@ -47,6 +51,7 @@ mod slots {
         rising: Some(places!(rising)),
         scattered: Some(places!(scattered)),
         components: Some(Components::of::<Both>()),
+        taken_over: Some(taken_over),
     };
 
     /// A slot map of keys alone, and a secondary map for the values.
@@ -122,6 +127,22 @@ mod slots {
         timed(|| {
             let alive = |key: &&DefaultKey| black_box(&slots).contains_key(**key);
             keys.iter().filter(alive).count() as u64
+        })
+    }
+
+    /// A slot map with a number for each key, of which every fourth is gone.
+    fn taken_over(slots: u32) -> TakesOver {
+        let mut source = SlotMap::new();
+        let keys: Vec<DefaultKey> = (0..slots).map(|slot| source.insert(slot)).collect();
+        for key in keys.iter().step_by(4) {
+            source.remove(*key).expect("alive");
+        }
+        let mut target = source.clone();
+        Box::new(move || {
+            timed(|| {
+                black_box(&mut target).clone_from(black_box(&source));
+                target.len() as u64
+            })
         })
     }
 

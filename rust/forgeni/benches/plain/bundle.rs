@@ -4,7 +4,7 @@
 use std::sync::atomic::{AtomicI64, Ordering};
 
 /// How many handles one caller may request.
-const CREDIT: u64 = 1 << 40;
+const QUOTA: u64 = 1 << 40;
 
 #[derive(Clone, Copy)]
 pub struct Handle {
@@ -77,7 +77,7 @@ pub struct Reserver {
 
 impl Reserver {
     pub fn new() -> Self {
-        Reserver { left: CREDIT }
+        Reserver { left: QUOTA }
     }
 }
 

@@ -42,10 +42,11 @@ pub trait FallibleVec<T>: Sized {
     /// it; or it comes back.
     fn insert_fallibly(&mut self, at: usize, value: T) -> Result<(), AllocFailed<T>>;
 
-    /// The contract: copies of the items stand at the end, in their order.
+    /// The contract: clones of the items stand at the end, in their order. It is the kit's
+    /// `extend_with_clones` too, in which a clone may be refused memory.
     fn extend_from_slice_fallibly(&mut self, items: &[T]) -> Result<(), AllocError>
     where
-        T: Copy;
+        T: Clone;
 
     /// The contract: the length is `count`. Items beyond it are gone, or those that were missing are
     /// the value.
@@ -133,7 +134,7 @@ impl<T> FallibleVec<T> for Vec<T> {
     #[inline]
     fn extend_from_slice_fallibly(&mut self, items: &[T]) -> Result<(), AllocError>
     where
-        T: Copy,
+        T: Clone,
     {
         self.reserve_fallibly(items.len())?;
         self.extend_from_slice(items);

@@ -8,6 +8,7 @@
 pub mod clap;
 pub mod env;
 pub mod fast_float;
+pub mod fs;
 pub mod inline_text;
 pub mod json;
 pub mod rt;

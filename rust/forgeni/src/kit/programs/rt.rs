@@ -12,6 +12,15 @@ use std::io;
 /// The right to allocate. In Rust nobody has to be handed it.
 pub trait AllocGlobal {}
 
+/// The right to open files.
+pub trait Files {
+    /// A file that is open.
+    type File: io::Read;
+
+    /// The contract: the file of this name, open for reading; or why it can't be opened.
+    fn open_file(&self, name: &str) -> io::Result<Self::File>;
+}
+
 /// The rights.
 #[derive(Clone, Copy, Debug, Default)]
 pub struct HostRuntime;
@@ -21,6 +30,14 @@ impl AllocGlobal for HostRuntime {}
 impl Clock for HostRuntime {}
 
 impl Env for HostRuntime {}
+
+impl Files for HostRuntime {
+    type File = std::fs::File;
+
+    fn open_file(&self, name: &str) -> io::Result<Self::File> {
+        std::fs::File::open(name)
+    }
+}
 
 impl Threads for HostRuntime {}
 

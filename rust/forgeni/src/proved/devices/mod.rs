@@ -5,7 +5,11 @@
 mod counted;
 mod device;
 mod input;
+mod named;
+mod pipe;
 
 pub use counted::Counted;
 pub use device::{Failed, Sink, Source};
 pub use input::{InputFault, read_all};
+pub use named::open_named;
+pub use pipe::{Muted, Noting};

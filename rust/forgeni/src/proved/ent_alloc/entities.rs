@@ -290,11 +290,11 @@ impl Entities {
     ///
     /// In each case nothing has changed.
     ///
-    /// - [`AllocError::NeedsFlush`](AllocFault::NeedsFlush) if handles were requested since the last flush, even if the
-    ///   request was refused.
+    /// - [`AllocError::NeedsFlush`](AllocFault::NeedsFlush) if handles were requested since the
+    ///   last flush, even if the request was refused.
     /// - [`AllocError::Space`](AllocFault::Space) if every slot has a living entity or is retired.
-    /// - [`AllocError::Memory`](AllocFault::Memory) if there is no memory for a new slot. It never comes if an old slot
-    ///   waits.
+    /// - [`AllocError::Memory`](AllocFault::Memory) if there is no memory for a new slot. It is
+    ///   never returned if an old slot waits.
     ///
     /// <details><summary>Contract</summary>
     ///
@@ -352,11 +352,11 @@ impl Entities {
     ///
     /// In each case nothing has changed.
     ///
-    /// - [`FreeError::NeedsFlush`](FreeFault::NeedsFlush) if handles were requested since the last flush, even if the
-    ///   request was refused.
+    /// - [`FreeError::NeedsFlush`](FreeFault::NeedsFlush) if handles were requested since the last
+    ///   flush, even if the request was refused.
     /// - [`FreeError::NotAlive`](FreeFault::NotAlive) if the entity isn't alive.
-    /// - [`FreeError::Memory`](FreeFault::Memory) if there is no memory for one more slot that waits. It never comes if
-    ///   the slot is retired.
+    /// - [`FreeError::Memory`](FreeFault::Memory) if there is no memory for one more slot that
+    ///   waits. It is never returned if the slot is retired.
     // Not inlined, its result goes through memory.
     #[inline(always)]
     pub fn free(&mut self, handle: Handle) -> Result<Freed, FreeFault>
@@ -453,6 +453,19 @@ impl Entities {
 
     /// What became of a handle: whether it is alive, reserved, or neither. It takes constant time.
     ///
+    /// ```
+    /// use forgeni::{Entities, State};
+    ///
+    /// let mut entities = Entities::new();
+    /// let soon = entities.request()?;
+    /// assert_eq!(entities.state(soon), State::Reserved);
+    /// entities.flush(&mut Vec::new())?;
+    /// assert_eq!(entities.state(soon), State::Alive);
+    /// entities.free(soon)?;
+    /// assert_eq!(entities.state(soon), State::Gone);
+    /// # Ok::<(), Box<dyn std::error::Error>>(())
+    /// ```
+    ///
     /// <details><summary>Contract</summary>
     ///
     /// In the words of the folder `specs/` of crate `ent_alloc`:
@@ -484,6 +497,17 @@ impl Entities {
 
     /// Whether the handle is alive. It takes constant time.
     ///
+    /// ```
+    /// use forgeni::Entities;
+    ///
+    /// let mut entities = Entities::new();
+    /// let target = entities.alloc()?;
+    /// assert!(entities.is_alive(target));
+    /// entities.free(target)?;
+    /// assert!(!entities.is_alive(target));
+    /// # Ok::<(), Box<dyn std::error::Error>>(())
+    /// ```
+    ///
     /// <details><summary>Contract</summary>
     ///
     /// In the words of the folder `specs/` of crate `ent_alloc`:
@@ -499,7 +523,7 @@ impl Entities {
         self.slots.is_alive(handle)
     }
 
-    /// Whether the entity is alive or reserved, as `contains` of Bevy and of hecs says it. It takes
+    /// Whether the entity is alive or reserved, as Bevy's and hecs' `contains` tell. It takes
     /// constant time.
     ///
     /// ```

@@ -25,10 +25,11 @@ impl Entities {
     ///
     /// In each case nothing has changed, and no handle was given.
     ///
-    /// - [`AllocError::NeedsFlush`](AllocFault::NeedsFlush) if handles were requested since the last flush, even if the
-    ///   request was refused.
+    /// - [`AllocError::NeedsFlush`](AllocFault::NeedsFlush) if handles were requested since the
+    ///   last flush, even if the request was refused.
     /// - [`AllocError::Space`](AllocFault::Space) if fewer than `n` handles can be given.
-    /// - [`AllocError::Memory`](AllocFault::Memory) if there is no memory for the list or for new slots.
+    /// - [`AllocError::Memory`](AllocFault::Memory) if there is no memory for the list or for new
+    ///   slots.
     ///
     /// <details><summary>Contract</summary>
     ///

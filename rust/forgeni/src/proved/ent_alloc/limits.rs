@@ -2,7 +2,7 @@
 
 /// How many handles one caller may request between two flushes. It is this project's own limit:
 /// with it 1,024 callers together stay within the 2^50 that an allocator can count.
-pub const CREDIT: u64 = 1 << 40;
+pub const QUOTA: u64 = 1 << 40;
 
 /// How many slots an allocator may make, and the last generation of a slot.
 ///

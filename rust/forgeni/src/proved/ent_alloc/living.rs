@@ -5,8 +5,8 @@ use crate::proved::ent_handle::Handle;
 
 /// The handles of the living entities, by rising slot.
 ///
-/// [`Entities::iter`](crate::proved::ent_alloc::Entities::iter) makes it. It borrows the allocator and copies nothing. Between two handles it
-/// looks at each slot once. After the last handle it looks at none.
+/// [`Entities::iter`](crate::proved::ent_alloc::Entities::iter) makes it. It borrows the allocator and copies nothing.
+/// Between two handles it looks at each slot once. After the last handle it looks at none.
 #[derive(Clone)]
 pub struct Living<'a> {
     records: &'a [SlotRecord],

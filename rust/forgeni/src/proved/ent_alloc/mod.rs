@@ -5,9 +5,13 @@
 
 mod absent;
 mod asking;
+mod cloning;
 mod entities;
 mod fault;
 mod giving;
+mod image;
+mod image_fault;
+mod image_slots;
 mod limits;
 mod living;
 mod refused;
@@ -24,7 +28,8 @@ mod state;
 pub use absent::Absent;
 pub use entities::Entities;
 pub use fault::{AllocFault, FreeFault, Freed};
-pub use limits::{CREDIT, Limits};
+pub use image_fault::ImageFault;
+pub use limits::{Limits, QUOTA};
 pub use living::Living;
 pub use refused::Refused;
 pub use reserve_error::ReserveError;

@@ -40,8 +40,8 @@ impl core::fmt::Display for ReserveError {
 impl core::error::Error for ReserveError {}
 
 impl ReserveError {
-    /// What a system makes of the error. The queue keeps a refusal, and the system goes on. Only
-    /// want of memory ends the system:
+    /// The error as a system returns it. The queue keeps a refusal, and the system goes on. Only
+    /// being out of memory ends the system:
     ///
     /// ```
     /// use forgeni::{OutOfMemory, ReserveError};

@@ -2,6 +2,9 @@
 
 use alloc::vec::Vec;
 use crate::kit::vec::FallibleVec;
+use crate::proved::ent_alloc::cloning::{overwrite, reserve_for};
+use crate::proved::ent_alloc::image_fault::ImageFault;
+use crate::proved::ent_alloc::image_slots::{SlotLists, read_slots, write_slots};
 use crate::proved::ent_alloc::limits::Limits;
 use crate::proved::ent_alloc::living::Living;
 use crate::proved::ent_alloc::slot_record;
@@ -10,10 +13,10 @@ use crate::proved::ent_handle::{Handle, Memory};
 
 /// The slots that were made, and those of them that wait for their next occupant.
 pub(super) struct Slots {
-    limits: Limits,
-    records: Vec<SlotRecord>,
-    pending: Vec<u32>,
-    live: u32,
+    pub(super) limits: Limits,
+    pub(super) records: Vec<SlotRecord>,
+    pub(super) pending: Vec<u32>,
+    pub(super) live: u32,
 }
 
 impl Slots {
@@ -283,5 +286,76 @@ impl Slots {
         let index = handle.index();
         self.records[index as usize].occupancy = Occupancy::Retired;
         self.live -= 1;
+    }
+
+    /// The same slots once more.
+    #[inline]
+    pub(super) fn try_clone(&self) -> Result<Slots, Memory>
+        // ensures ok { IfOk result (λ clone. clone ≡ self.now) }
+        // ensures memory { OnErr result (0 < self.now.made) }
+    {
+        let mut clone = Slots::new(self.limits);
+        clone.try_clone_from(self)?;
+        Ok(clone)
+    }
+
+    /// Becomes the same as another. All room is asked for first: if memory runs out, nothing has
+    /// changed.
+    #[inline]
+    pub(super) fn try_clone_from(&mut self, source: &Slots) -> Result<(), Memory>
+        // ensures ok { OnOk result (self.new ≡ source.now) }
+        // ensures err { OnErr result (self.new ≡ self.old) }
+        // ensures memory { OnErr result ((self.old.made < source.now.made)
+        //     ⊎ (length self.old.pending < length source.now.pending)) }
+    {
+        reserve_for(&mut self.records, source.records.len())?;
+        reserve_for(&mut self.pending, source.pending.len())?;
+        overwrite(&mut self.records, &source.records);
+        overwrite(&mut self.pending, &source.pending);
+        self.limits = source.limits;
+        self.live = source.live;
+        Ok(())
+    }
+
+    /// Appends what an image has of the slots. There is room for it.
+    #[inline]
+    pub(super) fn write_image(&self, out: &mut Vec<u8>)
+        // requires { vec_len out.old + 12 * self.now.made ≤ vec_capacity out.old }
+        // ensures written { out.new.items ≡ out.old.items ++ slots_bytes self.now }
+        // ensures slots { AreSlots self.now }
+    {
+        write_slots(&self.records, out);
+    }
+
+    /// The slots that an image has: that many, of which so many wait.
+    #[inline]
+    pub(super) fn read_image(
+        limits: Limits,
+        made: u32,
+        waiting: u32,
+        bytes: &[u8],
+    ) -> Result<Slots, ImageFault>
+        // requires long { length bytes.now ≡ 12 * made }
+        // requires few { made ≤ limits.slots }
+        // ensures found { IfOk result (λ r. slots_bytes r ≡ bytes.now) }
+        // ensures slots { IfOk result AreSlots }
+        // ensures limits { IfOk result (λ r. r.limits ≡ limits) }
+        // ensures made { IfOk result (λ r. r.made ≡ made) }
+        // ensures waiting { IfOk result (λ r. length r.pending ≡ waiting) }
+        // ensures refused { IfErr result (λ fault. fault ≢ ImageFault.Memory → (r : Roster)
+        //     → AreSlots r → r.limits ≡ limits → r.made ≡ made → length r.pending ≡ waiting
+        //     → slots_bytes r ≢ bytes.now) }
+    {
+        let SlotLists {
+            records,
+            pending,
+            live,
+        } = read_slots(limits, made, waiting, bytes)?;
+        Ok(Slots {
+            limits,
+            records,
+            pending,
+            live,
+        })
     }
 }

@@ -4,7 +4,7 @@ use crate::kit::alloc::{AllocError, AllocFailed};
 
 /// Out of memory: a growth was really refused, or a call says what else counts as such. It is the
 /// only error of a call that has no other.
-#[derive(Clone, Copy, Debug, PartialEq, Eq, Hash)]
+#[derive(Clone, Copy, PartialEq, Eq, Hash)]
 pub struct Memory;
 
 impl core::fmt::Display for Memory {

@@ -90,8 +90,8 @@ impl<'a> Commands<'a> {
         self.queue.spawn(self.shared, self.reserver, bundle.items())
     }
 
-    /// Reserves a handle, which is to have these components, in any order. Of a component that
-    /// stands there twice the last value counts.
+    /// Reserves a handle, which is to have these components, in any order. If a component is listed
+    /// twice, its last value counts.
     ///
     /// # Errors
     ///
@@ -166,8 +166,8 @@ impl<'a> Commands<'a> {
             .spawn_many(self.shared, self.reserver, n, bundle.items())
     }
 
-    /// Reserves `n` handles at once, each of which is to have these components, in any order. Of a
-    /// component that stands there twice the last value counts.
+    /// Reserves `n` handles at once, each of which is to have these components, in any order. If a
+    /// component is listed twice, its last value counts.
     ///
     /// # Errors
     ///
@@ -238,7 +238,7 @@ impl<'a> Commands<'a> {
     }
 
     /// Gives the entity these components, in any order, instead of those that it has under the same
-    /// numbers. Of a component that stands there twice the last value counts.
+    /// numbers. If a component is listed twice, its last value counts.
     ///
     /// # Errors
     ///

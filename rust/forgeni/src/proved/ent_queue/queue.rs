@@ -75,7 +75,7 @@ impl CommandQueue {
     /// ```text
     /// ensures entries { result ≡ self.now }
     ///
-    /// // Each command is in its ranges. A refusal for want of slots says twice how many handles
+    /// // Each command is in its ranges. A refusal for lack of slots says twice how many handles
     /// // were wanted, and the two numbers are equal.
     /// ensures each { All IsCommand self.now }
     /// ```

@@ -12,7 +12,7 @@ pub enum Event {
     Alloc,
     /// Gives one handle back.
     Free(Handle),
-    /// Brings to life what is reserved, and renews the credit of every caller.
+    /// Brings to life what is reserved, and renews the quota of every caller.
     Flush,
     /// Opens a call of this caller for `n` handles.
     Begin {

@@ -13,9 +13,9 @@ pub enum ReplayFault {
     NotStepped,
     /// A second `Step` of one call.
     AlreadyStepped,
-    /// A `Begin` whose request is above the caller's credit.
+    /// A `Begin` whose request is above the caller's quota.
     Quota {
-        /// The credit that is left.
+        /// The quota that is left.
         left: u64,
     },
     /// There is no such caller.
@@ -32,7 +32,7 @@ impl core::fmt::Display for ReplayFault {
             ReplayFault::AlreadyOpen => write!(f, "the caller has an open call"),
             ReplayFault::NotStepped => write!(f, "the call has not made its step"),
             ReplayFault::AlreadyStepped => write!(f, "the call has made its step"),
-            ReplayFault::Quota { left } => write!(f, "the credit left is {left}"),
+            ReplayFault::Quota { left } => write!(f, "the quota left is {left}"),
             ReplayFault::Caller => write!(f, "there is no such caller"),
             ReplayFault::Memory => write!(f, "out of memory"),
         }

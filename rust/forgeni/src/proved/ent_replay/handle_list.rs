@@ -3,9 +3,9 @@
 use alloc::vec::Vec;
 use crate::kit::vec::FallibleVec;
 use crate::proved::ent_handle::{Handle, Memory};
+use core::fmt;
 
 /// The handles of an answer, in their order.
-#[derive(Debug)]
 pub struct HandleList {
     handles: Vec<Handle>,
 }
@@ -105,6 +105,14 @@ impl HandleList {
     pub fn into_vec(self) -> Vec<Handle> {
         let HandleList { handles } = self;
         handles
+    }
+}
+
+impl fmt::Debug for HandleList {
+    #[inline]
+    fn fmt(&self, f: &mut fmt::Formatter<'_>) -> fmt::Result {
+        let handles = self.as_slice();
+        write!(f, "{handles:?}")
     }
 }
 

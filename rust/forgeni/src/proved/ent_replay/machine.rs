@@ -9,7 +9,7 @@ use crate::proved::ent_replay::fault::ReplayFault;
 use crate::proved::ent_replay::handle_list::HandleList;
 use crate::proved::ent_replay::outcome::Outcome;
 use crate::proved::ent_replay::stored_call::StoredCall;
-use crate::proved::ent_alloc::{AllocFault, CREDIT, Entities, FreeFault, Limits, Reserved};
+use crate::proved::ent_alloc::{AllocFault, Entities, FreeFault, Limits, QUOTA, Reserved};
 use crate::proved::ent_handle::{Handle, Memory};
 
 /// How many callers there are. They are numbered from 0.
@@ -35,7 +35,7 @@ pub struct RunMemory {
 
 impl Machine {
     /// Makes a machine over an allocator without entities. No call is open, and every caller has
-    /// its full credit of 2^40 handles.
+    /// its full quota of 2^40 handles.
     ///
     /// # Errors
     ///
@@ -70,7 +70,7 @@ impl Machine {
     /// - `Busy`: `Alloc`, `Free` or `Flush` while a call is open.
     /// - `Caller`: `Begin`, `Step` or `Answer` of a caller above 1,023. It is tested before the
     ///   faults below.
-    /// - `AlreadyOpen`, and then `Quota` if the request is above the caller's credit: `Begin`.
+    /// - `AlreadyOpen`, and then `Quota` if the request is above the caller's quota: `Begin`.
     /// - `NotOpen`, and then `AlreadyStepped`: `Step`.
     /// - `NotOpen`, and then `NotStepped`: `Answer`.
     /// - `Memory`: tested last, and only if the event makes a slot, frees a handle whose slot isn't
@@ -209,7 +209,7 @@ impl Machine {
             return Err(ReplayFault::AlreadyOpen);
         }
         let spent = self.spent.get(caller).unwrap_or(0);
-        let left = CREDIT - spent;
+        let left = QUOTA - spent;
         if left < u64::from(n) {
             return Err(ReplayFault::Quota { left });
         }

@@ -28,7 +28,7 @@ pub(super) struct Room {
     pub(super) unused: Vec<Claimer>,
     pub(super) workers: Vec<Worker>,
     /// For each worker a list with room for its first queue, so that only a worker that has run a
-    /// system may stop.
+    /// system may stop. If all workers run as many systems, no list grows.
     pub(super) issued: Vec<Vec<SystemQueue>>,
     pub(super) returned: Returned,
 }
@@ -47,7 +47,7 @@ impl Room {
             claims,
             unused,
             workers: Vec::with_capacity_fallibly(workers)?,
-            issued: lists_for_one(workers)?,
+            issued: lists_of_room(workers, systems / workers + 1)?,
             returned: Returned::new(systems, workers)?,
         })
     }
@@ -67,15 +67,19 @@ impl Returned {
     }
 }
 
-/// That many lists, each with room for one queue.
+/// That many lists, each with room for so many queues, and at least for one.
 #[inline]
-fn lists_for_one(count: usize) -> Result<Vec<Vec<SystemQueue>>, AllocError>
+fn lists_of_room(
+    count: usize,
+    room: usize,
+) -> Result<Vec<Vec<SystemQueue>>, AllocError>
+    // requires { 0 < room }
     // ensures count { IfOk result (λ lists. length lists.items ≡ count) }
     // ensures each { IfOk result (λ lists. All IsRoomForOne lists.items) }
 {
     let mut lists = Vec::with_capacity_fallibly(count)?;
     for _ in 0..count {
-        lists.push_reserved(Vec::with_capacity_fallibly(1)?);
+        lists.push_reserved(Vec::with_capacity_fallibly(room)?);
     }
     Ok(lists)
 }

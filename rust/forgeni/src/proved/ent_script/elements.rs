@@ -31,8 +31,9 @@ pub(super) fn members(value: &Value) -> Option<&Map<String, Value>>
     value.as_object()
 }
 
+/// Whether the key is one of these.
 #[inline]
-fn is_among(key: &str, allowed: &[&str]) -> bool
+pub(super) fn is_among(key: &str, allowed: &[&str]) -> bool
     // ensures { result ≡ list_any (λ name. bytes_eq key.now name.now) allowed.now }
 {
     allowed.iter().any(|name| key == *name)

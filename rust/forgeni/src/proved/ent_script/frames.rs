@@ -5,8 +5,7 @@ use crate::kit::vec::FallibleVec;
 use crate::proved::ent_script::at::At;
 use crate::proved::ent_script::bound::Bound;
 use crate::proved::ent_script::cause::{Cause, ScriptCause};
-use crate::proved::ent_script::cutting::read_cut;
-use crate::proved::ent_script::elements::name;
+use crate::proved::ent_script::fields::{Fields, read_fields};
 use crate::proved::ent_script::format::Format;
 use crate::proved::ent_script::frame::Frame;
 use crate::proved::ent_script::kind::{Kind, kind_of};
@@ -15,32 +14,31 @@ use crate::proved::ent_script::operation::Operation;
 use crate::proved::ent_script::part_fault::PartFault;
 use crate::proved::ent_script::parts::{binding, bundle, bundle_or_none, count, removed, target};
 use crate::proved::ent_script::read_fault::ReadFault;
-use crate::proved::ent_script::streaming::{begins_array, fault_of_array};
+use crate::proved::ent_script::streaming::{begins_array, begins_object, fault_of_array};
 use crate::proved::ent_script::system::System;
 use crate::proved::ent_handle::Memory;
 use crate::kit::programs::json::Reader;
-use crate::kit::programs::serde_json::Value;
 #[inline]
 fn operation_of_kind(
     components: &Names<'_>,
     bound: &Bound,
     before: Option<usize>,
-    value: &Value,
+    fields: &Fields<'_>,
     kind: Kind,
 ) -> Result<Operation, PartFault>
     // requires { length components.now ≤ 256 }
-    // ensures { ReadsPart result (of_kind components.now bound.now before (view value.now) kind) }
+    // ensures { ReadsPart result (of_fields components.now bound.now before fields.now kind) }
 {
     match kind {
         Kind::Spawn => {
-            let bundle = bundle(components, value.get("spawn"))?;
-            let binds = binding(bound, value.get("as"))?;
+            let bundle = bundle(components, fields.spawn.as_ref())?;
+            let binds = binding(bound, fields.binds.as_ref())?;
             Ok(Operation::Spawn { bundle, binds })
         }
         Kind::SpawnMany => {
-            let count = count(value.get("spawn_many"))?;
-            let bundle = bundle_or_none(components, value.get("with"))?;
-            let binds = binding(bound, value.get("as"))?;
+            let count = count(fields.spawn_many.as_ref())?;
+            let bundle = bundle_or_none(components, fields.with.as_ref())?;
+            let binds = binding(bound, fields.binds.as_ref())?;
             Ok(Operation::SpawnMany {
                 count,
                 bundle,
@@ -48,17 +46,17 @@ fn operation_of_kind(
             })
         }
         Kind::Insert => {
-            let bundle = bundle(components, value.get("insert"))?;
-            let target = target(components, bound, before, value.get("on"))?;
+            let bundle = bundle(components, fields.insert.as_ref())?;
+            let target = target(components, bound, before, fields.on.as_ref())?;
             Ok(Operation::Insert { bundle, target })
         }
         Kind::Remove => {
-            let component = removed(components, value.get("remove"))?;
-            let target = target(components, bound, before, value.get("on"))?;
+            let component = removed(components, fields.remove.as_ref())?;
+            let target = target(components, bound, before, fields.on.as_ref())?;
             Ok(Operation::Remove { component, target })
         }
         Kind::Despawn => {
-            let target = target(components, bound, before, value.get("despawn"))?;
+            let target = target(components, bound, before, fields.despawn.as_ref())?;
             Ok(Operation::Despawn { target })
         }
     }
@@ -71,27 +69,41 @@ fn operation(
     components: &Names<'_>,
     bound: &Bound,
     before: Option<usize>,
-    value: &Value,
+    fields: &Fields<'_>,
 ) -> Result<Operation, PartFault>
     // requires { length components.now ≤ 256 }
-    // ensures { ReadsPart result (operation_of components.now bound.now before (view value.now)) }
+    // ensures { (ms : Members) → AreFields fields.now ms
+    //     → ReadsPart result (operation_of components.now bound.now before (object ms)) }
 {
-    let kind = kind_of(value).ok_or(Cause::Shape)?;
-    operation_of_kind(components, bound, before, value, kind)
+    let kind = kind_of(fields).ok_or(Cause::Shape)?;
+    operation_of_kind(components, bound, before, fields, kind)
 }
 
 /// Adds the name that an operation binds, if it binds one.
 #[inline]
-fn bind(bound: &mut Bound, value: &Value) -> Result<(), Memory>
-    // ensures { OnOk result (bound.new ≡ with_part bound.old (bound_name (view value.now))) }
+fn bind(bound: &mut Bound, fields: &Fields<'_>) -> Result<(), Memory>
+    // ensures { OnOk result ((ms : Members) → AreFields fields.now ms
+    //     → bound.new ≡ with_part bound.old (bound_name (object ms))) }
 {
-    let Some(part) = value.get("as") else {
+    let Some(part) = fields.binds.as_ref() else {
         return Ok(());
     };
-    let Some(name) = name(part) else {
+    let Some(name) = part.name() else {
         return Ok(());
     };
     bound.add(name)
+}
+
+#[inline]
+fn fault_at(at: At, cause: Cause) -> ReadFault
+    // ensures { result ≡ fault.Operation at.frame at.system at.operation cause }
+{
+    ReadFault::Operation {
+        frame: at.frame,
+        system: at.system,
+        operation: at.operation,
+        cause,
+    }
 }
 
 /// The operation with this number in its system.
@@ -101,23 +113,18 @@ fn operation_at(
     components: &Names<'_>,
     bound: &Bound,
     at: At,
-    value: &Value,
+    fields: &Fields<'_>,
 ) -> Result<Operation, ReadFault>
     // requires { length components.now ≤ 256 }
-    // ensures { ReadsAs result (at_operation at.frame at.system at.operation
-    //     (operation_of components.now bound.now (births_before format at.frame)
-    //     (view value.now))) }
+    // ensures { (ms : Members) → AreFields fields.now ms
+    //     → ReadsAs result (at_operation at.frame at.system at.operation
+    //     (operation_of components.now bound.now (births_before format at.frame) (object ms))) }
 {
     let before = format.births_before(at.frame);
-    match operation(components, bound, before, value) {
+    match operation(components, bound, before, fields) {
         Ok(operation) => Ok(operation),
         Err(PartFault::Memory) => Err(ReadFault::Memory),
-        Err(PartFault::Refused(cause)) => Err(ReadFault::Operation {
-            frame: at.frame,
-            system: at.system,
-            operation: at.operation,
-            cause,
-        }),
+        Err(PartFault::Refused(cause)) => Err(fault_at(at, cause)),
     }
 }
 
@@ -142,9 +149,12 @@ fn next_operation(
     // ensures shorter { OnOk result (length reader.new < length reader.old) }
     // ensures no_longer { length reader.new ≤ length reader.old }
 {
-    let value = read_cut(reader, depth, 2)?;
-    let operation = operation_at(format, components, bound, at, &value)?;
-    bind(bound, &value)?;
+    if !begins_object(reader, depth)? {
+        return Err(fault_at(at, Cause::Shape));
+    }
+    let fields = read_fields(reader, depth - 1)?;
+    let operation = operation_at(format, components, bound, at, &fields)?;
+    bind(bound, &fields)?;
     Ok(operation)
 }
 

@@ -1,7 +1,6 @@
 // Made of crates/ent_script/src/kind.rt by rust/erase. It isn't edited by hand.
 
-use crate::proved::ent_script::elements::{are_keys_among, members};
-use crate::kit::programs::serde_json::Value;
+use crate::proved::ent_script::fields::Fields;
 
 /// What an operation does.
 #[derive(Clone, Copy)]
@@ -14,73 +13,54 @@ pub(super) enum Kind {
 }
 
 #[inline]
-fn has_all(value: &Value, keys: &[&str]) -> bool
-    // ensures { result ≡ list_all (λ key. is_some (get key.now (view value.now))) keys.now }
+fn is_spawn(fields: &Fields<'_>) -> bool
+    // ensures { (ms : Members) → AreFields fields.now ms → result ≡ is_spawn (object ms) }
 {
-    keys.iter().all(|key| value.get(*key).is_some())
-}
-
-/// Whether it is an object that has these keys, and each of its keys is one of those.
-#[inline]
-fn has_keys(value: &Value, required: &[&str], allowed: &[&str]) -> bool
-    // ensures { result ≡ has_keys (map (λ key. key.now) required.now)
-    //     (map (λ key. key.now) allowed.now) (view value.now) }
-{
-    let Some(found) = members(value) else {
-        return false;
-    };
-    has_all(value, required) && are_keys_among(found, allowed)
+    fields.spawn.is_some() && fields.kinds.spawn
 }
 
 #[inline]
-fn is_spawn(value: &Value) -> bool
-    // ensures { result ≡ is_spawn (view value.now) }
+fn is_spawn_many(fields: &Fields<'_>) -> bool
+    // ensures { (ms : Members) → AreFields fields.now ms → result ≡ is_spawn_many (object ms) }
 {
-    has_keys(value, &["spawn"], &["spawn", "as"])
+    fields.spawn_many.is_some() && fields.kinds.spawn_many
 }
 
 #[inline]
-fn is_spawn_many(value: &Value) -> bool
-    // ensures { result ≡ is_spawn_many (view value.now) }
+fn is_insert(fields: &Fields<'_>) -> bool
+    // ensures { (ms : Members) → AreFields fields.now ms → result ≡ is_insert (object ms) }
 {
-    has_keys(value, &["spawn_many"], &["spawn_many", "with", "as"])
+    fields.insert.is_some() && (fields.on.is_some() && fields.kinds.insert)
 }
 
 #[inline]
-fn is_insert(value: &Value) -> bool
-    // ensures { result ≡ is_insert (view value.now) }
+fn is_remove(fields: &Fields<'_>) -> bool
+    // ensures { (ms : Members) → AreFields fields.now ms → result ≡ is_remove (object ms) }
 {
-    has_keys(value, &["insert", "on"], &["insert", "on"])
+    fields.remove.is_some() && (fields.on.is_some() && fields.kinds.remove)
 }
 
 #[inline]
-fn is_remove(value: &Value) -> bool
-    // ensures { result ≡ is_remove (view value.now) }
+fn is_despawn(fields: &Fields<'_>) -> bool
+    // ensures { (ms : Members) → AreFields fields.now ms → result ≡ is_despawn (object ms) }
 {
-    has_keys(value, &["remove", "on"], &["remove", "on"])
-}
-
-#[inline]
-fn is_despawn(value: &Value) -> bool
-    // ensures { result ≡ is_despawn (view value.now) }
-{
-    has_keys(value, &["despawn"], &["despawn"])
+    fields.despawn.is_some() && fields.kinds.despawn
 }
 
 /// What an operation does, by its keys.
 #[inline]
-pub(super) fn kind_of(value: &Value) -> Option<Kind>
-    // ensures { result ≡ kind_of (view value.now) }
+pub(super) fn kind_of(fields: &Fields<'_>) -> Option<Kind>
+    // ensures { (ms : Members) → AreFields fields.now ms → result ≡ kind_of (object ms) }
 {
-    if is_spawn(value) {
+    if is_spawn(fields) {
         Some(Kind::Spawn)
-    } else if is_spawn_many(value) {
+    } else if is_spawn_many(fields) {
         Some(Kind::SpawnMany)
-    } else if is_insert(value) {
+    } else if is_insert(fields) {
         Some(Kind::Insert)
-    } else if is_remove(value) {
+    } else if is_remove(fields) {
         Some(Kind::Remove)
-    } else if is_despawn(value) {
+    } else if is_despawn(fields) {
         Some(Kind::Despawn)
     } else {
         None

@@ -5,8 +5,9 @@ use crate::proved::ent_script::birth::birth;
 use crate::proved::ent_script::bound::Bound;
 use crate::proved::ent_script::bundle::Bundle;
 use crate::proved::ent_script::cause::Cause;
-use crate::proved::ent_script::elements::{members, name, whole_within};
 use crate::proved::ent_script::names::Names;
+use crate::proved::ent_script::object::Object;
+use crate::proved::ent_script::part::Part;
 use crate::proved::ent_script::part_fault::PartFault;
 use crate::proved::ent_script::target::Target;
 use crate::proved::ent_handle::{ComponentId, Handle};
@@ -24,33 +25,33 @@ pub(super) fn component(components: &Names<'_>, name: &str) -> Option<ComponentI
 
 /// How many, from 0 to 65,536.
 #[inline]
-pub(super) fn count(part: Option<&Value>) -> Result<u32, Cause>
-    // ensures { result ≡ count_of (option_map (λ v. view v.now) part.entry) }
+pub(super) fn count(part: Option<&Part<'_>>) -> Result<u32, Cause>
+    // ensures { result ≡ count_of (option_map (λ p. data_of p.now) part.entry) }
 {
     let value = part.ok_or(Cause::Count)?;
-    whole_within(value, 0, 65_536).ok_or(Cause::Count)
+    value.at_most(65_536).ok_or(Cause::Count)
 }
 
 /// The number of the name that is bound: that of the name if it is bound, and else the next.
 #[inline]
-pub(super) fn binding(bound: &Bound, part: Option<&Value>) -> Result<Option<usize>, Cause>
-    // ensures { result ≡ binding_of bound.now (option_map (λ v. view v.now) part.entry) }
+pub(super) fn binding(bound: &Bound, part: Option<&Part<'_>>) -> Result<Option<usize>, Cause>
+    // ensures { result ≡ binding_of bound.now (option_map (λ p. data_of p.now) part.entry) }
 {
     let Some(value) = part else {
         return Ok(None);
     };
-    let name = name(value).ok_or(Cause::Name)?;
+    let name = value.name().ok_or(Cause::Name)?;
     Ok(Some(bound.find(name).unwrap_or(bound.len())))
 }
 
 /// The component that a removal is of.
 #[inline]
-pub(super) fn removed(components: &Names<'_>, part: Option<&Value>) -> Result<ComponentId, Cause>
+pub(super) fn removed(components: &Names<'_>, part: Option<&Part<'_>>) -> Result<ComponentId, Cause>
     // requires { length components.now ≤ 256 }
-    // ensures { result ≡ removed_of components.now (option_map (λ v. view v.now) part.entry) }
+    // ensures { result ≡ removed_of components.now (option_map (λ p. data_of p.now) part.entry) }
 {
     let value = part.ok_or(Cause::Component)?;
-    let name = value.as_str().ok_or(Cause::Component)?;
+    let name = value.text().ok_or(Cause::Component)?;
     component(components, name).ok_or(Cause::Component)
 }
 
@@ -90,33 +91,20 @@ fn target_at(
     }
 }
 
-/// The only member of an object.
-#[inline]
-fn only(members: &Map<String, Value>) -> Option<(&str, &Value)>
-    // ensures { option_map {U = List ℕ × Data} (λ m. (m.0.now, view m.1.now)) result
-    //     ≡ only (map (λ m. (string_bytes m.0, view m.1)) members.now.entries) }
-{
-    if members.len() != 1 {
-        return None;
-    }
-    let (key, value) = members.first_key_value()?;
-    Some((key.as_str(), value))
-}
-
 /// Which entities an operation is for. A birth is of a frame before the one that is said.
 #[inline]
 pub(super) fn target(
     components: &Names<'_>,
     bound: &Bound,
     before: Option<usize>,
-    part: Option<&Value>,
+    part: Option<&Part<'_>>,
 ) -> Result<Target, Cause>
     // requires { length components.now ≤ 256 }
     // ensures { result ≡ target_of components.now bound.now before
-    //     (option_map (λ v. view v.now) part.entry) }
+    //     (option_map (λ p. data_of p.now) part.entry) }
 {
-    let found = members(part.ok_or(Cause::Target)?).ok_or(Cause::Target)?;
-    let (key, value) = only(found).ok_or(Cause::Target)?;
+    let found = part.ok_or(Cause::Target)?.members().ok_or(Cause::Target)?;
+    let (key, value) = found.only().ok_or(Cause::Target)?;
     let text = value.as_str().ok_or(Cause::Target)?;
     target_at(components, bound, before, key, text)
 }
@@ -133,7 +121,7 @@ fn item(components: &Names<'_>, key: &str, value: &Value) -> Result<(ComponentId
 }
 
 #[inline]
-fn items(
+fn items_of(
     components: &Names<'_>,
     members: &Map<String, Value>,
 ) -> Result<Bundle, PartFault>
@@ -149,17 +137,44 @@ fn items(
     Ok(bundle)
 }
 
+#[inline]
+fn one_item(
+    components: &Names<'_>,
+    key: &str,
+    value: &Value,
+) -> Result<Bundle, PartFault>
+    // requires { length components.now ≤ 256 }
+    // ensures { ReadsPart result (bundle_by components.now ((key.now, view value.now) ∷ [])) }
+{
+    let (id, number) = item(components, key, value)?;
+    let mut bundle = Bundle::new();
+    bundle.put(id, number)?;
+    Ok(bundle)
+}
+
+#[inline]
+fn items(components: &Names<'_>, members: &Object<'_>) -> Result<Bundle, PartFault>
+    // requires { length components.now ≤ 256 }
+    // ensures { ReadsPart result (bundle_by components.now (pairs_of (members_of members.now))) }
+{
+    match members {
+        Object::Empty => Ok(Bundle::new()),
+        Object::One(key, value) => one_item(components, key, value),
+        Object::Many(map) => items_of(components, map),
+    }
+}
+
 /// Components and their values.
 #[inline]
 pub(super) fn bundle(
     components: &Names<'_>,
-    part: Option<&Value>,
+    part: Option<&Part<'_>>,
 ) -> Result<Bundle, PartFault>
     // requires { length components.now ≤ 256 }
     // ensures { ReadsPart result (read_bundle components.now
-    //     (option_map (λ v. view v.now) part.entry)) }
+    //     (option_map (λ p. data_of p.now) part.entry)) }
 {
-    let found = members(part.ok_or(Cause::Bundle)?).ok_or(Cause::Bundle)?;
+    let found = part.ok_or(Cause::Bundle)?.members().ok_or(Cause::Bundle)?;
     items(components, found)
 }
 
@@ -167,11 +182,11 @@ pub(super) fn bundle(
 #[inline]
 pub(super) fn bundle_or_none(
     components: &Names<'_>,
-    part: Option<&Value>,
+    part: Option<&Part<'_>>,
 ) -> Result<Bundle, PartFault>
     // requires { length components.now ≤ 256 }
     // ensures { ReadsPart result (with_of components.now
-    //     (option_map (λ v. view v.now) part.entry)) }
+    //     (option_map (λ p. data_of p.now) part.entry)) }
 {
     if part.is_none() {
         return Ok(Bundle::new());

@@ -77,4 +77,29 @@ impl Script {
     pub fn frames(&self) -> &[Frame] {
         &self.frames
     }
+
+    /// The limits, the names of the components, and the frames. It takes no memory.
+    ///
+    /// The frames are most of a long script. Whoever owns them can free each one after its run.
+    ///
+    /// <details><summary>Contract</summary>
+    ///
+    /// In the words of the folder `specs/` of crate `ent_script`:
+    ///
+    /// ```text
+    /// ensures limits { result.0 ≡ self.limits }
+    /// ensures components { map string_bytes result.1.items ≡ self.components }
+    /// ensures frames { result.2.items ≡ self.frames }
+    /// ```
+    ///
+    /// </details>
+    #[inline]
+    pub fn into_parts(self) -> (Limits, Vec<String>, Vec<Frame>) {
+        let Script {
+            limits,
+            components,
+            frames,
+        } = self;
+        (limits, components, frames)
+    }
 }

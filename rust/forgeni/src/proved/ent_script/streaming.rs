@@ -29,6 +29,27 @@ pub(super) fn begins_array(reader: &mut Reader<'_>, depth: usize) -> Result<bool
     Ok(false)
 }
 
+/// Takes the brace that begins an object. A value that is no object is passed over.
+#[inline]
+pub(super) fn begins_object(reader: &mut Reader<'_>, depth: usize) -> Result<bool, Invalid>
+    // ensures value { (d : Data) (rest : List SpecToken)
+    //     → converted of_json (value depth reader.old) ≡ Some (d, rest)
+    //     → BeginsObject depth result reader.new d rest }
+    // ensures deep { result ≡ Ok true → 0 < depth }
+    // ensures shorter { OnOk result (length reader.new < length reader.old) }
+    // ensures no_longer { length reader.new ≤ length reader.old }
+{
+    let token = reader.next().ok_or(Invalid)?;
+    if let Token::BeginObject = token {
+        if depth == 0 {
+            return Err(Invalid);
+        }
+        return Ok(true);
+    }
+    pass_rest(reader, token, depth)?;
+    Ok(false)
+}
+
 /// Passes over the rest of an array. Whether at most so many elements came.
 #[inline]
 pub(super) fn passes_at_most(

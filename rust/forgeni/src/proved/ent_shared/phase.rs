@@ -11,7 +11,7 @@ use crate::proved::ent_alloc::Entities;
 use crate::proved::ent_handle::Memory;
 
 /// Shares a flushed allocator among `n` reservers, 1 to 1,024, each of which may request
-/// [`CREDIT`](crate::proved::ent_alloc::CREDIT) handles. Bevy has no such limits; they are this project's own.
+/// [`QUOTA`](crate::proved::ent_alloc::QUOTA) handles. Bevy has no such limits; they are this project's own.
 ///
 /// # Errors
 ///

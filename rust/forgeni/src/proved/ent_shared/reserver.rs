@@ -2,9 +2,9 @@
 
 use crate::proved::ent_shared::record::Record;
 use crate::proved::ent_shared::seats::RecordsBadge;
-use crate::proved::ent_alloc::CREDIT;
+use crate::proved::ent_alloc::QUOTA;
 
-/// The right of one caller to reserve from a shared allocator, and what is left of its credit.
+/// The right of one caller to reserve from a shared allocator, and what is left of its quota.
 ///
 /// [`share`](crate::proved::ent_shared::share) makes them, and [`Shared::close`](crate::proved::ent_shared::Shared::close) takes them back.
 /// A caller that reserves in a thread of its own takes one along.
@@ -18,13 +18,13 @@ pub struct Reserver {
 impl Reserver {
     #[inline]
     pub(super) fn new(badge: RecordsBadge<Record>, number: usize, floor: i64) -> Self
-        // requires { IsSeated badge.views number credit floor }
+        // requires { IsSeated badge.views number quota floor }
         // ensures { result ≡ record { word = badge.table_id; own = own_of badge.views } }
     {
         Reserver {
             badge,
             number,
-            left: CREDIT,
+            left: QUOTA,
             floor,
         }
     }
@@ -45,7 +45,7 @@ impl Reserver {
         self.number
     }
 
-    /// How many handles it may still request in this phase: [`CREDIT`] less what it has requested,
+    /// How many handles it may still request in this phase: [`QUOTA`] less what it has requested,
     /// served or not.
     ///
     /// <details><summary>Contract</summary>
@@ -54,7 +54,7 @@ impl Reserver {
     ///
     /// ```text
     /// ensures left { result ≡ self.now.own.left }
-    /// ensures credit { result + requested_by self.now.own ≡ credit }
+    /// ensures quota { result + requested_by self.now.own ≡ quota }
     /// ```
     ///
     /// </details>

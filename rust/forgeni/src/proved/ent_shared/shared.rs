@@ -158,8 +158,8 @@ impl Shared {
     ///
     /// # Errors
     ///
-    /// - [`Refused::Quota`] if no credit is left. Nothing has changed.
-    /// - [`Refused::Space`] if the pool is empty. The request is taken from the credit all the
+    /// - [`Refused::Quota`] if no quota is left. Nothing has changed.
+    /// - [`Refused::Space`] if the pool is empty. The request is taken from the quota all the
     ///   same.
     #[inline]
     pub(crate) fn reserve(&self, reserver: &mut Reserver) -> Result<Handle, Refused>
@@ -194,9 +194,9 @@ impl Shared {
     ///
     /// # Errors
     ///
-    /// - [`Refused::Quota`] if `n` is above the credit that is left. Nothing has changed.
+    /// - [`Refused::Quota`] if `n` is above the quota that is left. Nothing has changed.
     /// - [`Refused::Space`] if the pool has fewer than `n` handles. The request is taken from the
-    ///   credit all the same, and the pool gives no more until the next flush.
+    ///   quota all the same, and the pool gives no more until the next flush.
     #[inline]
     pub(crate) fn reserve_many(&self, reserver: &mut Reserver, n: u32) -> Result<Reserved<'_>, Refused>
         // requires { IsOf self.now reserver.old }
@@ -307,11 +307,11 @@ impl Shared {
         // ensures rows_of_living { HasRowsOfLiving result }
 
         // It counts what the reservers that are here have requested, and of the others no more than
-        // their credit.
+        // their quota.
         // ensures least { sum_by (λ r. requested_by r.own) reservers.items
         //     ≤ result.allocator.asked }
         // ensures most { sum_by (λ r. r.own.left) reservers.items + result.allocator.asked
-        //     ≤ self.count * credit }
+        //     ≤ self.count * quota }
         // ensures reached { All (λ r. cursor result.allocator ≤ℤ r.own.mark) reservers.items }
 
         // If all are here, it counts what they have requested, and the cursor is where `close`

@@ -38,7 +38,7 @@ pub(super) fn reserve(word: &Word, badge: &mut RecordsBadge<Record>, n: u32) -> 
     //     × (badge.old.table_id ≡ word.now.shared.table_id) }
     // requires alone { badge.old.views ≡ (own_of badge.old.views ∷ []) ∷ [] }
     // requires some { 0 < n }
-    // requires credit { n ≤ (own_of badge.old.views).left }
+    // requires quota { n ≤ (own_of badge.old.views).left }
     // ensures same { badge.new.table_id ≡ badge.old.table_id }
     // ensures gains { badge.new.views
     //     ≡ (after_reservation (own_of badge.old.views) result n ∷ []) ∷ [] }

@@ -6,6 +6,26 @@ use super::sparse_set::SparseSet;
 use crate::proved::ent_handle::ComponentId;
 use crate::kit::alloc::AllocError;
 
+/// A copy of each column.
+///
+/// <details><summary>Contract</summary>
+///
+/// In the words of the folder `specs/` of crate `ent_storage`:
+///
+/// ```text
+/// ensures { IfOk result (λ copies. AllZip IsCopy columns.now copies.items) }
+/// ```
+///
+/// </details>
+#[inline]
+pub fn try_clone(columns: &[SparseSet]) -> Result<Vec<SparseSet>, AllocError> {
+    let mut copies = Vec::with_capacity_fallibly(columns.len())?;
+    for column in columns {
+        copies.push_fallibly(column.try_clone()?)?;
+    }
+    Ok(copies)
+}
+
 /// The value of the component at the place, if the entity there has it.
 ///
 /// <details><summary>Contract</summary>

@@ -18,7 +18,7 @@ pub use crate::proved::ent_storage::handle_map::iter::Iter;
 pub use crate::proved::ent_storage::handle_map::keys::Keys;
 use crate::proved::ent_storage::handle_map::limit::Limit;
 use crate::proved::ent_storage::handle_map::retaining::retain_slots;
-use crate::proved::ent_storage::handle_map::slot::{Slot, make_slot};
+use crate::proved::ent_storage::handle_map::slot::{Slot, append_clones, make_slot};
 pub use crate::proved::ent_storage::handle_map::values::Values;
 use crate::proved::ent_handle::{Handle, Memory};
 use core::mem;
@@ -301,6 +301,20 @@ impl<T> HandleMap<T> {
 
     /// The value of the handle, if it has one. It takes constant time.
     ///
+    /// ```
+    /// use forgeni::{Entities, HandleMap};
+    ///
+    /// let mut entities = Entities::new();
+    /// let mut names = HandleMap::new();
+    /// let player = entities.alloc()?;
+    /// names.insert(player, "Ada")?;
+    /// assert_eq!(names.get(player), Some(&"Ada"));
+    ///
+    /// let next = entities.free(player)?.next.unwrap();
+    /// assert_eq!(names.get(next), None);
+    /// # Ok::<(), Box<dyn std::error::Error + Send + Sync>>(())
+    /// ```
+    ///
     /// <details><summary>Contract</summary>
     ///
     /// In the words of the folder `specs/` of crate `ent_storage`:
@@ -388,6 +402,18 @@ impl<T> HandleMap<T> {
     }
 
     /// The handles and their values, by rising slot. The time is that of a look at each slot.
+    ///
+    /// ```
+    /// use forgeni::{Entities, HandleMap};
+    ///
+    /// let mut entities = Entities::new();
+    /// let mut health = HandleMap::new();
+    /// let all = entities.alloc_many(2)?;
+    /// health.insert(all[1], 20)?;
+    /// health.insert(all[0], 10)?;
+    /// assert!(health.iter().eq([(all[0], &10), (all[1], &20)]));
+    /// # Ok::<(), Box<dyn std::error::Error + Send + Sync>>(())
+    /// ```
     ///
     /// <details><summary>Contract</summary>
     ///
@@ -518,8 +544,19 @@ impl<T> HandleMap<T> {
         Ok(before.into_value(handle.generation()))
     }
 
-    /// Takes the value of the handle out, and returns it, if it has one. It takes constant time and
-    /// no memory.
+    /// Removes the value of the handle, and returns it if it had one. It takes constant time and no
+    /// memory.
+    ///
+    /// ```
+    /// use forgeni::{Handle, HandleMap};
+    ///
+    /// let crate_of_gold = Handle::new(0, 1).unwrap();
+    /// let mut weight = HandleMap::new();
+    /// weight.insert(crate_of_gold, 900)?;
+    /// assert_eq!(weight.remove(crate_of_gold), Some(900));
+    /// assert_eq!(weight.remove(crate_of_gold), None);
+    /// # Ok::<(), Box<dyn std::error::Error + Send + Sync>>(())
+    /// ```
     ///
     /// <details><summary>Contract</summary>
     ///
@@ -599,6 +636,126 @@ impl<T> HandleMap<T> {
     pub fn clear(&mut self) {
         self.len = 0;
         self.slots.clear();
+    }
+}
+
+impl<T: Clone> HandleMap<T> {
+    /// A map with a clone of each value, and with the same slots and the same limit. Without slots it
+    /// takes no memory.
+    ///
+    /// ```
+    /// use forgeni::{Handle, HandleMap};
+    ///
+    /// let cart = Handle::new(0, 1).unwrap();
+    /// let mut now = HandleMap::new();
+    /// now.insert(cart, 3)?;
+    /// let before = now.try_clone()?;
+    /// now[cart] += 1;
+    /// assert_eq!((now[cart], before[cart]), (4, 3));
+    /// # Ok::<(), Box<dyn std::error::Error + Send + Sync>>(())
+    /// ```
+    ///
+    /// # Errors
+    ///
+    /// Out of memory.
+    ///
+    /// <details><summary>Contract</summary>
+    ///
+    /// In the words of the folder `specs/` of crate `ent_storage`:
+    ///
+    /// ```text
+    /// ensures keys { IfOk result (λ m. map.keys m.values ≡ map.keys self.now.values) }
+    /// ensures clones { IfOk result (λ m.
+    ///     AllZip T.is_clone (map.values self.now.values) (map.values m.values)) }
+    /// ensures slots { IfOk result (λ m. m.slots ≡ self.now.slots) }
+    /// ensures limit { IfOk result (λ m. m.limit ≡ self.now.limit) }
+    /// ensures memory { OnErr result (0 < self.now.slots) }
+    /// ```
+    ///
+    /// </details>
+    #[inline]
+    pub fn try_clone(&self) -> Result<Self, Memory> {
+        let mut slots = Vec::with_capacity_fallibly(self.slots.len())?;
+        append_clones(&mut slots, &self.slots)?;
+        Ok(HandleMap {
+            slots,
+            len: self.len,
+            limit: Limit::of(self.limit()),
+        })
+    }
+
+    /// Drops all values, and gives this map a clone of each value of the source, and the slots and the
+    /// limit of the source.
+    ///
+    /// If there is room for the slots of the source ([`capacity`](Self::capacity)), it takes no memory
+    /// but for the clones. So a map into which another one is cloned again and again takes memory only
+    /// as that one grows.
+    ///
+    /// ```
+    /// use forgeni::{Handle, HandleMap};
+    ///
+    /// let cart = Handle::new(0, 1).unwrap();
+    /// let mut now = HandleMap::new();
+    /// let mut before = HandleMap::new();
+    /// for frame in 0..3 {
+    ///     before.try_clone_from(&now)?;
+    ///     now.insert(cart, frame)?;
+    /// }
+    /// assert_eq!((now[cart], before[cart]), (2, 1));
+    /// # Ok::<(), Box<dyn std::error::Error + Send + Sync>>(())
+    /// ```
+    ///
+    /// # Errors
+    ///
+    /// Out of memory for the slots of the source. Nothing has changed. Or, where a clone may return an
+    /// error, which Rust's may not: out of memory for a clone, with room for the slots. No values are
+    /// left.
+    ///
+    /// # Panics
+    ///
+    /// A panic of a clone is handed on. If there was room for the slots of the source, no values are
+    /// left. If there wasn't, nothing has changed.
+    ///
+    /// <details><summary>Contract</summary>
+    ///
+    /// In the words of the folder `specs/` of crate `ent_storage`:
+    ///
+    /// ```text
+    /// ensures keys { OnOk result (map.keys self.new.values ≡ map.keys source.now.values) }
+    /// ensures clones { OnOk result
+    ///     (AllZip T.is_clone (map.values source.now.values) (map.values self.new.values)) }
+    /// ensures slots { OnOk result (self.new.slots ≡ source.now.slots) }
+    /// ensures limit { OnOk result (self.new.limit ≡ source.now.limit) }
+    /// ensures room { self.old.room ≤ self.new.room }
+    ///
+    /// ensures memory { OnErr result (0 < source.now.slots) }
+    /// ensures refused { OnErr result (self.old.room < source.now.slots → self.new ≡ self.old) }
+    /// ensures emptied { OnErr result (source.now.slots ≤ self.old.room
+    ///     → self.new ≡ record self.old {
+    ///       values = map.empty;
+    ///       slots = 0;
+    ///       room = self.new.room;
+    ///     }) }
+    /// ```
+    ///
+    /// </details>
+    #[inline]
+    pub fn try_clone_from(&mut self, source: &Self) -> Result<(), Memory> {
+        if self.slots.sized_capacity() < source.slots.len() {
+            *self = source.try_clone()?;
+            return Ok(());
+        }
+        // While the list is out of the map, a panic of a value's `drop` or `clone` leaves a map without
+        // values.
+        self.len = 0;
+        let mut slots = mem::replace(&mut self.slots, Vec::new());
+        slots.clear();
+        let cloned = append_clones(&mut slots, &source.slots);
+        self.slots = slots;
+        cloned?;
+        self.len = source.len;
+        self.limit = Limit::of(source.limit());
+        Ok(())
     }
 }
 

@@ -3,7 +3,7 @@
 use alloc::vec::Vec;
 use crate::kit::vec::FallibleVec;
 use super::key::Key;
-use super::living::{Living, has_handle_at};
+use super::living::{Living, has_key_at};
 use super::places::MOST_PLACES;
 use super::slot::{at_slot, is_gap, search_slot};
 use crate::proved::ent_handle::Handle;
@@ -41,6 +41,25 @@ impl Index {
         Index {
             pairs: Vec::new(),
         }
+    }
+
+    /// The same places, with at least the same room.
+    ///
+    /// <details><summary>Contract</summary>
+    ///
+    /// In the words of the folder `specs/` of crate `ent_storage`:
+    ///
+    /// ```text
+    /// ensures by_handle { IfOk result (λ copy. copy.by_handle ≡ self.now.by_handle) }
+    /// ensures room { IfOk result (λ copy. self.now.room ≤ copy.room) }
+    /// ```
+    ///
+    /// </details>
+    #[inline]
+    pub fn try_clone(&self) -> Result<Self, AllocError> {
+        let mut pairs = Vec::with_capacity_fallibly(self.pairs.sized_capacity())?;
+        pairs.extend_from_slice_fallibly(&self.pairs)?;
+        Ok(Index { pairs })
     }
 
     /// The place of the entity, if it is among the living.
@@ -199,7 +218,7 @@ fn place_found(
         return None;
     };
     let place = pairs[position].1 as usize;
-    if has_handle_at(living, handle, place) {
+    if has_key_at(living, Key::of(handle), place) {
         Some(place)
     } else {
         None
@@ -216,7 +235,7 @@ fn sweep(pairs: &mut Vec<(Key, u32)>, living: &Living)
     // ensures len { vec_len pairs.new ≤ length living.now.entities }
     // ensures capacity { vec_capacity pairs.new ≡ vec_capacity pairs.old }
 {
-    pairs.retain(|pair| has_handle_at(living, pair.0.handle(), pair.1 as usize));
+    pairs.retain(|pair| has_key_at(living, pair.0, pair.1 as usize));
 }
 
 /// Puts a pair over that of its slot's last occupant, and returns whether it did: only if that one
@@ -235,7 +254,7 @@ fn put_over_last(pairs: &mut Vec<(Key, u32)>, living: &Living, pair: (Key, u32))
     // ensures refused { ¬ (IsTrue result) → pairs.new.items ≡ pairs.old.items }
     // ensures capacity { vec_capacity pairs.new ≡ vec_capacity pairs.old }
 {
-    let slot = pair.0.handle().index() as usize;
+    let slot = pair.0.index() as usize;
     if is_own(pairs, living, slot, pair.0.handle()) && is_gap(pairs, slot + 1, pair.0.handle()) {
         pairs[slot] = pair;
         true
@@ -388,7 +407,7 @@ fn is_own(pairs: &[(Key, u32)], living: &Living, position: usize, handle: Handle
     // ensures { IsTrue result → IsFree living.now.entities pairs.now position }
 {
     position < pairs.len()
-        && pairs[position].0.handle().index() == handle.index()
+        && pairs[position].0.index() == handle.index()
         && is_free(pairs, living, position)
 }
 
@@ -401,5 +420,5 @@ fn is_free(pairs: &[(Key, u32)], living: &Living, position: usize) -> bool
         return false;
     }
     let (key, place) = pairs[position];
-    !has_handle_at(living, key.handle(), place as usize)
+    !has_key_at(living, key, place as usize)
 }

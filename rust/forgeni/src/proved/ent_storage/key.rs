@@ -45,4 +45,79 @@ impl Key {
     pub fn handle(self) -> Handle {
         Handle::from_parts(self.index, self.generation)
     }
+
+    /// The index of the handle's slot.
+    ///
+    /// <details><summary>Contract</summary>
+    ///
+    /// In the words of the folder `specs/` of crate `ent_storage`:
+    ///
+    /// ```text
+    /// ensures { result ≡ self.index }
+    /// ```
+    ///
+    /// </details>
+    #[inline]
+    pub fn index(self) -> u32 {
+        self.index
+    }
+
+    /// Both numbers in one, as `Handle::to_bits` has them: one comparison of these compares both.
+    #[inline]
+    fn bits(self) -> u64
+        // ensures bits { result ≡ bits self }
+        // ensures in_range { IsHandle self }
+    {
+        (u64::from(self.generation) << 32) + u64::from(self.index)
+    }
+
+    /// Whether it is the key of the handle.
+    ///
+    /// <details><summary>Contract</summary>
+    ///
+    /// In the words of the folder `specs/` of crate `ent_storage`:
+    ///
+    /// ```text
+    /// ensures { IsTrue result ↔ (handle_cmp self handle ≡ Equal) }
+    /// ```
+    ///
+    /// </details>
+    #[inline]
+    pub fn is_of(self, handle: Handle) -> bool {
+        self.bits() == handle.to_bits()
+    }
+
+    /// Whether it comes before the handle. The indices are compared first, since most differ.
+    ///
+    /// <details><summary>Contract</summary>
+    ///
+    /// In the words of the folder `specs/` of crate `ent_storage`:
+    ///
+    /// ```text
+    /// ensures { IsTrue result ↔ (handle_cmp self handle ≡ Less) }
+    /// ```
+    ///
+    /// </details>
+    #[inline]
+    pub fn is_before(self, handle: Handle) -> bool {
+        self.index < handle.index()
+            || self.index == handle.index() && self.generation < handle.generation()
+    }
+
+    /// Whether it comes after the handle.
+    ///
+    /// <details><summary>Contract</summary>
+    ///
+    /// In the words of the folder `specs/` of crate `ent_storage`:
+    ///
+    /// ```text
+    /// ensures { IsTrue result ↔ (handle_cmp self handle ≡ Greater) }
+    /// ```
+    ///
+    /// </details>
+    #[inline]
+    pub fn is_after(self, handle: Handle) -> bool {
+        handle.index() < self.index
+            || self.index == handle.index() && handle.generation() < self.generation
+    }
 }

@@ -5,6 +5,7 @@ use crate::kit::vec::CollectIn;
 use crate::kit::vec::FallibleVec;
 use super::columns;
 use super::items::Items;
+use super::key::Key;
 use super::order::least_of_birth;
 use super::sparse_set::SparseSet;
 use crate::proved::ent_handle::{Birth, ComponentId, Handle};
@@ -48,6 +49,31 @@ impl Living {
             columns: Vec::new(),
             used: Vec::new(),
         }
+    }
+
+    /// The same entities, with at least the same room.
+    ///
+    /// <details><summary>Contract</summary>
+    ///
+    /// In the words of the folder `specs/` of crate `ent_storage`:
+    ///
+    /// ```text
+    /// ensures entities { IfOk result (λ copy. copy.entities ≡ self.now.entities) }
+    /// ensures room { IfOk result (λ copy. self.now.room ≤ copy.room) }
+    /// ```
+    ///
+    /// </details>
+    #[inline]
+    pub fn try_clone(&self) -> Result<Self, AllocError> {
+        let mut residents = Vec::with_capacity_fallibly(self.residents.sized_capacity())?;
+        residents.extend_from_slice_fallibly(&self.residents)?;
+        let mut used = Vec::with_capacity_fallibly(self.used.len())?;
+        used.extend_from_slice_fallibly(&self.used)?;
+        Ok(Living {
+            residents,
+            columns: columns::try_clone(&self.columns)?,
+            used,
+        })
     }
 
     /// How many entities there are.
@@ -315,21 +341,21 @@ fn births(residents: &[Resident]) -> Result<Vec<(Birth, Handle)>, AllocError>
         .collect_in()
 }
 
-/// Whether the entity at the place has that handle.
+/// Whether the entity at the place has the handle of that key.
 ///
 /// <details><summary>Contract</summary>
 ///
 /// In the words of the folder `specs/` of crate `ent_storage`:
 ///
 /// ```text
-/// ensures { result ≡ has_handle_at living.now.entities handle (Some place) }
+/// ensures { result ≡ has_handle_at living.now.entities key (Some place) }
 /// ```
 ///
 /// </details>
 #[inline]
-pub fn has_handle_at(living: &Living, handle: Handle, place: usize) -> bool {
+pub fn has_key_at(living: &Living, key: Key, place: usize) -> bool {
     match living.residents.get(place) {
-        Some(entity) => entity.handle == handle,
+        Some(entity) => key.is_of(entity.handle),
         None => false,
     }
 }

@@ -13,7 +13,7 @@ pub(crate) fn search_slot(pairs: &[(Key, u32)], handle: Handle) -> Result<usize,
 {
     let slot = handle.index() as usize;
     if slot < pairs.len() {
-        if pairs[slot].0.handle() == handle {
+        if pairs[slot].0.is_of(handle) {
             return Ok(slot);
         }
         // The next occupant of the slot goes behind the pair that stands there.
@@ -51,7 +51,7 @@ fn search(pairs: &[(Key, u32)], handle: Handle) -> Result<usize, usize>
 #[inline(always)]
 pub fn at_slot(pairs: &[(Key, u32)], handle: Handle) -> Option<usize> {
     let slot = handle.index() as usize;
-    if slot < pairs.len() && pairs[slot].0.handle() == handle {
+    if slot < pairs.len() && pairs[slot].0.is_of(handle) {
         Some(slot)
     } else {
         None
@@ -77,7 +77,7 @@ fn is_after(pairs: &[(Key, u32)], position: usize, handle: Handle) -> bool
     //     → HoldsAt (λ pair. handle_cmp pair.0 handle ≡ Less) pairs.now k }
 {
     match position.checked_sub(1) {
-        Some(before) => before < pairs.len() && pairs[before].0.handle() < handle,
+        Some(before) => before < pairs.len() && pairs[before].0.is_before(handle),
         None => true,
     }
 }
@@ -88,5 +88,5 @@ fn is_before(pairs: &[(Key, u32)], position: usize, handle: Handle) -> bool
     // ensures { IsTrue result → position < length pairs.now
     //     → HoldsAt (λ pair. handle_cmp pair.0 handle ≡ Greater) pairs.now position }
 {
-    position >= pairs.len() || handle < pairs[position].0.handle()
+    position >= pairs.len() || pairs[position].0.is_after(handle)
 }

@@ -35,6 +35,29 @@ impl SparseSet {
         }
     }
 
+    /// A set with the same values.
+    ///
+    /// <details><summary>Contract</summary>
+    ///
+    /// In the words of the folder `specs/` of crate `ent_storage`:
+    ///
+    /// ```text
+    /// ensures { IfOk result (IsCopy self.now) }
+    /// ```
+    ///
+    /// </details>
+    #[inline]
+    pub fn try_clone(&self) -> Result<Self, AllocError> {
+        if self.sparse.is_empty() {
+            return Ok(SparseSet::new());
+        }
+        let mut dense = Vec::with_capacity_fallibly(self.dense.len())?;
+        dense.extend_from_slice_fallibly(&self.dense)?;
+        let mut sparse = Vec::with_capacity_fallibly(self.sparse.len())?;
+        sparse.extend_from_slice_fallibly(&self.sparse)?;
+        Ok(SparseSet { dense, sparse })
+    }
+
     /// The place and the value of each entity that has the component.
     ///
     /// <details><summary>Contract</summary>

@@ -62,6 +62,51 @@ impl Storage {
         }
     }
 
+    /// A storage of the same entities at the same places, with at least the same room. Without
+    /// entities and room it takes no memory.
+    ///
+    /// ```
+    /// use forgeni::{Birth, ComponentId, Handle, Storage};
+    ///
+    /// const SPEED: ComponentId = ComponentId(0);
+    ///
+    /// let cart = Handle::new(0, 1).unwrap();
+    /// let mut now = Storage::new();
+    /// now.born(cart, Birth { frame: 0, system: 0, ordinal: 0 })?;
+    /// now.insert(cart, &[(SPEED, 40)])?;
+    /// let before = now.try_clone()?;
+    /// now.insert(cart, &[(SPEED, 50)])?;
+    /// assert_eq!((now.get(cart, SPEED), before.get(cart, SPEED)), (Some(50), Some(40)));
+    /// # Ok::<(), Box<dyn std::error::Error>>(())
+    /// ```
+    ///
+    /// # Errors
+    ///
+    /// Out of memory.
+    ///
+    /// <details><summary>Contract</summary>
+    ///
+    /// In the words of the folder `specs/` of crate `ent_storage`:
+    ///
+    /// ```text
+    /// ensures entities { IfOk result (λ copy. copy.entities ≡ self.now.entities) }
+    /// ensures places { IfOk result (λ copy. copy.places ≡ self.now.places) }
+    /// ensures spare { IfOk result (λ copy. self.now.spare ≤ copy.spare) }
+    /// ensures memory { OnErr result (0 < length self.now.places + self.now.spare) }
+    /// ```
+    ///
+    /// </details>
+    #[inline]
+    pub fn try_clone(&self) -> Result<Self, Memory> {
+        if self.living.is_empty() && self.spare() == 0 {
+            return Ok(Storage::new());
+        }
+        Ok(Storage {
+            living: self.living.try_clone()?,
+            index: self.index.try_clone()?,
+        })
+    }
+
     /// How many entities there are. That is also the place of the next one that is born.
     ///
     /// <details><summary>Contract</summary>

@@ -115,6 +115,27 @@ impl Stopped {
     /// else has changed the world since, then in the end the world, and the faults of all reports
     /// together, are those of a sync point that didn't stop.
     ///
+    /// ```
+    /// use forgeni::{SyncError, World};
+    ///
+    /// let (open, mut systems) = World::new().open(1)?;
+    /// systems[0].spawn(&[])?;
+    /// let queues = systems.into_iter().map(|one| one.finish()).collect();
+    /// let (mut world, queues) = open.close(queues)?;
+    /// let cache = vec![0_u8; 1 << 20];
+    /// let report = match world.apply(queues) {
+    ///     Err(SyncError::Stopped(stopped)) => {
+    ///         drop(cache); // so that there is memory again
+    ///         let mut report = stopped.so_far().clone();
+    ///         report.faults.extend(stopped.go_on(&mut world)?.faults);
+    ///         report
+    ///     }
+    ///     applied => applied?,
+    /// };
+    /// assert_eq!((report.born.len(), world.len()), (1, 1));
+    /// # Ok::<(), Box<dyn std::error::Error>>(())
+    /// ```
+    ///
     /// # Errors
     ///
     /// - [`GoOnError::OtherWorld`]: it stopped in another world. Nothing has changed.

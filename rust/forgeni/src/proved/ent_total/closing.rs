@@ -143,13 +143,13 @@ impl Shared {
     /// ensures rows_of_living { IfOk result HasRowsOfLiving }
     ///
     /// // It counts what the reservers that are here have requested, and of the others no more than
-    /// // their credit.
+    /// // their quota.
     /// ensures least { IfOk result (λ entities.
     ///     sum_by (λ r. requested_by r.own) (all_home self reservers.items)
     ///     ≤ entities.allocator.asked) }
     /// ensures most { IfOk result (λ entities.
     ///     sum_by (λ r. r.own.left) (all_home self reservers.items) + entities.allocator.asked
-    ///     ≤ self.shared.count * credit) }
+    ///     ≤ self.shared.count * quota) }
     /// ensures reached { IfOk result (λ entities.
     ///     All (λ r. cursor entities.allocator ≤ℤ r.own.mark) (all_home self reservers.items)) }
     ///

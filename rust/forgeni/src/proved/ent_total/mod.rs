@@ -4,6 +4,7 @@
 //! requires, and returns an error that hands everything back.
 
 mod applying;
+mod cloning;
 mod closing;
 mod command_queue;
 mod commands;
@@ -30,6 +31,7 @@ mod world;
 mod world_homecoming;
 mod world_opening;
 
+pub use cloning::{clone_world, clone_world_from};
 pub use command_queue::CommandQueue;
 pub use commands::Commands;
 pub use frame_error::FrameError;

@@ -100,19 +100,32 @@ impl Opening {
         }
     }
 
-    /// The phase, under a number by which it is told from all others, and all its reservers, in the
-    /// order of their numbers. It takes no memory.
+    /// The phase under this number, which no other phase has, and all its reservers, in the order of
+    /// their numbers. It takes no memory.
     ///
-    /// A reserver whose owner can't be counted stays at home, with those after it. That takes more
-    /// owners than there can be, but no contract of `Arc` says so.
+    /// # Errors
+    ///
+    /// The same, with some reservers at home in the phase: each owns a part of the allocator, and no
+    /// more owners could be counted. That takes 2^62 of them.
     #[inline]
-    pub(crate) fn numbered(self, number: u64) -> (Shared, Vec<Reserver>)
+    pub(crate) fn numbered(
+        self,
+        number: u64,
+    ) -> Result<(Shared, Vec<Reserver>), (Shared, Vec<Reserver>)>
         // requires stands_for { J.shared_of number ≡ self.shared }
-        // ensures number { result.0.number ≡ number }
-        // ensures shared { result.0.shared ≡ self.shared }
-        // ensures of { AreOf number result.1.items }
-        // ensures same { All (λ r. r.shared ≡ self.shared) result.1.items }
-        // ensures given { reservers_of result.1.items ++ reverse result.0.home ≡ self.home }
+        // ensures phase { IfOk result (λ made.
+        //     made.0 ≡ record { number = number; shared = self.shared; home = [] }) }
+        // ensures reservers { IfOk result (λ made. reservers_of made.1.items ≡ self.home) }
+        // ensures of { IfOk result (λ made. AreOf number made.1.items) }
+        // ensures same { IfOk result (λ made. All (λ r. r.shared ≡ self.shared) made.1.items) }
+
+        // What stands if not all could be given out.
+        // ensures err_phase { IfErr result (λ made.
+        //     made.0 ≡ record { number = number; shared = self.shared; home = made.0.home }) }
+        // ensures err_some_home { IfErr result (λ made. made.0.home ≢ []) }
+        // ensures err_reservers { IfErr result (λ made.
+        //     reservers_of made.1.items ++ reverse made.0.home ≡ self.home) }
+        // ensures err_of { IfErr result (λ made. AreOf number made.1.items) }
     {
         let Opening {
             shared,
@@ -122,6 +135,9 @@ impl Opening {
         home.reverse();
         let mut shared = Shared::new(shared, home, number);
         shared.give_out(&mut reservers);
-        (shared, reservers)
+        if shared.at_home() > 0 {
+            return Err((shared, reservers));
+        }
+        Ok((shared, reservers))
     }
 }

@@ -9,7 +9,7 @@ use crate::proved::ent_storage::Items;
 /// The system in the birth of an entity that no system spawned.
 const NO_SYSTEM: u32 = 0xffff_ffff;
 
-/// Who is alive, and what each entity is made of.
+/// The living entities and their components.
 ///
 /// A component is a number ([`ComponentId`]) and a value of 64 bits. Systems that run side by side
 /// don't touch the world: `open` gives each its [`Commands`](crate::proved::ent_total::Commands), and

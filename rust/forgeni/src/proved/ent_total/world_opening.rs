@@ -132,24 +132,43 @@ impl WorldOpening {
         }
     }
 
-    /// The phase, under a number by which it is told from all others, and all its systems, in the
-    /// order of their numbers. It takes no memory.
+    /// The phase under this number, which no other phase has, and all its systems, in the order of
+    /// their numbers. It takes no memory.
     ///
-    /// A system whose owner can't be counted stays at home, with those after it. That takes more
-    /// owners than there can be, but no contract of `Arc` says so.
+    /// # Errors
+    ///
+    /// The same, with the reservers of some systems at home in the phase: each system owns a part of
+    /// the world, and no more owners could be counted. That takes 2^62 of them.
     #[inline]
-    pub(crate) fn numbered(self, number: u64) -> (OpenWorld, Vec<Commands>)
+    pub(crate) fn numbered(
+        self,
+        number: u64,
+    ) -> Result<(OpenWorld, Vec<Commands>), (OpenWorld, Vec<Commands>)>
         // requires stands_for { J.world_of number ≡ self.world }
-        // ensures phase { result.0 ≡ record {
+        // ensures phase { IfOk result (λ made. made.0 ≡ record {
         //   number = number;
         //   of_world = self.of_world;
         //   spawned = self.spawned;
         //   world = self.world;
-        //   home = result.0.home;
+        //   home = [];
         //   queues = [];
-        // } }
-        // ensures systems { AreNew number self.world result.1.items }
-        // ensures given { issuing result.1.items ++ reverse result.0.home ≡ self.home }
+        // }) }
+        // ensures reservers { IfOk result (λ made. issuing made.1.items ≡ self.home) }
+        // ensures systems { IfOk result (λ made. AreNew number self.world made.1.items) }
+
+        // What stands if not all could be given out.
+        // ensures err_phase { IfErr result (λ made. made.0 ≡ record {
+        //   number = number;
+        //   of_world = self.of_world;
+        //   spawned = self.spawned;
+        //   world = self.world;
+        //   home = made.0.home;
+        //   queues = [];
+        // }) }
+        // ensures err_some_home { IfErr result (λ made. made.0.home ≢ []) }
+        // ensures err_reservers { IfErr result (λ made.
+        //     issuing made.1.items ++ reverse made.0.home ≡ self.home) }
+        // ensures err_systems { IfErr result (λ made. AreNew number self.world made.1.items) }
     {
         let WorldOpening {
             of_world,
@@ -162,6 +181,9 @@ impl WorldOpening {
         home.reverse();
         let mut open = OpenWorld::new(of_world, spawned, world, home, queues, number);
         open.give_out(&mut systems);
-        (open, systems)
+        if open.at_home() > 0 {
+            return Err((open, systems));
+        }
+        Ok((open, systems))
     }
 }

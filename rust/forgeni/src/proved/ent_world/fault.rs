@@ -34,7 +34,6 @@ pub struct Fault {
 }
 
 /// What a sync point has done.
-#[derive(Debug)]
 pub struct SyncReport {
     /// The handles that came to life, in the order of the flush.
     pub born: Vec<Handle>,

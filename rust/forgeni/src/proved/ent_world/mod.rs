@@ -5,6 +5,7 @@
 
 mod applying;
 mod births;
+mod cloning;
 mod fault;
 mod open_world;
 mod rows;

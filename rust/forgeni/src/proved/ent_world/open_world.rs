@@ -119,10 +119,10 @@ impl OpenWorld {
         // ensures after { result.allocator ≡ after_loss self.shared.start result.allocator.asked }
 
         // It counts what the reservers that are here have requested, and of the others no more than
-        // their credit.
+        // their quota.
         // ensures least { sum_by (λ r. requested_by r.own) reservers.items ≤ result.allocator.asked }
         // ensures most { sum_by (λ r. r.own.left) reservers.items + result.allocator.asked
-        //     ≤ self.shared.count * credit }
+        //     ≤ self.shared.count * quota }
         // ensures reached { All (λ r. cursor result.allocator ≤ℤ r.own.mark) reservers.items }
 
         // If all are here, it counts what they have requested, and the cursor is where `close`

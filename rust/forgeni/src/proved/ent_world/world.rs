@@ -11,7 +11,7 @@ use crate::proved::ent_queue::Bundle;
 use crate::proved::ent_shared::{Reserver, share};
 use crate::proved::ent_storage::{Items, Storage};
 
-/// Who is alive, and what each entity is made of.
+/// The living entities and their components.
 ///
 /// Contracts see it as the state of its allocator, the number of its phase, and a finite map from
 /// the handles of the living entities to their births and components (`specs/World`).

@@ -45,7 +45,7 @@ const LINE_FAULT: u8 = 2;
 /// ensures refused { result ≡ 1 → AsksTo (map S.text words.now) (λ task. HasRefused (Fails task)
 ///     (I.remaining input.old) (O.written output.old) (O.written output.new)) }
 ///
-/// // The words are no command line, or ask for help. They have no other status, but 3 for want of
+/// // The words are no command line, or ask for help. They have no other status, but 3 for lack of
 /// // memory.
 /// ensures faulty { result ≡ 2 → IsFaulty (map S.text words.now) }
 /// ensures taken { takes program (map S.text words.now) ≡ true → result ≢ 2 }

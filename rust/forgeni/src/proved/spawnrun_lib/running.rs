@@ -34,7 +34,7 @@ impl<R: Threads + Sync> Work for Scripts<'_, R> {
                 // The text is given back before the frames run.
                 drop(input);
                 let Scripts { rt, workers, show } = self;
-                let report = run_script(rt, &script, workers, show, progress)?;
+                let report = run_script(rt, script, workers, show, progress)?;
                 Ok(Product::Output(report))
             }
             Err(fault) => Ok(Product::Refusal(Refusal {

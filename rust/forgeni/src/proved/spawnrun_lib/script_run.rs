@@ -13,12 +13,13 @@ use crate::proved::ent_script::{Frame, Script};
 use crate::proved::ent_world::World;
 use crate::kit::thread::Threads;
 
-/// Runs the frames one after the other, and appends the text of each.
+/// Runs the frames one after the other, and appends the text of each. The memory of a frame is
+/// freed before the next one runs.
 #[inline]
 fn run_frames<R, P: Progress>(
     rt: &R,
     world: &mut World,
-    frames: &[Frame],
+    frames: Vec<Frame>,
     workers: usize,
     show: Show,
     progress: &mut P,
@@ -26,17 +27,20 @@ fn run_frames<R, P: Progress>(
 where
     R: Threads + Sync,
     // requires flushed { world.old.allocator.asked ≡ 0 }
-    // requires systems { AreFew frames.now }
+    // requires systems { AreFew frames.items }
     // requires some { 0 < workers }
     // requires few { workers ≤ 64 }
-    // ensures went { IfOk result (λ text. HaveGone frames.now workers show world.old world.new
+    // ensures went { IfOk result (λ text. HaveGone frames.items workers show world.old world.new
     //     text.items) }
 {
+    let count = frames.len();
     let mut text = Vec::new();
-    for (number, systems) in frames.iter().enumerate() {
-        progress.tell(number, frames.len());
-        let report = frame::run(rt, world, systems.systems(), workers)?;
+    let mut number = 0;
+    for current in frames {
+        progress.tell(number, count);
+        let report = frame::run(rt, world, current.systems(), workers)?;
         write_frame(number as u64, &report, show, &mut text)?;
+        number += 1;
     }
     Ok(text)
 }
@@ -46,22 +50,22 @@ where
 #[inline]
 fn report<R, P: Progress>(
     rt: &R,
-    script: &Script,
+    script: Script,
     workers: usize,
     show: Show,
     progress: &mut P,
 ) -> Result<Vec<u8>, Memory>
 where
     R: Threads + Sync,
-    // requires ranges { IsScript script.now }
+    // requires ranges { IsScript script }
     // requires some { 0 < workers }
     // requires few { workers ≤ 64 }
-    // ensures { IfOk result (λ text. IsReport script.now workers show text.items) }
+    // ensures { IfOk result (λ text. IsReport script workers show text.items) }
 {
-    let mut world = World::new(script.limits());
-    let frames = script.frames();
+    let (limits, components, frames) = script.into_parts();
+    let mut world = World::new(limits);
     let mut text = run_frames(rt, &mut world, frames, workers, show, progress)?;
-    write_world(&world, script.components(), show, &mut text)?;
+    write_world(&world, &components, show, &mut text)?;
     Ok(text)
 }
 
@@ -72,7 +76,8 @@ where
 /// With several workers, which entity gets which handle may differ from run to run. If the script
 /// names no handle and no request is refused, the text by births is the same in each run. No
 /// request is refused if the script spawns no more entities in all than it has slots. What a frame
-/// has done is kept as text alone, so memory grows with the world, the text and the longest frame.
+/// has done is kept as text alone, and its operations are freed after it has run, so beside the
+/// script memory grows with the world, the text and the longest frame.
 ///
 /// Before each frame `progress` is told how many are done. `()` is for who doesn't want to know.
 ///
@@ -82,37 +87,37 @@ where
 #[inline]
 pub(crate) fn run_script<R, P: Progress>(
     rt: &R,
-    script: &Script,
+    script: Script,
     workers: usize,
     show: Show,
     progress: &mut P,
 ) -> Result<Vec<u8>, Memory>
 where
     R: Threads + Sync,
-    // requires ranges { IsScript script.now }
+    // requires ranges { IsScript script }
     // requires some { 0 < workers }
     // requires few { workers ≤ 64 }
-    // ensures report { IfOk result (λ text. IsReport script.now workers show text.items) }
+    // ensures report { IfOk result (λ text. IsReport script workers show text.items) }
 
     // The others are laws of the definitions: they follow from `report` and `ranges`, so a body
     // that meets `report` meets them. One worker has no other report.
     // ensures only { workers ≡ 1 → IfOk result (λ text. (other : List ℕ)
-    //     → IsReport script.now workers show other → text.items ≡ other) }
+    //     → IsReport script workers show other → text.items ≡ other) }
 
     // However the frames went, and whatever the limits are.
     // ensures given_once { IfOk result (λ text. (executions : List Execution)
-    //     → IsReportOf script.now workers show executions text.items
+    //     → IsReportOf script workers show executions text.items
     //     → AreGivenOnce (handles_in_run executions)) }
 
     // A script that names no handle has one text by births, however many workers run it, if no line
     // of the text tells of a refused request.
-    // ensures same { show ≡ Show.Births → IsWithoutHandles script.now → IfOk result (λ text.
-    //     TellsNoRefusal text.items → text.items ≡ text_alone script.now) }
+    // ensures same { show ≡ Show.Births → IsWithoutHandles script → IfOk result (λ text.
+    //     TellsNoRefusal text.items → text.items ≡ text_alone script) }
 
     // And in any case, if all its operations request no more handles than it has slots: then no
     // request is refused.
-    // ensures enough { show ≡ Show.Births → IsWithoutHandles script.now → HasEnoughSlots script.now
-    //     → IfOk result (λ text. text.items ≡ text_alone script.now) }
+    // ensures enough { show ≡ Show.Births → IsWithoutHandles script → HasEnoughSlots script
+    //     → IfOk result (λ text. text.items ≡ text_alone script) }
 {
     let report = report(rt, script, workers, show, progress);
     progress.end();

@@ -37,7 +37,7 @@ impl System for ScriptSystem<'_> {
     /// # Errors
     ///
     /// `Memory`, if memory was refused to one of the operations, and for no other reason. A spawn
-    /// that is refused for want of slots or credit is a command of the queue, and the run goes on.
+    /// that is refused for lack of slots or quota is a command of the queue, and the run goes on.
     #[inline]
     fn run(
         &self,

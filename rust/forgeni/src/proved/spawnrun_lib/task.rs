@@ -12,22 +12,31 @@ use crate::kit::programs::string::AsStr;
 // The values of `--show`.
 static SHOWN: [&str; 2] = ["births", "handles"];
 
+// The version of the program, which is that of the package.
+const VERSION: &str = "0.1.0";
+
 // What help ends with.
-const PROGRAM_END: &str = "A script of one line, for 'spawnrun run':\n  \
-     {\"components\":[\"hp\"],\"frames\":[[[{\"spawn\":{\"hp\":20}}]]]}\n\n\
+const PROGRAM_END: &str =
+    "A command reads standard input, or the file that is named by its last word.\n\n\
+     Examples:\n  \
+     echo alloc | spawnrun replay\n  \
+     echo '{\"components\":[\"hp\"],\"frames\":[[[{\"spawn\":{\"hp\":20}}]]]}' | spawnrun run\n\n\
      Exit status:\n  \
      0  the input was accepted, and all of the output was written\n  \
      1  the input was refused: one line of output names the test that it fails\n  \
-     2  the words are no command line, or ask for help\n  \
+     2  the words are no command line, or ask for help or the version\n  \
      3  memory ran out, and nothing was written\n  \
      4  reading or writing failed";
 
-const RUN_END: &str = "A script of one line:\n  \
-     {\"components\":[\"hp\"],\"frames\":[[[{\"spawn\":{\"hp\":20}}]]]}\n\n\
+const RUN_END: &str = "Examples:\n  \
+     echo '{\"components\":[\"hp\"],\"frames\":[[[{\"spawn\":{\"hp\":20}}]]]}' | spawnrun run\n  \
+     spawnrun run --workers 4 --show handles script.json\n\n\
      'spawnrun --help' names the exit statuses.";
 
-const REPLAY_END: &str =
-    "A schedule of one line:\n  alloc\n\n'spawnrun --help' names the exit statuses.";
+const REPLAY_END: &str = "Examples:\n  \
+     printf 'alloc\\nfree 0v1\\n' | spawnrun replay\n  \
+     spawnrun replay --slots 3 schedule.txt\n\n\
+     'spawnrun --help' names the exit statuses.";
 
 /// What the program is asked to do.
 #[derive(Clone, Copy, Debug, PartialEq, Eq)]
@@ -158,6 +167,7 @@ fn top_command<'a>() -> Command<'a>
     // ensures { app_of result ≡ top_command }
 {
     Command::new("spawnrun")
+        .version(VERSION)
         .about("Runs schedules and scripts over Bevy's entity allocator")
         .after_help(PROGRAM_END)
         .no_binary_name(true)
@@ -243,5 +253,23 @@ pub fn command_line<S: AsStr>(words: &[S]) -> Result<Task, LineFault> {
             show: show_of(options),
         }),
         _ => unreachable!(),
+    }
+}
+
+/// Whether the words ask for a task.
+///
+/// # Errors
+///
+/// Memory ran out while they were read.
+#[inline]
+pub(super) fn is_task<S: AsStr>(words: &[S]) -> Result<bool, AllocError>
+    // ensures yes { result ≡ Ok true → fault_of program (map S.text words.now) ≡ [] }
+    // ensures no { result ≡ Ok false → IsFaulty (map S.text words.now) }
+    // ensures taken { takes program (map S.text words.now) ≡ true → result ≢ Ok false }
+{
+    match command_line(words) {
+        Ok(_) => Ok(true),
+        Err(LineFault::Line(_)) => Ok(false),
+        Err(LineFault::Memory) => Err(AllocError),
     }
 }

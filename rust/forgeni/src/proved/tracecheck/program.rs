@@ -8,14 +8,16 @@ use crate::kit::programs::format;
 use crate::kit::programs::rt::AllocGlobal;
 use crate::kit::programs::string::String;
 use crate::kit::vec::CollectIn;
-use crate::proved::tracecheck::command_line::{LineFault, command_line};
+use crate::proved::tracecheck::command_line::{LineFault, are_limits, command_line};
 use crate::proved::tracecheck::running::check_trace;
 use crate::proved::tracecheck::status::Status;
-use crate::proved::devices::{Counted, Sink, Source};
+use crate::proved::devices::{Counted, Muted, Noting, Sink, Source, open_named};
 use crate::kit::alloc::AllocError;
+use core::cell::Cell;
 use crate::kit::programs::string::AsStr;
 use crate::kit::programs::env::Env;
 use std::io::{ErrorKind, Read, Write};
+use crate::kit::programs::rt::Files;
 use crate::kit::programs::env;
 use std::io;
 
@@ -58,7 +60,7 @@ const LINE_FAULT: u8 = 2;
 ///     → HasSaid (map S.text words.now) Status.Refused
 ///     (I.remaining input.old) (O.written output.old) (O.written output.new) }
 ///
-/// // Words that are no command line, or ask for help, have no other status, but 3 for want of
+/// // Words that are no command line, or ask for help, have no other status, but 3 for lack of
 /// // memory. No device is used for them.
 /// ensures faulty { IsFaulty (map S.text words.now) → result ≢ 3 → result ≡ 2 }
 /// ensures unused_input { IsFaulty (map S.text words.now) → input.new ≡ input.old }
@@ -164,6 +166,10 @@ fn finish<E: Sink>(errors: &mut E, status: Status) -> u8
 
 /// Runs the program on the words that it was started with, and returns its exit status.
 ///
+/// If the last word is one too many and names a file, the program runs on the words before it, with
+/// the file for its input. If the output is a pipe whose reader has left, the status is 4, and the
+/// error stream is told nothing.
+///
 /// <details><summary>Contract</summary>
 ///
 /// In the words of the folder `specs/` of crate `tracecheck`:
@@ -183,16 +189,28 @@ pub fn start<R, I: Read, O: Write, E: Write, T: Write>(
     tells: bool,
 ) -> u8
 where
-    R: Env + AllocGlobal,
+    R: Env + Files + AllocGlobal,
 {
-    let mut input = Counted::new(input);
-    let mut output = Counted::new(output);
-    let mut errors = Counted::new(errors);
+    let has_left = Cell::new(false);
+    let mut output = Counted::new(Noting::new(output, &has_left));
+    let mut errors = Counted::new(Muted::new(errors, &has_left));
     let mut terminal = Counted::new(terminal);
-    match words(rt) {
-        Ok(words) => execute(
+    let words = match words(rt) {
+        Ok(words) => words,
+        Err(error) => return refuse_words(&error, &mut errors),
+    };
+    match named_file(rt, &words) {
+        Ok(Some(file)) => execute(
+            &words[..words.len() - 1],
+            &mut Counted::new(file),
+            &mut output,
+            &mut errors,
+            &mut terminal,
+            tells,
+        ),
+        Ok(None) => execute(
             &words,
-            &mut input,
+            &mut Counted::new(input),
             &mut output,
             &mut errors,
             &mut terminal,
@@ -208,4 +226,19 @@ fn words(rt: &(impl Env + AllocGlobal)) -> io::Result<Vec<String>> {
     let mut words = env::args(rt)?;
     let _ = words.next();
     Ok(words.collect_in()?)
+}
+
+// The file that the last word names: the program takes the words before it, but not all of them, and
+// it is no option. An `Err` is of memory.
+#[inline]
+fn named_file<R: Files + AllocGlobal>(rt: &R, words: &[String]) -> io::Result<Option<R::File>>
+    // ensures { IfOk result (λ file. is_some file ≡ true → 0 < length words.now) }
+{
+    let Some((name, before)) = words.split_last() else {
+        return Ok(None);
+    };
+    if name.starts_with('-') || are_limits(words)? || !are_limits(before)? {
+        return Ok(None);
+    }
+    Ok(open_named(rt, name)?)
 }

@@ -15,9 +15,35 @@ pub struct Command<'a> {
     /// How it is written in texts: the program's name, and that of the subcommand.
     pub(super) path: String,
     about: &'a str,
+    version: Option<&'a str>,
     after_help: &'a str,
     pub(super) arguments: Vec<Arg<'a>>,
     pub(super) subcommands: Vec<Command<'a>>,
+}
+
+/// A flag that ends the reading of the words, and asks for a text.
+#[derive(Clone, Copy, Debug)]
+pub(super) enum Flag {
+    Help,
+    Version,
+}
+
+impl Flag {
+    /// How it is written after two dashes.
+    pub(super) const fn long(self) -> &'static str {
+        match self {
+            Flag::Help => "help",
+            Flag::Version => "version",
+        }
+    }
+
+    /// How it is written after one dash.
+    pub(super) const fn short(self) -> char {
+        match self {
+            Flag::Help => 'h',
+            Flag::Version => 'V',
+        }
+    }
 }
 
 impl<'a> Command<'a> {
@@ -27,6 +53,7 @@ impl<'a> Command<'a> {
             name,
             path: String::new(),
             about: "",
+            version: None,
             after_help: "",
             arguments: Vec::new(),
             subcommands: Vec::new(),
@@ -36,6 +63,12 @@ impl<'a> Command<'a> {
     /// The contract: the first line of its help.
     pub fn about(self, about: &'a str) -> Self {
         Command { about, ..self }
+    }
+
+    /// The contract: what `--version` says of it. Without one it has no such flag.
+    pub fn version(self, version: &'a str) -> Self {
+        let version = Some(version);
+        Command { version, ..self }
     }
 
     /// The contract: the end of its help.
@@ -99,7 +132,7 @@ impl<'a> Command<'a> {
         super::super::format!("Usage: {} {rest}", self.path)
     }
 
-    /// How it is used with these options, and with the one of this name, or with `--help`.
+    /// How it is used with these options, and with the one of this name, or with that flag.
     pub(super) fn usage_with(
         &self,
         used: impl Iterator<Item = usize>,
@@ -112,15 +145,17 @@ impl<'a> Command<'a> {
                 options.push_fallibly(number)?;
             }
         }
-        let is_help = name == Some("help");
-        if options.is_empty() && !is_help {
+        let flag = self.flags().find(|it| Some(it.long()) == name);
+        if options.is_empty() && flag.is_none() {
             return self.usage();
         }
         let mut usage = super::super::format!("Usage: {}", self.path)?;
         for number in options {
             write!(usage, " {}", self.arguments[number])?;
         }
-        usage.push_str(if is_help { " --help" } else { "" })?;
+        if let Some(flag) = flag {
+            write!(usage, " --{}", flag.long())?;
+        }
         usage.push_str(if self.subcommands.is_empty() {
             ""
         } else {
@@ -132,7 +167,8 @@ impl<'a> Command<'a> {
     /// The option that is most like a name, if one is like it.
     pub(super) fn option_like(&self, name: &str) -> Result<Option<&str>, AllocError> {
         let options = self.arguments.iter().map(|it| it.name);
-        let found = similar(name, options.chain(["help"]))?;
+        let flags = self.flags().map(|it| -> &'a str { it.long() });
+        let found = similar(name, options.chain(flags))?;
         Ok(found.last().copied())
     }
 
@@ -157,12 +193,26 @@ impl<'a> Command<'a> {
         add_list(text, self.subcommands.iter().map(|it| it.name), ", ")
     }
 
-    /// The request for help, which is answered in the place of an error.
-    pub(super) fn help(&self) -> Error {
-        match self.help_text() {
+    /// The flags that it has, in the order of the help.
+    pub(super) fn flags(&self) -> impl Iterator<Item = Flag> {
+        let version = self.version.map(|_| Flag::Version);
+        [Flag::Help].into_iter().chain(version)
+    }
+
+    /// What a flag asks for, which is answered in the place of an error.
+    pub(super) fn answer(&self, flag: Flag) -> Error {
+        let text = match flag {
+            Flag::Help => self.help_text(),
+            Flag::Version => self.version_text(),
+        };
+        match text {
             Ok(text) => Error::of(text),
             Err(refused) => refused.into(),
         }
+    }
+
+    fn version_text(&self) -> Result<String, AllocError> {
+        super::super::format!("{} {}\n", self.name, self.version.unwrap_or(""))
     }
 
     fn help_text(&self) -> Result<String, AllocError> {
@@ -178,18 +228,25 @@ impl<'a> Command<'a> {
             text.push_str("\n")?;
         }
         text.push_str("Options:\n")?;
-        let (own, own_help) = ("  -h, --help", "Print help");
         let head = |it: &Arg<'_>| super::super::format!("      {it}");
-        let mut width = own.len();
+        let head_of_flag = |it: Flag| super::super::format!("  -{}, --{}", it.short(), it.long());
+        let mut width = 0;
         for it in &self.arguments {
             width = width.max(head(it)?.len());
+        }
+        for it in self.flags() {
+            width = width.max(head_of_flag(it)?.len());
         }
         for it in &self.arguments {
             write!(text, "{:width$}  ", head(it)?.as_str())?;
             it.add_help(&mut text)?;
             text.push_str("\n")?;
         }
-        write!(text, "{own:width$}  {own_help}\n\n{}\n", self.after_help)?;
+        for it in self.flags() {
+            let head = head_of_flag(it)?;
+            writeln!(text, "{:width$}  Print {}", head.as_str(), it.long())?;
+        }
+        write!(text, "\n{}\n", self.after_help)?;
         Ok(text)
     }
 }

@@ -1,6 +1,6 @@
 //! Words, read one after the other.
 
-use super::command::Command;
+use super::command::{Command, Flag};
 use super::matches::ArgMatches;
 use super::Error;
 use crate::kit::alloc::AllocError;
@@ -8,7 +8,7 @@ use crate::kit::programs::string::{AsStr, String};
 use crate::kit::vec::CollectIn;
 use ::alloc::vec::Vec;
 
-/// What a word is, by its letters alone.
+/// What a word is.
 enum Word<'w> {
     /// `--`: no word after it is an option.
     Dashes,
@@ -16,12 +16,29 @@ enum Word<'w> {
     Long(&'w str, Option<&'w str>),
     /// `-X`, with the letter.
     Short(char),
+    /// One of the two with a flag of the command, and the value of the first form.
+    Flag(Flag, Option<&'w str>),
     /// Another word.
     Plain,
 }
 
 impl<'w> Word<'w> {
-    fn of(word: &'w str) -> Self {
+    /// What the word is for this command.
+    fn of(word: &'w str, command: &Command<'_>) -> Self {
+        let found = Word::of_letters(word);
+        let flag = command.flags().find(|it| match found {
+            Word::Long(name, _) => name == it.long(),
+            Word::Short(letter) => letter == it.short(),
+            _ => false,
+        });
+        match (flag, found) {
+            (Some(flag), Word::Long(_, value)) => Word::Flag(flag, value),
+            (Some(flag), _) => Word::Flag(flag, None),
+            (None, found) => found,
+        }
+    }
+
+    fn of_letters(word: &'w str) -> Self {
         if word == "--" {
             return Word::Dashes;
         }
@@ -52,17 +69,19 @@ impl<'a> Command<'a> {
         let mut pending = None;
         for (at, word) in words.iter().enumerate() {
             let rest = &words[at + 1..];
-            match Word::of(word) {
+            match Word::of(word, self) {
                 Word::Dashes => {
                     // After it nothing may come, and an option that waits for its value has none.
                     if let Some(next) = rest.first() {
                         return Err(self.unexpected_after_dashes(next)?);
                     }
                 }
-                Word::Long("help", Some(value)) => return Err(self.help_with(value, &matches)?),
-                Word::Long("help", None) => {
+                Word::Flag(flag, Some(value)) => {
+                    return Err(self.flag_with(flag, value, &matches)?);
+                }
+                Word::Flag(flag, None) => {
                     self.end(&mut matches, pending, None)?;
-                    return Err(self.help());
+                    return Err(self.answer(flag));
                 }
                 Word::Long(name, value) => {
                     let Some(number) = self.option(name) else {
@@ -73,10 +92,6 @@ impl<'a> Command<'a> {
                         Some(_) => self.end(&mut matches, Some(number), value)?,
                         None => pending = Some(number),
                     }
-                }
-                Word::Short('h') => {
-                    self.end(&mut matches, pending, None)?;
-                    return Err(self.help());
                 }
                 Word::Short(letter) => return Err(self.unexpected_letter(letter)?),
                 Word::Plain if pending.is_some() => {
@@ -142,13 +157,13 @@ impl<'a> Command<'a> {
         let Some((word, rest)) = words.split_first() else {
             return Ok(None);
         };
-        let fault = match Word::of(word) {
+        let fault = match Word::of(word, self) {
             Word::Dashes => match rest.first() {
                 Some(next) => self.unexpected_after_dashes(next)?,
                 None => return Ok(None),
             },
-            Word::Long("help", Some(value)) => self.help_with(value, matches)?,
-            Word::Long("help", None) | Word::Short('h') => return Ok(None),
+            Word::Flag(flag, Some(value)) => self.flag_with(flag, value, matches)?,
+            Word::Flag(_, None) => return Ok(None),
             Word::Long(name, _) if self.option(name).is_some() => return Ok(None),
             Word::Long(name, _) => self.unknown(name, rest, matches, used)?,
             Word::Short(letter) => self.unexpected_letter(letter)?,
@@ -157,11 +172,17 @@ impl<'a> Command<'a> {
         Ok(Some(fault))
     }
 
-    /// `--help` has no value.
-    fn help_with(&self, value: &str, matches: &ArgMatches<'a>) -> Result<Error, AllocError> {
-        let usage = self.usage_with(matches.used(), Some("help"))?;
-        let what = "for '--help' found; no more were expected";
-        let fault = super::super::format!("unexpected value '{value}' {what}")?;
+    /// A flag has no value.
+    fn flag_with(
+        &self,
+        flag: Flag,
+        value: &str,
+        matches: &ArgMatches<'a>,
+    ) -> Result<Error, AllocError> {
+        let flag = flag.long();
+        let usage = self.usage_with(matches.used(), Some(flag))?;
+        let what = "found; no more were expected";
+        let fault = super::super::format!("unexpected value '{value}' for '--{flag}' {what}")?;
         Ok(self.error(&fault, &usage))
     }
 

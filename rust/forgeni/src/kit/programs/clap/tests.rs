@@ -28,6 +28,7 @@ fn program() -> Result<Command<'static>, AllocError> {
         .after_help("End of replay.");
     let replay = replay.arg(number("slots", i64::from(u32::MAX), "9"))?;
     let top = Command::new("program")
+        .version("1.2")
         .about("Does it")
         .after_help("The end.");
     let top = top.no_binary_name(true).disable_help_subcommand(true);
@@ -189,7 +190,7 @@ fn words_that_are_not_expected() {
 
 #[test]
 fn help_is_a_text_of_its_own() {
-    let wanted = "Does it\n\nUsage: program <COMMAND>\n\nCommands:\n  replay  Replays\n  run     Runs\n\nOptions:\n  -h, --help  Print help\n\nThe end.\n";
+    let wanted = "Does it\n\nUsage: program <COMMAND>\n\nCommands:\n  replay  Replays\n  run     Runs\n\nOptions:\n  -h, --help     Print help\n  -V, --version  Print version\n\nThe end.\n";
     for words in [["--help"], ["-h"], ["-hx"]] {
         assert_eq!(said(&words), Err(wanted.to_string()));
     }
@@ -205,12 +206,36 @@ fn help_is_a_text_of_its_own() {
 }
 
 #[test]
+fn the_version_is_that_of_the_program() {
+    for words in [&["--version"][..], &["-V"], &["-Vh"], &["-V", "x"]] {
+        assert_eq!(said(words), Err("program 1.2\n".to_string()));
+    }
+    refuses(
+        &["--version=1"],
+        "unexpected value '1' for '--version' found; no more were expected\n\nUsage: program --version <COMMAND>",
+    );
+    refuses(
+        &["--versio"],
+        "unexpected argument '--versio' found\n\n  tip: a similar argument exists: '--version'\n\nUsage: program --version <COMMAND>",
+    );
+    refuses(
+        &["run", "--version"],
+        "unexpected argument '--version' found\n\nUsage: program run [OPTIONS]",
+    );
+    refuses(
+        &["run", "-V"],
+        "unexpected argument '-V' found\n\nUsage: program run [OPTIONS]",
+    );
+}
+
+#[test]
 fn refused_memory_is_an_error_of_its_kind() {
     assert!(refuse(|| program().is_err()));
     for words in [
         &["run"][..],
         &["x"],
         &["--help"],
+        &["--version"],
         &["run", "--workers", "0"],
         &[],
     ] {

@@ -9,7 +9,7 @@ use crate::proved::ent_replay::trace::comparer::Comparer;
 use crate::proved::ent_replay::trace::log::Log;
 use crate::proved::ent_replay::trace::reply::{AllocReply, FlushReply, FreeReply, ReserveReply};
 use crate::proved::ent_replay::trace::reservation::Reservation;
-use crate::proved::ent_alloc::{Limits, State};
+use crate::proved::ent_alloc::{Entities, Limits, State};
 use crate::proved::ent_handle::Handle;
 use core::mem;
 
@@ -24,7 +24,8 @@ use core::mem;
 /// use forgeni::trace::Checker;
 /// use forgeni::{Entities, Limits};
 ///
-/// let (mut entities, mut checker) = (Entities::new(), Checker::new(Limits::GREATEST));
+/// let limits = Limits::GREATEST.keeping_placeholder(); // those of `Entities::new`
+/// let (mut entities, mut checker) = (Entities::new(), Checker::new(limits));
 /// checker.alloc(entities.alloc()?)?;
 /// checker.reserve(7, 2, entities.request_many(2)?)?;
 /// let mut born = Vec::new();
@@ -45,7 +46,20 @@ impl Checker {
     /// A checker of an allocator that has given nothing. It takes no memory.
     ///
     /// The limits are those of the allocator that is checked: how many slots it may make, and after
-    /// which generation it gives a slot no more. The greatest ones go as far as handles do.
+    /// which generation it gives a slot no more. The greatest ones go as far as handles do, and
+    /// include [`Handle::PLACEHOLDER`](crate::Handle::PLACEHOLDER).
+    ///
+    /// ```
+    /// use forgeni::trace::Checker;
+    /// use forgeni::{Entities, Limits};
+    ///
+    /// let limits = Limits::new(2, 10).expect("in range");
+    /// let mut entities = Entities::with_limits(limits);
+    /// let mut checker = Checker::new(limits.keeping_placeholder());
+    /// checker.alloc(entities.alloc()?)?;
+    /// assert_eq!((checker.calls(), checker.error()), (1, None));
+    /// # Ok::<(), Box<dyn std::error::Error>>(())
+    /// ```
     ///
     /// <details><summary>Contract</summary>
     ///
@@ -62,6 +76,41 @@ impl Checker {
     pub fn new(limits: Limits) -> Self {
         Checker {
             comparer: Ok(Comparer::new(limits)),
+            calls: 0,
+        }
+    }
+
+    /// A checker that begins in the middle: the allocator that is checked is in the same state as this
+    /// one, with its limits and its requests. It takes no memory.
+    ///
+    /// ```
+    /// use forgeni::Entities;
+    /// use forgeni::trace::Checker;
+    ///
+    /// let mut entities = Entities::new();
+    /// entities.alloc_many(2)?;
+    /// let mut checker = Checker::from_entities(entities.try_clone()?);
+    /// checker.alloc(entities.alloc()?)?;
+    /// checker.len(3)?;
+    /// # Ok::<(), Box<dyn std::error::Error>>(())
+    /// ```
+    ///
+    /// <details><summary>Contract</summary>
+    ///
+    /// In the words of the folder `specs/` of crate `ent_replay`:
+    ///
+    /// ```text
+    /// ensures begins { result.comparer
+    ///     ≡ Ok (record { allocator = entities.allocator; run = [] }) }
+    /// ensures none { result.calls ≡ 0 }
+    /// ```
+    ///
+    /// </details>
+    #[must_use]
+    #[inline]
+    pub fn from_entities(entities: Entities) -> Self {
+        Checker {
+            comparer: Ok(Comparer::from_entities(entities)),
             calls: 0,
         }
     }
@@ -120,6 +169,19 @@ impl Checker {
     /// The first error is kept, and each later call returns a copy of it, or `Memory` if there is no
     /// memory for a copy. [`error`](Self::error) returns the one that is kept.
     ///
+    /// ```
+    /// use forgeni::trace::{Call, CheckError, Checker};
+    /// use forgeni::Limits;
+    ///
+    /// let mut checker = Checker::new(Limits::GREATEST);
+    /// checker.call(Call::Alloc(None))?; // its answer isn't known
+    /// let wrong = checker.call(Call::Len(Some(2))).unwrap_err();
+    /// assert_eq!(wrong.to_string(), "differs line 2: len => 2, expected 1");
+    /// assert_eq!(checker.call(Call::Len(Some(1))), Err(wrong));
+    /// assert_eq!(checker.calls(), 2);
+    /// # Ok::<(), CheckError>(())
+    /// ```
+    ///
     /// <details><summary>Contract</summary>
     ///
     /// In the words of the folder `specs/` of crate `ent_replay`:
@@ -137,6 +199,16 @@ impl Checker {
     }
 
     /// A handle was asked for, to be alive at once.
+    ///
+    /// ```
+    /// use forgeni::trace::{AllocReply, Checker};
+    /// use forgeni::{Handle, Limits};
+    ///
+    /// let mut checker = Checker::new(Limits::new(1, 10).expect("in range"));
+    /// checker.alloc("0v1".parse::<Handle>()?)?;
+    /// checker.alloc(AllocReply::Space)?; // it may make one slot
+    /// # Ok::<(), Box<dyn std::error::Error>>(())
+    /// ```
     ///
     /// # Errors
     ///
@@ -160,6 +232,18 @@ impl Checker {
 
     /// A handle was freed.
     ///
+    /// ```
+    /// use forgeni::trace::{Checker, FreeReply};
+    /// use forgeni::{Handle, Limits};
+    ///
+    /// let mut checker = Checker::new(Limits::GREATEST);
+    /// let handle: Handle = "0v1".parse()?;
+    /// checker.alloc(handle)?;
+    /// checker.free(handle, FreeReply::Next("0v2".parse::<Handle>()?))?;
+    /// checker.free(handle, FreeReply::NotAlive)?;
+    /// # Ok::<(), Box<dyn std::error::Error>>(())
+    /// ```
+    ///
     /// # Errors
     ///
     /// As of [`call`](Self::call).
@@ -179,7 +263,19 @@ impl Checker {
         self.call(Call::Free(handle, Some(reply)))
     }
 
-    /// What is reserved was brought to life.
+    /// What is reserved was brought to life. The answer is the handles, or how many they were.
+    ///
+    /// ```
+    /// use forgeni::trace::{Checker, FlushReply};
+    /// use forgeni::{Handle, Limits};
+    ///
+    /// let mut checker = Checker::new(Limits::GREATEST);
+    /// let reserved = ["0v1".parse::<Handle>()?, "1v1".parse()?];
+    /// checker.reserve(0, 2, reserved)?;
+    /// checker.flush(reserved)?;
+    /// checker.flush(FlushReply::Count(0))?;
+    /// # Ok::<(), Box<dyn std::error::Error>>(())
+    /// ```
     ///
     /// # Errors
     ///
@@ -203,6 +299,17 @@ impl Checker {
 
     /// The state of a handle was read.
     ///
+    /// ```
+    /// use forgeni::trace::Checker;
+    /// use forgeni::{Handle, Limits, State};
+    ///
+    /// let mut checker = Checker::new(Limits::GREATEST);
+    /// let reserved: Handle = "0v1".parse()?;
+    /// checker.reserve(0, 1, reserved)?;
+    /// checker.state(reserved, State::Reserved)?;
+    /// # Ok::<(), Box<dyn std::error::Error>>(())
+    /// ```
+    ///
     /// # Errors
     ///
     /// As of [`call`](Self::call).
@@ -223,6 +330,17 @@ impl Checker {
     }
 
     /// The living were counted.
+    ///
+    /// ```
+    /// use forgeni::trace::Checker;
+    /// use forgeni::{Handle, Limits};
+    ///
+    /// let mut checker = Checker::new(Limits::GREATEST);
+    /// checker.alloc("0v1".parse::<Handle>()?)?;
+    /// checker.reserve(0, 1, "1v1".parse::<Handle>()?)?;
+    /// checker.len(1)?; // what is reserved isn't alive
+    /// # Ok::<(), Box<dyn std::error::Error>>(())
+    /// ```
     ///
     /// # Errors
     ///
@@ -245,6 +363,19 @@ impl Checker {
 
     /// Handles were reserved, for the next flush to bring to life. Other reservations may overlap
     /// this one: it may come before or after those of other callers.
+    ///
+    /// ```
+    /// use forgeni::trace::{Checker, ReserveReply};
+    /// use forgeni::{Handle, Limits};
+    ///
+    /// let mut checker = Checker::new(Limits::new(3, 10).expect("in range"));
+    /// // Caller 5 reserved before caller 2.
+    /// checker.reserve(2, 1, "2v1".parse::<Handle>()?)?;
+    /// checker.reserve(5, 2, ["0v1".parse::<Handle>()?, "1v1".parse()?])?;
+    /// checker.reserve(5, 1, ReserveReply::SpaceLeft(0))?;
+    /// checker.finish()?;
+    /// # Ok::<(), Box<dyn std::error::Error>>(())
+    /// ```
     ///
     /// # Errors
     ///
@@ -274,6 +405,19 @@ impl Checker {
     /// Takes all that a log has, in its order. The log is empty then. It overlapped what was reserved
     /// since the last other call.
     ///
+    /// ```
+    /// use forgeni::trace::{Checker, Log};
+    /// use forgeni::{Handle, Limits};
+    ///
+    /// let one: Handle = "0v1".parse()?;
+    /// let (mut checker, mut log) = (Checker::new(Limits::GREATEST), Log::new(3));
+    /// log.push(1, one)?;
+    /// checker.join(&mut log)?;
+    /// assert!(log.reservations().is_empty());
+    /// checker.flush([one])?;
+    /// # Ok::<(), Box<dyn std::error::Error>>(())
+    /// ```
+    ///
     /// # Errors
     ///
     /// As of [`call`](Self::call). The log is emptied in any case.
@@ -300,6 +444,19 @@ impl Checker {
     ///
     /// Those of one caller come in its order. Those of different callers come in no order.
     ///
+    /// ```
+    /// use forgeni::trace::{Checker, Reservation};
+    /// use forgeni::{Handle, Limits};
+    ///
+    /// let mut checker = Checker::new(Limits::GREATEST);
+    /// let one = Reservation::new(0, 1, "1v1".parse::<Handle>()?);
+    /// let other = Reservation::new(1, 1, "0v1".parse::<Handle>()?);
+    /// checker.run(vec![one, other])?;
+    /// // Slot 0 was given in that run.
+    /// assert!(checker.run(vec![Reservation::new(2, 1, "0v1".parse::<Handle>()?)]).is_err());
+    /// # Ok::<(), Box<dyn std::error::Error>>(())
+    /// ```
+    ///
     /// # Errors
     ///
     /// As of [`call`](Self::call).
@@ -323,6 +480,16 @@ impl Checker {
     }
 
     /// There are no more calls. The last reservations are compared.
+    ///
+    /// ```
+    /// use forgeni::trace::Checker;
+    /// use forgeni::{Handle, Limits};
+    ///
+    /// let mut checker = Checker::new(Limits::GREATEST);
+    /// checker.reserve(0, 1, "1v1".parse::<Handle>()?)?; // another one may come before it
+    /// assert!(checker.finish().is_err());
+    /// # Ok::<(), Box<dyn std::error::Error>>(())
+    /// ```
     ///
     /// # Errors
     ///

@@ -47,11 +47,27 @@ impl Comparer {
     /// </details>
     #[inline]
     pub fn new(limits: Limits) -> Self {
+        Comparer::from_entities(Entities::with_exact_limits(limits))
+    }
+
+    /// One whose trace begins in the state of this allocator, with its requests. It takes no memory.
+    ///
+    /// <details><summary>Contract</summary>
+    ///
+    /// In the words of the folder `specs/` of crate `ent_replay`:
+    ///
+    /// ```text
+    /// ensures { result ≡ record { allocator = entities.allocator; run = [] } }
+    /// ```
+    ///
+    /// </details>
+    #[inline]
+    pub fn from_entities(entities: Entities) -> Self {
         Comparer {
-            entities: Entities::with_exact_limits(limits),
+            wanted: entities.asked(),
+            entities,
             run: Vec::new(),
             latest: ByCaller::new(),
-            wanted: 0,
         }
     }
 

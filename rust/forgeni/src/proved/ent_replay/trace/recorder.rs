@@ -22,7 +22,8 @@ use crate::proved::ent_handle::{Handle, Memory};
 /// use forgeni::trace::Recorder;
 /// use forgeni::{Entities, Limits};
 ///
-/// let mut recorder = Recorder::new(Limits::GREATEST, 4)?;
+/// let limits = Limits::GREATEST.keeping_placeholder(); // those of `Entities::new`
+/// let mut recorder = Recorder::new(limits, 4)?;
 /// let (shared, mut reservers) = Entities::new().share(4)?;
 /// std::thread::scope(|scope| {
 ///     for (log, reserver) in recorder.logs().iter_mut().zip(&mut reservers) {

@@ -7,6 +7,7 @@ use crate::proved::ent_handle::Handle;
 use crate::kit::alloc::AllocError;
 
 /// What stands in a slot.
+#[derive(Clone, Copy)]
 pub(super) enum Slot<T> {
     /// No value.
     Vacant,
@@ -146,4 +147,22 @@ fn add_slots<T>(slots: &mut Vec<Slot<T>>, index: usize) -> Result<(), AllocError
         slots.push_reserved(Slot::Vacant);
     }
     Ok(())
+}
+
+/// Puts clones of the other slots behind all slots. It takes no memory for none.
+#[inline]
+pub(super) fn append_clones<T: Clone>(
+    slots: &mut Vec<Slot<T>>,
+    others: &[Slot<T>],
+) -> Result<(), AllocError>
+    // ensures ok { OnOk result (AppendsClones (IsSlotClone T.is_clone)
+    //     slots.old.items slots.new.items others.now) }
+    // ensures err { OnErr result (slots.new.items ≡ slots.old.items) }
+    // ensures capacity { vec_capacity slots.old ≤ vec_capacity slots.new }
+    // ensures memory { OnErr result (0 < length others.now) }
+{
+    if others.is_empty() {
+        return Ok(());
+    }
+    slots.extend_from_slice_fallibly(others)
 }

@@ -1,0 +1,67 @@
+//! The proved allocator, and what is drawn of it.
+
+use super::state::{Occupant, State};
+use crate::proved::ent_alloc::{Entities, Limits};
+use crate::proved::ent_handle::{Handle, Memory};
+use std::vec::Vec;
+
+/// Entities, and the state that shows them. Each call is one of the entities. What they refuse changes nothing that is
+/// drawn but the cursor.
+pub(super) struct Followed {
+    pub(super) entities: Entities,
+    pub(super) state: State,
+}
+
+impl Followed {
+    pub(super) fn new(limits: Limits) -> Self {
+        let mut followed = Followed {
+            entities: Entities::with_exact_limits(limits),
+            state: State::default(),
+        };
+        followed.read_cursor();
+        followed
+    }
+
+    pub(super) fn alloc(&mut self) {
+        if let Ok(handle) = self.entities.alloc() {
+            let alive = Occupant::Alive(handle.generation());
+            self.state.slots.insert(handle.index(), alive);
+        }
+        self.read_cursor();
+    }
+
+    pub(super) fn free(&mut self, handle: Handle) {
+        if let Ok(freed) = self.entities.free(handle) {
+            let waiting = |next: Handle| Occupant::Waiting(next.generation());
+            let occupant = freed.next.map_or(Occupant::Retired, waiting);
+            self.state.slots.insert(handle.index(), occupant);
+        }
+        self.read_cursor();
+    }
+
+    pub(super) fn flush(&mut self) -> Result<(), Memory> {
+        let mut born = Vec::new();
+        self.entities.flush(&mut born)?;
+        let alive = |one: Handle| (one.index(), Occupant::Alive(one.generation()));
+        self.state.slots.extend(born.into_iter().map(alive));
+        self.read_cursor();
+        Ok(())
+    }
+
+    /// A request of this caller for `n` handles.
+    pub(super) fn reserve(&mut self, caller: u32, n: u32) {
+        // What is refused for want of room lowers the cursor too, and gives no handle.
+        for handle in self.entities.request_many(n).unwrap_or_default() {
+            let reserved = Occupant::Reserved {
+                generation: handle.generation(),
+                caller,
+            };
+            self.state.slots.insert(handle.index(), reserved);
+        }
+        self.read_cursor();
+    }
+
+    fn read_cursor(&mut self) {
+        self.state.cursor = Some(self.entities.cursor());
+    }
+}

@@ -1,0 +1,239 @@
+//! `tracecheck --draw FILE`: a picture of the run in which a trace differs.
+//!
+//! The check itself is that of the proved program, which is started once more with the other words. It reads what this
+//! process has read, writes to the same streams, and its exit status is the one of this process too. The picture comes
+//! after it.
+
+use super::options::{limits_in, named_file, with_limits};
+use super::picture::{Caption, Picture};
+use super::timeline::{Undrawn, MOST_EVENTS, MOST_SLOTS};
+use super::traced::BrokenRun;
+use crate::kit::programs::clap::Command;
+use crate::kit::programs::env;
+use crate::kit::programs::rt::HostRuntime;
+use crate::kit::programs::string::AsStr;
+use crate::proved::devices::{read_all, Counted, InputFault};
+use crate::proved::ent_alloc::Limits;
+use crate::proved::spawnrun_lib::refuse_words;
+use std::format;
+use std::io::{self, Read, Write};
+use std::process::{self, ExitCode, ExitStatus, Stdio};
+use std::string::{String, ToString};
+use std::vec::Vec;
+
+/// The option.
+const OPTION: &str = "--draw";
+
+/// What is shown if the option has no file.
+const HELP: &str = "Usage: tracecheck --draw FILE [OPTIONS]\n\n\
+     Compares the trace on standard input, or in the file that is named by the last word, as 'tracecheck'\n\
+     does without this option. If the trace differs, it also writes FILE: an SVG of the run that breaks,\n\
+     with the line that differs in red. If not, FILE is left alone. The comparison is proved. The code that\n\
+     draws isn't proved, and only this build by cargo has it.\n\n\
+     Example:\n  tracecheck --draw picture.svg trace.txt\n\n\
+     'tracecheck --help' names the other options, and the exit statuses.\n";
+
+/// How the picture is read.
+const ABOUT: &str = "Each vertical line is a line of the trace, and the red one differs. Each row shows the occupants of a \
+     slot: before the first line as the proved allocator has them, and from there on as the lines say.";
+
+/// The exit statuses of the proved program that are of use here.
+const DIFFERS: u8 = 1;
+const WORDS: u8 = 2;
+const MEMORY: u8 = 3;
+const DEVICE: u8 = 4;
+
+/// How many letters a line of text in the picture has at most.
+const LINE: usize = 110;
+
+/// Checks and draws a trace, if a word is `--draw` or `--draw=FILE`, and ends with the returned status.
+pub(crate) fn trace_if_asked(rt: HostRuntime) -> Option<ExitCode> {
+    let mut words = std::env::args_os().skip(1);
+    let is_asked = words.any(|word| word.to_str().is_some_and(is_option));
+    is_asked.then(|| ExitCode::from(draw_asked(rt)))
+}
+
+/// Checks and draws as the words say.
+fn draw_asked(rt: HostRuntime) -> u8 {
+    let words: Vec<_> = match env::args(&rt) {
+        Ok(words) => words.skip(1).collect(),
+        Err(error) => return refuse_words(&error, &mut Counted::new(rt.stderr())),
+    };
+    let words: Vec<&str> = words.iter().map(AsStr::as_str).collect();
+    let ended = match file_in(&words) {
+        (Some(file), others) => check(rt, file, &others),
+        (None, _) => Err((WORDS, String::from(HELP))),
+    };
+    ended.unwrap_or_else(|(status, text)| {
+        // If the error stream fails, there is nobody left to tell.
+        let _ = rt.stderr().write_all(text.as_bytes());
+        status
+    })
+}
+
+fn is_option(word: &str) -> bool {
+    word.split('=').next() == Some(OPTION)
+}
+
+/// The file that the option names, if it names one, and the other words.
+fn file_in<'a>(words: &[&'a str]) -> (Option<&'a str>, Vec<&'a str>) {
+    let at = words.iter().position(|word| is_option(word));
+    let (before, here) = words.split_at(at.unwrap_or(words.len()));
+    let (file, after) = match here {
+        [] => (None, here),
+        [option, after @ ..] => match (option.split_once('='), after) {
+            (Some((_, file)), _) => (Some(file), after),
+            (None, [file, after @ ..]) => (Some(*file), after),
+            (None, []) => (None, after),
+        },
+    };
+    let file = file.filter(|file| !file.is_empty() && !file.starts_with('-'));
+    (file, [before, after].concat())
+}
+
+/// An exit status, and the text that explains it.
+type Failure = (u8, String);
+
+/// Checks the trace on standard input, or in the file that the last word names, and draws it if it differs.
+fn check(rt: HostRuntime, file: &str, words: &[&str]) -> Result<u8, Failure> {
+    match named_file(rt, words, |words| limits(words).is_some()) {
+        Ok(Some(input)) => check_input(input, file, &words[..words.len() - 1]),
+        Ok(None) => check_input(rt.stdin(), file, words),
+        Err(_) => Err(memory()),
+    }
+}
+
+fn check_input(input: impl Read, file: &str, words: &[&str]) -> Result<u8, Failure> {
+    let Some(limits) = limits(words) else {
+        // The proved program says what is wrong with the words, and reads nothing.
+        return check_alone(words, &[]);
+    };
+    let trace = read(input)?;
+    let status = check_alone(words, &trace)?;
+    if status == DIFFERS {
+        draw(file, limits, &trace)?;
+    }
+    Ok(status)
+}
+
+fn read(input: impl Read) -> Result<Vec<u8>, Failure> {
+    let all = read_all(&mut Counted::new(input), usize::MAX);
+    all.map_err(|fault| match fault {
+        InputFault::Device => (DEVICE, String::from("device\n")),
+        InputFault::Memory | InputFault::TooLong => memory(),
+    })
+}
+
+fn memory() -> Failure {
+    (MEMORY, String::from("memory\n"))
+}
+
+/// Has the proved program check a trace.
+fn check_alone(words: &[&str], trace: &[u8]) -> Result<u8, Failure> {
+    let status = run_alone(words, trace).map_err(|error| (DEVICE, format!("{error}\n")))?;
+    let status = status.code().and_then(|code| u8::try_from(code).ok());
+    // One that a signal has ended has none.
+    Ok(status.unwrap_or(DEVICE))
+}
+
+fn run_alone(words: &[&str], trace: &[u8]) -> io::Result<ExitStatus> {
+    let mut program = process::Command::new(std::env::current_exe()?);
+    let mut running = program.args(words).stdin(Stdio::piped()).spawn()?;
+    if let Some(mut input) = running.stdin.take() {
+        // It stops at the line that differs, so it may not read all.
+        let _ = input.write_all(trace);
+    }
+    running.wait()
+}
+
+/// Writes the picture of a trace that differs.
+fn draw(file: &str, limits: Limits, trace: &[u8]) -> Result<(), Failure> {
+    let run = BrokenRun::find(limits, trace).ok_or_else(memory)?;
+    let picture = picture_of(&run).map_err(no_picture)?;
+    let written = std::fs::write(file, picture);
+    written.map_err(|error| (DEVICE, format!("{file} can't be written: {error}\n")))
+}
+
+/// The limits that these words ask for, if they are a command line.
+fn limits(words: &[&str]) -> Option<Limits> {
+    let command = with_limits(Command::new("tracecheck")).ok()?;
+    limits_in(command.bin_name("tracecheck").ok()?, words).ok()
+}
+
+fn picture_of(run: &BrokenRun) -> Result<String, Undrawn> {
+    let timeline = run.timeline()?;
+    let lines = wrapped(&run.text()?);
+    let title = format!("The trace differs at line {}", run.difference.number);
+    let caption = Caption {
+        title: &title,
+        about: ABOUT,
+        lines: &lines,
+    };
+    Ok(Picture::new(caption, &timeline).svg())
+}
+
+/// Why a run isn't drawn. The trace differs all the same.
+fn no_picture(undrawn: Undrawn) -> Failure {
+    let found = match undrawn {
+        Undrawn::Events(count) => format!("found {count} lines"),
+        Undrawn::Slots(line) => format!("found more slots at line {line} (counted from 1)"),
+        Undrawn::Memory => return memory(),
+    };
+    let most = format!("a picture must have at most {MOST_EVENTS} lines and {MOST_SLOTS} slots");
+    (DIFFERS, format!("{most}; {found}\n"))
+}
+
+/// The words of a text, in lines.
+fn wrapped(text: &str) -> Vec<String> {
+    let mut lines: Vec<String> = Vec::new();
+    for word in text.split(' ') {
+        match lines.last_mut() {
+            Some(line) if line.len() + word.len() < LINE => {
+                line.push(' ');
+                line.push_str(word);
+            }
+            _ => lines.push(word.to_string()),
+        }
+    }
+    lines
+}
+
+#[cfg(test)]
+mod tests {
+    use super::*;
+    use std::vec;
+
+    #[test]
+    fn the_option_is_found_among_words() {
+        for words in [["--slots", "3"], ["--drawn", "a"], ["draw", "--d=raw"]] {
+            assert_eq!(file_in(&words), (None, words.to_vec()));
+        }
+        let others = vec!["--slots", "3"];
+        let both = [
+            ["--draw", "a", "--slots", "3"].as_slice(),
+            &["--slots", "3", "--draw", "a"],
+            &["--draw=a", "--slots", "3"],
+            &["--slots", "--draw=a", "3"],
+        ];
+        for words in both {
+            assert_eq!(file_in(words), (Some("a"), others.clone()));
+        }
+        let nameless = [["--draw"].as_slice(), &["--draw="], &["--draw", "--help"]];
+        for words in nameless {
+            assert_eq!(file_in(words), (None, vec![]));
+        }
+    }
+
+    #[test]
+    fn lines_break_between_words() {
+        let word = "0".repeat(54);
+        assert_eq!(
+            wrapped(&format!("{word} {word}")),
+            [format!("{word} {word}")]
+        );
+        assert_eq!(
+            wrapped(&format!("{word} {word}0 1")),
+            [format!("{word} {word}0"), "1".to_string()]
+        );
+    }
+}

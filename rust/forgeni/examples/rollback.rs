@@ -1,0 +1,200 @@
+//! A game that steps back, as one does when the inputs of a player come late: it keeps eight snapshots in
+//! a ring, and plays from the oldest one again.
+//!
+//! Four workers reserve handles side by side, so which spark has which one is a matter of luck, also
+//! when a frame is played again. Nothing here depends on that: a spark goes by its seed, and a digest
+//! adds up the sparks in any order. A game that sends handles to other machines reserves on one worker:
+//! with one, the handles are compared too.
+//!
+//! How long a frame and a snapshot take goes to the standard error (see it with `--release`). It prints
+//!
+//! ```text
+//! 24 frames: 50079 sparks, digest 42ca87774f266707
+//! 8 frames back: the digest of then
+//! 8 frames again: the same digest after each
+//! 8 frames with other inputs: another digest
+//! on one worker: the same digests
+//! 8 frames again on one worker: the same handles too
+//! ```
+
+use forgeni::{Entities, Handle, HandleMap, Lent};
+use std::thread;
+use std::time::Instant;
+
+/// An error may come from any thread.
+type Result<T> = std::result::Result<T, Box<dyn std::error::Error + Send + Sync>>;
+
+const SPARKS: u32 = 50_000;
+const FRAMES: usize = 24;
+/// How many frames the game can step back.
+const BACK: usize = 8;
+
+/// How long a spark burns. What becomes of it follows from its seed.
+#[derive(Clone, Copy)]
+struct Life {
+    seed: u64,
+    frames_left: u32,
+}
+
+/// A spark that burns out, and the handles of those that it lights.
+type Burnt = (Handle, Vec<Handle>);
+
+/// A number that looks like no other (the steps of splitmix64).
+fn mixed(number: u64) -> u64 {
+    let mut all = number.wrapping_add(0x9e37_79b9_7f4a_7c15);
+    all = (all ^ all >> 30).wrapping_mul(0xbf58_476d_1ce4_e5b9);
+    all = (all ^ all >> 27).wrapping_mul(0x94d0_49bb_1331_11eb);
+    all ^ all >> 31
+}
+
+/// The game before each of the last frames: before frame `n` at place `n` modulo their number.
+type Ring = [Game; BACK];
+
+#[derive(Default)]
+struct Game {
+    workers: usize,
+    entities: Entities,
+    /// Where each spark is, in whole numbers, which all machines add in the same way.
+    places: HandleMap<[i32; 2]>,
+    /// How far it flies in a frame.
+    speeds: HandleMap<[i32; 2]>,
+    lives: HandleMap<Life>,
+}
+
+impl Game {
+    fn new(workers: usize) -> Result<Self> {
+        let (mut game, mut entities) = (Self::default(), Entities::new());
+        for (seed, one) in (0..).zip(entities.alloc_many(SPARKS)?) {
+            game.light(one, mixed(seed), [0, 0])?;
+        }
+        (game.workers, game.entities) = (workers, entities);
+        Ok(game)
+    }
+
+    /// Plays from this frame on, with a snapshot before each. Returns the digest after each.
+    fn play(&mut self, ring: &mut Ring, from: usize, guess: i32) -> Result<Vec<u64>> {
+        let play_one = |frame: usize| {
+            ring[frame % BACK].take_over(self)?;
+            self.frame((mixed(frame as u64) % 7) as i32 + guess)?;
+            Ok(self.digest())
+        };
+        (from..FRAMES).map(play_one).collect()
+    }
+
+    /// Takes the state of another game. Memory is needed only for what that one has more slots.
+    fn take_over(&mut self, other: &Self) -> Result<()> {
+        self.entities.try_clone_from(&other.entities)?;
+        self.places.try_clone_from(&other.places)?;
+        self.speeds.try_clone_from(&other.speeds)?;
+        Ok(self.lives.try_clone_from(&other.lives)?)
+    }
+
+    /// Gives a living entity its components.
+    fn light(&mut self, one: Handle, seed: u64, place: [i32; 2]) -> Result<()> {
+        let [_, x, y, frames, ..] = seed.to_le_bytes().map(i32::from);
+        let frames_left = 1 + frames as u32 % 60;
+        self.places.insert(one, place)?;
+        self.speeds.insert(one, [x - 128, y - 128])?;
+        self.lives.insert(one, Life { seed, frames_left })?;
+        Ok(())
+    }
+
+    /// One frame: the systems that change sparks, those that reserve, and the sync point.
+    fn frame(&mut self, input: i32) -> Result<()> {
+        thread::scope(|scope| {
+            scope.spawn(|| self.lives.for_each_mut(|_, life| life.frames_left -= 1));
+            self.speeds
+                .for_each_mut(|_, it| *it = [it[0] + input, it[1] - 1]);
+            self.places.for_each_mut(|one, [x, y]| {
+                let [dx, dy] = self.speeds[one];
+                (*x, *y) = (*x + dx, *y + dy);
+            });
+        });
+        for (one, lit) in self.burn_all()? {
+            let (seed, place) = (self.lives[one].seed, self.places[one]);
+            self.entities.free(one)?;
+            self.places.remove(one);
+            self.speeds.remove(one);
+            self.lives.remove(one);
+            for (new, number) in lit.into_iter().zip(1..) {
+                self.light(new, mixed(seed.wrapping_add(number)), place)?;
+            }
+        }
+        Ok(())
+    }
+
+    /// Runs `burn` on each worker, for its part of the sparks. What they reserve is alive at the end.
+    fn burn_all(&mut self) -> Result<Vec<Burnt>> {
+        let living: Vec<Handle> = self.entities.iter().collect();
+        let (lives, parts) = (&self.lives, living.chunks(living.len() / self.workers + 1));
+        let burnt: Result<Vec<_>> = self.entities.phase(self.workers, |_, reservers| {
+            thread::scope(|scope| {
+                let start = |(part, reserver)| scope.spawn(move || burn(part, lives, reserver));
+                let running: Vec<_> = parts.zip(reservers).map(start).collect();
+                let ended = running.into_iter().map(|worker| worker.join());
+                ended.map(|ran| ran.expect("no system panics")).collect()
+            })
+        })?;
+        self.entities.flush_with(|_| ())?;
+        Ok(burnt?.into_iter().flatten().collect())
+    }
+
+    /// All that the game is but its handles, in 64 bits.
+    fn digest(&self) -> u64 {
+        let sparks = self.entities.iter().map(|one| {
+            let ([x, y], [dx, dy], life) = (self.places[one], self.speeds[one], self.lives[one]);
+            let numbers = [x, y, dx, dy, life.frames_left as i32].map(|number| number as u64);
+            let mix = |all, number| mixed(all ^ number);
+            numbers.into_iter().fold(life.seed, mix)
+        });
+        sparks.fold(0, u64::wrapping_add)
+    }
+}
+
+/// A system: of these sparks some burn out, and each of those lights none, one or two others.
+fn burn(part: &[Handle], lives: &HandleMap<Life>, lent: &mut Lent<'_>) -> Result<Vec<Burnt>> {
+    let burnt = part.iter().filter(|one| lives[**one].frames_left == 0);
+    let lit = |one: &Handle| Ok((*one, lent.reserve_many((lives[*one].seed % 3) as u32)?));
+    burnt.map(lit).collect()
+}
+
+/// Prints what holds. If it doesn't, that is an error.
+fn holds(it: bool, what: &str) -> Result<()> {
+    let printed = it.then(|| println!("{what}"));
+    printed.ok_or_else(|| format!("not so: {what}").into())
+}
+
+fn main() -> Result<()> {
+    let (mut game, mut ring) = (Game::new(4)?, Ring::default());
+    let digests = game.play(&mut ring, 0, 0)?;
+    let (sparks, last) = (game.entities.len(), digests[FRAMES - 1]);
+    println!("{FRAMES} frames: {sparks} sparks, digest {last:016x}");
+
+    let then = FRAMES - BACK;
+    game.take_over(&ring[then % BACK])?;
+    let same = game.digest() == digests[then - 1];
+    holds(same, "8 frames back: the digest of then")?;
+    let same = game.play(&mut ring, then, 0)? == digests[then..];
+    holds(same, "8 frames again: the same digest after each")?;
+    game.take_over(&ring[then % BACK])?;
+    let same = game.play(&mut ring, then, 1)?[BACK - 1] == last;
+    holds(!same, "8 frames with other inputs: another digest")?;
+
+    let (mut alone, mut end) = (Game::new(1)?, Game::default());
+    let same = alone.play(&mut ring, 0, 0)? == digests;
+    holds(same, "on one worker: the same digests")?;
+    end.take_over(&alone)?;
+    alone.take_over(&ring[then % BACK])?;
+    alone.play(&mut ring, then, 0)?;
+    let same = alone.entities.iter().eq(&end.entities) && alone.places == end.places;
+    holds(same, "8 frames again on one worker: the same handles too")?;
+
+    let start = Instant::now();
+    (0..FRAMES).try_for_each(|frame| ring[frame % BACK].take_over(&game))?;
+    let snapshot = start.elapsed() / FRAMES as u32;
+    let start = Instant::now();
+    (0..FRAMES).try_for_each(|_| game.frame(0))?;
+    let frame = start.elapsed() / FRAMES as u32;
+    eprintln!("a frame takes {frame:?} on four workers, and a snapshot {snapshot:?}");
+    Ok(())
+}

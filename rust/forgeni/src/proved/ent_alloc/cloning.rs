@@ -1,0 +1,121 @@
+// Made of crates/ent_alloc/src/cloning.rt by rust/erase. It isn't edited by hand.
+
+//! Clones of an allocator, as snapshots that a program goes back to.
+
+use alloc::vec::Vec;
+use crate::kit::vec::FallibleVec;
+use crate::proved::ent_alloc::entities::Entities;
+use crate::proved::ent_handle::Memory;
+
+impl Entities {
+    /// Another allocator in the same state: the same entities are alive, with the same rows, the same
+    /// handles are reserved, and the limits are the same. So to the same calls both return the same.
+    /// From then on each goes its own way.
+    ///
+    /// It copies the slots as bytes: 12 for each slot that was made, and 4 for each that waits. It
+    /// takes no memory if no slot was made.
+    ///
+    /// ```
+    /// use forgeni::Entities;
+    ///
+    /// let mut entities = Entities::new();
+    /// let one = entities.alloc()?;
+    /// let mut clone = entities.try_clone()?;
+    /// clone.free(one)?;
+    /// assert!(entities.is_alive(one) && !clone.is_alive(one));
+    /// # Ok::<(), Box<dyn std::error::Error>>(())
+    /// ```
+    ///
+    /// # Errors
+    ///
+    /// [`OutOfMemory`](Memory) if there is no memory for the slots.
+    ///
+    /// <details><summary>Contract</summary>
+    ///
+    /// In the words of the folder `specs/` of crate `ent_alloc`:
+    ///
+    /// ```text
+    /// ensures ok { IfOk result (λ clone. clone ≡ self.now) }
+    /// ensures rows_of_living { IfOk result HasRowsOfLiving }
+    /// ensures memory { OnErr result (0 < self.now.allocator.made) }
+    /// ```
+    ///
+    /// </details>
+    #[inline]
+    pub fn try_clone(&self) -> Result<Entities, Memory> {
+        Ok(Entities {
+            slots: self.slots.try_clone()?,
+            requests: self.requests,
+        })
+    }
+
+    /// Takes over the state of another allocator, as [`try_clone`](Self::try_clone) copies it. What
+    /// this one had before is gone.
+    ///
+    /// It uses the room that this one has, so one that had as many slots before takes no memory. This
+    /// is how a game that predicts goes back to a frame that the server has confirmed:
+    ///
+    /// ```
+    /// use forgeni::Entities;
+    ///
+    /// let mut entities = Entities::new();
+    /// let one = entities.alloc()?;
+    /// let mut confirmed = Entities::new();
+    /// confirmed.try_clone_from(&entities)?;
+    /// entities.free(one)?;
+    /// entities.try_clone_from(&confirmed)?;
+    /// assert!(entities.is_alive(one));
+    /// # Ok::<(), Box<dyn std::error::Error>>(())
+    /// ```
+    ///
+    /// Handles that were given since the clone was made are given anew afterwards. Keep none of
+    /// them.
+    ///
+    /// # Errors
+    ///
+    /// [`OutOfMemory`](Memory) if there is no memory for slots that the source has beyond those of this
+    /// allocator. Nothing has changed then: all room is asked for first.
+    ///
+    /// <details><summary>Contract</summary>
+    ///
+    /// In the words of the folder `specs/` of crate `ent_alloc`:
+    ///
+    /// ```text
+    /// ensures ok { OnOk result (self.new ≡ source.now) }
+    /// ensures rows_of_living { HasRowsOfLiving self.new }
+    /// ensures err { OnErr result (self.new ≡ self.old) }
+    ///
+    /// // It succeeds if the source has made no more slots, and no more of them wait.
+    /// ensures memory { OnErr result ((self.old.allocator.made < source.now.allocator.made)
+    ///     ⊎ (top self.old.allocator < top source.now.allocator)) }
+    /// ```
+    ///
+    /// </details>
+    #[inline]
+    pub fn try_clone_from(&mut self, source: &Entities) -> Result<(), Memory> {
+        self.slots.try_clone_from(&source.slots)?;
+        self.requests = source.requests;
+        Ok(())
+    }
+}
+
+/// Makes room for so many items in all.
+#[inline]
+pub(super) fn reserve_for<T>(list: &mut Vec<T>, count: usize) -> Result<(), Memory>
+    // ensures ok { OnOk result (count ≤ vec_capacity list.new) }
+    // ensures items { list.new.items ≡ list.old.items }
+    // ensures memory { OnErr result (vec_len list.old < count) }
+{
+    list.reserve_fallibly(count.saturating_sub(list.len()))?;
+    Ok(())
+}
+
+/// Makes a list one of these items. There is room for them.
+#[inline]
+pub(super) fn overwrite<T: Copy>(list: &mut Vec<T>, items: &[T])
+    // requires { length items.now ≤ vec_capacity list.old }
+    // ensures { list.new.items ≡ items.now }
+{
+    list.clear();
+    list.extend_from_slice_fallibly(items).unwrap();
+}

@@ -1,0 +1,301 @@
+// Made of crates/ent_alloc/src/image.rt by rust/erase. It isn't edited by hand.
+
+//! Allocators as bytes, and back.
+
+use alloc::vec::Vec;
+use crate::kit::vec::FallibleVec;
+use crate::proved::ent_alloc::entities::Entities;
+use crate::proved::ent_alloc::image_fault::ImageFault;
+use crate::proved::ent_alloc::image_slots::{read_word, write_word};
+use crate::proved::ent_alloc::limits::Limits;
+use crate::proved::ent_alloc::requests::Requests;
+use crate::proved::ent_alloc::slots::Slots;
+use crate::proved::ent_handle::Memory;
+
+/// The letters `FORGENI` and a zero, the first one lowest.
+const MAGIC: u64 = 0x0049_4e45_4752_4f46;
+
+/// The version of the format.
+const VERSION: u32 = 1;
+
+/// How many bytes stand before the slots.
+const HEADER: usize = 40;
+
+/// How many bytes a slot has.
+const SLOT: usize = 12;
+
+/// The numbers before the slots.
+#[derive(Clone, Copy)]
+pub(super) struct Header {
+    slots: u32,
+    generations: u32,
+    made: u32,
+    waiting: u32,
+    reserved: u32,
+    asked: u64,
+}
+
+/// Appends a number in eight bytes. There is room for them.
+#[inline]
+fn write_long(out: &mut Vec<u8>, number: u64)
+    // requires { vec_len out.old + 8 ≤ vec_capacity out.old }
+    // ensures items { out.new.items ≡ out.old.items ++ long number }
+    // ensures len { vec_len out.new ≡ vec_len out.old + 8 }
+    // ensures capacity { vec_capacity out.old ≤ vec_capacity out.new }
+{
+    let _ = out.extend_from_slice_fallibly(&number.to_le_bytes());
+}
+
+/// The number in eight bytes.
+#[inline]
+fn long_in(bytes: [u8; 8]) -> u64
+    // ensures { bytes ≡ long result }
+{
+    u64::from_le_bytes(bytes)
+}
+
+/// The number in the first eight bytes, and the bytes after them.
+#[inline]
+fn read_long(bytes: &[u8]) -> (u64, &[u8])
+    // requires { 8 ≤ length bytes.now }
+    // ensures bytes { bytes.now ≡ long result.0 ++ result.1.now }
+    // ensures len { length bytes.now ≡ 8 + length result.1.now }
+{
+    let (first, rest) = bytes.split_first_chunk().unwrap();
+    (long_in(*first), rest)
+}
+
+/// Appends what stands before the slots. There is room for it.
+#[inline]
+fn write_header(header: Header, out: &mut Vec<u8>)
+    // requires { vec_len out.old + 40 ≤ vec_capacity out.old }
+    // ensures items { out.new.items ≡ out.old.items ++ header_bytes header }
+    // ensures len { vec_len out.new ≡ vec_len out.old + 40 }
+    // ensures capacity { vec_capacity out.old ≤ vec_capacity out.new }
+{
+    write_long(out, MAGIC);
+    write_word(out, VERSION);
+    write_word(out, header.slots);
+    write_word(out, header.generations);
+    write_word(out, header.made);
+    write_word(out, header.waiting);
+    write_word(out, header.reserved);
+    write_long(out, header.asked);
+}
+
+/// The numbers of a header.
+#[inline]
+fn read_numbers(bytes: &[u8]) -> (Header, &[u8])
+    // requires { 28 ≤ length bytes.now }
+    // ensures bytes { bytes.now ≡ numbers_bytes result.0 ++ result.1.now }
+    // ensures fits { AreNumbers result.0 }
+{
+    let (slots, rest) = read_word(bytes);
+    let (generations, rest) = read_word(rest);
+    let (made, rest) = read_word(rest);
+    let (waiting, rest) = read_word(rest);
+    let (reserved, rest) = read_word(rest);
+    let (asked, rest) = read_long(rest);
+    let header = Header {
+        slots,
+        generations,
+        made,
+        waiting,
+        reserved,
+        asked,
+    };
+    (header, rest)
+}
+
+/// What stands before the slots, and the bytes of the slots.
+#[inline]
+fn read_header(bytes: &[u8]) -> Result<(Header, &[u8]), ImageFault>
+    // ensures found { IfOk result (λ h. bytes.now ≡ header_bytes h.0 ++ h.1.now) }
+    // ensures fits { IfOk result (λ h. AreNumbers h.0) }
+    // ensures refused { OnErr result ((h : Header) (rest : List ℕ)
+    //     → bytes.now ≢ header_bytes h ++ rest) }
+{
+    if bytes.len() < 8 {
+        return Err(ImageFault::Magic);
+    }
+    let (magic, rest) = read_long(bytes);
+    if magic != MAGIC {
+        return Err(ImageFault::Magic);
+    }
+    if bytes.len() < HEADER {
+        return Err(ImageFault::Length {
+            expected: HEADER as u64,
+        });
+    }
+    let (version, rest) = read_word(rest);
+    if version != VERSION {
+        return Err(ImageFault::Version { version });
+    }
+    Ok(read_numbers(rest))
+}
+
+/// The requests of these numbers, if there were so many handles to give; `None` if no requests have
+/// them.
+#[inline]
+fn requests_of(asked: u64, reserved: u32, available: u32) -> Option<Requests>
+    // ensures value { IfSome result (λ r. r ≡ record { asked = asked; served = reserved }) }
+    // ensures some { IfSome result (λ _. AreServed asked reserved available) }
+    // ensures none { IfNone result (¬ (AreServed asked reserved available)) }
+{
+    let given = u64::from(reserved);
+    let available = u64::from(available);
+    if asked <= 1 << 50
+        && given <= asked
+        && given <= available
+        && (available < asked || given == asked)
+    {
+        Some(Requests {
+            asked,
+            served: reserved,
+        })
+    } else {
+        None
+    }
+}
+
+impl Entities {
+    /// Appends the image of the allocator: bytes from which [`read_image`](Self::read_image) makes
+    /// the same allocator anew, with its limits, living entities, rows, waiting slots and requests.
+    ///
+    /// The image tells no more than that. Two allocators that are the same to every call have the same
+    /// image, whatever came before. It has 40 bytes and 12 more for each slot that was made.
+    ///
+    /// ```
+    /// use forgeni::Entities;
+    ///
+    /// let mut entities = Entities::new();
+    /// let player = entities.alloc()?;
+    /// entities.try_set_row(player, 7)?;
+    /// let mut image = Vec::new();
+    /// entities.write_image(&mut image)?;
+    /// let again = Entities::read_image(&image)?;
+    /// assert_eq!((again.row(player), again.total()), (Some(7), 1));
+    /// # Ok::<(), Box<dyn std::error::Error>>(())
+    /// ```
+    ///
+    /// # Errors
+    ///
+    /// [`OutOfMemory`](Memory) if there is no memory for the bytes. The list is unchanged then.
+    ///
+    /// <details><summary>Contract</summary>
+    ///
+    /// In the words of the folder `specs/` of crate `ent_alloc`:
+    ///
+    /// ```text
+    /// ensures written { OnOk result (out.new.items ≡ out.old.items ++ image self.now) }
+    /// ensures has_image { OnOk result (HasImage self.now) }
+    /// ensures unchanged { OnErr result (out.new.items ≡ out.old.items) }
+    /// ensures capacity { OnErr result (vec_capacity out.new ≡ vec_capacity out.old) }
+    ///
+    /// // Memory runs out only for a list that lacks room.
+    /// ensures memory { OnErr result
+    ///     (vec_capacity out.old < vec_len out.old + (40 + 12 * self.now.allocator.made)) }
+    /// ```
+    ///
+    /// </details>
+    #[inline]
+    pub fn write_image(&self, out: &mut Vec<u8>) -> Result<(), Memory> {
+        out.reserve_fallibly(HEADER + SLOT * self.total() as usize)?;
+        write_header(self.header(), out);
+        self.slots.write_image(out);
+        Ok(())
+    }
+
+    /// The allocator whose image these bytes are, all of them.
+    ///
+    /// The bytes may come from anywhere. Each image that [`write_image`](Self::write_image) writes is
+    /// read as the same allocator, which gives no handle that was given before. Bytes that are the
+    /// image of no allocator are refused. The call takes at most 16 bytes of memory for the 12 of a
+    /// slot, and none before it has compared the number of slots with the length.
+    ///
+    /// # Errors
+    ///
+    /// Each but [`Memory`](ImageFault::Memory) says that no allocator has this image.
+    ///
+    /// - [`ImageFault::Magic`] if the bytes don't begin as an image does.
+    /// - [`ImageFault::Version`] if the image is of another version of the format.
+    /// - [`ImageFault::Limits`] if no allocator may have such limits.
+    /// - [`ImageFault::Counts`] if more slots were made than the limits allow, or more wait than were
+    ///   made.
+    /// - [`ImageFault::Requests`] if no requests reserve so many handles.
+    /// - [`ImageFault::Length`] if there are fewer or more bytes than an image of so many slots has.
+    /// - [`ImageFault::Slot`] with the first slot that can't be so.
+    /// - [`ImageFault::Position`] with the first position that no slot waits at.
+    /// - [`ImageFault::Memory`] if there is no memory for the slots.
+    ///
+    /// <details><summary>Contract</summary>
+    ///
+    /// In the words of the folder `specs/` of crate `ent_alloc`:
+    ///
+    /// ```text
+    /// ensures found { IfOk result (λ e. image e ≡ bytes.now) }
+    /// ensures has_image { IfOk result HasImage }
+    ///
+    /// // What is refused is the image of no allocator.
+    /// ensures refused { IfErr result (λ fault. fault ≢ ImageFault.Memory → (e : Entities)
+    ///     → HasImage e → image e ≢ bytes.now) }
+    ///
+    /// // The image of an allocator is read as this allocator, unless memory runs out.
+    /// ensures exact { (e : Entities) → HasImage e → image e ≡ bytes.now
+    ///     → (result ≡ Ok e) ⊎ (result ≡ Err ImageFault.Memory) }
+    ///
+    /// // What was given before the image was written is not given again by what is read.
+    /// ensures given_once { (e : Entities) (given : List Handle) → HasImage e
+    ///     → image e ≡ bytes.now → AreSpent e.allocator given
+    ///     → IfOk result (λ r. AreSpent r.allocator given) }
+    /// ```
+    ///
+    /// </details>
+    #[inline]
+    pub fn read_image(bytes: &[u8]) -> Result<Self, ImageFault> {
+        Entities::of_image(bytes)
+    }
+
+    /// What `read_image` returns.
+    #[inline]
+    fn of_image(bytes: &[u8]) -> Result<Self, ImageFault>
+        // ensures found { IfOk result (λ e. image e ≡ bytes.now) }
+        // ensures has_image { IfOk result HasImage }
+        // ensures refused { IfErr result (λ fault. fault ≢ ImageFault.Memory → (e : Entities)
+        //     → HasImage e → image e ≢ bytes.now) }
+    {
+        let (header, slots) = read_header(bytes)?;
+        let Some(limits) = Limits::new(header.slots, header.generations) else {
+            return Err(ImageFault::Limits);
+        };
+        if header.made > header.slots || header.waiting > header.made {
+            return Err(ImageFault::Counts);
+        }
+        let available = header.waiting + (header.slots - header.made);
+        let Some(requests) = requests_of(header.asked, header.reserved, available) else {
+            return Err(ImageFault::Requests);
+        };
+        if slots.len() != SLOT * header.made as usize {
+            return Err(ImageFault::Length {
+                expected: (HEADER + SLOT * header.made as usize) as u64,
+            });
+        }
+        let slots = Slots::read_image(limits, header.made, header.waiting, slots)?;
+        Ok(Entities { slots, requests })
+    }
+
+    /// The numbers before the slots.
+    #[inline]
+    fn header(&self) -> Header
+        // ensures { result ≡ header self.now }
+    {
+        Header {
+            slots: self.slots.limits().slots(),
+            generations: self.slots.limits().generations(),
+            made: self.total(),
+            waiting: self.top(),
+            reserved: self.reserved(),
+            asked: self.asked(),
+        }
+    }
+}

@@ -1,0 +1,72 @@
+// Made of crates/ent_alloc/src/image_fault.rt by rust/erase. It isn't edited by hand.
+
+use crate::proved::ent_handle::Memory;
+use crate::kit::alloc::AllocError;
+
+/// Why bytes were not read as the image of an allocator: the first fault from the left.
+#[derive(Clone, Copy, Debug, PartialEq, Eq, Hash)]
+pub enum ImageFault {
+    /// The bytes don't begin as an image does.
+    Magic,
+    /// The image is of another version of the format.
+    Version {
+        /// The version that the image names.
+        version: u32,
+    },
+    /// The limits are none that an allocator may have.
+    Limits,
+    /// More slots were made than the limits allow, or more wait than were made.
+    Counts,
+    /// There are fewer bytes than an image of so many slots has, or more.
+    Length {
+        /// How many bytes the image has to have.
+        expected: u64,
+    },
+    /// So many handles can't be reserved where so many were asked for.
+    Requests,
+    /// The slot is none that an allocator may have: a generation out of range, a word that names no
+    /// kind of slot, or a position that is past the last one or that another slot waits at.
+    Slot {
+        /// The index of the slot.
+        index: u32,
+    },
+    /// No slot waits at a position.
+    Position {
+        /// The position, counted from that of the slot that is given last.
+        position: u32,
+    },
+    /// Out of memory.
+    Memory,
+}
+
+impl core::fmt::Display for ImageFault {
+    fn fmt(&self, f: &mut core::fmt::Formatter<'_>) -> core::fmt::Result {
+        match self {
+            ImageFault::Magic => write!(f, "not an image of an allocator"),
+            ImageFault::Version { version } => write!(f, "version {version} is not known"),
+            ImageFault::Limits => write!(f, "limits out of range"),
+            ImageFault::Counts => write!(f, "more slots than there may be"),
+            ImageFault::Length { expected } => write!(f, "{expected} bytes expected"),
+            ImageFault::Requests => write!(f, "requests that can't have been made"),
+            ImageFault::Slot { index } => write!(f, "slot {index} is damaged"),
+            ImageFault::Position { position } => write!(f, "no slot waits at position {position}"),
+            ImageFault::Memory => write!(f, "out of memory"),
+        }
+    }
+}
+
+impl core::error::Error for ImageFault {}
+
+impl From<AllocError> for ImageFault {
+    #[inline]
+    fn from(_refused: AllocError) -> Self {
+        ImageFault::Memory
+    }
+}
+
+impl From<Memory> for ImageFault {
+    #[inline]
+    fn from(_refused: Memory) -> Self {
+        ImageFault::Memory
+    }
+}

@@ -1,0 +1,243 @@
+// Made of crates/ent_alloc/src/image_slots.rt by rust/erase. It isn't edited by hand.
+
+//! The slots of an image: what is written of their records.
+
+use alloc::vec::Vec;
+use crate::kit::vec::FallibleVec;
+use crate::proved::ent_alloc::image_fault::ImageFault;
+use crate::proved::ent_alloc::limits::Limits;
+use crate::proved::ent_alloc::slot_record::{Occupancy, SlotRecord};
+use crate::kit::alloc::AllocError;
+
+/// What a position has that no slot was read for yet.
+pub(super) const VACANT: u32 = u32::MAX;
+
+/// Appends a number in four bytes. There is room for them.
+#[inline]
+pub(super) fn write_word(out: &mut Vec<u8>, number: u32)
+    // requires { vec_len out.old + 4 ≤ vec_capacity out.old }
+    // ensures items { out.new.items ≡ out.old.items ++ word number }
+    // ensures len { vec_len out.new ≡ vec_len out.old + 4 }
+    // ensures capacity { vec_capacity out.old ≤ vec_capacity out.new }
+{
+    let _ = out.extend_from_slice_fallibly(&number.to_le_bytes());
+}
+
+/// The number in four bytes.
+#[inline]
+fn number_in(bytes: [u8; 4]) -> u32
+    // ensures { bytes ≡ word result }
+{
+    u32::from_le_bytes(bytes)
+}
+
+/// The number in the first four bytes, and the bytes after them.
+#[inline]
+pub(super) fn read_word(bytes: &[u8]) -> (u32, &[u8])
+    // requires { 4 ≤ length bytes.now }
+    // ensures bytes { bytes.now ≡ word result.0 ++ result.1.now }
+    // ensures len { length bytes.now ≡ 4 + length result.1.now }
+{
+    let (first, rest) = bytes.split_first_chunk().unwrap();
+    (number_in(*first), rest)
+}
+
+/// The three words of a slot.
+#[inline]
+fn words_of(slot: SlotRecord) -> (u32, u32, u32)
+    // ensures generation { result.0 ≡ (kept slot).generation }
+    // ensures kind { result.1 ≡ kind_of slot.occupancy }
+    // ensures number { result.2 ≡ number_of slot.occupancy }
+    // ensures fits { number_of slot.occupancy < 2 ^ 32 }
+{
+    match slot.occupancy {
+        Occupancy::Retired => (0, 0, 0),
+        Occupancy::Alive => (slot.generation, 1, 0),
+        Occupancy::AliveWithRow { row } => (slot.generation, 2, row),
+        Occupancy::Pending { position } => (slot.generation, 3, position),
+    }
+}
+
+/// Appends a slot. There is room for it.
+#[inline]
+fn write_slot(slot: SlotRecord, out: &mut Vec<u8>)
+    // requires { vec_len out.old + 12 ≤ vec_capacity out.old }
+    // ensures items { out.new.items ≡ out.old.items ++ record_bytes slot }
+    // ensures fits { number_of slot.occupancy < 2 ^ 32 }
+    // ensures len { vec_len out.new ≡ vec_len out.old + 12 }
+    // ensures capacity { vec_capacity out.old ≤ vec_capacity out.new }
+{
+    let (generation, kind, number) = words_of(slot);
+    write_word(out, generation);
+    write_word(out, kind);
+    write_word(out, number);
+}
+
+/// Appends the slots, by rising index. There is room for them.
+#[inline]
+pub(super) fn write_slots(records: &[SlotRecord], out: &mut Vec<u8>)
+    // requires { vec_len out.old + 12 * length records.now ≤ vec_capacity out.old }
+    // ensures written { out.new.items ≡ out.old.items ++ flat_map record_bytes records.now }
+    // ensures fits { (index : ℕ) → index < length records.now
+    //     → number_of (record_at records.now index).occupancy < 2 ^ 32 }
+{
+    for record in records {
+        write_slot(*record, out);
+    }
+}
+
+/// The record that three words tell of; `None` if no slot within the limits is so written.
+#[inline]
+fn record_of(limits: Limits, generation: u32, kind: u32, number: u32) -> Option<SlotRecord>
+    // ensures generation { IfSome result (λ s. (kept s).generation ≡ generation) }
+    // ensures kind { IfSome result (λ s. kind_of s.occupancy ≡ kind) }
+    // ensures number { IfSome result (λ s. number_of s.occupancy ≡ number) }
+    // ensures within { IfSome result (λ s. IsGeneration limits s.generation) }
+    // ensures limited { AreLimits limits }
+    // ensures none { IfNone result ((s : SlotRecord) → IsWritten limits s.generation s.occupancy
+    //     → s.generation ≡ generation → kind_of s.occupancy ≡ kind → number_of s.occupancy ≢ number) }
+{
+    let within = 1 <= generation && generation <= limits.generations();
+    let occupancy = match kind {
+        0 if generation == 0 && number == 0 => {
+            return Some(SlotRecord {
+                generation: limits.generations(),
+                occupancy: Occupancy::Retired,
+            });
+        }
+        1 if within && number == 0 => Occupancy::Alive,
+        2 if within => Occupancy::AliveWithRow { row: number },
+        3 if within => Occupancy::Pending { position: number },
+        _ => return None,
+    };
+    Some(SlotRecord {
+        generation,
+        occupancy,
+    })
+}
+
+/// Lets a slot wait where its record says. Whether there is such a position and none other waits
+/// there; if not, nothing changes.
+#[inline]
+fn admit(pending: &mut [u32], slot: SlotRecord, index: u32) -> bool
+    // ensures waits { IsTrue result → CanWait pending.old slot.occupancy }
+    // ensures placed { IsTrue result → pending.new ≡ with_waiting pending.old slot.occupancy index }
+    // ensures refused { result ≡ false → ¬ (CanWait pending.old slot.occupancy) }
+{
+    match slot.occupancy {
+        Occupancy::Pending { position } => {
+            let position = position as usize;
+            if position >= pending.len() || pending[position] != VACANT {
+                return false;
+            }
+            pending[position] = index;
+            true
+        }
+        Occupancy::Alive | Occupancy::AliveWithRow { .. } | Occupancy::Retired => true,
+    }
+}
+
+/// The slot that bytes begin with, and the bytes after it; `None` if no slot within the limits is so
+/// written.
+#[inline]
+fn read_slot(bytes: &[u8], limits: Limits) -> Option<(SlotRecord, &[u8])>
+    // requires { 12 ≤ length bytes.now }
+    // ensures bytes { IfSome result (λ s. bytes.now ≡ record_bytes s.0 ++ s.1.now) }
+    // ensures within { IfSome result (λ s. IsGeneration limits s.0.generation) }
+    // ensures fits { IfSome result (λ s. number_of s.0.occupancy < 2 ^ 32) }
+    // ensures none { IfNone result ((s : SlotRecord) (rest : List ℕ)
+    //     → IsWritten limits s.generation s.occupancy → bytes.now ≢ slot_bytes s ++ rest) }
+{
+    let (generation, rest) = read_word(bytes);
+    let (kind, rest) = read_word(rest);
+    let (number, rest) = read_word(rest);
+    let slot = record_of(limits, generation, kind, number)?;
+    Some((slot, rest))
+}
+
+/// How many living entities have the slot: one or none.
+#[inline]
+fn occupants_of(slot: SlotRecord) -> u32
+    // ensures value { result ≡ (if is_alive slot.occupancy then 1 else 0) }
+    // ensures most { result ≤ 1 }
+{
+    if slot.is_alive() { 1 } else { 0 }
+}
+
+/// The first position that no slot waits at.
+#[inline]
+fn vacant_position(pending: &[u32]) -> Option<usize>
+    // ensures some { IfSome result (λ position. position < length pending.now) }
+    // ensures is { IfSome result (λ position. slice_index pending.now position ≡ vacant) }
+    // ensures none { IfNone result ((position : ℕ) → position < length pending.now
+    //     → slice_index pending.now position ≢ vacant) }
+{
+    pending.iter().position(|index| *index == VACANT)
+}
+
+/// That many positions, at which no slot waits yet.
+#[inline]
+fn vacant_positions(count: u32) -> Result<Vec<u32>, AllocError>
+    // ensures { IfOk result (λ positions. positions.items ≡ replicate count vacant) }
+{
+    let mut positions = Vec::with_capacity_fallibly(count as usize)?;
+    for _position in 0..count {
+        positions.push_reserved(VACANT);
+    }
+    Ok(positions)
+}
+
+/// What is read of the slots of an image.
+pub(super) struct SlotLists {
+    pub(super) records: Vec<SlotRecord>,
+    pub(super) pending: Vec<u32>,
+    pub(super) live: u32,
+}
+
+/// Reads that many slots, of which so many wait, and no more bytes than they have.
+#[inline]
+pub(super) fn read_slots(
+    limits: Limits,
+    made: u32,
+    waiting: u32,
+    bytes: &[u8],
+) -> Result<SlotLists, ImageFault>
+    // requires long { length bytes.now ≡ 12 * made }
+    // requires few { made ≤ limits.slots }
+    // ensures read { IfOk result (λ l. AreRead limits l.records.items l.pending.items l.live) }
+    // ensures limited { AreLimits limits }
+    // ensures made { IfOk result (λ l. length l.records.items ≡ made) }
+    // ensures waiting { IfOk result (λ l. length l.pending.items ≡ waiting) }
+    // ensures taken { IfOk result (λ l. (position : ℕ) → position < waiting
+    //     → slice_index l.pending.items position ≢ vacant) }
+    // ensures bytes { IfOk result (λ l. flat_map record_bytes l.records.items ≡ bytes.now) }
+    // ensures refused { IfErr result (λ fault. fault ≢ ImageFault.Memory → (r : Roster) → AreSlots r
+    //     → r.limits ≡ limits → r.made ≡ made → length r.pending ≡ waiting
+    //     → slots_bytes r ≢ bytes.now) }
+{
+    let mut records = Vec::with_capacity_fallibly(made as usize)?;
+    let mut pending = vacant_positions(waiting)?;
+    let mut live = 0;
+    let mut rest = bytes;
+    for index in 0..made {
+        let Some((slot, left)) = read_slot(rest, limits) else {
+            return Err(ImageFault::Slot { index });
+        };
+        if !admit(&mut pending, slot, index) {
+            return Err(ImageFault::Slot { index });
+        }
+        live += occupants_of(slot);
+        records.push_reserved(slot);
+        rest = left;
+    }
+    match vacant_position(&pending) {
+        Some(position) => Err(ImageFault::Position {
+            position: position as u32,
+        }),
+        None => Ok(SlotLists {
+            records,
+            pending,
+            live,
+        }),
+    }
+}

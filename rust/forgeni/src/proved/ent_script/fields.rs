@@ -1,0 +1,129 @@
+// Made of crates/ent_script/src/fields.rt by rust/erase. It isn't edited by hand.
+
+use crate::proved::ent_script::elements::is_among;
+use crate::proved::ent_script::part::{Part, read_part};
+use crate::proved::ent_script::read_fault::ReadFault;
+use crate::kit::programs::json::Reader;
+
+/// Whether the key is one of these, as those before it are.
+#[inline]
+fn are_among(are: bool, key: &str, allowed: &[&str]) -> bool
+    // ensures { (d : Data) (ms : Members) → AreAmong (map (λ name. name.now) allowed.now) are ms
+    //     → AreAmong (map (λ name. name.now) allowed.now) result (put key.now d ms) }
+{
+    are && is_among(key, allowed)
+}
+
+/// Which kinds of operation have each of the keys that were read.
+#[derive(Clone, Copy)]
+pub(super) struct Kinds {
+    pub(super) spawn: bool,
+    pub(super) spawn_many: bool,
+    pub(super) insert: bool,
+    pub(super) remove: bool,
+    pub(super) despawn: bool,
+}
+
+impl Kinds {
+    /// The kinds of these that have the key too.
+    #[inline]
+    fn with(self, key: &str) -> Self
+        // ensures { (d : Data) (ms : Members) → AreKinds self ms
+        //     → AreKinds result (put key.now d ms) }
+    {
+        Kinds {
+            spawn: are_among(self.spawn, key, &["spawn", "as"]),
+            spawn_many: are_among(self.spawn_many, key, &["spawn_many", "with", "as"]),
+            insert: are_among(self.insert, key, &["insert", "on"]),
+            remove: are_among(self.remove, key, &["remove", "on"]),
+            despawn: are_among(self.despawn, key, &["despawn"]),
+        }
+    }
+}
+
+/// What stands under each key that an operation may have.
+pub(super) struct Fields<'a> {
+    pub(super) spawn: Option<Part<'a>>,
+    pub(super) spawn_many: Option<Part<'a>>,
+    pub(super) insert: Option<Part<'a>>,
+    pub(super) remove: Option<Part<'a>>,
+    pub(super) despawn: Option<Part<'a>>,
+    pub(super) with: Option<Part<'a>>,
+    pub(super) on: Option<Part<'a>>,
+    /// Under `as`.
+    pub(super) binds: Option<Part<'a>>,
+    /// Which kinds have all of the keys, also of those that no kind has.
+    pub(super) kinds: Kinds,
+}
+
+impl<'a> Fields<'a> {
+    /// Those of an object with no keys.
+    #[inline]
+    fn none() -> Self
+        // ensures { AreFields result no_members }
+    {
+        Fields {
+            spawn: None,
+            spawn_many: None,
+            insert: None,
+            remove: None,
+            despawn: None,
+            with: None,
+            on: None,
+            binds: None,
+            kinds: Kinds {
+                spawn: true,
+                spawn_many: true,
+                insert: true,
+                remove: true,
+                despawn: true,
+            },
+        }
+    }
+
+    /// Puts a part under a key. Of a key that comes twice the last part counts.
+    #[inline]
+    fn put(&mut self, key: &str, part: Part<'a>)
+        // ensures { (d : Data) (ms : Members) → data_of part.entry ≡ cut 1 d → AreFields self.old ms
+        //     → AreFields self.new (put key.now d ms) }
+    {
+        self.kinds = self.kinds.with(key);
+        if key == "spawn" {
+            self.spawn = Some(part);
+        } else if key == "as" {
+            self.binds = Some(part);
+        } else if key == "insert" {
+            self.insert = Some(part);
+        } else if key == "on" {
+            self.on = Some(part);
+        } else if key == "remove" {
+            self.remove = Some(part);
+        } else if key == "despawn" {
+            self.despawn = Some(part);
+        } else if key == "spawn_many" {
+            self.spawn_many = Some(part);
+        } else if key == "with" {
+            self.with = Some(part);
+        }
+    }
+}
+
+/// The fields of an object, of which the brace was taken.
+#[inline]
+pub(super) fn read_fields<'a>(
+    reader: &mut Reader<'a>,
+    depth: usize,
+) -> Result<Fields<'a>, ReadFault>
+    // ensures value { (n : ℕ) (ms : Members) (rest : List SpecToken)
+    //     → converted (λ ms. of_members ms no_members) (members (value depth) n reader.old)
+    //     ≡ Some (ms, rest) → ReadsFields result reader.new ms rest }
+    // ensures shorter { OnOk result (length reader.new ≤ length reader.old) }
+    // ensures no_longer { length reader.new ≤ length reader.old }
+{
+    let mut fields = Fields::none();
+    'members: while let Some(key) = reader.next_key()? {
+        let part = read_part(reader, depth)?;
+        fields.put(key, part);
+    }
+    Ok(fields)
+}

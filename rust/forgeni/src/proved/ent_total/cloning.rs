@@ -1,0 +1,58 @@
+// Made of crates/ent_total/src/cloning.rt by rust/erase. It isn't edited by hand.
+
+//! Clones of a world, as snapshots that a program goes back to.
+
+use crate::proved::ent_total::world::World;
+use crate::proved::ent_handle::Memory;
+
+/// Another world in the same state, with this number. So the queues of one are refused by the other.
+///
+/// # Errors
+///
+/// `Memory`. It never comes if no slot was made and there are no entities.
+///
+/// <details><summary>Contract</summary>
+///
+/// In the words of the folder `specs/` of crate `ent_total`:
+///
+/// ```text
+/// ensures ok { IfOk result (λ clone. clone ≡ record world.now { number = number }) }
+/// ensures memory { OnErr result ((0 < world.now.world.allocator.made)
+///     ⊎ (world.now.world.entities ≢ map.empty)) }
+/// ```
+///
+/// </details>
+#[inline]
+pub fn clone_world(world: &World, number: u64) -> Result<World, Memory> {
+    Ok(World {
+        world: world.world.try_clone()?,
+        number,
+        spawned: world.spawned,
+    })
+}
+
+/// Makes a world the same as another, with this number. So queues from before are refused.
+///
+/// # Errors
+///
+/// `Memory`, with the world as it was. It never comes if the source has no slots and no entities.
+///
+/// <details><summary>Contract</summary>
+///
+/// In the words of the folder `specs/` of crate `ent_total`:
+///
+/// ```text
+/// ensures ok { OnOk result (world.new ≡ record source.now { number = number }) }
+/// ensures err { OnErr result (world.new ≡ world.old) }
+/// ensures memory { OnErr result ((0 < source.now.world.allocator.made)
+///     ⊎ (source.now.world.entities ≢ map.empty)) }
+/// ```
+///
+/// </details>
+#[inline]
+pub fn clone_world_from(world: &mut World, source: &World, number: u64) -> Result<(), Memory> {
+    world.world.try_clone_from(&source.world)?;
+    world.number = number;
+    world.spawned = source.spawned;
+    Ok(())
+}
