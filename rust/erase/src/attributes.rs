@@ -106,9 +106,10 @@ impl Walk<'_> {
             let what = "`Clone` without `Copy`, which may fail in the kit and not in Rust";
             return Err(self.source.fault(at, what));
         }
+        let of = self.type_after(end);
         let kept = names
             .iter()
-            .filter(|name| forms::KEPT_DERIVES.contains(name));
+            .filter(|name| forms::keeps_derive(self.krate, of, name));
         let kept: Vec<&str> = kept.chain(added).copied().collect();
         if kept.is_empty() {
             self.cut_lines(at, end)?;
@@ -120,13 +121,18 @@ impl Walk<'_> {
 
     /// Whether each field of the type that comes after this place can be copied.
     fn is_of_copies(&self, at: usize) -> bool {
-        let mut words = (at..).take_while(|at| self.source.at(*at) != "{");
-        let of = words
-            .find(|at| self.source.at(*at) == "struct")
-            .map(|at| self.source.at(at + 1));
+        let of = self.type_after(at);
         forms::OF_COPIES
             .iter()
             .any(|it| it.0 == self.krate && Some(it.1) == of)
+    }
+
+    /// The name of the type that comes after this place.
+    fn type_after(&self, at: usize) -> Option<&str> {
+        let mut words = (at..).take_while(|at| self.source.at(*at) != "{");
+        words
+            .find(|at| ["struct", "enum"].contains(&self.source.at(*at)))
+            .map(|at| self.source.at(at + 1))
     }
 
     /// The place after the visibility that begins here.

@@ -218,12 +218,15 @@ impl Audit<'_> {
     /// What stays of the derive whose `[` stands here in the source, and what comes to it.
     fn kept_derives(&self, open: usize) -> Vec<&str> {
         let names = (open + 3..self.source.partner(open)).map(|at| self.source.at(at));
-        let kept = names.filter(|name| forms::KEPT_DERIVES.contains(name));
-        let end = self.source.partner(open) + 1;
+        let mut end = self.source.partner(open) + 1;
+        while self.source.at(end) == "#" {
+            end = self.source.partner(end + 1) + 1;
+        }
         let name = end + 1 + usize::from(self.source.at(end) == "pub");
         let (word, name) = (self.source.at(name - 1), self.source.at(name));
         let is_compared = word == "struct" && forms::compared(self.krate, name).is_some();
         let is_data = ["struct", "enum"].contains(&word) && forms::is_data(self.krate, name);
+        let kept = names.filter(|it| forms::keeps_derive(self.krate, Some(name), it));
         let added = match (is_compared, is_data) {
             (true, _) => forms::EQUALITY,
             (_, true) => forms::OF_DATA,

@@ -8,6 +8,7 @@ pub const GHOST_MEMBERS: &[&str] = &[
     "both",
     "cmp",
     "coded",
+    "contents",
     "eq",
     "first",
     "from_gives",
@@ -121,6 +122,7 @@ const KEPT_TRAITS: &[KeptTrait] = &[
     kept("Play", &[]),
     kept("Split", &[]),
     kept("TableRule", &[]),
+    kept("Write", &["flush", "write"]),
 ];
 
 /// The trait of std or of the kit of this name.
@@ -227,6 +229,7 @@ const fn list_call(from: &'static str, arguments: usize, to: &'static str) -> Li
 pub const LIST_CALLS: &[ListCall] = &[
     list_call("capacity", 0, "sized_capacity"),
     list_call("extend_from_slice", 1, "extend_from_slice_fallibly"),
+    list_call("extend_with_clones", 1, "extend_from_slice_fallibly"),
     list_call("insert", 2, "insert_fallibly"),
     list_call("push", 1, "push_fallibly"),
     list_call("push_reserved", 1, "push_reserved"),
@@ -369,7 +372,7 @@ pub const KEYWORDS: &[&str] = &[
 pub const ITEM_WORDS: &[&str] = &["const", "enum", "impl", "mod", "struct", "trait", "type"];
 
 /// What a type of the sources has by a trait of std, and may be called by a path.
-pub const GIVEN: &[&str] = &["Item", "default", "from"];
+pub const GIVEN: &[&str] = &["File", "Item", "default", "from"];
 
 /// A module of the kit's std, or a crate of the kit's.
 pub struct Module {
@@ -544,6 +547,15 @@ pub const RENAMED_FUNCTIONS: &[RenamedFunction] = &[RenamedFunction {
     from: "new",
     to: "with_exact_limits",
 }];
+
+/// Types whose `Debug` the package has by hand, since their name is another one there: the crate and the type.
+const SHOWN_BY_HAND: &[(&str, &str)] = &[("ent_handle", "Memory"), ("ent_world", "SyncReport")];
+
+/// Whether a derive of this type of this crate keeps this name.
+pub fn keeps_derive(krate: &str, of: Option<&str>, name: &str) -> bool {
+    let is_by_hand = |it: &(&str, &str)| it.0 == krate && Some(it.1) == of;
+    KEPT_DERIVES.contains(&name) && (name != "Debug" || !SHOWN_BY_HAND.iter().any(is_by_hand))
+}
 
 /// Types that derive `Clone` and aren't `Copy`, though each of their fields is: the crate and the type. So `clone` can't
 /// fail in the kit either. They are iterators.

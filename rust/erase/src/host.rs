@@ -44,8 +44,9 @@ const MODULES: &[Module] = &[
         "crate::host::collections",
         &["BTreeMap", "HashMap"],
     ),
+    module("std::cell", "core::cell", &["Cell"]),
     module("std::env", "crate::host::env", &["args"]),
-    module("std::fs", "crate::host::fs", &["read_to_string"]),
+    module("std::fs", "crate::host::fs", &["File", "read_to_string"]),
     module(
         "std::io",
         "std::io",
@@ -132,6 +133,7 @@ const METHODS: &[&str] = &[
     "wrapping_add",
     "wrapping_mul",
     "wrapping_sub",
+    "write",
     "write_all",
     "write_text",
 ];
@@ -140,8 +142,13 @@ const ASSOCIATED: &[Associated] = &[
     ("AtomicBool", &["new"]),
     ("AtomicU32", &["new"]),
     ("Error", &["from"]),
-    ("ErrorKind", &["Interrupted", "TimedOut"]),
+    (
+        "ErrorKind",
+        &["BrokenPipe", "Interrupted", "OutOfMemory", "TimedOut"],
+    ),
+    ("Cell", &["new"]),
     ("Fail", &["new"]),
+    ("File", &["open"]),
     ("HashMap", &["new"]),
     ("Ordering", &["Equal", "Greater", "Less", "SeqCst"]),
     ("String", &["from_str", "new", "with_capacity"]),

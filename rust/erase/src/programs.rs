@@ -64,6 +64,7 @@ const MODULES: &[Module] = &[
         "crate::kit::programs::simdutf8::basic",
         &["from_utf8"],
     ),
+    module("std::cell", "core::cell", &["Cell"]),
     module("std::convert", "crate::kit::programs::string", &["AsStr"]),
     module("std::env", "crate::kit::programs::env", &["Env", "args"]),
     module(
@@ -83,7 +84,9 @@ const MODULES: &[Module] = &[
             "Write",
         ],
     ),
+    module("std::fs", "crate::kit::programs::fs", &["File"]),
     module("std::process", "std::process", &["ExitCode"]),
+    module("std::rt", "crate::kit::programs::rt", &["Files"]),
     module(
         "std::time",
         "crate::kit::programs::time",
@@ -145,6 +148,7 @@ const METHODS: &[&str] = &[
     "partition_point",
     "range",
     "read",
+    "starts_with",
     "stderr",
     "stdin",
     "stdout",
@@ -158,20 +162,30 @@ const METHODS: &[&str] = &[
     "try_get_matches_from",
     "value_name",
     "value_parser",
+    "version",
+    "write",
     "write_all",
 ];
 
 const ASSOCIATED: &[Associated] = &[
     ("Arg", &["new"]),
     ("ArgAction", &["Set"]),
+    ("Cell", &["new"]),
     ("Command", &["new"]),
     ("Duration", &["from_secs"]),
     ("Error", &["from"]),
     (
         "ErrorKind",
-        &["Interrupted", "InvalidData", "OutOfMemory", "TimedOut"],
+        &[
+            "BrokenPipe",
+            "Interrupted",
+            "InvalidData",
+            "OutOfMemory",
+            "TimedOut",
+        ],
     ),
     ("ExitCode", &["from"]),
+    ("File", &["open"]),
     ("InlineText", &["new", "of"]),
     ("Instant", &["now"]),
     ("Map", &["new"]),

@@ -69,3 +69,31 @@ fn bare_names_of_programs() {
         "#[inline]\nfn a(b: f64) {\n    drop(b);\n}\n",
     );
 }
+
+#[test]
+fn a_writer_of_the_sources_is_one_of_std() {
+    gives(
+        "use std::io;\nuse std::io::Write;\n\nstruct Over<W> {\n    a: W,\n}\n\nimpl<W: Write> Write for Over<W> {\n    \
+         ghost contents = { λ b. W.contents b.a };\n\n    fn write(&mut self, b: &[u8]) -> io::Result<usize> {\n        \
+         self.a.write(b)\n    }\n\n    fn flush(&mut self) -> io::Result<()> {\n        self.a.flush()\n    }\n}\n",
+        "use std::io;\nuse std::io::Write;\n\nstruct Over<W> {\n    a: W,\n}\n\nimpl<W: Write> Write for Over<W> {\n    \
+         #[inline]\n    fn write(&mut self, b: &[u8]) -> io::Result<usize> {\n        self.a.write(b)\n    }\n\n    \
+         #[inline]\n    fn flush(&mut self) -> io::Result<()> {\n        self.a.flush()\n    }\n}\n",
+    );
+    let other =
+        "use std::io;\nuse std::io::Write;\n\nstruct Over {}\n\nimpl Write for Over {\n    \
+         fn by_ref(&mut self) -> u8 {\n        1\n    }\n}\n";
+    assert!(erased_program(other).is_err());
+}
+
+#[test]
+fn a_file_is_opened_by_its_runtime() {
+    gives(
+        "use std::fs::File;\nuse std::rt::Files;\n\nfn a<R: Files>(b: &R, c: &str) -> Option<R::File> {\n    \
+         File::open(b, c).ok()\n}\n",
+        "use crate::kit::programs::fs::File;\nuse crate::kit::programs::rt::Files;\n\n#[inline]\n\
+         fn a<R: Files>(b: &R, c: &str) -> Option<R::File> {\n    File::open(b, c).ok()\n}\n",
+    );
+    let other = "use std::rt::Files;\n\nfn a<R: Files>(b: &R) -> Option<R::Dir> {\n    None\n}\n";
+    assert!(erased_program(other).is_err());
+}

@@ -18,5 +18,7 @@ mod made;
 #[rustfmt::skip]
 #[path = "../../forgeni/src/proved/mod.rs"]
 mod proved;
+#[path = "../../forgeni/src/shown.rs"]
+mod shown;
 mod side_by_side;
 mod values;

@@ -11,6 +11,8 @@ mod kit;
 #[rustfmt::skip]
 #[path = "../../../forgeni/src/proved/mod.rs"]
 mod proved;
+#[path = "../../../forgeni/src/shown.rs"]
+mod shown;
 
 use proved::ent_alloc::Limits;
 use proved::ent_replay::{read_schedule, write_outcome, Machine};

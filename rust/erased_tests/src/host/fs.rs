@@ -14,3 +14,14 @@ const FOLDER: &str = concat!(
 pub fn read_to_string(_rt: &impl Files, path: &str) -> io::Result<String> {
     std::fs::read_to_string(Path::new(FOLDER).join(path))
 }
+
+/// Where a file is opened by its name.
+#[derive(Debug)]
+pub enum File {}
+
+impl File {
+    /// The file of this name, open for reading.
+    pub fn open<R: Files>(rt: &R, name: &str) -> io::Result<R::File> {
+        rt.open_file(name)
+    }
+}

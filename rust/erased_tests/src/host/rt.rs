@@ -23,7 +23,13 @@ pub fn printed() -> String {
 pub trait Abort {}
 
 /// The right to read files.
-pub trait Files {}
+pub trait Files {
+    /// A file that is open.
+    type File: io::Read;
+
+    /// The file of this name, open for reading.
+    fn open_file(&self, name: &str) -> io::Result<Self::File>;
+}
 
 /// The right to allocate.
 pub trait AllocGlobal {}
@@ -39,7 +45,13 @@ impl Abort for HostRuntime {}
 
 impl AllocGlobal for HostRuntime {}
 
-impl Files for HostRuntime {}
+impl Files for HostRuntime {
+    type File = std::fs::File;
+
+    fn open_file(&self, name: &str) -> io::Result<Self::File> {
+        std::fs::File::open(name)
+    }
+}
 
 impl Print for HostRuntime {}
 
