@@ -4,7 +4,8 @@
     both_builds.py [--cases N] [--seed N] [--kit FOLDER] [--cargo FOLDER]
 
 A case is a schedule, a script, a trace or a command line, as it has to be or spoilt in one place or in a few. All bytes of output and of
-standard error have to be the same, and the exit status. Without folders it takes what the gate has built, and what `.ci/programs.sh` has. It
+standard error have to be the same, and the exit status. No case asks for a picture (`spawnrun draw`, `tracecheck --draw`): the build by
+cargo alone draws, and `.ci/pictures.py` checks that. Without folders it takes what the gate has built, and what `.ci/programs.sh` has. It
 runs at the top of the repository.
 """
 
@@ -151,9 +152,10 @@ class Cases:
 
     def line(self):
         program = self.pick(["spawnrun", "spawnrun", "tracecheck"])
-        options = ["--slots", "--generations", "--workers", "--show", "--help", "--worker", "--slot", "--shows", "--halp", "--generation", "--x", "--", "--version", "-V"]
+        options = ["--slots", "--generations", "--workers", "--show", "--help", "--worker", "--slot", "--shows", "--halp", "--generation", "--x", "--", "--version", "--versoin", "-V"]
         values = ["1", "0", "+3", "-1", "64", "65", "4294967295", "4294967296", "2147483648", "9223372036854775808", "", "1.5", "births", "handles", "birth", "handel", "x", "é"]
-        others = ["run", "replay", "-h", "-x", "-", "rerun", "repaly", "ru", "help", "more", "--slots=2", "--show=", "--help=1", "--workers=2", "-hx", "-é"]
+        others = ["run", "replay", "-h", "-x", "-", "rerun", "repaly", "ru", "help", "more", "--slots=2", "--show=", "--help=1", "--workers=2", "-hx", "-Vx", "-hV", "--version=1", "-é"]
+        others += ["examples/one_caller.txt", "examples/data/reuse.json", "README.md", "examples"]
         words = [self.pick(["run", "replay"])] if program == "spawnrun" and self.rarely(0.6) else []
         for _ in range(self.random.randrange(4)):
             words += [self.pick(options), self.pick(values)] if self.rarely(0.5) else [self.pick(self.pick([options, values, others]))]

@@ -1,8 +1,12 @@
 #!/usr/bin/env bash
-# The package in plain Rust: its tests, its docs and its lints, with the standard library and without it, each example, which must print
-# what its first comment says, and the archive of it, which must build and pass its tests by itself in an empty folder.
+# The package in plain Rust: its tests, its docs and its lints, with the standard library and without it, and each example, which must print
+# what its first comment says. Cargo has no network and an empty folder of its own, as for somebody who has the repository and nothing else.
+# So have a package that depends on this one, and `cargo install`.
 set -eu
 cd "$(dirname "$0")/../rust/forgeni"
+empty=$(mktemp -d)
+trap 'rm -rf "$empty"' EXIT
+export CARGO_HOME=$empty/home
 if grep -rnw unsafe --include=*.rs .. | grep -v "forbid(unsafe_code)"; then
     echo "rust: unsafe code"
     exit 1
@@ -14,7 +18,7 @@ for test in tests/*.rs; do
         exit 1
     }
 done
-cargo test --offline
+cargo test --offline --locked
 # The stand-ins for the kit, as optimised code that checks for overflow.
 CARGO_PROFILE_RELEASE_OVERFLOW_CHECKS=true cargo test --offline --release --quiet --lib kit::
 RUSTDOCFLAGS="-D warnings" cargo doc --offline --no-deps
@@ -29,9 +33,14 @@ for example in examples/*.rs; do
     echo "rust/forgeni: the example $name prints what its comment says"
 done
 cargo test --offline --no-default-features
-empty=$(mktemp -d)
-trap 'rm -rf "$empty"' EXIT
-cargo package --offline --no-verify --allow-dirty --quiet --target-dir "$empty/packed"
-tar -xzf "$empty"/packed/package/forgeni-*.crate -C "$empty"
-(cd "$empty"/forgeni-* && cargo test --offline --quiet)
-echo "rust/forgeni: its archive builds by itself, and its tests pass"
+
+cargo new --quiet --vcs none "$empty/dependent"
+echo "forgeni = { path = \"$PWD\" }" >>"$empty/dependent/Cargo.toml"
+cp examples/first.rs "$empty/dependent/src/main.rs"
+(cd "$empty/dependent" && cargo run --offline --quiet | grep -qx "4000 alive")
+cargo install --offline --quiet --debug --path . --features programs --root "$empty/installed" 2>"$empty/printed" || {
+    cat "$empty/printed"
+    exit 1
+}
+"$empty/installed/bin/spawnrun" replay <../../examples/one_caller.txt | grep -qx "born 2v1 0v2"
+echo "rust/forgeni: a package that depends on it, and cargo install, need no network"

@@ -1,6 +1,6 @@
 #!/usr/bin/env bash
 # The programs `spawnrun` and `tracecheck` as cargo builds them, without a network: their kit beside an independent reader of JSON, their cases,
-# the changed answers, and the scripts of examples/ that run a program. If the gate has built the programs, both builds have to do the same on
+# the changed answers, the pictures that they draw, and the scripts of examples/ that run a program. If the gate has built the programs, both builds have to do the same on
 # random input.
 #
 #     programs.sh [CASES]     so many random cases for each comparison, by default 600
@@ -15,8 +15,11 @@ cargo build --offline --quiet --release --features programs --manifest-path rust
         tail -n 1 | grep -qx 'born 2v1 0v2'
     cargo run --offline --quiet --release --features programs --bin spawnrun -- run --show handles < ../../examples/data/reuse.json |
         tail -n 1 | grep -qx 'alive 4'
+    # That of docs/SCHEDULES.md.
+    cargo run --offline --quiet --release --features programs --bin spawnrun -- draw < ../../examples/two_callers.txt |
+        cmp - ../../docs/pictures/two_callers.svg
 )
-(cd rust/forgeni && cargo test --offline --quiet --features programs --lib kit::)
+(cd rust/forgeni && cargo test --offline --quiet --features programs --lib -- drawing:: kit::)
 if cargo clippy --version >/dev/null 2>&1; then
     (cd rust/forgeni && cargo clippy --offline --quiet --all-targets --features programs -- -D warnings)
 fi
@@ -26,6 +29,7 @@ python3 .ci/cases.py --program "$PROGRAMS/spawnrun"
 python3 .ci/cases.py --crate tracecheck --program "$PROGRAMS/tracecheck"
 python3 .ci/changed_replies.py --program "$PROGRAMS/tracecheck"
 python3 .ci/changed_answers.py --program "$PROGRAMS/tracecheck"
+python3 .ci/pictures.py --check
 for name in at_size exit_statuses fail_each_device refuse_at_once refuse_each_allocation refuse_each_thread refuse_in_little_memory \
     scripts_in_bounded_memory tells_a_terminal; do
     echo "== examples/$name.sh"

@@ -59,11 +59,12 @@ PRELUDE = set(
 )
 METHODS = set(
     "all as_bytes as_chunks as_mut_slice as_slice binary_search binary_search_by_key capacity cast_signed cast_unsigned checked_add "
-    "checked_sub clear close_with cmp collect contains copied count enumerate extend_from_slice fetch_add fetch_sub filter format free get "
-    "get_mut insert into into_badge into_seat is_ascii_digit is_empty is_err is_none is_none_or is_some iter iter_mut join_seat len "
-    "load_new_seat map map_err max min next next_back ok ok_or parse pop position push push_reserved remove reserve resize retain reverse "
-    "saturating_add saturating_mul saturating_sub size_hint sort_by_cached_key sort_by_key sort_unstable split_at split_at_mut split_first "
-    "split_first_chunk split_last split_seat swap_remove take then to_le_bytes truncate unwrap unwrap_or word write_str write_u64".split()
+    "checked_sub clear close_with cmp collect contains copied count enumerate extend_from_slice extend_with_clones fetch_add fetch_sub "
+    "filter format free get get_mut insert into into_badge into_seat is_ascii_digit is_empty is_err is_none is_none_or is_some iter "
+    "iter_mut join_seat len load_new_seat map map_err max min next next_back ok ok_or parse pop position push push_reserved remove "
+    "reserve resize retain reverse saturating_add saturating_mul saturating_sub size_hint sort_by_cached_key sort_by_key sort_unstable "
+    "split_at split_at_mut split_first split_first_chunk split_last split_seat swap_remove take then to_le_bytes truncate unwrap "
+    "unwrap_or word write_str write_u64".split()
 )
 # Methods of a trait of these crates that another type or trait has too. Each call can mean no other method: `run` is that of `System`,
 # which `Worker` isn't, and `take` is called on a parameter `S: Sink`, which `Machine`, `Checker` and iterators aren't.
@@ -80,12 +81,15 @@ READS, WITHOUT_METHODS = {"cursor"}, {"", "either::Either"}
 LAYOUTS = dict.fromkeys(named("ent_replay: Log; ent_total: Commands Reserver"), "#[repr(align(128))]")
 LAYOUTS |= {"ent_handle::Handle": "#[repr(transparent)]"}
 WORD_TYPE, DATA = "ent_handle::Handle", named("ent_replay: Call CheckError Difference FlushReply Log Reservation ReserveReply")
+# Types whose `Debug` the package has by hand.
+SHOWN_BY_HAND = named("ent_handle: Memory; ent_world: SyncReport")
 EQUALITY = {"PartialEq": "#[inline]fneq(&self,other:&Self)->bool{self.bits==other.bits}}", "Eq": "}"}
 # The file whose texts keep a width, and functions with another name.
 PADDED, RENAMED = "ent_handle/text", {"Entities::new": "with_exact_limits"}
 RENAMED |= {f"Vec::{it}": it + "_fallibly" for it in ("from_slice", "with_capacity")}
 # Calls of the kit's list that Rust's has otherwise, with the receivers that are no lists. A wrong one doesn't compile.
-LISTS = dict.fromkeys("extend_from_slice push_reserved resize sort_by_cached_key sort_by_key".split(), "")
+LISTS = dict.fromkeys("extend_from_slice extend_with_clones push_reserved resize sort_by_cached_key sort_by_key".split(), "")
+LIST_CALLS = {"capacity": "sized_capacity", "extend_with_clones": "extend_from_slice_fallibly", "push_reserved": "push_reserved"}
 LISTS |= {"capacity": "living", "push": "living", "reserve": "] index living self shared storage"}
 LISTS |= {"insert": "blocked calls commands items last latest living queue seen self spent values"}
 KEYWORDS = set(
@@ -511,7 +515,7 @@ class Reader:
             return False
         self.use("method", name)
         if name in LISTS and self.out[-2].text not in LISTS[name].split():
-            return self.instead({"capacity": "sized_capacity", "push_reserved": name}.get(name, name + "_fallibly"), "list call")
+            return self.instead(LIST_CALLS.get(name, name + "_fallibly"), "list call")
         return self.instead("collect_in", "collect_in") if name == "collect" else self.word("NAME")
 
     def after_attribute(self, mark, _):
@@ -538,7 +542,9 @@ class Reader:
 
     def after_data(self, mark, _):
         """What only the results say of a type: its layout, more derives, and what the derive `Error` stands for."""
-        at, whole = self.first(mark, "pub", "struct", "enum"), f"{self.crate}::{self.declared}"
+        whole = f"{self.crate}::{self.declared}"
+        self.hide(mark) if whole in SHOWN_BY_HAND else None
+        at = self.first(mark, "pub", "struct", "enum")
         self.insert(at, LAYOUTS[whole], "layout") if whole in LAYOUTS else None
         self.insert(at - 2, ", PartialEq, Eq") if whole == WORD_TYPE else None
         self.insert(at - 2, ", Clone, PartialEq, Eq, Hash", "data") if whole in DATA else None
@@ -547,6 +553,13 @@ class Reader:
         head = f"impl core::fmt::Display for {self.declared} {{ fn fmt(&self, f: &mut core::fmt::Formatter<'_>) -> core::fmt::Result"
         tail = f"{{ {body} }} }} impl core::error::Error for {self.declared} {{ }}"
         self.add(head + tail, "messages") if self.errs else None
+
+    def hide(self, mark):
+        """Takes `Debug` from a derive, and the derive if that is all."""
+        at = self.first(mark, "Debug")
+        alone = self.out[at - 1].text == "(" and self.out[at + 1].text == ")"
+        del self.out[at - 4 if alone else at - 1 : at + 3 if alone else at + 1]
+        self.note("count", "shown")
 
     def after_impl(self, mark, notes):
         own, kind = self.names[0].keys() | {it for it, whole in self.imports.items() if whole in WITHOUT_METHODS}, None

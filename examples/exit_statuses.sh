@@ -1,7 +1,8 @@
 #!/bin/sh
 # Runs the program until it has ended with each of its exit statuses but 3, which `refuse_at_once.sh` shows: on input that is accepted and
-# input that is refused, on words that are no command line, on a folder, which can't be read, and into a device that is full. No contract
-# says what `main` makes of the status that `start` gives, so this is what tells. It needs `/dev/full`, and the program as `.ci/run` or
+# input that is refused, on words that are no command line, on a folder, which can't be read, into a device that is full, and into a pipe that
+# nobody reads, of which it must say nothing. The input is also a file that the last word names. No contract says what `main` makes of the
+# status that `start` gives, or what `start` takes for the input, so this is what tells. It needs `/dev/full`, and the program as `.ci/run` or
 # `prove.sh` built it. If it wasn't built, `rt`, which then proves it first.
 set -eu
 here=$(cd "$(dirname "$0")" && pwd)
@@ -58,8 +59,21 @@ ends 2 '' 'Runs schedules and scripts ' "$here/one_caller.txt" --help
 ends 2 '' 'Runs the schedule ' "$here/one_caller.txt" replay --help
 ends 2 '' 'Runs the script ' "$scripts/spawners.json" run --help
 
+ends 2 '' 'spawnrun ' "$here/one_caller.txt" --version
+
 ends 4 '' 'device' "$here" replay
 ends 4 '' 'device' "$here" run
+
+# A file that the last word names is the input, and standard input isn't read. Without such a file the word is one too many.
+ends 0 '0v1' '' "$out/object" replay "$here/one_caller.txt"
+ends 0 '0v1' '' "$out/object" replay --slots 4 "$here/one_caller.txt"
+ends 0 'frame 0' '' "$out/object" run --workers=2 "$scripts/spawners.json"
+ends 1 'refused line 1 word' 'a line must be ' "$here/one_caller.txt" replay "$out/object"
+ends 2 '' "error: unexpected argument '$out/none'" "$here/one_caller.txt" replay "$out/none"
+ends 2 '' 'error: ' "$here/one_caller.txt" replay --slots "$here/one_caller.txt"
+ends 2 '' 'error: ' "$here/one_caller.txt" replay "$here/one_caller.txt" "$here/one_caller.txt"
+ends 2 '' 'error: ' "$here/one_caller.txt" "$here/one_caller.txt"
+ends 4 '' 'device' "$here/one_caller.txt" run "$here"
 
 # full INPUT WORDS..: all that the program prints is lost.
 full() {
@@ -73,6 +87,29 @@ full() {
     }
     echo "4: spawnrun $* where nothing can be written"
 }
+
+# unread INPUT WORDS..: nobody reads what the program prints. The pipe is held open until its reader has left.
+unread() {
+    input=$1
+    shift
+    rm -f "$out/ended"
+    {
+        while [ ! -e "$out/left" ]; do sleep 0.1; done
+        "$program" "$@" <"$input" 2>"$out/said" || echo $? >"$out/ended"
+    } | { exec <&-; : >"$out/left"; }
+    rm "$out/left"
+    [ "$(cat "$out/ended")" = 4 ] && [ ! -s "$out/said" ] || {
+        echo "spawnrun $* ended with $(cat "$out/ended") where nobody reads, and said:"
+        cat "$out/said"
+        exit 1
+    }
+    echo "4: spawnrun $* where nobody reads"
+}
+
+unread "$here/one_caller.txt" replay
+unread "$scripts/spawners.json" run
+unread "$out/object" run
+unread "$out/nothing" replay "$here/one_caller.txt"
 
 full "$here/one_caller.txt" replay
 full "$scripts/spawners.json" run

@@ -45,7 +45,7 @@ try() {
         export "${variable}_RUNNER=qemu-$1" "${variable}_LINKER=$1-linux-gnu-gcc" "${variable}_RUSTFLAGS=-Ctarget-feature=+crt-static"
         # With the tests of sizes, which are for optimised code. The skipped one asks 16,384 times for a list of a gigabyte that it
         # never fills. The emulator keeps what it has mapped for each.
-        cargo test --offline --tests --no-fail-fast --target "$target" -- --include-ignored --skip the_end_of_a_credit
+        cargo test --offline --tests --no-fail-fast --target "$target" -- --include-ignored --skip commands_at_the_end_of_a_quota
     ) >"$out/printed" 2>&1 || status=$?
     [ "$status" = 0 ] || { cat "$out/printed"; exit 1; }
     passed=$(awk '/^test result: ok/ { passed += $4 } END { print passed + 0 }' "$out/printed")

@@ -47,11 +47,12 @@ says_memory() {
 }
 
 # is_of_runtime INPUT WORDS..: whether the C library or Rust's runtime takes this allocation, in a program that cargo has built: as the process
-# starts, before the program asks for any memory, about a dozen and one for each word; or as a thread starts.
+# starts, before the program asks for any memory, about a dozen and two for each word, since the program looks twice for words; or as a thread
+# starts.
 is_of_runtime() {
     [ -n "${PROGRAMS:-}" ] || return 1
     case $* in *--workers*) return 0 ;; esac
-    [ "$memory" = 0 ] && [ "$ended" -lt $((13 + $#)) ]
+    [ "$memory" = 0 ] && [ "$ended" -lt $((14 + 2 * $#)) ]
 }
 
 # Whether standard error is as in an undisturbed run, or says that there was no memory to show what was found.
@@ -123,6 +124,7 @@ each "$room/no_operation.json" run
 each "$room/events" replay --help
 each "$here/one_caller.txt" replay
 each "$here/two_callers.txt" replay
+each "$here/one_caller.txt" replay "$here/two_callers.txt"
 each "$room/targets.json" run --show handles
 each "$room/bundle.json" run --show handles
 each "$room/births.json" run

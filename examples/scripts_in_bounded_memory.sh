@@ -75,6 +75,11 @@ long = listed(listed(AWAY.ljust(249), 10000), 16)
 many = listed(listed('{"spawn_many":65536,"with":{"b":1}}', 14), 1)
 write("script_of_40_MB", script('"a","b"', long, many))
 
+# 64 bytes an operation are kept until its frame has run.
+long = listed(listed(AWAY, 10000), 128)
+many = listed(listed('{"spawn_many":65536,"with":{"b":1}}', 20), 1)
+write("long_frame_and_then_a_world", script('"a","b"', long, many))
+
 bundle = '{"%s":-9223372036854775808}' % ("n" * 32)
 many = listed(listed('{"spawn_many":63500,"with":%s}' % bundle, 16), 1)
 write("report_of_64_MiB", script('"%s"' % ("n" * 32), many))
@@ -105,5 +110,7 @@ takes components_twice 165888 1 'refused script components'
 takes frames_twice 149504 0 'alive 0'
 # The text twice, and what it means. Then the text is given back, and the frames take as much again.
 takes script_of_40_MB 153600 0 'alive 917504'
+# What the greatest world of the run takes. With the operations of the first frame it would be 130 MB more.
+takes long_frame_and_then_a_world 262144 0 'alive 1310720'
 # The report, with room to grow, and 60 bytes an entity. Room for 1,000 bytes an entity would be 1 GB.
 takes report_of_64_MiB 212992 0 'alive 1016000'

@@ -1,0 +1,49 @@
+#!/usr/bin/env bash
+# The archives of the package and of the eraser, as crates.io would have them, in an empty folder: they build by themselves, and their tests
+# pass, the package's with its programs. Then its feature `serde`, which has a stand-in in the repository: its docs and its lints, a build without the standard library, and the tests of
+# rust/serde_tests, which depend on the archive. The crates of others are Debian's.
+set -eu
+cd "$(dirname "$0")/.."
+top=$PWD
+.ci/debian.sh
+empty=$(mktemp -d)
+trap 'rm -rf "$empty"' EXIT
+
+# Cargo, with Debian's crates and no network.
+debian() {
+    command=$1
+    shift
+    cargo "$command" --config "$top/.ci/debian.toml" --offline --quiet "$@"
+}
+
+cargo package --offline --no-verify --allow-dirty --quiet --manifest-path rust/erase/Cargo.toml --target-dir "$empty/packed"
+tar -xzf "$empty"/packed/package/erase-*.crate -C "$empty"
+(cd "$empty"/erase-* && cargo test --offline --quiet)
+echo "rust/erase: its archive builds by itself, and its tests pass"
+
+(cd rust/forgeni && debian package --no-verify --allow-dirty --target-dir "$empty/packed")
+tar -xzf "$empty"/packed/package/forgeni-*.crate -C "$empty"
+mv "$empty"/forgeni-* "$empty/forgeni"
+cd "$empty/forgeni"
+debian test --features programs
+echo alloc | debian run --features programs --bin spawnrun -- replay | grep -qx 0v1
+echo "rust/forgeni: its archive builds by itself, and its tests pass"
+
+RUSTDOCFLAGS="-D warnings" debian doc --no-deps --features serde
+debian build --no-default-features --features serde
+lints() {
+    if cargo clippy --version >/dev/null 2>&1; then
+        debian clippy --all-targets "$@" -- -D warnings
+    fi
+}
+lints --features serde
+lints --no-default-features --features serde
+
+cp -r "$top/rust/serde_tests" "$empty/serde_tests"
+cd "$empty/serde_tests"
+rm -rf Cargo.lock target
+export CARGO_TARGET_DIR=$top/rust/serde_tests/target
+debian test
+lints
+diff <(sed -n '/^\/\/! ```text$/,/^\/\/! ```$/p' src/main.rs | sed '1d; $d; s,^//! \{0\,1\},,') <(debian run)
+echo "rust/serde_tests: the tests of the feature serde pass, and the example prints what its comment says"

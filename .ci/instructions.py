@@ -1,0 +1,64 @@
+#!/usr/bin/env python3
+"""How many instructions a step of the works of `cargo bench` takes, here and in plain Rust, by valgrind.
+
+    .ci/instructions.py          counts the works of rust/forgeni/benches/instructions.txt, and compares each with its limit
+    .ci/instructions.py fit      counts them, and writes the limits anew: what was counted, and one in a hundred more
+
+A clock is noisy where others use the machine. The number of instructions is the same in each run of one program."""
+import os
+import pathlib
+import re
+import subprocess
+import sys
+import tempfile
+from concurrent.futures import ThreadPoolExecutor
+
+ROOT = pathlib.Path(__file__).resolve().parent.parent
+PACKAGE = ROOT / "rust/forgeni"
+LIMITS = PACKAGE / "benches/instructions.txt"
+
+
+def built():
+    """The program of `cargo bench`."""
+    words = ["cargo", "bench", "--offline", "--no-run", "--bench", "calls"]
+    said = subprocess.run(words, cwd=PACKAGE, check=True, stderr=subprocess.PIPE, text=True).stderr
+    found = re.search(r"Executable .*\((\S+)\)", said)
+    if not found:
+        sys.exit(f"cargo names no program: {said}")
+    return PACKAGE / found[1]
+
+
+def counted(program, table, work, side):
+    """The instructions of one step of a work on one side: 0 here, 1 in plain Rust."""
+    with tempfile.NamedTemporaryFile() as out:
+        words = ["valgrind", "--tool=callgrind", "--collect-atstart=no", "--toggle-collect=*timed*",
+                 f"--callgrind-out-file={out.name}", program, table]
+        environment = dict(os.environ, FORGENI_COUNTED=f"{side} {work}")
+        run = subprocess.run(words, env=environment, capture_output=True, text=True)
+    steps = re.search(r"^.*?(\d+) steps$", run.stdout, re.M)
+    instructions = re.search(r"Collected : (\d+)", run.stderr)
+    if run.returncode or not steps or not instructions or instructions[1] == "0":
+        sys.exit(f"{table}, {work}, side {side}: not counted\n{run.stdout}{run.stderr}")
+    return int(instructions[1]) / int(steps[1])
+
+
+def main():
+    lines = LIMITS.read_text().splitlines()
+    head = [line for line in lines if line.startswith("#")]
+    rows = [[cell.strip() for cell in line.split("; ")] for line in lines if line and not line.startswith("#")]
+    program = built()
+    with ThreadPoolExecutor(os.cpu_count()) as pool:
+        pairs = list(pool.map(lambda row: [counted(program, row[0], row[1], side) for side in (0, 1)], rows))
+    if sys.argv[1:] == ["fit"]:
+        fitted = [f"{table}; {work}; {here * 1.01:.1f}" for (table, work, _), (here, _) in zip(rows, pairs)]
+        LIMITS.write_text("\n".join(head + fitted) + "\n")
+    above = 0
+    for (table, work, limit), (here, plain) in zip(rows, pairs):
+        over = here > float(limit)
+        above += over
+        print(f"{work}: {here:.1f} instructions, limit {limit}, in plain Rust {plain:.1f}{', ABOVE THE LIMIT' * over}")
+    if above and sys.argv[1:] != ["fit"]:
+        sys.exit(f"{above} of {len(rows)} works are above their limits")
+
+
+main()
