@@ -10,7 +10,7 @@ The figures stand in the page alone. Above each table stands a line that says wh
 
     <!-- measured by COMMAND -->
 
-The command prints one table or several. A table of the page is the printed one with the same head. A line that begins with a dash and
+The command prints one table or several. A table of the page is the printed one whose head begins with the same two columns. A line that begins with a dash and
 the command says when and on what machine they were measured. `measure` needs what the scripts need: `cargo` and `rt` on the path, and the
 two peers that docs/PERFORMANCE.md names. A script builds what it measures, which takes a few minutes more where it has not been built.
 """
@@ -250,9 +250,9 @@ def with_tables(lines, command, printed):
     new = [printed[begin:end] for begin, end in tables_of(printed)]
     for its, begin, end in reversed([*measured_tables(lines)]):
         if its == command:
-            same = [it for it in new if it[0] == lines[begin]]
+            same = [it for it in new if cells_of(it[0])[:2] == cells_of(lines[begin])[:2]]
             if not same:
-                sys.exit(f"{command} has printed no table with the head {lines[begin]}")
+                sys.exit(f"{command} has printed no table with a head like {lines[begin]}")
             lines = [*lines[:begin], *map(with_commas, same[0]), *lines[end:]]
             new.remove(same[0])
     for table in new:
