@@ -16,6 +16,8 @@ from concurrent.futures import ThreadPoolExecutor
 ROOT = pathlib.Path(__file__).resolve().parent.parent
 PACKAGE = ROOT / "rust/forgeni"
 LIMITS = PACKAGE / "benches/instructions.txt"
+# The C library copies memory by another code on each kind of processor. So it takes the one that is everywhere.
+PLAIN_PROCESSOR = "glibc.cpu.hwcaps=-AVX,-AVX2,-AVX512F,-AVX512VL,-AVX512BW,-ERMS,-FSRM,-BMI2,-RTM,-SSSE3,-SSE4_1,-SSE4_2"
 
 
 def built():
@@ -33,7 +35,7 @@ def counted(program, table, work, side):
     with tempfile.NamedTemporaryFile() as out:
         words = ["valgrind", "--tool=callgrind", "--collect-atstart=no", "--toggle-collect=*timed*",
                  f"--callgrind-out-file={out.name}", program, table]
-        environment = dict(os.environ, FORGENI_COUNTED=f"{side} {work}")
+        environment = dict(os.environ, FORGENI_COUNTED=f"{side} {work}", GLIBC_TUNABLES=PLAIN_PROCESSOR)
         run = subprocess.run(words, env=environment, capture_output=True, text=True)
     steps = re.search(r"^.*?(\d+) steps$", run.stdout, re.M)
     instructions = re.search(r"Collected : (\d+)", run.stderr)

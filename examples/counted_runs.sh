@@ -15,8 +15,8 @@ program=$here/../crates/spawnrun/out/spawnrun
 count() {
     file=$out/$1
     shift
-    timeout 60 valgrind --tool=callgrind --callgrind-out-file="$file" "$@" >"$out/printed" 2>"$out/log" || {
-        echo "$*: failed, or was still running after 60 seconds"
+    timeout 300 valgrind --tool=callgrind --callgrind-out-file="$file" "$@" >"$out/printed" 2>"$out/log" || {
+        echo "$*: failed, or was still running after 300 seconds"
         tail -5 "$out/log"
         exit 1
     }

@@ -23,7 +23,7 @@ run() {
     status=0
     (
         ulimit -v "$1"
-        exec timeout 60 "$program" "frames_$2"
+        exec timeout 300 "$program" "frames_$2"
     ) >printed 2>said || status=$?
 }
 

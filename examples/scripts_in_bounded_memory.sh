@@ -18,7 +18,7 @@ run() {
     status=0
     (
         ulimit -v "$1"
-        exec timeout 30 "$program" run
+        exec timeout 300 "$program" run
     ) <"$out/$2" >"$out/printed" 2>"$out/said" || status=$?
 }
 
