@@ -1,7 +1,8 @@
 #!/usr/bin/env bash
 # The archives of the package and of the eraser, as crates.io would have them, in an empty folder: they build by themselves, and their tests
-# pass, the package's with its programs. Then its feature `serde`, which has a stand-in in the repository: its docs and its lints, a build without the standard library, and the tests of
-# rust/serde_tests, which depend on the archive. The crates of others are Debian's.
+# pass, the package's with its programs. Then its features `serde` and `rayon`, which have stand-ins in the repository: their docs and their
+# lints, a build without the standard library, and the tests of rust/serde_tests and rust/rayon_tests, which depend on the archive. The
+# crates of others are Debian's.
 set -eu
 cd "$(dirname "$0")/.."
 top=$PWD
@@ -29,21 +30,28 @@ debian test --features programs
 echo alloc | debian run --features programs --bin spawnrun -- replay | grep -qx 0v1
 echo "rust/forgeni: its archive builds by itself, and its tests pass"
 
-RUSTDOCFLAGS="-D warnings" debian doc --no-deps --features serde
+RUSTDOCFLAGS="-D warnings" debian doc --no-deps --features serde,rayon
 debian build --no-default-features --features serde
 lints() {
     if cargo clippy --version >/dev/null 2>&1; then
         debian clippy --all-targets "$@" -- -D warnings
     fi
 }
-lints --features serde
+lints --features serde,rayon
 lints --no-default-features --features serde
 
-cp -r "$top/rust/serde_tests" "$empty/serde_tests"
-cd "$empty/serde_tests"
-rm -rf Cargo.lock target
-export CARGO_TARGET_DIR=$top/rust/serde_tests/target
-debian test
-lints
+# feature NAME: the tests of rust/NAME_tests.
+feature() {
+    cp -r "$top/rust/$1_tests" "$empty/$1_tests"
+    cd "$empty/$1_tests"
+    rm -rf Cargo.lock target
+    export CARGO_TARGET_DIR=$top/rust/$1_tests/target
+    debian test
+    lints
+}
+feature rayon
+echo "rust/rayon_tests: the tests of the feature rayon pass"
+debian run --release
+feature serde
 diff <(sed -n '/^\/\/! ```text$/,/^\/\/! ```$/p' src/main.rs | sed '1d; $d; s,^//! \{0\,1\},,') <(debian run)
 echo "rust/serde_tests: the tests of the feature serde pass, and the example prints what its comment says"

@@ -1,9 +1,9 @@
 #!/bin/sh
-# Debian's source packages of the crates that the tests of the feature `serde` need: those that are missing are installed. Cargo finds them
+# Debian's source packages of the crates that the tests of the features `serde` and `rayon` need: those that are missing are installed. Cargo finds them
 # by .ci/debian.toml.
 set -eu
 missing=
-for crate in serde serde-json bincode; do
+for crate in serde serde-json bincode rayon; do
     folder=/usr/share/cargo/registry/$(echo "$crate" | tr - _)
     ls -d "$folder"-[0-9]* >/dev/null 2>&1 || missing="$missing librust-$crate-dev"
 done

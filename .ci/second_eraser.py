@@ -81,6 +81,8 @@ READS, WITHOUT_METHODS = {"cursor"}, {"", "either::Either"}
 LAYOUTS = dict.fromkeys(named("ent_replay: Log; ent_total: Commands Reserver"), "#[repr(align(128))]")
 LAYOUTS |= {"ent_handle::Handle": "#[repr(transparent)]"}
 WORD_TYPE, DATA = "ent_handle::Handle", named("ent_replay: Call CheckError Difference FlushReply Log Reservation ReserveReply")
+# What a type derives in the results, if nothing is left of its derive: errors that hand back queues, and reports.
+DERIVES = dict.fromkeys(named("ent_total: FrameError GoOnError SyncError"), "Debug") | {"ent_world::SyncReport": "Clone, PartialEq, Eq"}
 # Types whose `Debug` the package has by hand.
 SHOWN_BY_HAND = named("ent_handle: Memory; ent_world: SyncReport")
 EQUALITY = {"PartialEq": "#[inline]fneq(&self,other:&Self)->bool{self.bits==other.bits}}", "Eq": "}"}
@@ -548,6 +550,7 @@ class Reader:
         self.insert(at, LAYOUTS[whole], "layout") if whole in LAYOUTS else None
         self.insert(at - 2, ", PartialEq, Eq") if whole == WORD_TYPE else None
         self.insert(at - 2, ", Clone, PartialEq, Eq, Hash", "data") if whole in DATA else None
+        self.insert(at, f"#[derive({DERIVES[whole]})]", "data") if whole in DERIVES else None
         bound = f"let {self.declared}{self.pattern()} = self;" if "{" in self.error else ""
         body = f"match self {{ {self.arms} }}" if self.arms else f"{bound} write!(f, {self.error})"
         head = f"impl core::fmt::Display for {self.declared} {{ fn fmt(&self, f: &mut core::fmt::Formatter<'_>) -> core::fmt::Result"

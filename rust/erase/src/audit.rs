@@ -225,11 +225,10 @@ impl Audit<'_> {
         let name = end + 1 + usize::from(self.source.at(end) == "pub");
         let (word, name) = (self.source.at(name - 1), self.source.at(name));
         let is_compared = word == "struct" && forms::compared(self.krate, name).is_some();
-        let is_data = ["struct", "enum"].contains(&word) && forms::is_data(self.krate, name);
         let kept = names.filter(|it| forms::keeps_derive(self.krate, Some(name), it));
-        let added = match (is_compared, is_data) {
-            (true, _) => forms::EQUALITY,
-            (_, true) => forms::OF_DATA,
+        let added = match word {
+            _ if is_compared => forms::EQUALITY,
+            "struct" | "enum" => forms::derived_more(self.krate, name),
             _ => &[],
         };
         kept.chain(added.iter().copied()).collect()

@@ -492,26 +492,41 @@ pub fn compared(krate: &str, name: &str) -> Option<&'static Compared> {
 }
 
 /// The traits that plain data has in the package, and that the kit can't derive for it: there a clone may fail.
-pub const OF_DATA: &[&str] = &["Clone", "PartialEq", "Eq", "Hash"];
+const OF_DATA: &[&str] = &["Clone", "PartialEq", "Eq", "Hash"];
 
-/// The types whose derive gets these traits, by their crates. The proofs know none of them.
-const DATA: &[(&str, &[&str])] = &[(
-    "ent_replay",
-    &[
-        "Call",
-        "CheckError",
-        "Difference",
-        "FlushReply",
-        "Log",
-        "Reservation",
-        "ReserveReply",
-    ],
-)];
+/// What an error has in the package that hands back queues: in the kit nobody shows these.
+const OF_ERRORS: &[&str] = &["Debug"];
 
-/// Whether the type of this crate is such data.
-pub fn is_data(krate: &str, name: &str) -> bool {
-    DATA.iter()
-        .any(|(its_crate, names)| *its_crate == krate && names.contains(&name))
+/// What a report has in the package: in the kit the clone of a list may fail.
+const OF_REPORTS: &[&str] = &["Clone", "PartialEq", "Eq"];
+
+/// The types whose derive gets traits, by their crates. The proofs know none of these.
+const DERIVES_MORE: &[(&str, &[&str], &[&str])] = &[
+    (
+        "ent_replay",
+        &[
+            "Call",
+            "CheckError",
+            "Difference",
+            "FlushReply",
+            "Log",
+            "Reservation",
+            "ReserveReply",
+        ],
+        OF_DATA,
+    ),
+    (
+        "ent_total",
+        &["FrameError", "GoOnError", "SyncError"],
+        OF_ERRORS,
+    ),
+    ("ent_world", &["SyncReport"], OF_REPORTS),
+];
+
+/// The traits that the type of this crate derives in the package alone.
+pub fn derived_more(krate: &str, name: &str) -> &'static [&'static str] {
+    let of = |it: &&(&str, &[&str], &[&str])| it.0 == krate && it.1.contains(&name);
+    DERIVES_MORE.iter().find(of).map_or(&[], |it| it.2)
 }
 
 /// Files of crates in which what `fmt` writes is padded in the package, as Rust's own numbers and texts are. In the

@@ -49,9 +49,7 @@ impl Walk<'_> {
         }
         let added = match self.source.at(at) {
             "struct" if self.check_compared(at, scope)? => forms::EQUALITY,
-            "struct" | "enum" if forms::is_data(self.krate, self.source.at(at + 1)) => {
-                forms::OF_DATA
-            }
+            "struct" | "enum" => forms::derived_more(self.krate, self.source.at(at + 1)),
             _ => &[],
         };
         let derives_error = self.attributes(start, visible, added)?;

@@ -1,6 +1,5 @@
 //! Frames: systems run on workers over one world, and the sync point applies what they issued.
 
-use crate::kit::thread::StdThreads;
 use crate::proved::ent_runner::NoGate;
 use crate::proved::ent_total;
 use crate::{OutOfMemory, Report, System, SystemCommands, View, World};
@@ -12,6 +11,7 @@ use core::fmt;
 use std::panic::{catch_unwind, resume_unwind, AssertUnwindSafe};
 use std::sync::{Mutex, PoisonError};
 
+pub use crate::kit::thread::{StdThreads, Threads as Join};
 pub use crate::proved::ent_total::FrameError;
 
 /// Runs each system once, on that many workers side by side, and then the sync point. It returns
@@ -87,6 +87,51 @@ pub fn run_frame<S: System + Sync>(
     systems: &[S],
     workers: usize,
 ) -> Result<Report, FrameError> {
+    run_frame_on(&StdThreads, world, systems, workers)
+}
+
+/// [`run_frame`] on the threads of a [`Join`], such as a task pool: it starts no thread by itself. With the
+/// feature `rayon`, [`Rayon`](crate::Rayon) and a `rayon::ThreadPool` are such.
+///
+/// The workers are halved again and again, and each two halves are handed to the `Join`.
+///
+/// ```
+/// use forgeni::{run_frame_on, Join, OutOfMemory, SystemCommands, View, World};
+///
+/// /// A task pool without threads.
+/// struct OneAfterTheOther;
+///
+/// impl Join for OneAfterTheOther {
+///     fn join(&self, first: &mut (dyn FnMut() + Send), second: &mut (dyn FnMut() + Send)) {
+///         first();
+///         second();
+///     }
+/// }
+///
+/// fn spawn(_: &View<'_>, commands: &mut SystemCommands<'_>) -> Result<(), OutOfMemory> {
+///     commands.spawn_with(&[]).map_or_else(|refused| refused.or_memory(), |_| Ok(()))
+/// }
+///
+/// let mut world = World::new();
+/// run_frame_on(&OneAfterTheOther, &mut world, &[spawn; 3], 2)?;
+/// assert_eq!(world.len(), 3);
+/// # Ok::<(), Box<dyn std::error::Error>>(())
+/// ```
+///
+/// # Errors
+///
+/// Those of [`run_frame`].
+///
+/// # Panics
+///
+/// As [`run_frame`]. If no system panics and the `Join` does, its panic is handed on when all workers have
+/// ended. The frame is complete then: its report is lost, and the world is as after the sync point.
+pub fn run_frame_on<J: Join + Sync, S: System + Sync>(
+    join: &J,
+    world: &mut World,
+    systems: &[S],
+    workers: usize,
+) -> Result<Report, FrameError> {
     let panics = Panics::default();
     let mut guarded = Vec::new();
     if guarded.try_reserve_exact(systems.len()).is_err() {
@@ -94,11 +139,16 @@ pub fn run_frame<S: System + Sync>(
     }
     let numbered = systems.iter().enumerate();
     guarded.extend(numbered.map(|(number, system)| Guarded {
-        system,
+        guards: system,
         number,
         panics: &panics,
     }));
-    let ran = ent_total::run_frame(&StdThreads, world, &guarded, workers, &NoGate);
+    let join = Guarded {
+        guards: join,
+        number: usize::MAX,
+        panics: &panics,
+    };
+    let ran = ent_total::run_frame(&join, world, &guarded, workers, &NoGate);
     if let Some(panic) = first(panics) {
         resume_unwind(panic);
     }
@@ -119,38 +169,37 @@ fn first(panics: Panics) -> Option<Panic> {
     first.map(|(_, panic)| panic)
 }
 
-/// A system whose panics don't leave it: the proved code that calls it knows none.
-struct Guarded<'a, S> {
-    system: &'a S,
+/// A system or a `Join` whose panics don't leave it: the proved code that calls it knows none.
+struct Guarded<'a, T> {
+    guards: &'a T,
+    /// That of the system. A `Join` comes after all of them.
     number: usize,
     panics: &'a Panics,
+}
+
+impl<T> Guarded<'_, T> {
+    /// Calls the closure. If it panics, the panic is kept, and this is returned.
+    fn run<R>(&self, run: impl FnOnce() -> R, panicked: R) -> R {
+        // Nothing that a panic leaves half done is looked at: what was issued is dropped.
+        catch_unwind(AssertUnwindSafe(run)).unwrap_or_else(|panic| {
+            let mut panics = self.panics.lock().unwrap_or_else(PoisonError::into_inner);
+            panics.push((self.number, panic));
+            panicked
+        })
+    }
 }
 
 impl<S: System> System for Guarded<'_, S> {
     /// A system that panics has stopped, like one that ran out of memory: the frame is lost, and the
     /// world is closed with what was reserved.
     fn run(&self, view: &View<'_>, commands: &mut SystemCommands<'_>) -> Result<(), OutOfMemory> {
-        // Nothing that a panic leaves half done is looked at: what was issued is dropped.
-        let run = AssertUnwindSafe(|| self.system.run(view, commands));
-        catch_unwind(run).unwrap_or_else(|panic| {
-            let mut panics = self.panics.lock().unwrap_or_else(PoisonError::into_inner);
-            panics.push((self.number, panic));
-            Err(OutOfMemory)
-        })
+        self.run(|| self.guards.run(view, commands), Err(OutOfMemory))
     }
 }
 
-impl fmt::Debug for FrameError {
-    fn fmt(&self, out: &mut fmt::Formatter<'_>) -> fmt::Result {
-        match self {
-            Self::NeedsFlush => out.write_str("NeedsFlush"),
-            Self::Workers => out.write_str("Workers"),
-            Self::Systems => out.write_str("Systems"),
-            Self::Memory => out.write_str("Memory"),
-            Self::Lost => out.write_str("Lost"),
-            Self::Unapplied(queues) => out.debug_tuple("Unapplied").field(queues).finish(),
-            Self::Stopped(stopped) => out.debug_tuple("Stopped").field(stopped).finish(),
-        }
+impl<J: Join> Join for Guarded<'_, J> {
+    fn join(&self, first: &mut (dyn FnMut() + Send), second: &mut (dyn FnMut() + Send)) {
+        self.run(|| self.guards.join(first, second), ());
     }
 }
 

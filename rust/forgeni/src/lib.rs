@@ -201,7 +201,7 @@
 //!   instead.
 //! - A [`Bundle`] is cloned. A [`HandleMap`] is cloned, extended, collected, or used up by an iterator.
 //!   `Reservers::into_inner` makes a list.
-//! - `run_frame` with more than one worker starts threads.
+//! - `run_frame` with more than one worker starts threads. `run_frame_on` starts those that its `Join` starts.
 //!
 //! # Proved, trusted, tested
 //!
@@ -226,6 +226,9 @@
 //!
 //! `programs`, which is off by default: the programs `spawnrun` and `tracecheck`, and the pictures that
 //! they draw. The library is the same without it.
+//!
+//! `rayon`, which is off by default: frames on the threads of the crate rayon, by `run_frame_on` with `Rayon` or
+//! a `rayon::ThreadPool`.
 //!
 //! `serde`, which is off by default: the traits of the crate serde.
 //!
@@ -273,6 +276,8 @@ mod kit;
 mod lending;
 mod lent;
 mod numbers;
+#[cfg(feature = "rayon")]
+mod on_rayon;
 mod phase;
 #[cfg(feature = "programs")]
 #[doc(hidden)]
@@ -303,10 +308,12 @@ pub use component::{Birth, ComponentId};
 pub use entities::{Entities, Freed, Living, State};
 pub use errors::{Absent, AllocError, FreeError, ImageFault, OutOfMemory, Refused, ReserveError};
 #[cfg(feature = "std")]
-pub use frames::{run_frame, FrameError};
+pub use frames::{run_frame, run_frame_on, FrameError, Join, StdThreads};
 pub use handle::{Handle, ParseHandleError};
 pub use handle_map::{HandleMap, InsertError, Uninserted};
 pub use lent::Lent;
+#[cfg(feature = "rayon")]
+pub use on_rayon::Rayon;
 pub use proved::ent_alloc::Limits;
 #[cfg(feature = "std")]
 pub use reservers::{Lends, Reservers, Unpooled};

@@ -6,24 +6,6 @@ use core::fmt;
 pub use crate::proved::ent_total::{GoOnError, Queues, Stop, Stopped, SyncError};
 pub use crate::proved::ent_world::{Fault, FaultKind, SyncReport as Report};
 
-/// If memory runs out, the process ends, as when a `Vec` is cloned.
-impl Clone for Report {
-    fn clone(&self) -> Self {
-        Self {
-            born: self.born.clone(),
-            faults: self.faults.clone(),
-        }
-    }
-}
-
-impl PartialEq for Report {
-    fn eq(&self, other: &Self) -> bool {
-        self.born == other.born && self.faults == other.faults
-    }
-}
-
-impl Eq for Report {}
-
 impl fmt::Debug for Queues {
     fn fmt(&self, out: &mut fmt::Formatter<'_>) -> fmt::Result {
         out.debug_struct("Queues")
@@ -47,16 +29,6 @@ impl fmt::Display for Stopped {
     }
 }
 
-impl fmt::Debug for SyncError {
-    fn fmt(&self, out: &mut fmt::Formatter<'_>) -> fmt::Result {
-        match self {
-            Self::OtherWorld(queues) => out.debug_tuple("OtherWorld").field(queues).finish(),
-            Self::Memory(queues) => out.debug_tuple("Memory").field(queues).finish(),
-            Self::Stopped(stopped) => out.debug_tuple("Stopped").field(stopped).finish(),
-        }
-    }
-}
-
 impl fmt::Display for SyncError {
     fn fmt(&self, out: &mut fmt::Formatter<'_>) -> fmt::Result {
         match self {
@@ -68,16 +40,6 @@ impl fmt::Display for SyncError {
 }
 
 impl Error for SyncError {}
-
-impl fmt::Debug for GoOnError {
-    fn fmt(&self, out: &mut fmt::Formatter<'_>) -> fmt::Result {
-        match self {
-            Self::OtherWorld(stopped) => out.debug_tuple("OtherWorld").field(stopped).finish(),
-            Self::NeedsFlush(stopped) => out.debug_tuple("NeedsFlush").field(stopped).finish(),
-            Self::Stopped(stopped) => out.debug_tuple("Stopped").field(stopped).finish(),
-        }
-    }
-}
 
 impl fmt::Display for GoOnError {
     fn fmt(&self, out: &mut fmt::Formatter<'_>) -> fmt::Result {

@@ -12,6 +12,8 @@ mod frames;
 mod handle_map;
 mod handles;
 mod image;
+#[cfg(feature = "std")]
+mod joiners;
 mod like_bevy;
 mod like_hecs;
 mod like_slotmap;

@@ -1,6 +1,6 @@
 //! The runtime that a test is handed.
 
-use crate::kit::thread::Threads;
+use crate::kit::thread::{StdThreads, Threads};
 use std::cell::RefCell;
 use std::io;
 
@@ -55,7 +55,11 @@ impl Files for HostRuntime {
 
 impl Print for HostRuntime {}
 
-impl Threads for HostRuntime {}
+impl Threads for HostRuntime {
+    fn join(&self, first: &mut (dyn FnMut() + Send), second: &mut (dyn FnMut() + Send)) {
+        StdThreads.join(first, second);
+    }
+}
 
 impl<R: Abort> Abort for &R {}
 

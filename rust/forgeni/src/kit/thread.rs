@@ -2,55 +2,68 @@
 //!
 //! The contracts are those of the kit's `core/src/thread.rt` and `thread/lent.rt`.
 
-/// The right to start threads.
-pub trait Threads {}
-
-/// Threads of Rust's std.
-#[derive(Clone, Copy, Debug, Default)]
-pub struct StdThreads;
-
-impl Threads for StdThreads {}
-
-/// Calls both, and returns what they return.
+/// Who runs the two halves of a frame's work side by side: threads of std ([`StdThreads`]), rayon, or a
+/// task pool of the caller's.
 ///
-/// The contract: each is called once, the first one in another thread, or after the second one if no
-/// thread can be started. Both have returned when it returns.
-///
-/// Without the feature `std` it starts none. With it, a panic of one of them is handed on when both
-/// have ended. If std is refused the memory that it takes to start a thread, it may end the program.
-pub fn join_mut<R: Threads, A: Send, B>(
-    _rt: &R,
-    first: &mut (impl FnMut() -> A + Send),
-    second: &mut impl FnMut() -> B,
-) -> (A, B) {
-    let (beside, done) = call_beside(first, second);
-    match beside {
-        Some(beside) => (beside, done),
-        None => (first(), done),
+/// Of the two nothing is trusted but that they may be called from another thread: a half that `join`
+/// doesn't call is called after it, and a half that it calls again does nothing then.
+pub trait Threads {
+    /// Calls both, side by side if it can, and returns when both have returned.
+    fn join(&self, first: &mut (dyn FnMut() + Send), second: &mut (dyn FnMut() + Send));
+}
+
+impl<J: Threads + ?Sized> Threads for &J {
+    fn join(&self, first: &mut (dyn FnMut() + Send), second: &mut (dyn FnMut() + Send)) {
+        (**self).join(first, second);
     }
 }
 
-/// Calls the second one, and the first one beside it if a thread can be started.
-#[cfg(feature = "std")]
-fn call_beside<A: Send, B>(
-    first: &mut (impl FnMut() -> A + Send),
-    second: &mut impl FnMut() -> B,
-) -> (Option<A>, B) {
-    let (ended, done) = std::thread::scope(|scope| {
-        let started = std::thread::Builder::new().spawn_scoped(scope, first);
-        let done = second();
-        (started.ok().map(|thread| thread.join()), done)
-    });
-    let hand_on = |panic| std::panic::resume_unwind(panic);
-    (ended.map(|beside| beside.unwrap_or_else(hand_on)), done)
+/// A new thread of std for one of two halves, which ends with the frame. Without the feature `std` one
+/// half runs after the other.
+#[derive(Clone, Copy, Debug, Default)]
+pub struct StdThreads;
+
+impl Threads for StdThreads {
+    /// Calls the second one, and the first one beside it if a thread can be started. A panic of one of
+    /// them is handed on when both have ended. If std is refused the memory that it takes to start a
+    /// thread, it may end the program.
+    #[cfg(feature = "std")]
+    fn join(&self, first: &mut (dyn FnMut() + Send), second: &mut (dyn FnMut() + Send)) {
+        let ended = std::thread::scope(|scope| {
+            let started = std::thread::Builder::new().spawn_scoped(scope, first);
+            second();
+            started.map_or(Ok(()), |thread| thread.join())
+        });
+        ended.unwrap_or_else(|panic| std::panic::resume_unwind(panic));
+    }
+
+    #[cfg(not(feature = "std"))]
+    fn join(&self, _first: &mut (dyn FnMut() + Send), second: &mut (dyn FnMut() + Send)) {
+        second();
+    }
 }
 
-#[cfg(not(feature = "std"))]
-fn call_beside<A, B>(
-    _first: &mut impl FnMut() -> A,
-    second: &mut impl FnMut() -> B,
-) -> (Option<A>, B) {
-    (None, second())
+/// Calls both, and returns what they return.
+///
+/// The contract: each is called once, whatever `rt` does, and both have returned when it returns.
+pub fn join_mut<R: Threads, A: Send, B: Send>(
+    rt: &R,
+    first: &mut (impl FnMut() -> A + Send),
+    second: &mut (impl FnMut() -> B + Send),
+) -> (A, B) {
+    let (mut returned_first, mut returned_second) = (None, None);
+    rt.join(
+        &mut || {
+            returned_first.get_or_insert_with(&mut *first);
+        },
+        &mut || {
+            returned_second.get_or_insert_with(&mut *second);
+        },
+    );
+    (
+        returned_first.unwrap_or_else(first),
+        returned_second.unwrap_or_else(second),
+    )
 }
 
 #[cfg(test)]
@@ -72,6 +85,25 @@ mod tests {
             },
         );
         assert_eq!((both, left, right), (('l', "r"), 1, 1));
+    }
+
+    /// Calls the halves as many times as these numbers say, the second one first.
+    struct Calls(usize, usize);
+
+    impl Threads for Calls {
+        fn join(&self, first: &mut (dyn FnMut() + Send), second: &mut (dyn FnMut() + Send)) {
+            (0..self.1).for_each(|_| second());
+            (0..self.0).for_each(|_| first());
+        }
+    }
+
+    #[test]
+    fn each_is_called_once_whatever_the_joiner_does() {
+        for joiner in [Calls(0, 0), Calls(0, 1), Calls(1, 0), Calls(2, 3)] {
+            let (mut left, mut right) = (0, 0);
+            let both = join_mut(&joiner, &mut || left += 1, &mut || right += 1);
+            assert_eq!((both, left, right), (((), ()), 1, 1));
+        }
     }
 
     #[test]

@@ -6,7 +6,7 @@ use super::env::Env;
 use super::streams::Stream;
 use super::time::Clock;
 use crate::kit::alloc::AllocError;
-use crate::kit::thread::Threads;
+use crate::kit::thread::{StdThreads, Threads};
 use std::io;
 
 /// The right to allocate. In Rust nobody has to be handed it.
@@ -39,7 +39,11 @@ impl Files for HostRuntime {
     }
 }
 
-impl Threads for HostRuntime {}
+impl Threads for HostRuntime {
+    fn join(&self, first: &mut (dyn FnMut() + Send), second: &mut (dyn FnMut() + Send)) {
+        StdThreads.join(first, second);
+    }
+}
 
 impl HostRuntime {
     /// The standard input.

@@ -5,6 +5,7 @@ use crate::proved::ent_total::stopped::Stopped;
 
 /// Why a frame wasn't completed.
 #[non_exhaustive]
+#[derive(Debug)]
 pub enum FrameError {
     /// Handles were requested since the last flush. No system ran, and the world is as it was.
     NeedsFlush,

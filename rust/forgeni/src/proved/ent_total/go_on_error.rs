@@ -4,6 +4,7 @@ use crate::proved::ent_total::stopped::Stopped;
 
 /// Why a sync point that went on wasn't completed.
 #[non_exhaustive]
+#[derive(Debug)]
 pub enum GoOnError {
     /// It stopped in another world. Nothing has changed.
     OtherWorld(Stopped),

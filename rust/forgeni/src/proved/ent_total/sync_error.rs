@@ -5,6 +5,7 @@ use crate::proved::ent_total::stopped::Stopped;
 
 /// Why a sync point wasn't completed.
 #[non_exhaustive]
+#[derive(Debug)]
 pub enum SyncError {
     /// The queues are of a phase of another world. Nothing was done, and these are the queues.
     OtherWorld(Queues),

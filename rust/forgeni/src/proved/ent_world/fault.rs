@@ -34,6 +34,7 @@ pub struct Fault {
 }
 
 /// What a sync point has done.
+#[derive(Clone, PartialEq, Eq)]
 pub struct SyncReport {
     /// The handles that came to life, in the order of the flush.
     pub born: Vec<Handle>,

@@ -1,0 +1,20 @@
+//! Frames on the threads of rayon.
+
+use crate::frames::Join;
+
+/// Rayon's own choice of threads: the pool that runs the caller, or else the global one. A
+/// `rayon::ThreadPool` is a [`Join`] too.
+#[derive(Clone, Copy, Debug, Default)]
+pub struct Rayon;
+
+impl Join for Rayon {
+    fn join(&self, first: &mut (dyn FnMut() + Send), second: &mut (dyn FnMut() + Send)) {
+        rayon::join(first, second);
+    }
+}
+
+impl Join for rayon::ThreadPool {
+    fn join(&self, first: &mut (dyn FnMut() + Send), second: &mut (dyn FnMut() + Send)) {
+        rayon::ThreadPool::join(self, first, second);
+    }
+}

@@ -1,0 +1,49 @@
+//! What a frame of eight empty systems costs on rayon, beside the same eight closures by `rayon::scope` and
+//! by a loop: medians in microseconds.
+
+use forgeni::{run_frame, run_frame_on, Rayon, SystemCommands, View, World};
+use std::hint::black_box;
+use std::time::{Duration, Instant};
+
+/// How often each is measured, in turn with the others.
+const ROUNDS: usize = 20_001;
+
+fn took(work: impl FnOnce()) -> Duration {
+    let start = Instant::now();
+    work();
+    start.elapsed()
+}
+
+fn main() {
+    let system = |_: &View<'_>, _: &mut SystemCommands<'_>| {
+        black_box(());
+        Ok(())
+    };
+    let (systems, mut world) = ([system; 8], World::new());
+    let mut times: [Vec<Duration>; 4] = Default::default();
+    for _ in 0..ROUNDS {
+        times[0].push(took(|| {
+            drop(run_frame_on(&Rayon, &mut world, &systems, 4).expect("memory"));
+        }));
+        times[1].push(took(|| {
+            rayon::scope(|scope| (0..8).for_each(|_| scope.spawn(|_| black_box(()))));
+        }));
+        times[2].push(took(|| {
+            drop(run_frame(&mut world, &systems, 1).expect("memory"))
+        }));
+        times[3].push(took(|| (0..8).for_each(|_| black_box(()))));
+    }
+    let names = [
+        "four workers on rayon",
+        "rayon::scope",
+        "one worker",
+        "a loop",
+    ];
+    for (name, times) in names.into_iter().zip(&mut times) {
+        times.sort();
+        println!(
+            "{name}: {:.2} µs",
+            times[ROUNDS / 2].as_nanos() as f64 / 1000.0
+        );
+    }
+}
