@@ -96,8 +96,8 @@
 //!
 //! A system reads the world as the frame began, and issues commands. A spawn reserves at once. The
 //! commands take effect in the order of the systems. `run_frame` runs systems on workers; its docs say
-//! what depends on their number. With threads of your own, use [`World::phase`] on a borrow, or
-//! [`World::open`], [`Commands`], [`OpenWorld::close`] and [`World::apply`]:
+//! what depends on their number. `run_frame_on` runs them on rayon or on a task pool of your own. To run
+//! systems by hand, use [`World::phase`] on a borrow, or [`World::open`], [`Commands`], [`OpenWorld::close`] and [`World::apply`]:
 //!
 //! ```
 //! use forgeni::{ComponentId, World};
