@@ -91,7 +91,7 @@ pub fn run_frame<S: System + Sync>(
 }
 
 /// [`run_frame`] on the threads of a [`Join`], such as a task pool: it starts no thread by itself. With the
-/// feature `rayon`, [`Rayon`](crate::Rayon) and a `rayon::ThreadPool` are such.
+/// feature `rayon`, `Rayon` and a `rayon::ThreadPool` are such.
 ///
 /// The workers are halved again and again, and each two halves are handed to the `Join`.
 ///
