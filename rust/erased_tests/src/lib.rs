@@ -21,4 +21,7 @@ mod proved;
 #[path = "../../forgeni/src/shown.rs"]
 mod shown;
 mod side_by_side;
+#[allow(unused_imports)] // Only its impls are used here.
+#[path = "../../forgeni/src/sync.rs"]
+mod sync;
 mod values;

@@ -1,4 +1,4 @@
-//! Sync points, and where they stop: what their proved sources can't have.
+//! Sync points, and where they stop: what their proved sources can't have. The erased tests take this file too.
 
 use core::error::Error;
 use core::fmt;

@@ -13,6 +13,9 @@ mod kit;
 mod proved;
 #[path = "../../../forgeni/src/shown.rs"]
 mod shown;
+#[allow(unused_imports)] // Only its impls are used here.
+#[path = "../../../forgeni/src/sync.rs"]
+mod sync;
 
 use proved::ent_alloc::Limits;
 use proved::ent_replay::{read_schedule, write_outcome, Machine};
