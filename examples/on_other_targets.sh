@@ -1,10 +1,11 @@
 #!/bin/sh
 # Runs the tests of the package on other processors, each under an emulator: on aarch64, and on s390x, where a word begins with its highest
-# byte. It installs nothing, and names what is missing. A processor that is named, as by `examples/on_other_targets.sh aarch64 s390x` before
-# a release, must be tried: if something is missing, the status is 1. Without a name, as in the gate, it tries the processors for which it
-# finds everything, and fails only if a test fails. It needs `cargo`, and for each processor QEMU's emulator, a C compiler with a static library, and
-# Rust's std. RUSTC says which compiler has that std, if neither the one on the path nor Debian's, /usr/bin/rustc, has it. An emulator on
-# x86-64 shows the other byte order, and nothing of weaker memory ordering.
+# byte. Then each loads what this machine saves, and the other way round. It installs nothing, and names what is missing. A processor that
+# is named, as by `examples/on_other_targets.sh aarch64 s390x` before a release, must be tried: if something is missing, the status is 1.
+# Without a name, as in the gate, it tries the processors for which it finds everything, and fails only if a test fails. It needs `cargo`,
+# and for each processor QEMU's emulator, a C compiler with a static library, and Rust's std. RUSTC says which compiler has that std, if
+# neither the one on the path nor Debian's, /usr/bin/rustc, has it. An emulator on x86-64 shows the other byte order, and nothing of weaker
+# memory ordering.
 set -eu
 here=$(cd "$(dirname "$0")" && pwd)
 out=$(mktemp -d)
@@ -51,6 +52,28 @@ try() {
     passed=$(awk '/^test result: ok/ { passed += $4 } END { print passed + 0 }' "$out/printed")
     [ "$passed" -gt 0 ] || { echo "$1: no test ran"; exit 1; }
     echo "$1: $passed tests passed, by $("$rustc" --version) and $("qemu-$1" --version | head -n 1)"
+    exchange "$1" || { cat "$out/printed"; exit 1; }
+    echo "$1: saves the same bytes as this machine; each loads the save of the other, plays on, and saves the same bytes again"
+}
+
+# build FOLDER WORD..: the example that saves and loads.
+build() {
+    folder=$1
+    shift
+    cargo build --offline --manifest-path "$here/../rust/forgeni/Cargo.toml" --example save_and_load --target-dir "$folder" "$@"
+}
+
+# exchange PROCESSOR: what one processor saves the other one loads, plays on, and saves again.
+exchange() {
+    ours=$out/ours/debug/examples/save_and_load theirs=$out/theirs/$target/debug/examples/save_and_load
+    {
+        build "$out/ours" && (
+            export RUSTC="$rustc" "${variable}_LINKER=$1-linux-gnu-gcc" "${variable}_RUSTFLAGS=-Ctarget-feature=+crt-static"
+            build "$out/theirs" --target "$target"
+        ) &&
+            "$ours" save "$out/our_save" && "qemu-$1" "$theirs" save "$out/their_save" && cmp "$out/our_save" "$out/their_save" &&
+            "qemu-$1" "$theirs" load "$out/our_save" && "$ours" load "$out/their_save" && cmp "$out/our_save" "$out/their_save"
+    } >"$out/printed" 2>&1
 }
 
 untried=0

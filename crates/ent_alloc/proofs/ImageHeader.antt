@@ -13,7 +13,7 @@ pub length-long : (n : ℕ) → length (long n) ≡ 8
 unfolding long
 length-long n = refl
 
-from_long : (n : ℕ) → n < 2 ^ 64 → from_le_bytes w64 (long n) ≡ n
+pub from_long : (n : ℕ) → n < 2 ^ 64 → from_le_bytes w64 (long n) ≡ n
 unfolding long
 from_long n h = from_le_bytes-to_le_bytes_8 n h
 

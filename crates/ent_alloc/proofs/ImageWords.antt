@@ -16,7 +16,7 @@ pub length-word : (n : ℕ) → length (word n) ≡ 4
 unfolding word
 length-word n = refl
 
-from_word : (n : ℕ) → n < 2 ^ 32 → from_le_bytes w32 (word n) ≡ n
+pub from_word : (n : ℕ) → n < 2 ^ 32 → from_le_bytes w32 (word n) ≡ n
 unfolding word
 from_word n h = from_le_bytes-to_le_bytes_4 n h
 

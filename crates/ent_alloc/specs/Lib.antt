@@ -9,6 +9,7 @@ pub mod Reserved
 pub mod Entities
 pub mod Image
 pub mod ImageRecords
+pub mod FirstFault
 pub mod Fault
 pub mod Spent
 pub mod History

@@ -1,17 +1,18 @@
 //! Allocators as bytes, and back.
 ghost use Rattle.std.specs.Prelude.{◌≡◌, ◌≢◌, ◌+◌, ◌-◌, ◌*◌, ◌^◌, ◌<◌, ◌≤◌, ◌++◌, ℕ, List};
-ghost use Rattle.std.specs.Prelude.{IfOk, IfErr, IfSome, IfNone, OnOk, OnErr, Ok, Err, ◌⊎◌};
+ghost use Rattle.std.specs.Prelude.{IfOk, IfErr, IfSome, IfNone, OnOk, OnErr, Ok, Err, Some, None, ◌⊎◌};
 ghost use Rattle.std.specs.Prelude.{length, vec_len, vec_capacity};
 ghost use Rattle.ent_handle.specs.Handle.{Handle};
 ghost use Rattle.ent_alloc.specs.Entities.{Entities};
 ghost use Rattle.ent_alloc.specs.Spent.{AreSpent};
 ghost use Rattle.ent_alloc.specs.Image.{long, header, numbers_bytes, header_bytes, image, HasImage};
 ghost use Rattle.ent_alloc.specs.ImageRecords.{AreNumbers, AreServed};
+ghost use Rattle.ent_alloc.specs.FirstFault.{first_failing, front_tests, first_fault};
 ghost use Rattle.ent_alloc.specs.declared.image.Header.{Header};
 
 use crate::entities::Entities;
 use crate::image_fault::ImageFault;
-use crate::image_slots::{read_word, write_word};
+use crate::image_slots::{SLOT, read_word, write_word};
 use crate::limits::Limits;
 use crate::requests::Requests;
 use crate::slots::Slots;
@@ -26,9 +27,6 @@ const VERSION: u32 = 1;
 
 /// How many bytes stand before the slots.
 const HEADER: usize = 40;
-
-/// How many bytes a slot has.
-const SLOT: usize = 12;
 
 /// The numbers before the slots.
 #[derive(Clone, Copy)]
@@ -115,6 +113,8 @@ fn read_header(bytes: &[u8]) -> Result<(Header, &[u8]), ImageFault>
     ensures fits { IfOk result (λ h. AreNumbers h.0) }
     ensures refused { OnErr result ((h : Header) (rest : List ℕ)
         → bytes.now ≢ header_bytes h ++ rest) }
+    ensures fault { IfErr result (λ fault. first_failing (front_tests bytes.now) ≡ Some fault) }
+    ensures faultless { OnOk result (first_failing (front_tests bytes.now) ≡ None) }
 {
     if bytes.len() < 8 {
         return Err(ImageFault::Magic);
@@ -206,9 +206,11 @@ impl Entities {
     ///
     /// # Errors
     ///
-    /// Each but [`Memory`](ImageFault::Memory) says that no allocator has this image.
+    /// Each but [`Memory`](ImageFault::Memory) says that no allocator has this image. The first fault
+    /// that the bytes have, in this order, is returned:
     ///
     /// - [`ImageFault::Magic`] if the bytes don't begin as an image does.
+    /// - [`ImageFault::Length`] if there are fewer than 40 bytes.
     /// - [`ImageFault::Version`] if the image is of another version of the format.
     /// - [`ImageFault::Limits`] if no allocator may have such limits.
     /// - [`ImageFault::Counts`] if more slots were made than the limits allow, or more wait than were
@@ -217,7 +219,8 @@ impl Entities {
     /// - [`ImageFault::Length`] if there are fewer or more bytes than an image of so many slots has.
     /// - [`ImageFault::Slot`] with the first slot that can't be so.
     /// - [`ImageFault::Position`] with the first position that no slot waits at.
-    /// - [`ImageFault::Memory`] if there is no memory for the slots.
+    ///
+    /// [`ImageFault::Memory`] comes if there is no memory for the slots, whatever they are.
     pub fn read_image(alloc: Global, bytes: &[u8]) -> Result<Self, ImageFault>
         ensures found { IfOk result (λ e. image e ≡ bytes.now) }
         ensures has_image { IfOk result HasImage }
@@ -225,6 +228,11 @@ impl Entities {
         // What is refused is the image of no allocator.
         ensures refused { IfErr result (λ fault. fault ≢ ImageFault.Memory → (e : Entities)
             → HasImage e → image e ≢ bytes.now) }
+
+        // It is refused for the first fault of the bytes, and what has none is read.
+        ensures fault { IfErr result (λ fault. fault ≢ ImageFault.Memory
+            → first_fault bytes.now ≡ Some fault) }
+        ensures faultless { OnOk result (first_fault bytes.now ≡ None) }
 
         // The image of an allocator is read as this allocator, unless memory runs out.
         ensures exact { (e : Entities) → HasImage e → image e ≡ bytes.now
@@ -244,6 +252,9 @@ impl Entities {
         ensures has_image { IfOk result HasImage }
         ensures refused { IfErr result (λ fault. fault ≢ ImageFault.Memory → (e : Entities)
             → HasImage e → image e ≢ bytes.now) }
+        ensures fault { IfErr result (λ fault. fault ≢ ImageFault.Memory
+            → first_fault bytes.now ≡ Some fault) }
+        ensures faultless { OnOk result (first_fault bytes.now ≡ None) }
     {
         let (header, slots) = read_header(bytes)?;
         let Some(limits) = Limits::new(header.slots, header.generations) else {

@@ -5,8 +5,10 @@ use ent_handle::Memory;
 use std::alloc::AllocError;
 use thiserror::Error;
 
-/// Why bytes were not read as the image of an allocator: the first fault from the left.
+/// Why bytes were not read as the image of an allocator: the first fault that they have, in the
+/// order that [`Entities::read_image`](crate::Entities::read_image) lists.
 #[derive(Clone, Copy, Debug, PartialEq, Eq, Hash, Error)]
+#[non_exhaustive]
 pub enum ImageFault {
     /// The bytes don't begin as an image does.
     #[error("not an image of an allocator")]
@@ -33,7 +35,7 @@ pub enum ImageFault {
     #[error("requests that can't have been made")]
     Requests,
     /// The slot is none that an allocator may have: a generation out of range, a word that names no
-    /// kind of slot, or a position that is past the last one or that another slot waits at.
+    /// kind of slot, or a position that is past the last one or that a slot before it waits at.
     #[error("slot {index} is damaged")]
     Slot {
         /// The index of the slot.

@@ -8,6 +8,7 @@ ghost use Rattle.ent_alloc.specs.Limits.{AreLimits};
 ghost use Rattle.ent_alloc.specs.Sequential.{fresh as fresh_handles, following, stands_in};
 ghost use Rattle.ent_alloc.specs.Slots.{lives, row_kept, waits_from};
 ghost use Rattle.ent_alloc.specs.Image.{slots_bytes, AreSlots};
+ghost use Rattle.ent_alloc.specs.FirstFault.{first_failing, slots_tests};
 
 use crate::cloning::{overwrite, reserve_for};
 use crate::image_fault::ImageFault;
@@ -348,6 +349,10 @@ impl Slots {
         ensures refused { IfErr result (λ fault. fault ≢ ImageFault.Memory → (r : Roster)
             → AreSlots r → r.limits ≡ limits → r.made ≡ made → length r.pending ≡ waiting
             → slots_bytes r ≢ bytes.now) }
+        ensures fault { IfErr result (λ fault. fault ≢ ImageFault.Memory
+            → first_failing (slots_tests limits.generations made waiting bytes.now) ≡ Some fault) }
+        ensures faultless { OnOk result
+            (first_failing (slots_tests limits.generations made waiting bytes.now) ≡ None) }
     {
         let SlotLists {
             records,

@@ -2,7 +2,7 @@
 //! Beside it a copy of as many bytes as its lists have, and the slot map's `clone_from`.
 
 use crate::{median, peers, rounds, timed, Run};
-use forgeni::Entities;
+use forgeni::{Entities, HandleMap};
 use std::hint::black_box;
 
 /// How many slots were made. Every fourth of them waits.
@@ -25,6 +25,17 @@ pub fn table() {
             Some(peer) => println!(" {peer:.1} µs | {:.2} |", micros[0] / peer),
             None => println!(" | |"),
         }
+    }
+}
+
+/// A map of plain values, taken over by another that has room, beside a list of options. Every fourth has none.
+pub fn maps() {
+    println!("| Slots | `HandleMap<i64>::clone_from` | `Vec<Option<i64>>` | Ratio |");
+    println!("|---|---|---|---|");
+    for (slots, name) in SIZES {
+        let micros = micros(vec![map(slots), options(slots)]);
+        print!("| {name} | {:.1} µs | {:.1} µs |", micros[0], micros[1]);
+        println!(" {:.2} |", micros[0] / micros[1]);
     }
 }
 
@@ -75,6 +86,32 @@ fn bytes(slots: u32) -> TakesOver {
             records.copy_from_slice(&black_box(&source).0);
             waiting.copy_from_slice(&black_box(&source).1);
             u64::from(target.1[0])
+        })
+    })
+}
+
+fn map(slots: u32) -> TakesOver {
+    let mut source = HandleMap::new();
+    for one in &used(slots) {
+        source.insert(one, i64::from(one.index())).expect("memory");
+    }
+    let mut target = source.clone();
+    Box::new(move || {
+        timed(|| {
+            black_box(&mut target).clone_from(black_box(&source));
+            target.len() as u64
+        })
+    })
+}
+
+fn options(slots: u32) -> TakesOver {
+    let value = |index| (index % 4 > 0).then_some(i64::from(index));
+    let source: Vec<_> = (0..slots).map(value).collect();
+    let mut target = source.clone();
+    Box::new(move || {
+        timed(|| {
+            black_box(&mut target).clone_from(black_box(&source));
+            target.len() as u64
         })
     })
 }

@@ -83,6 +83,8 @@ fn main() {
     if wanted("clones") {
         clones::table();
         println!();
+        clones::maps();
+        println!();
     }
     if wanted("images") {
         images::table();

@@ -99,6 +99,8 @@ fn images_cut_short() {
         assert!(bincode::deserialize::<Entities>(&bytes).is_err(), "{end}");
     }
     assert!(bincode::deserialize::<Entities>(&counted(&image)).is_err());
+    let json = serde_json::to_string(&image).expect("JSON");
+    refused::<Entities>(&json, "160 bytes expected");
     refused_bytes::<Entities>(&counted(&[]), "not an image of an allocator");
 }
 

@@ -1,16 +1,15 @@
-use Rattle.std.proofs.Common.{◌≡◌, ◌-◌, ◌*◌, ◌≤◌, ◌++◌, length, vec_len, vec_capacity}
+use Rattle.std.proofs.Common.{◌≡◌, ◌*◌, ◌≤◌, ◌++◌, length, drop, vec_len, vec_capacity}
 use Rattle.std.specs.List.{flat_map}
 use Rattle.ent_alloc.specs.ImageRecords.{record_bytes, AreRead}
 use Rattle.ent_alloc.proofs.image_slots.read_slots.Given as goal
 
 -- the slots before the index are read, and the bytes of the others are left
-abbrev pub invariant-loop-index : goal.invariant-loop-index
-invariant-loop-index l = record {
+abbrev pub invariant-loop-slot : goal.invariant-loop-slot
+invariant-loop-slot l = record {
   read : AreRead l.limits l.records.items l.pending.items l.live;
-  made : vec_len l.records ≡ l.index;
+  made : vec_len l.records ≡ l.slot-index;
   waiting : length l.pending.items ≡ l.waiting;
-  few : l.live ≤ l.index;
-  bytes : l.bytes ≡ flat_map record_bytes l.records.items ++ l.rest;
-  left : length l.rest ≡ 12 * (l.made - l.index);
+  few : l.live ≤ l.slot-index;
+  bytes : l.bytes ≡ flat_map record_bytes l.records.items ++ drop (12 * l.slot-index) l.bytes;
   room : l.made ≤ vec_capacity l.records;
 }

@@ -6,7 +6,7 @@ use alloc::vec::Vec;
 use crate::kit::vec::FallibleVec;
 use crate::proved::ent_alloc::entities::Entities;
 use crate::proved::ent_alloc::image_fault::ImageFault;
-use crate::proved::ent_alloc::image_slots::{read_word, write_word};
+use crate::proved::ent_alloc::image_slots::{SLOT, read_word, write_word};
 use crate::proved::ent_alloc::limits::Limits;
 use crate::proved::ent_alloc::requests::Requests;
 use crate::proved::ent_alloc::slots::Slots;
@@ -20,9 +20,6 @@ const VERSION: u32 = 1;
 
 /// How many bytes stand before the slots.
 const HEADER: usize = 40;
-
-/// How many bytes a slot has.
-const SLOT: usize = 12;
 
 /// The numbers before the slots.
 #[derive(Clone, Copy)]
@@ -114,6 +111,8 @@ fn read_header(bytes: &[u8]) -> Result<(Header, &[u8]), ImageFault>
     // ensures fits { IfOk result (λ h. AreNumbers h.0) }
     // ensures refused { OnErr result ((h : Header) (rest : List ℕ)
     //     → bytes.now ≢ header_bytes h ++ rest) }
+    // ensures fault { IfErr result (λ fault. first_failing (front_tests bytes.now) ≡ Some fault) }
+    // ensures faultless { OnOk result (first_failing (front_tests bytes.now) ≡ None) }
 {
     if bytes.len() < 8 {
         return Err(ImageFault::Magic);
@@ -215,9 +214,11 @@ impl Entities {
     ///
     /// # Errors
     ///
-    /// Each but [`Memory`](ImageFault::Memory) says that no allocator has this image.
+    /// Each but [`Memory`](ImageFault::Memory) says that no allocator has this image. The first fault
+    /// that the bytes have, in this order, is returned:
     ///
     /// - [`ImageFault::Magic`] if the bytes don't begin as an image does.
+    /// - [`ImageFault::Length`] if there are fewer than 40 bytes.
     /// - [`ImageFault::Version`] if the image is of another version of the format.
     /// - [`ImageFault::Limits`] if no allocator may have such limits.
     /// - [`ImageFault::Counts`] if more slots were made than the limits allow, or more wait than were
@@ -226,7 +227,8 @@ impl Entities {
     /// - [`ImageFault::Length`] if there are fewer or more bytes than an image of so many slots has.
     /// - [`ImageFault::Slot`] with the first slot that can't be so.
     /// - [`ImageFault::Position`] with the first position that no slot waits at.
-    /// - [`ImageFault::Memory`] if there is no memory for the slots.
+    ///
+    /// [`ImageFault::Memory`] comes if there is no memory for the slots, whatever they are.
     ///
     /// <details><summary>Contract</summary>
     ///
@@ -239,6 +241,11 @@ impl Entities {
     /// // What is refused is the image of no allocator.
     /// ensures refused { IfErr result (λ fault. fault ≢ ImageFault.Memory → (e : Entities)
     ///     → HasImage e → image e ≢ bytes.now) }
+    ///
+    /// // It is refused for the first fault of the bytes, and what has none is read.
+    /// ensures fault { IfErr result (λ fault. fault ≢ ImageFault.Memory
+    ///     → first_fault bytes.now ≡ Some fault) }
+    /// ensures faultless { OnOk result (first_fault bytes.now ≡ None) }
     ///
     /// // The image of an allocator is read as this allocator, unless memory runs out.
     /// ensures exact { (e : Entities) → HasImage e → image e ≡ bytes.now
@@ -263,6 +270,9 @@ impl Entities {
         // ensures has_image { IfOk result HasImage }
         // ensures refused { IfErr result (λ fault. fault ≢ ImageFault.Memory → (e : Entities)
         //     → HasImage e → image e ≢ bytes.now) }
+        // ensures fault { IfErr result (λ fault. fault ≢ ImageFault.Memory
+        //     → first_fault bytes.now ≡ Some fault) }
+        // ensures faultless { OnOk result (first_fault bytes.now ≡ None) }
     {
         let (header, slots) = read_header(bytes)?;
         let Some(limits) = Limits::new(header.slots, header.generations) else {

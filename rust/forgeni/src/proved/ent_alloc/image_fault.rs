@@ -3,8 +3,10 @@
 use crate::proved::ent_handle::Memory;
 use crate::kit::alloc::AllocError;
 
-/// Why bytes were not read as the image of an allocator: the first fault from the left.
+/// Why bytes were not read as the image of an allocator: the first fault that they have, in the
+/// order that [`Entities::read_image`](crate::proved::ent_alloc::Entities::read_image) lists.
 #[derive(Clone, Copy, Debug, PartialEq, Eq, Hash)]
+#[non_exhaustive]
 pub enum ImageFault {
     /// The bytes don't begin as an image does.
     Magic,
@@ -25,7 +27,7 @@ pub enum ImageFault {
     /// So many handles can't be reserved where so many were asked for.
     Requests,
     /// The slot is none that an allocator may have: a generation out of range, a word that names no
-    /// kind of slot, or a position that is past the last one or that another slot waits at.
+    /// kind of slot, or a position that is past the last one or that a slot before it waits at.
     Slot {
         /// The index of the slot.
         index: u32,

@@ -9,6 +9,9 @@ use crate::proved::ent_alloc::limits::Limits;
 use crate::proved::ent_alloc::slot_record::{Occupancy, SlotRecord};
 use crate::kit::alloc::AllocError;
 
+/// How many bytes a slot has.
+pub(super) const SLOT: usize = 12;
+
 /// What a position has that no slot was read for yet.
 pub(super) const VACANT: u32 = u32::MAX;
 
@@ -96,6 +99,7 @@ fn record_of(limits: Limits, generation: u32, kind: u32, number: u32) -> Option<
     // ensures limited { AreLimits limits }
     // ensures none { IfNone result ((s : SlotRecord) → IsWritten limits s.generation s.occupancy
     //     → s.generation ≡ generation → kind_of s.occupancy ≡ kind → number_of s.occupancy ≢ number) }
+    // ensures row { IfNone result (is_slot limits.generations generation kind number ≡ false) }
 {
     let within = 1 <= generation && generation <= limits.generations();
     let occupancy = match kind {
@@ -137,22 +141,21 @@ fn admit(pending: &mut [u32], slot: SlotRecord, index: u32) -> bool
     }
 }
 
-/// The slot that bytes begin with, and the bytes after it; `None` if no slot within the limits is so
-/// written.
+/// The slot that these bytes are; `None` if no slot within the limits is so written.
 #[inline]
-fn read_slot(bytes: &[u8], limits: Limits) -> Option<(SlotRecord, &[u8])>
-    // requires { 12 ≤ length bytes.now }
-    // ensures bytes { IfSome result (λ s. bytes.now ≡ record_bytes s.0 ++ s.1.now) }
-    // ensures within { IfSome result (λ s. IsGeneration limits s.0.generation) }
-    // ensures fits { IfSome result (λ s. number_of s.0.occupancy < 2 ^ 32) }
-    // ensures none { IfNone result ((s : SlotRecord) (rest : List ℕ)
-    //     → IsWritten limits s.generation s.occupancy → bytes.now ≢ slot_bytes s ++ rest) }
+fn read_slot(bytes: &[u8; SLOT], limits: Limits) -> Option<SlotRecord>
+    // ensures bytes { IfSome result (λ s. bytes.now ≡ record_bytes s) }
+    // ensures within { IfSome result (λ s. IsGeneration limits s.generation) }
+    // ensures fits { IfSome result (λ s. number_of s.occupancy < 2 ^ 32) }
+    // ensures none { IfNone result ((s : SlotRecord) → IsWritten limits s.generation s.occupancy
+    //     → bytes.now ≢ slot_bytes s) }
+    // ensures row { IfNone result (is_slot limits.generations
+    //     (word_at bytes.now 0) (word_at bytes.now 4) (word_at bytes.now 8) ≡ false) }
 {
     let (generation, rest) = read_word(bytes);
     let (kind, rest) = read_word(rest);
-    let (number, rest) = read_word(rest);
-    let slot = record_of(limits, generation, kind, number)?;
-    Some((slot, rest))
+    let (number, _) = read_word(rest);
+    record_of(limits, generation, kind, number)
 }
 
 /// How many living entities have the slot: one or none.
@@ -169,6 +172,8 @@ fn occupants_of(slot: SlotRecord) -> u32
 fn vacant_position(pending: &[u32]) -> Option<usize>
     // ensures some { IfSome result (λ position. position < length pending.now) }
     // ensures is { IfSome result (λ position. slice_index pending.now position ≡ vacant) }
+    // ensures first { IfSome result (λ position. (before : ℕ) → before < position
+    //     → slice_index pending.now before ≢ vacant) }
     // ensures none { IfNone result ((position : ℕ) → position < length pending.now
     //     → slice_index pending.now position ≢ vacant) }
 {
@@ -181,9 +186,7 @@ fn vacant_positions(count: u32) -> Result<Vec<u32>, AllocError>
     // ensures { IfOk result (λ positions. positions.items ≡ replicate count vacant) }
 {
     let mut positions = Vec::with_capacity_fallibly(count as usize)?;
-    for _position in 0..count {
-        positions.push_reserved(VACANT);
-    }
+    positions.resize_fallibly(count as usize, VACANT)?;
     Ok(positions)
 }
 
@@ -214,21 +217,25 @@ pub(super) fn read_slots(
     // ensures refused { IfErr result (λ fault. fault ≢ ImageFault.Memory → (r : Roster) → AreSlots r
     //     → r.limits ≡ limits → r.made ≡ made → length r.pending ≡ waiting
     //     → slots_bytes r ≢ bytes.now) }
+    // ensures fault { IfErr result (λ fault. fault ≢ ImageFault.Memory
+    //     → first_failing (slots_tests limits.generations made waiting bytes.now) ≡ Some fault) }
+    // ensures faultless { OnOk result
+    //     (first_failing (slots_tests limits.generations made waiting bytes.now) ≡ None) }
 {
     let mut records = Vec::with_capacity_fallibly(made as usize)?;
     let mut pending = vacant_positions(waiting)?;
     let mut live = 0;
-    let mut rest = bytes;
-    for index in 0..made {
-        let Some((slot, left)) = read_slot(rest, limits) else {
+    let (slots, _) = bytes.as_chunks();
+    for slot in slots {
+        let index = records.len() as u32;
+        let Some(record) = read_slot(slot, limits) else {
             return Err(ImageFault::Slot { index });
         };
-        if !admit(&mut pending, slot, index) {
+        if !admit(&mut pending, record, index) {
             return Err(ImageFault::Slot { index });
         }
-        live += occupants_of(slot);
-        records.push_reserved(slot);
-        rest = left;
+        live += occupants_of(record);
+        records.push_reserved(record);
     }
     match vacant_position(&pending) {
         Some(position) => Err(ImageFault::Position {

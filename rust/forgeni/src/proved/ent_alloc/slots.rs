@@ -345,6 +345,10 @@ impl Slots {
         // ensures refused { IfErr result (λ fault. fault ≢ ImageFault.Memory → (r : Roster)
         //     → AreSlots r → r.limits ≡ limits → r.made ≡ made → length r.pending ≡ waiting
         //     → slots_bytes r ≢ bytes.now) }
+        // ensures fault { IfErr result (λ fault. fault ≢ ImageFault.Memory
+        //     → first_failing (slots_tests limits.generations made waiting bytes.now) ≡ Some fault) }
+        // ensures faultless { OnOk result
+        //     (first_failing (slots_tests limits.generations made waiting bytes.now) ≡ None) }
     {
         let SlotLists {
             records,

@@ -1,5 +1,6 @@
 use Rattle.std.proofs.Common.{◌≡◌, ◌+◌, ◌-◌, ◌*◌, ◌++◌, length, sym}
-use Rattle.std.proofs.Common.{ap, ◌∙◌, subst, arith, inl, inr}
+use Rattle.std.proofs.Common.{ap, ◌∙◌, subst, arith, inl, inr, refl}
+use Rattle.std.proofs.lemmas.List.{length-append}
 use Rattle.std.proofs.lemmas.Bool.{false≢true}
 use Rattle.ent_alloc.specs.Limits.{Limits, AreLimits}
 use Rattle.ent_alloc.specs.Entities.{Entities}
@@ -9,6 +10,10 @@ use Rattle.ent_alloc.specs.declared.image.Header.{Header}
 use Rattle.ent_alloc.proofs.ImageSound.{roster_slots}
 use Rattle.ent_alloc.proofs.ImageOf.{told, served, few_wait, length-slots_bytes, reserved_are, has_image}
 use Rattle.ent_alloc.proofs.ImageOf.{image_is, numbers, top_as, handed_on}
+use Rattle.ent_alloc.specs.FirstFault.{first_fault, first_failing, slots_tests}
+use Rattle.ent_alloc.proofs.ImageHeader.{length-header_bytes}
+use Rattle.ent_alloc.proofs.ImageFront.{front_fault, to_numbers, later_tests, limits_fault}
+use Rattle.ent_alloc.proofs.ImageFront.{counts_fault, requests_fault, whole_length_fault, to_slots}
 use Rattle.ent_alloc.proofs.entities.Entities.of_image.Goals.{In_ok-header, In_ok-slots}
 use Rattle.ent_alloc.proofs.entities.Entities.of_image.Goals as goal
 
@@ -108,3 +113,82 @@ returns-clause-has_image c =
     has_image r requests.asked requests.served c.in_ok-slots.ensures.slots
     (reserved_are r requests.asked requests.served c.in_ok-slots.ensures.slots
     (are_served (goal.at.returns-clause-has_image c).In_ok-slots))
+
+-- ---- the first fault
+
+-- the tests that are left after those of the letters, the length and the version
+to_later : (c : In_ok-header) → first_fault c.args.bytes.now
+    ≡ first_failing (later_tests c.in_ok-header.header (length c.args.bytes.now)
+    c.in_ok-header.slots.now)
+to_later c = to_numbers c.args.bytes.now c.in_ok-header.header c.in_ok-header.slots.now
+    c.in_ok-header.ensures.fits c.in_ok-header.ensures.found c.in_ok-header.ensures.faultless
+
+long_is : (c : In_ok-header) → length c.args.bytes.now ≡ 40 + length c.in_ok-header.slots.now
+long_is c =
+    let joined = length-append (header_bytes c.in_ok-header.header) c.in_ok-header.slots.now in
+    let front = length-header_bytes c.in_ok-header.header in
+    ap length c.in_ok-header.ensures.found ∙ omega arith
+
+pub returns-in_err-header-clause-fault : goal.returns-in_err-header-clause-fault
+returns-in_err-header-clause-fault c =
+    handed_on c.from_residual.result c.in_err-header.field-0.0 _ c.from_residual.ensures.1
+    (λ not_memory. front_fault c.args.bytes.now
+    c.in_err-header.field-0.0 c.in_err-header.ensures.fault)
+
+pub returns-in_default-clause-fault : goal.returns-in_default-clause-fault
+returns-in_default-clause-fault c not_memory =
+    to_later (goal.at.returns-in_default-clause-fault c).In_ok-header
+    ∙ limits_fault c.in_ok-header.header (length c.args.bytes.now) c.in_ok-header.slots.now
+    c.in_ok-header.ensures.fits.slots (λ are. false≢true (c.in_default.ensures.in_range.1 are))
+
+pub returns-then-header-clause-fault : goal.returns-then-header-clause-fault
+returns-then-header-clause-fault c not_memory =
+    to_later (goal.at.returns-then-header-clause-fault c).In_ok-header
+    ∙ counts_fault c.in_ok-header.header (length c.args.bytes.now) c.in_ok-header.slots.now
+    (c.in-Some.ensures.in_range.0 refl)
+    (elim c.then-header.either [ inl more ↦ inl (omega arith) | inr wait ↦ inr (omega (arith, wait.1)) ])
+
+pub returns-in_default-requests_of-clause-fault : goal.returns-in_default-requests_of-clause-fault
+returns-in_default-requests_of-clause-fault c not_memory =
+    to_later (goal.at.returns-in_default-requests_of-clause-fault c).In_ok-header
+    ∙ requests_fault c.in_ok-header.header (length c.args.bytes.now) c.in_ok-header.slots.now
+    (c.in-Some.ensures.in_range.0 refl) (omega arith) (omega arith)
+    c.in_default-requests_of.ensures.none
+
+pub returns-then-slots-header-clause-fault : goal.returns-then-slots-header-clause-fault
+returns-then-slots-header-clause-fault c not_memory =
+    let long = long_is (goal.at.returns-then-slots-header-clause-fault c).In_ok-header in
+    to_later (goal.at.returns-then-slots-header-clause-fault c).In_ok-header
+    ∙ whole_length_fault c.in_ok-header.header (length c.args.bytes.now) c.in_ok-header.slots.now
+    (c.in-Some.ensures.in_range.0 refl) (omega arith) (omega arith)
+    c.in-Some-requests_of.ensures.some
+    (λ same. let other = c.if-slots-header.true in omega (arith, same, long))
+
+-- and those of the slots
+pub returns-in_err-slots-clause-fault : goal.returns-in_err-slots-clause-fault
+returns-in_err-slots-clause-fault c =
+    let long = long_is (goal.at.returns-in_err-slots-clause-fault c).In_ok-header in
+    let h = c.in_ok-header.header in
+    let slots = c.in_ok-header.slots.now in
+    let limits : c.in-Some.limits ≡ limits_in h = c.in-Some.ensures.value in
+    handed_on c.from_residual-in_err-slots.result c.in_err-slots.field-0.0 _
+    c.from_residual-in_err-slots.ensures.1 (λ not_memory.
+    to_later (goal.at.returns-in_err-slots-clause-fault c).In_ok-header
+    ∙ to_slots h (length c.args.bytes.now) slots (c.in-Some.ensures.in_range.0 refl) (omega arith)
+    (omega arith) c.in-Some-requests_of.ensures.some
+    (let whole = c.if-slots-header.false in omega (arith, long))
+    ∙ ap (λ (l : Limits). first_failing (slots_tests l.generations h.made h.waiting slots))
+    (sym limits) ∙ c.in_err-slots.ensures.fault not_memory)
+
+pub returns-clause-faultless : goal.returns-clause-faultless
+returns-clause-faultless c =
+    let long = long_is (goal.at.returns-clause-faultless c).In_ok-header in
+    let h = c.in_ok-header.header in
+    let slots = c.in_ok-header.slots.now in
+    let limits : c.in-Some.limits ≡ limits_in h = c.in-Some.ensures.value in
+    to_later (goal.at.returns-clause-faultless c).In_ok-header
+    ∙ to_slots h (length c.args.bytes.now) slots (c.in-Some.ensures.in_range.0 refl) (omega arith)
+    (omega arith) c.in-Some-requests_of.ensures.some
+    (let whole = c.if-slots-header.false in omega (arith, long))
+    ∙ ap (λ (l : Limits). first_failing (slots_tests l.generations h.made h.waiting slots))
+    (sym limits) ∙ c.in_ok-slots.ensures.faultless

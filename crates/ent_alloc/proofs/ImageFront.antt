@@ -1,0 +1,305 @@
+-- What the tests of the first forty bytes answer.
+use Rattle.std.proofs.Common.{◌≡◌, ◌≢◌, refl, sym, ap, ◌∙◌, ℕ, ◌+◌, ◌-◌, ◌*◌, ◌^◌, ◌<◌, ◌≤◌, ◌⊎◌, inl, inr}
+use Rattle.std.proofs.Common.{Bool, true, false, ◌&&◌, ◌||◌, eqb, leb, ltb, List, [], ◌∷◌, ◌++◌}
+use Rattle.std.proofs.Common.{length, drop, Option, None, Some, arith}
+use Rattle.std.specs.Prelude.{nat_eq}
+use Rattle.std.specs.List.{starts_with}
+use Rattle.std.proofs.lemmas.Bool.{eq-eqb, ne_eqb, le-leb, lt-leb, leb-true, ltb-true, lt-ltb}
+use Rattle.std.proofs.lemmas.Bool.{cases_eq, cases_lt, and_from, and_parts, false≢true, le-ltb}
+use Rattle.std.proofs.lemmas.Bool.Decides.{Decides-eqb}
+use Rattle.std.proofs.lemmas.Slice.Eq.{starts_is}
+use Rattle.std.proofs.lemmas.List.{length-append, drop_at}
+use Rattle.ent_alloc.specs.Limits.{AreLimits}
+use Rattle.ent_alloc.specs.Image.{word, long, magic, version, header_bytes}
+use Rattle.ent_alloc.specs.ImageRecords.{AreNumbers, AreServed}
+use Rattle.ent_alloc.specs.FirstFault.{Test, first_failing, first_fault, word_at, long_at, front_tests}
+use Rattle.ent_alloc.specs.FirstFault.{header_in, in_limits, in_counts, in_requests, header_tests}
+use Rattle.ent_alloc.specs.FirstFault.{slots_tests}
+use Rattle.ent_alloc.specs.declared.image.Header.{Header}
+use Rattle.ent_alloc.specs.declared.image_fault.ImageFault.{ImageFault}
+use Rattle.ent_alloc.specs.declared.image_fault.ImageFault.TheVariants.{Magic, Version, Length}
+use Rattle.ent_alloc.specs.declared.image_fault.ImageFault.TheVariants.{Limits as BadLimits, Counts}
+use Rattle.ent_alloc.specs.declared.image_fault.ImageFault.TheVariants.{Requests}
+use Rattle.ent_alloc.proofs.ImageHeader.{letters, letters_are, header_then, numbers_then, same_longs}
+use Rattle.ent_alloc.proofs.ImageHeader.{length-long, length-header_bytes}
+use Rattle.ent_alloc.proofs.ImageWords.{length-word}
+use Rattle.ent_alloc.proofs.ImageWordAt.{word_here, word_past, long_here, long_past}
+use Rattle.ent_alloc.proofs.FirstFailing.{passed, failed, failed_before, passed_before}
+
+-- what is not true is false
+pub is_false : (b : Bool) → (b ≡ true → ⊥) → b ≡ false
+is_false true not = absurd (not refl)
+is_false false not = refl
+
+-- ---- the letters, the length and the version
+
+abbrev magic_test : List ℕ → Test
+magic_test bytes = (starts_with nat_eq bytes magic, Magic)
+
+abbrev length_test : List ℕ → Test
+length_test bytes = (leb 40 (length bytes), Length 40)
+
+abbrev version_test : List ℕ → Test
+version_test bytes = (eqb (word_at bytes 8) version, Version (word_at bytes 8))
+
+begins : (bytes rest : List ℕ) → bytes ≡ magic ++ rest → starts_with nat_eq bytes magic ≡ true
+begins bytes rest is =
+    (starts_is Decides-eqb bytes magic (starts_with nat_eq bytes magic) refl).1 rest is
+
+begins_not : (bytes : List ℕ) → ((rest : List ℕ) → bytes ≢ magic ++ rest)
+    → starts_with nat_eq bytes magic ≡ false
+begins_not bytes not = is_false (starts_with nat_eq bytes magic) (λ is. not (drop 8 bytes)
+    ((starts_is Decides-eqb bytes magic (starts_with nat_eq bytes magic) refl).0 is))
+
+pub magic_fault : (bytes : List ℕ) → ((rest : List ℕ) → bytes ≢ magic ++ rest)
+    → first_failing (front_tests bytes) ≡ Some Magic
+magic_fault bytes not = failed (magic_test bytes) (length_test bytes ∷ version_test bytes ∷ [])
+    (begins_not bytes not)
+
+pub too_short_for_magic : (bytes : List ℕ) → length bytes < 8 → (rest : List ℕ) → bytes
+    ≢ magic ++ rest
+too_short_for_magic bytes short rest is =
+    let joined = ap length is ∙ length-append magic rest in omega (arith, short, joined)
+
+pub other_letters : (number : ℕ) (bytes more : List ℕ) → bytes ≡ long number ++ more
+    → number < 2 ^ 64 → number ≢ letters → (rest : List ℕ) → bytes ≢ magic ++ rest
+other_letters number bytes more spelled below other rest is =
+    other (same_longs number letters more rest below (omega arith) (sym spelled ∙ is
+    ∙ ap (λ xs. xs ++ rest) (sym letters_are))).0
+
+module _ (bytes more : List ℕ) (is : bytes ≡ long letters ++ more) where
+  has_letters : starts_with nat_eq bytes magic ≡ true
+  has_letters = begins bytes more (is ∙ ap (λ xs. xs ++ more) letters_are)
+
+  pub length_fault : length bytes < 40 → first_failing (front_tests bytes) ≡ Some (Length 40)
+  length_fault short = passed (magic_test bytes) (length_test bytes ∷ version_test bytes ∷ []) has_letters
+      ∙ failed (length_test bytes) (version_test bytes ∷ []) (lt-leb 40 (length bytes) short)
+
+  module _ (enough : 40 ≤ length bytes) (number : ℕ) (rest : List ℕ) (below : number < 2 ^ 32)
+      (spelled : more ≡ word number ++ rest) where
+    version_is : word_at bytes 8 ≡ number
+    version_is = ap (λ bs. word_at bs 8) (is ∙ ap (long letters ++◌) spelled)
+        ∙ word_past (long letters) (word number ++ rest) 8 0 (length-long letters)
+        ∙ word_here number rest below
+
+    to_version : first_failing (front_tests bytes) ≡ first_failing (version_test bytes ∷ [])
+    to_version = passed (magic_test bytes) (length_test bytes ∷ version_test bytes ∷ []) has_letters
+        ∙ passed (length_test bytes) (version_test bytes ∷ []) (le-leb 40 (length bytes) enough)
+
+    pub version_fault : number ≢ version → first_failing (front_tests bytes) ≡ Some (Version number)
+    version_fault other = to_version
+        ∙ failed (version_test bytes) []
+        (ne_eqb (word_at bytes 8) version (λ same. other (sym version_is ∙ same)))
+        ∙ ap (λ n. Some (Version n)) version_is
+
+    pub front_passes : number ≡ version → first_failing (front_tests bytes) ≡ None
+    front_passes same = to_version
+        ∙ passed (version_test bytes) []
+        (eq-eqb (word_at bytes 8) version (version_is ∙ same))
+
+-- ---- the numbers
+
+module _ (h : Header) (rest : List ℕ) (fits : AreNumbers h) where
+  spelled_out : header_bytes h ++ rest ≡ long letters ++ (word version ++ (word h.slots
+      ++ (word h.generations ++ (word h.made ++ (word h.waiting ++ (word h.reserved
+      ++ (long h.asked ++ rest)))))))
+  spelled_out = header_then h rest
+      ∙ ap (λ xs. long letters ++ (word version ++ xs)) (numbers_then h rest)
+
+  header_is_in : header_in (header_bytes h ++ rest) ≡ h
+  header_is_in =
+      let asked_on = long h.asked ++ rest in
+      let reserved_on = word h.reserved ++ asked_on in
+      let waiting_on = word h.waiting ++ reserved_on in
+      let made_on = word h.made ++ waiting_on in
+      let generations_on = word h.generations ++ made_on in
+      let slots_on = word h.slots ++ generations_on in
+      let version_on = word version ++ slots_on in
+      let to_slots = λ (place : ℕ).
+      word_past (long letters) version_on 8 (4 + place) (length-long letters)
+      ∙ word_past (word version) slots_on 4 place (length-word version) in
+      let past_slots = λ (place : ℕ).
+      word_past (word h.slots) generations_on 4 place (length-word h.slots) in
+      let past_generations = λ (place : ℕ).
+      word_past (word h.generations) made_on 4 place (length-word h.generations) in
+      let past_made = λ (place : ℕ).
+      word_past (word h.made) waiting_on 4 place (length-word h.made) in
+      let past_waiting = λ (place : ℕ).
+      word_past (word h.waiting) reserved_on 4 place (length-word h.waiting) in
+      let slots = ap (λ bs. word_at bs 12) spelled_out ∙ to_slots 0
+      ∙ word_here h.slots generations_on fits.slots in
+      let generations = ap (λ bs. word_at bs 16) spelled_out ∙ to_slots 4 ∙ past_slots 0
+      ∙ word_here h.generations made_on fits.generations in
+      let made = ap (λ bs. word_at bs 20) spelled_out ∙ to_slots 8 ∙ past_slots 4
+      ∙ past_generations 0 ∙ word_here h.made waiting_on fits.made in
+      let waiting = ap (λ bs. word_at bs 24) spelled_out ∙ to_slots 12 ∙ past_slots 8
+      ∙ past_generations 4 ∙ past_made 0 ∙ word_here h.waiting reserved_on fits.waiting in
+      let reserved = ap (λ bs. word_at bs 28) spelled_out ∙ to_slots 16 ∙ past_slots 12
+      ∙ past_generations 8 ∙ past_made 4 ∙ past_waiting 0
+      ∙ word_here h.reserved asked_on fits.reserved in
+      let asked = ap (λ bs. long_at bs 32) spelled_out
+      ∙ long_past (long letters) version_on 8 24 (length-long letters)
+      ∙ long_past (word version) slots_on 4 20 (length-word version)
+      ∙ long_past (word h.slots) generations_on 4 16 (length-word h.slots)
+      ∙ long_past (word h.generations) made_on 4 12 (length-word h.generations)
+      ∙ long_past (word h.made) waiting_on 4 8 (length-word h.made)
+      ∙ long_past (word h.waiting) reserved_on 4 4 (length-word h.waiting)
+      ∙ long_past (word h.reserved) asked_on 4 0 (length-word h.reserved)
+      ∙ long_here h.asked rest fits.asked in
+      λ i. record {
+        slots = slots i;
+        generations = generations i;
+        made = made i;
+        waiting = waiting i;
+        reserved = reserved i;
+        asked = asked i;
+      }
+
+-- the tests that are left after the first ones
+abbrev pub later_tests : Header → ℕ → List ℕ → List Test
+later_tests h len slots = header_tests h len ++ slots_tests h.generations h.made h.waiting slots
+
+pub to_numbers : (bytes : List ℕ) (h : Header) (rest : List ℕ) → AreNumbers h
+    → bytes ≡ header_bytes h ++ rest → first_failing (front_tests bytes) ≡ None
+    → first_fault bytes ≡ first_failing (later_tests h (length bytes) rest)
+to_numbers bytes h rest fits is front =
+    let numbers : header_in bytes ≡ h = ap header_in is ∙ header_is_in h rest fits in
+    let left : drop 40 bytes ≡ rest =
+    ap (drop 40) is ∙ drop_at (header_bytes h) rest 40 (length-header_bytes h) in
+    passed_before (front_tests bytes)
+    (later_tests (header_in bytes) (length bytes) (drop 40 bytes)) front
+    ∙ (λ i. first_failing (later_tests (numbers i) (length bytes) (left i)))
+
+-- a fault of the first ones
+pub front_fault : (bytes : List ℕ) (fault : ImageFault)
+    → first_failing (front_tests bytes) ≡ Some fault → first_fault bytes ≡ Some fault
+front_fault bytes fault is = failed_before (front_tests bytes)
+    (later_tests (header_in bytes) (length bytes) (drop 40 bytes)) fault is
+
+-- ---- the tests of the numbers
+
+limits_true : (h : Header) → AreLimits (record { slots = h.slots; generations = h.generations })
+    → in_limits h ≡ true
+limits_true h are = and_from (leb 1 h.slots && leb 1 h.generations) (ltb h.generations (2 ^ 31))
+    (and_from (leb 1 h.slots) (leb 1 h.generations) (le-leb 1 h.slots are.some_slot)
+    (le-leb 1 h.generations are.some_generation)) (lt-ltb h.generations (2 ^ 31) are.generations)
+
+limits_false : (h : Header) → h.slots < 2 ^ 32
+    → ¬ (AreLimits (record { slots = h.slots; generations = h.generations }))
+    → in_limits h ≡ false
+limits_false h fits not = is_false (in_limits h) (λ is.
+    let both = and_parts (leb 1 h.slots && leb 1 h.generations) (ltb h.generations (2 ^ 31)) is in
+    let least = and_parts (leb 1 h.slots) (leb 1 h.generations) both.0 in
+    not (record {
+      some_slot = leb-true 1 h.slots least.0;
+      slots = fits;
+      some_generation = leb-true 1 h.generations least.1;
+      generations = ltb-true h.generations (2 ^ 31) both.1;
+    }))
+
+counts_true : (h : Header) → h.made ≤ h.slots → h.waiting ≤ h.made → in_counts h ≡ true
+counts_true h few wait = and_from (leb h.made h.slots) (leb h.waiting h.made)
+    (le-leb h.made h.slots few) (le-leb h.waiting h.made wait)
+
+counts_false : (h : Header) → (h.slots < h.made) ⊎ (h.made < h.waiting) → in_counts h ≡ false
+counts_false h over = is_false (in_counts h) (λ is.
+    let both = and_parts (leb h.made h.slots) (leb h.waiting h.made) is in
+    let few = leb-true h.made h.slots both.0 in
+    let wait = leb-true h.waiting h.made both.1 in
+    elim over [ inl more ↦ omega arith | inr more ↦ omega arith ])
+
+abbrev given : Header → ℕ
+given h = h.waiting + (h.slots - h.made)
+
+or_true_right : (b : Bool) → (b || true) ≡ true
+or_true_right true = refl
+or_true_right false = refl
+
+all_given : (asked reserved available : ℕ) → (asked ≤ available → reserved ≡ asked)
+    → (ltb available asked || eqb reserved asked) ≡ true
+all_given asked reserved available all = elim (cases_lt available asked) [
+  | inl scarce ↦ ap (λ b. b || eqb reserved asked) (lt-ltb available asked scarce)
+  | inr enough ↦ ap (λ b. ltb available asked || b) (eq-eqb reserved asked (all enough))
+      ∙ or_true_right (ltb available asked)
+]
+
+given_all : (asked reserved available : ℕ)
+    → (ltb available asked || eqb reserved asked) ≡ true → asked ≤ available → reserved ≡ asked
+given_all asked reserved available is enough = elim (cases_eq reserved asked) [
+  | inl same ↦ same
+  | inr other ↦
+      let first = le-ltb available asked enough in
+      let second = ne_eqb reserved asked other in
+      absurd (false≢true ((λ i. sym first i || sym second i) ∙ is))
+]
+
+requests_true : (h : Header) → AreServed h.asked h.reserved (given h) → in_requests h ≡ true
+requests_true h are =
+    and_from (leb h.asked (2 ^ 50) && leb h.reserved h.asked && leb h.reserved (given h))
+    (ltb (given h) h.asked || eqb h.reserved h.asked)
+    (and_from (leb h.asked (2 ^ 50) && leb h.reserved h.asked) (leb h.reserved (given h))
+    (and_from (leb h.asked (2 ^ 50)) (leb h.reserved h.asked) (le-leb h.asked (2 ^ 50) are.asked_in)
+    (le-leb h.reserved h.asked are.least)) (le-leb h.reserved (given h) are.within))
+    (all_given h.asked h.reserved (given h) are.all)
+
+requests_false : (h : Header) → ¬ (AreServed h.asked h.reserved (given h)) → in_requests h ≡ false
+requests_false h not = is_false (in_requests h) (λ is.
+    let last = and_parts (leb h.asked (2 ^ 50) && leb h.reserved h.asked
+    && leb h.reserved (given h)) (ltb (given h) h.asked || eqb h.reserved h.asked) is in
+    let third = and_parts (leb h.asked (2 ^ 50) && leb h.reserved h.asked) (leb h.reserved (given h))
+    last.0 in
+    let first = and_parts (leb h.asked (2 ^ 50)) (leb h.reserved h.asked) third.0 in
+    not (record {
+      asked_in = leb-true h.asked (2 ^ 50) first.0;
+      least = leb-true h.reserved h.asked first.1;
+      within = leb-true h.reserved (given h) third.1;
+      all = given_all h.asked h.reserved (given h) last.1;
+    }))
+
+module _ (h : Header) (len : ℕ) (slots : List ℕ) where
+  abbrev later : Option ImageFault
+  later = first_failing (later_tests h len slots)
+
+  abbrev whole_test : Test
+  whole_test = (eqb len (40 + 12 * h.made), Length (40 + 12 * h.made))
+
+  abbrev for_slots : List Test
+  for_slots = slots_tests h.generations h.made h.waiting slots
+
+  abbrev from_requests : List Test
+  from_requests = (in_requests h, Requests) ∷ (whole_test ∷ for_slots)
+
+  pub limits_fault : h.slots < 2 ^ 32
+      → ¬ (AreLimits (record { slots = h.slots; generations = h.generations }))
+      → later ≡ Some BadLimits
+  limits_fault fits not = failed (in_limits h, BadLimits) ((in_counts h, Counts) ∷ from_requests)
+      (limits_false h fits not)
+
+  module _ (limits : AreLimits (record { slots = h.slots; generations = h.generations })) where
+    to_counts : later ≡ first_failing ((in_counts h, Counts) ∷ from_requests)
+    to_counts = passed (in_limits h, BadLimits) ((in_counts h, Counts) ∷ from_requests)
+        (limits_true h limits)
+
+    pub counts_fault : (h.slots < h.made) ⊎ (h.made < h.waiting) → later ≡ Some Counts
+    counts_fault over = to_counts
+        ∙ failed (in_counts h, Counts) from_requests (counts_false h over)
+
+    module _ (few : h.made ≤ h.slots) (wait : h.waiting ≤ h.made) where
+      to_requests : later ≡ first_failing from_requests
+      to_requests = to_counts ∙ passed (in_counts h, Counts) from_requests (counts_true h few wait)
+
+      pub requests_fault : ¬ (AreServed h.asked h.reserved (given h)) → later ≡ Some Requests
+      requests_fault not = to_requests
+          ∙ failed (in_requests h, Requests) (whole_test ∷ for_slots) (requests_false h not)
+
+      module _ (served : AreServed h.asked h.reserved (given h)) where
+        to_length : later ≡ first_failing (whole_test ∷ for_slots)
+        to_length = to_requests
+            ∙ passed (in_requests h, Requests) (whole_test ∷ for_slots) (requests_true h served)
+
+        pub whole_length_fault : len ≢ 40 + 12 * h.made → later ≡ Some (Length (40 + 12 * h.made))
+        whole_length_fault other = to_length
+            ∙ failed whole_test for_slots (ne_eqb len (40 + 12 * h.made) other)
+
+        pub to_slots : len ≡ 40 + 12 * h.made → later ≡ first_failing for_slots
+        to_slots same = to_length ∙ passed whole_test for_slots (eq-eqb len (40 + 12 * h.made) same)
