@@ -99,6 +99,15 @@ swept_has living index q i at =
 pub kept_none : (index : FinMap handle_cmp ℕ) (room : ℕ) → IsKeptIndex [] index room
 kept_none index room = search (rules, indexed_counted, indexed_none, some_not_none)
 
+-- another index has all places that count
+pub kept_copied : (living : List LivingEntity) (old new : FinMap handle_cmp ℕ) (room more : ℕ)
+    → IsKeptIndex living old room → HasAll (counted living old) new → length living ≤ more
+    → IsKeptIndex living new more
+kept_copied living old new room more kept all fits = record {
+  indexed = indexed_counted living new (counted living old) kept.indexed all;
+  fits = fits;
+}
+
 module _ (living : List LivingEntity) (index : FinMap handle_cmp ℕ) (room : ℕ)
     (kept : IsKeptIndex living index room) where
   pub kept_push : (entity : LivingEntity) (new : FinMap handle_cmp ℕ)

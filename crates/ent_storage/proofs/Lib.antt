@@ -28,6 +28,7 @@ pub mod WithComponent
 pub mod Entries
 pub mod Clones
 pub mod Copies
+pub mod Copied
 pub mod Found
 pub mod Kept
 pub mod Backwards

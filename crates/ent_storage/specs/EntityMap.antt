@@ -1,5 +1,5 @@
 -- The living entities: a finite map from handles to births and components.
-use Rattle.std.specs.Prelude.{ℕ, ℤ, List, Option, refl, option_and_then, slice_get}
+use Rattle.std.specs.Prelude.{◌≡◌, ℕ, ℤ, List, Option, Some, refl, option_and_then, slice_get}
 use Rattle.std.specs.Coded.{Coded, code_by, coded×, coded_list, coded_ℕ}
 use Rattle.std.specs.Option.{option_map, option_map_or}
 use Rattle.std.specs.FinMap as map
@@ -33,6 +33,10 @@ components_of m h = option_map (λ e. e.components) (map.get m h)
 -- the value of one component, if the entity is there and has it
 abbrev pub value_of : EntityMap → Handle → ComponentId → Option ℤ
 value_of m h id = option_and_then (λ e. map.get e.components id) (map.get m h)
+
+-- no entity has any component
+abbrev pub AreBare : EntityMap → Type 0
+AreBare m = (h : Handle) (e : Entity) → map.get m h ≡ Some e → e.components ≡ map.empty
 
 -- the map after the components of one entity were changed; the same map if the entity is not there
 abbrev pub with_components : EntityMap → Handle → (Components → Components) → EntityMap

@@ -75,6 +75,7 @@ impl<const INLINE: usize> Bundle<INLINE> {
     /// # Errors
     ///
     /// Out of memory, which needs more than `INLINE` different components.
+    #[inline(always)]
     pub fn of(alloc: Global, items: &[(ComponentId, i64)]) -> Result<Self, Memory>
         ensures ok { IfOk result (λ bundle. bundle ≡ bundle_of items.now) }
         ensures last { IfOk result (λ bundle. (id : Id) →
@@ -94,6 +95,7 @@ impl<const INLINE: usize> Bundle<INLINE> {
     ///
     /// Out of memory, which needs a component that is not there and at least `INLINE` that are.
     /// Nothing has changed.
+    #[inline(always)]
     pub fn put(&mut self, id: ComponentId, value: i64) -> Result<(), Memory>
         ensures ok { OnOk result (self.new ≡ put component_cmp id value self.old) }
         ensures memory { OnErr result

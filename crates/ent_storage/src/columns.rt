@@ -6,6 +6,7 @@ ghost use Rattle.ent_handle.specs.declared.component.ComponentId.{ComponentId};
 ghost use Rattle.ent_storage.specs.Components.{with_items, missing};
 ghost use Rattle.ent_storage.specs.Copies.{IsCopy};
 ghost use Rattle.ent_storage.specs.SparseSet.{Column, no_column, HasRoomAt, IsMovedDown};
+ghost use Rattle.ent_storage.specs.SparseSet.{HasRoomFor};
 ghost use Rattle.ent_storage.specs.Living.{column_at, value_at, components_at, AreInUse};
 
 use super::sparse_set::SparseSet;
@@ -21,6 +22,92 @@ pub fn try_clone(columns: &[SparseSet], alloc: Global) -> Result<Vec<SparseSet>,
         copies.push(column.try_clone(alloc)?)?;
     }
     Ok(copies)
+}
+
+/// Makes room for the values of other columns. All values are as before.
+pub fn reserve_for(
+    columns: &mut Vec<SparseSet>,
+    used: &mut Vec<u8>,
+    alloc: Global,
+    source: &[SparseSet],
+) -> Result<(), AllocError>
+    requires numbered { length columns.old.items ≤ 256 }
+    requires source_numbered { length source.now ≤ 256 }
+    requires in_use { AreInUse used.old.items columns.old.items }
+    ensures in_use { AreInUse used.new.items columns.new.items }
+    ensures values { (number : ℕ) → (column_at columns.new.items number).values
+        ≡ (column_at columns.old.items number).values }
+    ensures ok { OnOk result ((number : ℕ) → HasRoomFor (column_at columns.new.items number)
+        (column_at source.now number)) }
+    ensures numbered { length columns.new.items ≤ 256 }
+    ensures memory { OnErr result
+        (¬ ((number : ℕ) → (column_at source.now number).values ≡ map.empty)) }
+{
+    for number in 0..source.len() {
+        reserve_one_for(columns, used, alloc, number, &source[number])?;
+    }
+    Ok(())
+}
+
+/// Makes room for the values of another column in that of the number.
+fn reserve_one_for(
+    columns: &mut Vec<SparseSet>,
+    used: &mut Vec<u8>,
+    alloc: Global,
+    number: usize,
+    source: &SparseSet,
+) -> Result<(), AllocError>
+    requires number { number < 256 }
+    requires numbered { length columns.old.items ≤ 256 }
+    requires in_use { AreInUse used.old.items columns.old.items }
+    ensures in_use { AreInUse used.new.items columns.new.items }
+    ensures values { (other : ℕ) → (column_at columns.new.items other).values
+        ≡ (column_at columns.old.items other).values }
+    ensures ok { OnOk result (HasRoomFor (column_at columns.new.items number) source.now) }
+    ensures kept { (other : ℕ) (column : Column)
+        → HasRoomFor (column_at columns.old.items other) column
+        → HasRoomFor (column_at columns.new.items other) column }
+    ensures numbered { length columns.new.items ≤ 256 }
+    ensures memory { OnErr result (source.now.values ≢ map.empty) }
+{
+    if !source.has_values() {
+        return Ok(());
+    }
+    put_in_use(columns, used, alloc, ComponentId(number as u8))?;
+    columns[number].reserve_for(source)
+}
+
+/// Gives each column the values of the other one of its number. There has to be room for them.
+pub fn take_over(columns: &mut [SparseSet], source: &[SparseSet])
+    requires { (number : ℕ) → HasRoomFor (column_at columns.old number)
+        (column_at source.now number) }
+    ensures values { (number : ℕ) → (column_at columns.new number).values
+        ≡ (column_at source.now number).values }
+    ensures rest { (number : ℕ) → column_at columns.old number ≡ no_column
+        → column_at columns.new number ≡ no_column }
+    ensures len { length columns.new ≡ length columns.old }
+{
+    for number in 0..columns.len() {
+        take_over_one(columns, number, source);
+    }
+}
+
+/// Gives the column of the number the values of the other one.
+fn take_over_one(columns: &mut [SparseSet], number: usize, source: &[SparseSet])
+    requires inside { number < length columns.old }
+    requires room { HasRoomFor (column_at columns.old number) (column_at source.now number) }
+    ensures values { (column_at columns.new number).values
+        ≡ (column_at source.now number).values }
+    ensures others { (other : ℕ) → other ≢ number
+        → column_at columns.new other ≡ column_at columns.old other }
+    ensures rest { column_at columns.old number ≡ no_column
+        → column_at columns.new number ≡ no_column }
+    ensures len { length columns.new ≡ length columns.old }
+{
+    match source.get(number) {
+        Some(column) => columns[number].take_over(column),
+        None => columns[number].clear(),
+    }
 }
 
 /// The value of the component at the place, if the entity there has it.

@@ -1,9 +1,9 @@
-ghost use Rattle.std.specs.Prelude.{◌≡◌, ◌<◌, ◌≤◌, T, OnOk, OnErr, IsOk, None, Some, IsSome, length};
+ghost use Rattle.std.specs.Prelude.{◌≡◌, ◌<◌, ◌≤◌, T, OnOk, OnErr, IsOk, None, Some, IsSome, length, []};
 ghost use Rattle.std.specs.Prelude.{vec_len, vec_capacity, ◌+◌, IfSome, IsTrue};
 ghost use Rattle.std.specs.Prelude.{IfOk, IfErr, is_none};
 ghost use Rattle.std.specs.FinMap as map;
 ghost use Rattle.ent_handle.specs.Handle.{handle_cmp};
-ghost use Rattle.ent_storage.specs.Indexed.{counted, Keeps, IsFree};
+ghost use Rattle.ent_storage.specs.Indexed.{counted, HasAll, Keeps, IsFree};
 ghost use Rattle.ent_storage.specs.Position.{IsAt, IsGapFor};
 
 use super::key::Key;
@@ -66,6 +66,24 @@ impl Index {
         let mut pairs = Vec::with_capacity(alloc, self.pairs.capacity())?;
         pairs.extend_from_slice(&self.pairs)?;
         Ok(Index { pairs })
+    }
+
+    /// Takes over the places of another index, as far as they count. There is room for them.
+    ///
+    /// If the pairs of the other index fit, they are copied as they are, so that each stays at its
+    /// slot's number. If not, only those that count are.
+    pub fn take_over(&mut self, source: &Index, living: &Living)
+        requires { length living.now.entities ≤ self.old.room }
+        ensures kept { HasAll (counted living.now.entities source.now.by_handle)
+            self.new.by_handle }
+        ensures room { self.old.room ≤ self.new.room }
+    {
+        self.pairs.clear();
+        if source.pairs.len() <= self.pairs.capacity() {
+            self.pairs.extend_from_slice(&source.pairs).unwrap();
+        } else {
+            append_counted(&mut self.pairs, living, &source.pairs);
+        }
     }
 
     /// The place of the entity, if it is among the living.
@@ -157,6 +175,21 @@ impl Index {
         self.pairs.capacity().min(MOST_PLACES)
     }
 
+    /// Makes room for `count` handles in all, and for `more` if there is memory for that. With that
+    /// room it changes nothing.
+    pub fn reserve_or_more(&mut self, count: usize, more: usize) -> Result<(), AllocError>
+        requires { count ≤ more }
+        ensures by_handle { self.new.by_handle ≡ self.old.by_handle }
+        ensures ok { OnOk result (count ≤ self.new.room) }
+        ensures grows { self.old.room ≤ self.new.room }
+        ensures memory { OnErr result (self.old.room < count) }
+    {
+        if count <= self.room() || self.reserve(more).is_ok() {
+            return Ok(());
+        }
+        self.reserve(count)
+    }
+
     /// Makes room for `count` handles in all. After an `Err` nothing is changed.
     pub fn reserve(&mut self, count: usize) -> Result<(), AllocError>
         ensures by_handle { self.new.by_handle ≡ self.old.by_handle }
@@ -194,6 +227,24 @@ fn place_found(
         Some(place)
     } else {
         None
+    }
+}
+
+/// Appends the pairs that count to a list that is empty and has room for them.
+#[inline(never)]
+fn append_counted(pairs: &mut Vec<(Key, u32)>, living: &Living, source: &[(Key, u32)])
+    requires sorted { T (map.is_sorted handle_cmp source.now) }
+    requires empty { pairs.old.items ≡ [] }
+    requires room { length living.now.entities ≤ vec_capacity pairs.old }
+    ensures sorted { T (map.is_sorted handle_cmp pairs.new.items) }
+    ensures counted { map.from_sorted pairs.new.items
+        ≡ counted living.now.entities (map.from_sorted source.now) }
+    ensures capacity { vec_capacity pairs.new ≡ vec_capacity pairs.old }
+{
+    for pair in source {
+        if has_key_at(living, pair.0, pair.1 as usize) {
+            pairs.push_reserved(*pair);
+        }
     }
 }
 

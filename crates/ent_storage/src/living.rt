@@ -1,4 +1,4 @@
-ghost use Rattle.std.specs.Prelude.{◌≡◌, ◌≢◌, ◌+◌, ◌<◌, ◌==◌, ◌≤◌, ℕ, ℤ, List, [], ◌∷◌, ◌++◌};
+ghost use Rattle.std.specs.Prelude.{◌≡◌, ◌≢◌, ◌+◌, ◌<◌, ◌==◌, ◌≤◌, ◌⊎◌, ℕ, ℤ, List, [], ◌∷◌, ◌++◌};
 ghost use Rattle.std.specs.Prelude.{length, map};
 ghost use Rattle.std.specs.Prelude.{IsOk, IfOk, OnOk, OnErr, IsTrue, None, Some, Contains};
 ghost use Rattle.std.specs.Prelude.{slice_get};
@@ -13,6 +13,7 @@ ghost use Rattle.ent_storage.specs.BirthOrder.{IsLeastOf};
 use super::columns;
 use super::items::Items;
 use super::key::Key;
+use super::lists::overwrite;
 use super::order::least_of_birth;
 use super::sparse_set::SparseSet;
 use ent_handle::{Birth, ComponentId, Handle};
@@ -86,6 +87,31 @@ impl Living {
             used,
             alloc: self.alloc,
         })
+    }
+
+    /// Takes over the entities of another, and makes room for `count` in all. It takes no memory if
+    /// there is that room, and no entity of the other has a component. After an `Err` the entities
+    /// are as before.
+    pub fn try_clone_from(&mut self, source: &Living, count: usize) -> Result<(), AllocError>
+        requires { length source.now.entities ≤ count }
+        ensures entities { OnOk result (self.new.entities ≡ source.now.entities) }
+        ensures room { OnOk result (count ≤ self.new.room) }
+        ensures grows { self.old.room ≤ self.new.room }
+        ensures err { OnErr result (self.new.entities ≡ self.old.entities) }
+        ensures memory { OnErr result ((self.old.room < count)
+            ⊎ ¬ (All (λ entity. entity.components ≡ finite.empty) source.now.entities)) }
+    {
+        self.residents
+            .reserve(count.saturating_sub(self.residents.len()))?;
+        columns::reserve_for(
+            &mut self.columns,
+            &mut self.used,
+            self.alloc,
+            &source.columns,
+        )?;
+        overwrite(&mut self.residents, &source.residents);
+        columns::take_over(&mut self.columns, &source.columns);
+        Ok(())
     }
 
     /// How many entities there are.

@@ -1,12 +1,14 @@
-ghost use Rattle.std.specs.Prelude.{◌≡◌, ◌<◌, ◌≤◌, ℕ, ℤ, OnOk, OnErr, IfOk, IfSome, None, Some};
+ghost use Rattle.std.specs.Prelude.{◌≡◌, ◌≢◌, ◌<◌, ◌≤◌, ℕ, ℤ, OnOk, OnErr, IfOk, IfSome, None, Some};
 ghost use Rattle.std.specs.Prelude.{slice_get, length};
 ghost use Rattle.std.specs.Prelude.{Contains, IsTrue};
 ghost use Rattle.std.specs.Ordering.{nat_cmp};
 ghost use Rattle.std.specs.List.{HoldsAt};
 ghost use Rattle.std.specs.FinMap as map;
 ghost use Rattle.ent_storage.specs.Copies.{IsCopy};
-ghost use Rattle.ent_storage.specs.SparseSet.{no_column, IsDense, HasRoomAt, IsMovedDown};
+ghost use Rattle.ent_storage.specs.SparseSet.{Column, no_column, IsDense, HasRoomAt, IsMovedDown};
+ghost use Rattle.ent_storage.specs.SparseSet.{HasRoomFor};
 
+use super::lists::overwrite;
 use super::places::MOST_PLACES;
 use std::alloc::{AllocError, Global};
 use std::marker::Model;
@@ -36,6 +38,9 @@ impl Model for SparseSet {
       values = map.from_entries a.dense.items;
       spare = min (vec_capacity a.dense) most_places - vec_len a.dense;
       places = vec_len a.sparse;
+      count = vec_len a.dense;
+      value_room = vec_capacity a.dense;
+      place_room = vec_capacity a.sparse;
     } };
 
     ghost invariant = { λ a. IsDense a.dense.items a.sparse.items };
@@ -64,6 +69,51 @@ impl SparseSet {
         let mut sparse = Vec::with_capacity(alloc, self.sparse.len())?;
         sparse.extend_from_slice(&self.sparse)?;
         Ok(SparseSet { dense, sparse })
+    }
+
+    /// Makes room for the values of another set. After an `Err` the values are as before.
+    pub fn reserve_for(&mut self, source: &SparseSet) -> Result<(), AllocError>
+        ensures values { self.new.values ≡ self.old.values }
+        ensures ok { OnOk result (HasRoomFor self.new source.now) }
+        ensures kept { (other : Column) → HasRoomFor self.old other → HasRoomFor self.new other }
+        ensures memory { OnErr result (source.now.values ≢ map.empty) }
+    {
+        if source.dense.is_empty() {
+            return Ok(());
+        }
+        let values = source.dense.len().saturating_sub(self.dense.len());
+        self.dense.reserve(values)?;
+        let places = source.sparse.len().saturating_sub(self.sparse.len());
+        self.sparse.reserve(places)
+    }
+
+    /// Takes over the values of another set. There has to be room for them.
+    pub fn take_over(&mut self, source: &SparseSet)
+        requires { HasRoomFor self.old source.now }
+        ensures values { self.new.values ≡ source.now.values }
+        ensures none { self.old ≡ no_column → self.new ≡ no_column }
+    {
+        self.dense.clear();
+        if !source.dense.is_empty() {
+            overwrite(&mut self.dense, &source.dense);
+            overwrite(&mut self.sparse, &source.sparse);
+        }
+    }
+
+    /// Takes all values out. The room stays.
+    pub fn clear(&mut self)
+        ensures values { self.new.values ≡ map.empty }
+        ensures none { self.old ≡ no_column → self.new ≡ no_column }
+    {
+        self.dense.clear();
+    }
+
+    /// Whether there is any value.
+    pub fn has_values(&self) -> bool
+        ensures some { IsTrue result → self.now.values ≢ map.empty }
+        ensures none { ¬ (IsTrue result) → self.now.values ≡ map.empty }
+    {
+        !self.dense.is_empty()
     }
 
     /// The place and the value of each entity that has the component.

@@ -1,10 +1,10 @@
-ghost use Rattle.std.specs.Prelude.{◌≡◌, ◌+◌, ◌≤◌, ◌<◌, ◌↔◌, IsTrue, IsErrOf, IfOk, IfSome, IfErr};
+ghost use Rattle.std.specs.Prelude.{◌≡◌, ◌+◌, ◌≤◌, ◌<◌, ◌⊎◌, ◌↔◌, IsTrue, IsErrOf, IfOk, IfSome, IfErr};
 ghost use Rattle.std.specs.Prelude.{OnOk, OnErr, IsOk, None, Some, [], ◌∷◌, ◌++◌};
 ghost use Rattle.std.specs.Prelude.{slice_get, SomeIndex, length};
 ghost use Rattle.ent_handle.specs.Handle.{Handle};
 ghost use Rattle.std.specs.FinMap as map;
 ghost use Rattle.ent_storage.specs.Components.{with_items, missing};
-ghost use Rattle.ent_storage.specs.EntityMap.{newborn, components_of, value_of};
+ghost use Rattle.ent_storage.specs.EntityMap.{newborn, components_of, value_of, AreBare};
 ghost use Rattle.ent_storage.specs.EntityMap.{with_components, with_birth};
 ghost use Rattle.ent_storage.specs.Places.{AreWithout};
 
@@ -121,6 +121,55 @@ impl Storage {
             index: self.index.try_clone(self.alloc)?,
             alloc: self.alloc,
         })
+    }
+
+    /// Takes over the entities of another storage, each at its place, as
+    /// [`try_clone`](Self::try_clone) copies them. What this one had before is gone.
+    ///
+    /// It uses the room that this one has, and never gives it back. So a storage that another one is
+    /// cloned into again and again takes memory only as that one grows.
+    ///
+    /// ```
+    /// use forgeni::{Birth, ComponentId, Handle, Storage};
+    ///
+    /// const SPEED: ComponentId = ComponentId(0);
+    ///
+    /// let cart = Handle::new(0, 1).unwrap();
+    /// let mut now = Storage::new();
+    /// now.born(cart, Birth { frame: 0, system: 0, ordinal: 0 })?;
+    /// let mut before = Storage::new();
+    /// for speed in [30, 40] {
+    ///     before.try_clone_from(&now)?;
+    ///     now.insert(cart, &[(SPEED, speed)])?;
+    /// }
+    /// assert_eq!((now.get(cart, SPEED), before.get(cart, SPEED)), (Some(40), Some(30)));
+    /// # Ok::<(), Box<dyn std::error::Error>>(())
+    /// ```
+    ///
+    /// # Errors
+    ///
+    /// Out of memory for the room that the source has beyond that of this storage, or for values of
+    /// components. All memory is asked for before anything changes, so the entities are as before.
+    /// `spare` may have grown.
+    pub fn try_clone_from(&mut self, source: &Storage) -> Result<(), Memory>
+        ensures entities { OnOk result (self.new.entities ≡ source.now.entities) }
+        ensures places { OnOk result (self.new.places ≡ source.now.places) }
+        ensures spare { OnOk result (source.now.spare ≤ self.new.spare) }
+        ensures room { length self.old.places + self.old.spare
+            ≤ length self.new.places + self.new.spare }
+
+        // With as much room as the source, it takes memory only for components.
+        ensures memory { OnErr result
+            ((length self.old.places + self.old.spare
+            < length source.now.places + source.now.spare)
+            ⊎ ¬ (AreBare source.now.entities)) }
+        ensures err { OnErr result (self.new ≡ record self.old { spare = self.new.spare }) }
+    {
+        let count = source.living.capacity().min(source.index.room());
+        self.index.reserve_or_more(count, source.index.room())?;
+        self.living.try_clone_from(&source.living, count)?;
+        self.index.take_over(&source.index, &self.living);
+        Ok(())
     }
 
     /// How many entities there are. That is also the place of the next one that is born.

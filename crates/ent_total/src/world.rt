@@ -100,6 +100,7 @@ impl World {
     /// assert_eq!(world.birth(horse).unwrap().to_string(), "0.4294967295.1");
     /// # Ok::<(), forgeni::AllocError>(())
     /// ```
+    #[inline(always)]
     pub fn spawn(
         &mut self,
         alloc: Global,
@@ -139,6 +140,7 @@ impl World {
     /// # Errors
     ///
     /// As of `spawn`.
+    #[inline(always)]
     pub fn spawn_with_birth(
         &mut self,
         alloc: Global,

@@ -11,6 +11,7 @@ use ent_handle::{Birth, ComponentId, Handle, Memory};
 use ent_storage::Storage;
 
 /// The handle that `alloc` gives next.
+#[inline(always)]
 pub(crate) fn next_handle(entities: &Entities) -> Result<Handle, AllocFault>
     ensures front { IfOk result (λ handle. slice_get entities.now.allocator.pool 0 ≡ Some handle) }
     ensures new { IfOk result (λ handle. set.contains entities.now.allocator.live handle ≡ false) }
@@ -35,6 +36,7 @@ pub(crate) fn next_handle(entities: &Entities) -> Result<Handle, AllocFault>
 
 /// Makes an entity that is not there, with all its components, at the next place. After an `Err` it
 /// is not there.
+#[inline(always)]
 pub(crate) fn make(
     storage: &mut Storage,
     place: usize,

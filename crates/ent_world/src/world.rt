@@ -196,6 +196,7 @@ impl World {
     /// - `Space` if every slot has a living occupant or is retired.
     /// - `Memory` if there is no memory for a component, or for a new slot and its entity. It
     ///   never comes if a slot waits and the bundle is empty.
+    #[inline(always)]
     pub fn spawn(&mut self, birth: Birth, bundle: &Bundle) -> Result<Handle, AllocFault>
         ensures front { IfOk result (λ handle.
             slice_get self.old.allocator.pool 0 ≡ Some handle) }

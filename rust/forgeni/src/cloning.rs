@@ -34,11 +34,16 @@ impl Clone for World {
     }
 }
 
-/// By [`try_clone`](Storage::try_clone). If memory runs out, the process ends, as when a `Vec` is
-/// cloned.
+/// By [`try_clone`](Storage::try_clone) and [`try_clone_from`](Storage::try_clone_from). If memory runs
+/// out, the process ends, as when a `Vec` is cloned.
 impl Clone for Storage {
     fn clone(&self) -> Self {
         self.try_clone().unwrap_or_else(|refused| end(refused))
+    }
+
+    fn clone_from(&mut self, source: &Self) {
+        self.try_clone_from(source)
+            .unwrap_or_else(|refused| end(refused));
     }
 }
 

@@ -689,6 +689,86 @@ fn clones_of_a_storage() {
     assert!(is_stored(&clone.expect("no memory is asked for"), 0));
 }
 
+/// Entities of as many slots more were born and have gone.
+fn churned(count: u32) -> Storage {
+    let mut storage = stored(count);
+    for index in count..2 * count {
+        storage.born(handle(index, 1), BIRTH).expect("memory");
+        storage.despawn(handle(index, 1)).expect("it lives");
+    }
+    storage
+}
+
+/// If an allocation fails, the storage keeps its entities. With room it asks for none.
+#[test]
+fn clones_into_a_storage() {
+    let none = Refusal::All { after: 0 };
+    for (count, before) in [(1, 0), (5, 0), (7, 2), (3_000, 1_000), (70_001, 3)] {
+        let source = churned(count);
+        each_in_turn(|refusal| {
+            let mut target = stored(before);
+            let (done, refused) = refusing(refusal, || target.try_clone_from(&source));
+            done.unwrap_or_else(|OutOfMemory| {
+                assert!(refused > 0 && is_stored(&target, before));
+                target.try_clone_from(&source).expect("memory");
+            });
+            assert!(is_stored(&target, count) && target.spare() >= source.spare());
+            for index in count..2 * count {
+                assert!(!target.contains(handle(index, 1)));
+            }
+            let room = target.len() + target.spare();
+            let back = || target.try_clone_from(&stored(0));
+            let (emptied, unasked) = refusing(none, back);
+            assert_eq!((emptied, unasked, target.len()), (Ok(()), 0, 0));
+            assert!(target.spare() >= room);
+            let (again, unasked) = refusing(none, || target.try_clone_from(&source));
+            assert_eq!((again, unasked), (Ok(()), 0), "{count} {before}");
+            // What happens to one of them leaves the other.
+            target.born(handle(count, 3), BIRTH).expect("memory");
+            target.insert(handle(count, 3), &MANY).expect("memory");
+            assert!(!source.contains(handle(count, 3)) && is_stored(&source, count));
+            target.despawn(handle(count, 3)).expect("it lives");
+            for index in (0..count).rev() {
+                target.despawn(handle(index, 2)).expect("it lives");
+            }
+            assert!(target.is_empty() && is_stored(&source, count));
+            refused
+        });
+    }
+}
+
+/// Components that only one of the two has: those of the target go, also where it has more of them.
+#[test]
+fn clones_with_other_components() {
+    let [few, most] = [ComponentId(0), ComponentId(255)];
+    let mut source = stored(0);
+    source.born(handle(0, 1), BIRTH).expect("memory");
+    let mut target = stored(0);
+    for index in 0..3 {
+        target.born(handle(index, 1), BIRTH).expect("memory");
+        target
+            .insert(handle(index, 1), &[(few, 1), (most, 2)])
+            .expect("memory");
+    }
+    let both = (target.clone(), source.clone());
+    target.clone_from(&source);
+    assert_eq!(
+        (target.len(), target.items(handle(0, 1)).unwrap().len()),
+        (1, 0)
+    );
+    target.born(handle(1, 1), BIRTH).expect("memory");
+    assert_eq!(target.items(handle(1, 1)).unwrap().len(), 0);
+    source.clone_from(&both.0);
+    for index in 0..3 {
+        assert!(source
+            .items(handle(index, 1))
+            .unwrap()
+            .eq([(few, 1), (most, 2)]));
+    }
+    let bare = &both.1;
+    assert_eq!(bare.items(handle(0, 1)).unwrap().len(), 0);
+}
+
 /// Two entities lived, and one of them still does. Then three callers reserved.
 fn traced() -> Vec<Call> {
     let mut calls = vec![

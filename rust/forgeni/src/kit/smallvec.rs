@@ -42,15 +42,26 @@ impl<T: Copy + Default, const N: usize> SmallVec<T, N> {
 
     /// The contract: the value stands at `at`, which is at most the length, and the later items after
     /// it; or it comes back, and all is as before. It succeeds if there are fewer than `N` items.
-    #[inline]
+    #[inline(always)]
     pub fn insert(&mut self, at: usize, value: T) -> Result<(), AllocFailed<T>> {
         match self {
             SmallVec::Inline { len, items } if *len < N => {
-                items.copy_within(at..*len, at + 1);
+                // Most items come last. A call that moves nothing would cost more than they do.
+                if at < *len {
+                    items.copy_within(at..*len, at + 1);
+                }
                 items[at] = value;
                 *len += 1;
                 Ok(())
             }
+            _ => self.insert_with_memory(at, value),
+        }
+    }
+
+    /// Does what `insert` does, where the items don't all stand in the list itself.
+    #[inline(never)]
+    fn insert_with_memory(&mut self, at: usize, value: T) -> Result<(), AllocFailed<T>> {
+        match self {
             SmallVec::Inline { items, .. } => {
                 let list = spill(items, at, value).ok_or(AllocFailed { value })?;
                 *self = SmallVec::Heap(list);

@@ -84,7 +84,7 @@ impl<const INLINE: usize> Bundle<INLINE> {
     /// ```
     ///
     /// </details>
-    #[inline]
+    #[inline(always)]
     pub fn of(items: &[(ComponentId, i64)]) -> Result<Self, Memory> {
         let mut bundle = Bundle::new();
         for (id, value) in items {
@@ -112,7 +112,7 @@ impl<const INLINE: usize> Bundle<INLINE> {
     /// ```
     ///
     /// </details>
-    #[inline]
+    #[inline(always)]
     pub fn put(&mut self, id: ComponentId, value: i64) -> Result<(), Memory> {
         match search(self.items.as_slice(), id) {
             Ok(index) => self.items[index].1 = value,

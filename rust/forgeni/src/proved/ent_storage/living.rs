@@ -6,6 +6,7 @@ use crate::kit::vec::FallibleVec;
 use super::columns;
 use super::items::Items;
 use super::key::Key;
+use super::lists::overwrite;
 use super::order::least_of_birth;
 use super::sparse_set::SparseSet;
 use crate::proved::ent_handle::{Birth, ComponentId, Handle};
@@ -74,6 +75,31 @@ impl Living {
             columns: columns::try_clone(&self.columns)?,
             used,
         })
+    }
+
+    /// Takes over the entities of another, and makes room for `count` in all. It takes no memory if
+    /// there is that room, and no entity of the other has a component. After an `Err` the entities
+    /// are as before.
+    #[inline]
+    pub(crate) fn try_clone_from(&mut self, source: &Living, count: usize) -> Result<(), AllocError>
+        // requires { length source.now.entities ≤ count }
+        // ensures entities { OnOk result (self.new.entities ≡ source.now.entities) }
+        // ensures room { OnOk result (count ≤ self.new.room) }
+        // ensures grows { self.old.room ≤ self.new.room }
+        // ensures err { OnErr result (self.new.entities ≡ self.old.entities) }
+        // ensures memory { OnErr result ((self.old.room < count)
+        //     ⊎ ¬ (All (λ entity. entity.components ≡ finite.empty) source.now.entities)) }
+    {
+        self.residents
+            .reserve_fallibly(count.saturating_sub(self.residents.len()))?;
+        columns::reserve_for(
+            &mut self.columns,
+            &mut self.used,
+            &source.columns,
+        )?;
+        overwrite(&mut self.residents, &source.residents);
+        columns::take_over(&mut self.columns, &source.columns);
+        Ok(())
     }
 
     /// How many entities there are.

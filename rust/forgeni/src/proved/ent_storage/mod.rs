@@ -18,6 +18,7 @@ pub mod handle_map;
 mod index;
 mod items;
 mod key;
+mod lists;
 mod living;
 mod looking;
 mod order;

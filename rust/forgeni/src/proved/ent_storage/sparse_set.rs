@@ -2,6 +2,7 @@
 
 use alloc::vec::Vec;
 use crate::kit::vec::FallibleVec;
+use super::lists::overwrite;
 use super::places::MOST_PLACES;
 use crate::kit::alloc::AllocError;
 
@@ -56,6 +57,79 @@ impl SparseSet {
         let mut sparse = Vec::with_capacity_fallibly(self.sparse.len())?;
         sparse.extend_from_slice_fallibly(&self.sparse)?;
         Ok(SparseSet { dense, sparse })
+    }
+
+    /// Makes room for the values of another set. After an `Err` the values are as before.
+    ///
+    /// <details><summary>Contract</summary>
+    ///
+    /// In the words of the folder `specs/` of crate `ent_storage`:
+    ///
+    /// ```text
+    /// ensures values { self.new.values ≡ self.old.values }
+    /// ensures ok { OnOk result (HasRoomFor self.new source.now) }
+    /// ensures kept { (other : Column) → HasRoomFor self.old other → HasRoomFor self.new other }
+    /// ensures memory { OnErr result (source.now.values ≢ map.empty) }
+    /// ```
+    ///
+    /// </details>
+    #[inline]
+    pub fn reserve_for(&mut self, source: &SparseSet) -> Result<(), AllocError> {
+        if source.dense.is_empty() {
+            return Ok(());
+        }
+        let values = source.dense.len().saturating_sub(self.dense.len());
+        self.dense.reserve_fallibly(values)?;
+        let places = source.sparse.len().saturating_sub(self.sparse.len());
+        self.sparse.reserve_fallibly(places)
+    }
+
+    /// Takes over the values of another set. There has to be room for them.
+    #[inline]
+    pub(crate) fn take_over(&mut self, source: &SparseSet)
+        // requires { HasRoomFor self.old source.now }
+        // ensures values { self.new.values ≡ source.now.values }
+        // ensures none { self.old ≡ no_column → self.new ≡ no_column }
+    {
+        self.dense.clear();
+        if !source.dense.is_empty() {
+            overwrite(&mut self.dense, &source.dense);
+            overwrite(&mut self.sparse, &source.sparse);
+        }
+    }
+
+    /// Takes all values out. The room stays.
+    ///
+    /// <details><summary>Contract</summary>
+    ///
+    /// In the words of the folder `specs/` of crate `ent_storage`:
+    ///
+    /// ```text
+    /// ensures values { self.new.values ≡ map.empty }
+    /// ensures none { self.old ≡ no_column → self.new ≡ no_column }
+    /// ```
+    ///
+    /// </details>
+    #[inline]
+    pub fn clear(&mut self) {
+        self.dense.clear();
+    }
+
+    /// Whether there is any value.
+    ///
+    /// <details><summary>Contract</summary>
+    ///
+    /// In the words of the folder `specs/` of crate `ent_storage`:
+    ///
+    /// ```text
+    /// ensures some { IsTrue result → self.now.values ≢ map.empty }
+    /// ensures none { ¬ (IsTrue result) → self.now.values ≡ map.empty }
+    /// ```
+    ///
+    /// </details>
+    #[inline]
+    pub fn has_values(&self) -> bool {
+        !self.dense.is_empty()
     }
 
     /// The place and the value of each entity that has the component.

@@ -123,7 +123,7 @@ impl World {
     /// ```
     ///
     /// </details>
-    #[inline]
+    #[inline(always)]
     pub fn spawn(
         &mut self,
         components: &[(ComponentId, i64)],
@@ -169,7 +169,7 @@ impl World {
     /// ```
     ///
     /// </details>
-    #[inline]
+    #[inline(always)]
     pub fn spawn_with_birth(
         &mut self,
         birth: Birth,

@@ -8,7 +8,7 @@ use crate::proved::ent_handle::{Birth, ComponentId, Handle, Memory};
 use crate::proved::ent_storage::Storage;
 
 /// The handle that `alloc` gives next.
-#[inline]
+#[inline(always)]
 pub(super) fn next_handle(entities: &Entities) -> Result<Handle, AllocFault>
     // ensures front { IfOk result (λ handle. slice_get entities.now.allocator.pool 0 ≡ Some handle) }
     // ensures new { IfOk result (λ handle. set.contains entities.now.allocator.live handle ≡ false) }
@@ -33,7 +33,7 @@ pub(super) fn next_handle(entities: &Entities) -> Result<Handle, AllocFault>
 
 /// Makes an entity that is not there, with all its components, at the next place. After an `Err` it
 /// is not there.
-#[inline]
+#[inline(always)]
 pub(super) fn make(
     storage: &mut Storage,
     place: usize,

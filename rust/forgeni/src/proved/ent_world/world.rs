@@ -280,7 +280,7 @@ impl World {
     /// ```
     ///
     /// </details>
-    #[inline]
+    #[inline(always)]
     pub fn spawn(&mut self, birth: Birth, bundle: &Bundle) -> Result<Handle, AllocFault> {
         let handle = next_handle(&self.entities)?;
         let row = self.entities.len();
