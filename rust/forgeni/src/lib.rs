@@ -124,6 +124,40 @@
 //! # Ok::<(), Box<dyn std::error::Error>>(())
 //! ```
 //!
+//! # Commands of your own
+//!
+//! With components and a world of your own, systems fill a [`Log`] each, with commands of your type. A
+//! [`SyncPoint`] brings to life what they spawned, and calls your closure at each command, in the order
+//! of the systems:
+//!
+//! ```
+//! use forgeni::{Entities, Entry, Handle, HandleMap, Log, SyncPoint};
+//!
+//! let mut entities = Entities::new();
+//! let mut names: HandleMap<String> = HandleMap::new();
+//!
+//! let mut logs: Vec<Log<(Handle, &str)>> = vec![Log::new(), Log::new()];
+//! entities.phase(1, |_, reservers| {
+//!     for (log, name) in logs.iter_mut().zip(["cart", "ship"]) {
+//!         let one = log.spawn(&mut reservers[0])?;
+//!         log.push((one, name))?;
+//!     }
+//!     Ok::<(), forgeni::ReserveError>(())
+//! })??;
+//!
+//! let mut born = Vec::new();
+//! let mut sync = SyncPoint::begin(&mut entities, logs, &mut born)?;
+//! sync.apply(&mut entities, |_, entry| match entry {
+//!     Entry::Spawn(_) => Ok(()),
+//!     Entry::Command((one, name)) => match names.insert(one, name.to_owned()) {
+//!         Ok(_) => Ok(()),
+//!         Err(refused) => Err((entry, refused.error)),
+//!     },
+//! })?;
+//! assert_eq!(names[born[1]], "ship");
+//! # Ok::<(), Box<dyn std::error::Error>>(())
+//! ```
+//!
 //! # Saves and snapshots
 //!
 //! [`Entities::write_image`] writes an allocator as bytes, and [`Entities::read_image`] reads it back.
@@ -272,6 +306,7 @@ pub mod handle_map;
 mod kit;
 mod lending;
 mod lent;
+mod log;
 mod numbers;
 mod phase;
 #[cfg(feature = "programs")]
@@ -307,6 +342,7 @@ pub use frames::{run_frame, FrameError};
 pub use handle::{Handle, ParseHandleError};
 pub use handle_map::{HandleMap, InsertError, Uninserted};
 pub use lent::Lent;
+pub use log::{BeginError, Entry, Log, Reserves, SyncPoint, Unbegun};
 pub use proved::ent_alloc::Limits;
 #[cfg(feature = "std")]
 pub use reservers::{Lends, Reservers, Unpooled};
