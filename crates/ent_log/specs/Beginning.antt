@@ -8,8 +8,3 @@ use Rattle.ent_log.specs.declared.begin_error.BeginError.TheVariants.{NotReserve
 abbrev pub unreserved_of : BeginError → Option Handle
 unreserved_of (NotReserved h) = Some h
 unreserved_of Memory = None
-
--- memory ran out
-abbrev pub IsNoMemory : BeginError → Type 0
-IsNoMemory (NotReserved h) = ⊥
-IsNoMemory Memory = Unit {0}

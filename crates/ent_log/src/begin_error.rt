@@ -1,4 +1,3 @@
-use crate::log::Log;
 use ent_handle::Handle;
 use thiserror::Error;
 
@@ -17,26 +16,4 @@ pub enum BeginError {
     /// Out of memory.
     #[error("out of memory")]
     Memory,
-}
-
-/// Logs whose sync point did not begin.
-#[derive(Drop)]
-pub struct Unbegun<C> {
-    /// The logs, as they were handed in.
-    pub logs: Vec<Log<C>>,
-    /// Why it did not begin.
-    pub error: BeginError,
-}
-
-impl<C> Unbegun<C> {
-    ghost use Rattle.std.specs.Prelude.{◌≡◌};
-
-    /// The logs, as they were handed in, and why their sync point did not begin.
-    #[must_use]
-    pub fn into_parts(self) -> (Vec<Log<C>>, BeginError)
-        ensures logs { result.0.items ≡ self.logs.items }
-        ensures error { result.1 ≡ self.error }
-    {
-        (self.logs, self.error)
-    }
 }

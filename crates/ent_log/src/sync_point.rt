@@ -1,13 +1,14 @@
-ghost use Rattle.std.specs.Prelude.{◌≡◌, ◌↔◌, ◌⊎◌, ◌+◌, ◌<◌, [], ◌∷◌, ◌++◌, length, All, Contains};
-ghost use Rattle.std.specs.Prelude.{Some, None, IfOk, IfErr, OnOk, OnErr, IfSome, IfNone};
+ghost use Rattle.std.specs.Prelude.{◌≡◌, ◌⊎◌, ◌+◌, ◌<◌, [], ◌∷◌, ◌++◌, length, All};
+ghost use Rattle.std.specs.Prelude.{None, IfOk, IfErr, OnOk, OnErr, IfSome, IfNone};
 ghost use Rattle.std.specs.Prelude.{vec_len, vec_capacity};
 ghost use Rattle.ent_alloc.specs.Sequential.{after_flush, born, made_at_flush};
 ghost use Rattle.ent_alloc.specs.Sound.{IsLive};
-ghost use Rattle.ent_log.specs.Beginning.{IsNoMemory, unreserved_of};
+ghost use Rattle.ent_log.specs.Beginning.{unreserved_of};
+ghost use Rattle.ent_log.specs.declared.begin_error.BeginError.TheVariants.{Memory as NoMemory};
 ghost use Rattle.ent_log.specs.HandingOn.{TakesAll, FailsAt};
 ghost use Rattle.ent_log.specs.Logs.{entries_of, spawned_in, first_unreserved};
 
-use crate::begin_error::{BeginError, Unbegun};
+use crate::begin_error::BeginError;
 use crate::entry::Entry;
 use crate::handing::hand_on;
 use crate::log::Log;
@@ -16,6 +17,7 @@ use ent_alloc::Entities;
 use ent_handle::Handle;
 use std::alloc::Global;
 use std::marker::Model;
+use std::mem;
 
 /// A sync point of logs: the entries that are still to be handed on.
 ///
@@ -36,7 +38,7 @@ use std::marker::Model;
 /// let old = entities.alloc()?;
 ///
 /// // Two systems, on one thread or on two: each has a log of its own.
-/// let mut logs = [Log::new(), Log::new()];
+/// let mut logs = vec![Log::new(), Log::new()];
 /// entities.phase(2, |_, reservers| {
 ///     for (reserver, log) in reservers.iter_mut().zip(&mut logs) {
 ///         let cart = log.spawn(reserver)?;
@@ -47,7 +49,7 @@ use std::marker::Model;
 /// })??;
 ///
 /// let mut born = Vec::new();
-/// let mut sync = SyncPoint::begin(&mut entities, logs.into(), &mut born)?;
+/// let mut sync = SyncPoint::begin(&mut entities, &mut logs, &mut born)?;
 /// sync.apply(&mut entities, |entities, entry| match entry {
 ///     Entry::Spawn(cart) => {
 ///         assert!(entities.is_alive(cart));
@@ -86,61 +88,57 @@ impl<C> Model for SyncPoint<C> {
 }
 
 impl<C: Drop> SyncPoint<C> {
-    /// Brings to life all that is reserved, and appends it to `born`, as
+    /// Brings to life all that is reserved, and appends it to `out`, as
     /// [`flush`](Entities::flush) does. The sync point has the entries of these logs, one log after
-    /// the other. What a log reserved that isn't among them comes to life too.
+    /// the other, and the list of logs is empty then. What a log reserved that isn't among them comes
+    /// to life too.
     ///
     /// It looks at each spawn of the logs: its handle has to be reserved in this allocator. So when
     /// the first entry is handed on, each of these handles is alive.
     ///
     /// # Errors
     ///
-    /// [`Unbegun`] has the error and the logs, and nothing has changed.
+    /// The list has its logs, and nothing has changed.
     ///
     /// - [`BeginError::NotReserved`] if the handle of a spawn isn't reserved.
     /// - [`BeginError::Memory`] if there is no memory for what is born.
     pub fn begin(
         alloc: Global,
         entities: &mut Entities,
-        logs: Vec<Log<C>>,
-        born: &mut Vec<Handle>,
-    ) -> Result<Self, Unbegun<C>>
-        ensures entries { IfOk result (λ point. point ≡ entries_of logs.items) }
+        logs: &mut Vec<Log<C>>,
+        out: &mut Vec<Handle>,
+    ) -> Result<Self, BeginError>
+        ensures entries { IfOk result (λ point. point ≡ entries_of logs.old.items) }
+        ensures emptied { OnOk result (logs.new.items ≡ []) }
         ensures flushed { OnOk result
             (entities.new.allocator ≡ after_flush entities.old.allocator) }
         ensures rows { entities.new.rows ≡ entities.old.rows }
         ensures born { OnOk result
-            (born.new.items ≡ born.old.items ++ born entities.old.allocator) }
+            (out.new.items ≡ out.old.items ++ born entities.old.allocator) }
         ensures alive { OnOk result
-            (All (IsLive entities.new.allocator) (spawned_in (entries_of logs.items))) }
+            (All (IsLive entities.new.allocator) (spawned_in (entries_of logs.old.items))) }
 
         // Each handle of a spawn is reserved, or the error says which is the first that isn't.
-        ensures reserved { OnOk result
-            (first_unreserved entities.old.allocator (spawned_in (entries_of logs.items)) ≡ None) }
-        ensures not_reserved { IfErr result (λ refused. unreserved_of refused.error
-            ≡ first_unreserved entities.old.allocator (spawned_in (entries_of logs.items))) }
-        ensures memory { IfErr result (λ refused. IsNoMemory refused.error
+        ensures reserved { OnOk result (first_unreserved entities.old.allocator
+            (spawned_in (entries_of logs.old.items)) ≡ None) }
+        ensures not_reserved { IfErr result (λ error. unreserved_of error
+            ≡ first_unreserved entities.old.allocator (spawned_in (entries_of logs.old.items))) }
+        ensures memory { IfErr result (λ error. error ≡ NoMemory
             → (0 < made_at_flush entities.old.allocator)
-            ⊎ (vec_capacity born.old < vec_len born.old + length entities.old.allocator.taken)) }
-        ensures handed_back { IfErr result (λ refused. refused.logs.items ≡ logs.items) }
+            ⊎ (vec_capacity out.old < vec_len out.old + length entities.old.allocator.taken)) }
+        ensures kept { OnErr result (logs.new.items ≡ logs.old.items) }
         ensures err { OnErr result (entities.new ≡ entities.old) }
-        ensures unchanged { OnErr result (born.new.items ≡ born.old.items) }
+        ensures unchanged { OnErr result (out.new.items ≡ out.old.items) }
     {
-        if let Some(handle) = unreserved(entities, &logs) {
-            return Err(Unbegun {
-                logs,
-                error: BeginError::NotReserved { handle },
-            });
+        if let Some(handle) = unreserved(entities, logs) {
+            return Err(BeginError::NotReserved { handle });
         }
-        if entities.flush(born).is_err() {
-            return Err(Unbegun {
-                logs,
-                error: BeginError::Memory,
-            });
+        if entities.flush(out).is_err() {
+            return Err(BeginError::Memory);
         }
         Ok(SyncPoint {
             front: None,
-            rest: Rest::of(alloc, logs),
+            rest: Rest::of(alloc, mem::replace(logs, Vec::new(alloc))),
         })
     }
 

@@ -3,10 +3,9 @@
 use crate::lent::Lent;
 use crate::sharing::Reserver;
 use crate::{Entities, Handle, Refused};
-use core::error::Error;
 use core::fmt;
 
-pub use crate::proved::ent_log::{BeginError, Entry, Log, Reserves, SyncPoint, Unbegun};
+pub use crate::proved::ent_log::{BeginError, Entry, Log, Reserves, SyncPoint};
 
 impl Reserves for Reserver {
     #[inline]
@@ -47,19 +46,3 @@ impl<C> fmt::Debug for SyncPoint<C> {
         out.debug_struct("SyncPoint").finish_non_exhaustive()
     }
 }
-
-impl<C> fmt::Debug for Unbegun<C> {
-    fn fmt(&self, out: &mut fmt::Formatter<'_>) -> fmt::Result {
-        out.debug_struct("Unbegun")
-            .field("error", &self.error)
-            .finish_non_exhaustive()
-    }
-}
-
-impl<C> fmt::Display for Unbegun<C> {
-    fn fmt(&self, out: &mut fmt::Formatter<'_>) -> fmt::Result {
-        self.error.fmt(out)
-    }
-}
-
-impl<C> Error for Unbegun<C> {}

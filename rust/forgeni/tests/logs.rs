@@ -62,7 +62,7 @@ fn entries_come_in_the_order_of_the_systems_whichever_thread_ends_first() {
         .flat_map(|log| log.entries().iter().cloned())
         .collect();
     let mut born = vec![];
-    let sync = SyncPoint::begin(&mut entities, logs, &mut born).expect("all are reserved");
+    let sync = SyncPoint::begin(&mut entities, &mut logs, &mut born).expect("all are reserved");
     assert_eq!((born.len(), entities.len()), (8000, 8000));
     assert_eq!(drained(sync, &mut entities), written);
 }
@@ -78,7 +78,7 @@ fn a_command_sees_what_those_before_it_did() {
     logs[0].push(Despawn(a)).expect("memory");
     logs[1].push(Despawn(a)).expect("memory");
     logs[1].push(Despawn(b)).expect("memory");
-    let mut sync = SyncPoint::begin(&mut entities, logs, &mut vec![]).expect("nothing is born");
+    let mut sync = SyncPoint::begin(&mut entities, &mut logs, &mut vec![]).expect("nothing is born");
     let mut run = |entities: &mut Entities, entry: Entry<Command>| match entry {
         Entry::Command(Despawn(one)) => match entities.free(one) {
             Ok(_) => Ok(()),
@@ -110,7 +110,7 @@ fn it_may_fail_at_each_entry_and_goes_on_there() {
         let written: Vec<Entry<Command>> =
             logs.iter().flat_map(|log| log.entries().to_vec()).collect();
         assert_eq!(written.len(), 5);
-        let mut sync = SyncPoint::begin(&mut entities, logs, &mut vec![]).expect("reserved");
+        let mut sync = SyncPoint::begin(&mut entities, &mut logs, &mut vec![]).expect("reserved");
         let mut seen = vec![];
         let stopped = sync.apply(&mut entities, |_, entry| {
             if seen.len() == failing {
@@ -145,7 +145,7 @@ fn what_a_panicking_system_reserved_comes_to_life() {
     });
     assert_eq!(told, Ok(true));
     let mut born = vec![];
-    let sync = SyncPoint::begin(&mut entities, vec![kept], &mut born).expect("reserved");
+    let sync = SyncPoint::begin(&mut entities, &mut vec![kept], &mut born).expect("reserved");
     assert_eq!((born.len(), entities.len()), (2, 2));
     assert_eq!(drained(sync, &mut entities).len(), 1);
 }
@@ -155,8 +155,8 @@ fn a_panic_of_the_closure_leaves_the_rest() {
     for panicking in 0..4 {
         let mut entities = small(4, 2);
         let all: Vec<Handle> = (0..4).map(|_| entities.alloc().expect("a slot")).collect();
-        let logs = vec![named(&all[..2]), named(&all[2..])];
-        let mut sync = SyncPoint::begin(&mut entities, logs, &mut vec![]).expect("nothing is born");
+        let mut logs = vec![named(&all[..2]), named(&all[2..])];
+        let mut sync = SyncPoint::begin(&mut entities, &mut logs, &mut vec![]).expect("nothing is born");
         let mut calls = 0;
         let ended = catch_unwind(AssertUnwindSafe(|| {
             sync.apply(&mut entities, |entities, entry| {
@@ -183,21 +183,18 @@ fn logs_of_another_phase_are_handed_back() {
     let mut log = Log::<Command>::new();
     let one = log.spawn(&mut entities).expect("a handle");
 
-    // They are flushed already, or of another allocator, or the phase isn't closed yet.
+    let mut logs = vec![Log::new(), log];
+
+    // It is alive already, and another allocator has not reserved it either.
     assert_eq!(flushed(&mut entities), [one]);
-    let mut born = vec![];
-    let (logs, error) = SyncPoint::begin(&mut entities, vec![Log::new(), log], &mut born)
-        .expect_err("it is alive already")
-        .into_parts();
-    assert_eq!(error, BeginError::NotReserved { handle: one });
-    assert_eq!(error.to_string(), "0v1 is not reserved");
-    assert_eq!((logs.len(), logs[1].entries()), (2, &[Entry::Spawn(one)][..]));
-    let mut other = Entities::new();
-    let (logs, error) = SyncPoint::begin(&mut other, logs, &mut born)
-        .expect_err("it reserved nothing")
-        .into_parts();
-    assert_eq!(error, BeginError::NotReserved { handle: one });
-    assert_eq!((born, other.total(), logs.len()), (vec![], 0, 2));
+    for allocator in [&mut entities, &mut Entities::new()] {
+        let (mut born, made) = (vec![], allocator.total());
+        let error = SyncPoint::begin(allocator, &mut logs, &mut born).expect_err("not reserved");
+        assert_eq!(error, BeginError::NotReserved { handle: one });
+        assert_eq!(error.to_string(), "0v1 is not reserved");
+        assert_eq!((born.len(), allocator.total(), logs.len()), (0, made, 2));
+        assert_eq!(logs[1].entries(), [Entry::Spawn(one)]);
+    }
 }
 
 #[test]
@@ -223,7 +220,7 @@ fn a_hundred_thousand_spawns_and_commands() {
         }
     }
     let mut born = vec![];
-    let mut sync = SyncPoint::begin(&mut entities, vec![log], &mut born).expect("reserved");
+    let mut sync = SyncPoint::begin(&mut entities, &mut vec![log], &mut born).expect("reserved");
     let mut names = 0;
     let done: Result<(), FreeError> = sync.apply(&mut entities, |entities, entry| {
         match entry {

@@ -1,7 +1,5 @@
 // Made of crates/ent_log/src/begin_error.rt by rust/erase. It isn't edited by hand.
 
-use alloc::vec::Vec;
-use crate::proved::ent_log::log::Log;
 use crate::proved::ent_handle::Handle;
 
 /// Why a sync point of logs did not begin. Nothing has changed.
@@ -29,31 +27,3 @@ impl core::fmt::Display for BeginError {
 }
 
 impl core::error::Error for BeginError {}
-
-/// Logs whose sync point did not begin.
-pub struct Unbegun<C> {
-    /// The logs, as they were handed in.
-    pub logs: Vec<Log<C>>,
-    /// Why it did not begin.
-    pub error: BeginError,
-}
-
-impl<C> Unbegun<C> {
-    /// The logs, as they were handed in, and why their sync point did not begin.
-    ///
-    /// <details><summary>Contract</summary>
-    ///
-    /// In the words of the folder `specs/` of crate `ent_log`:
-    ///
-    /// ```text
-    /// ensures logs { result.0.items ≡ self.logs.items }
-    /// ensures error { result.1 ≡ self.error }
-    /// ```
-    ///
-    /// </details>
-    #[must_use]
-    #[inline]
-    pub fn into_parts(self) -> (Vec<Log<C>>, BeginError) {
-        (self.logs, self.error)
-    }
-}

@@ -10,7 +10,7 @@ mod reserves;
 mod rest;
 mod sync_point;
 
-pub use begin_error::{BeginError, Unbegun};
+pub use begin_error::BeginError;
 pub use entry::Entry;
 pub use log::Log;
 pub use reserves::Reserves;

@@ -1,13 +1,14 @@
 // Made of crates/ent_log/src/sync_point.rt by rust/erase. It isn't edited by hand.
 
 use alloc::vec::Vec;
-use crate::proved::ent_log::begin_error::{BeginError, Unbegun};
+use crate::proved::ent_log::begin_error::BeginError;
 use crate::proved::ent_log::entry::Entry;
 use crate::proved::ent_log::handing::hand_on;
 use crate::proved::ent_log::log::Log;
 use crate::proved::ent_log::rest::Rest;
 use crate::proved::ent_alloc::Entities;
 use crate::proved::ent_handle::Handle;
+use core::mem;
 
 /// A sync point of logs: the entries that are still to be handed on.
 ///
@@ -28,7 +29,7 @@ use crate::proved::ent_handle::Handle;
 /// let old = entities.alloc()?;
 ///
 /// // Two systems, on one thread or on two: each has a log of its own.
-/// let mut logs = [Log::new(), Log::new()];
+/// let mut logs = vec![Log::new(), Log::new()];
 /// entities.phase(2, |_, reservers| {
 ///     for (reserver, log) in reservers.iter_mut().zip(&mut logs) {
 ///         let cart = log.spawn(reserver)?;
@@ -39,7 +40,7 @@ use crate::proved::ent_handle::Handle;
 /// })??;
 ///
 /// let mut born = Vec::new();
-/// let mut sync = SyncPoint::begin(&mut entities, logs.into(), &mut born)?;
+/// let mut sync = SyncPoint::begin(&mut entities, &mut logs, &mut born)?;
 /// sync.apply(&mut entities, |entities, entry| match entry {
 ///     Entry::Spawn(cart) => {
 ///         assert!(entities.is_alive(cart));
@@ -69,14 +70,15 @@ pub struct SyncPoint<C> {
 impl<C> SyncPoint<C> {
     /// Brings to life all that is reserved, and appends it to `born`, as
     /// [`flush`](Entities::flush) does. The sync point has the entries of these logs, one log after
-    /// the other. What a log reserved that isn't among them comes to life too.
+    /// the other, and the list of logs is empty then. What a log reserved that isn't among them comes
+    /// to life too.
     ///
     /// It looks at each spawn of the logs: its handle has to be reserved in this allocator. So when
     /// the first entry is handed on, each of these handles is alive.
     ///
     /// # Errors
     ///
-    /// [`Unbegun`] has the error and the logs, and nothing has changed.
+    /// The list has its logs, and nothing has changed.
     ///
     /// - [`BeginError::NotReserved`] if the handle of a spawn isn't reserved.
     /// - [`BeginError::Memory`] if there is no memory for what is born.
@@ -86,24 +88,25 @@ impl<C> SyncPoint<C> {
     /// In the words of the folder `specs/` of crate `ent_log`:
     ///
     /// ```text
-    /// ensures entries { IfOk result (λ point. point ≡ entries_of logs.items) }
+    /// ensures entries { IfOk result (λ point. point ≡ entries_of logs.old.items) }
+    /// ensures emptied { OnOk result (logs.new.items ≡ []) }
     /// ensures flushed { OnOk result
     ///     (entities.new.allocator ≡ after_flush entities.old.allocator) }
     /// ensures rows { entities.new.rows ≡ entities.old.rows }
     /// ensures born { OnOk result
     ///     (born.new.items ≡ born.old.items ++ born entities.old.allocator) }
     /// ensures alive { OnOk result
-    ///     (All (IsLive entities.new.allocator) (spawned_in (entries_of logs.items))) }
+    ///     (All (IsLive entities.new.allocator) (spawned_in (entries_of logs.old.items))) }
     ///
     /// // Each handle of a spawn is reserved, or the error says which is the first that isn't.
-    /// ensures reserved { OnOk result
-    ///     (first_unreserved entities.old.allocator (spawned_in (entries_of logs.items)) ≡ None) }
-    /// ensures not_reserved { IfErr result (λ refused. unreserved_of refused.error
-    ///     ≡ first_unreserved entities.old.allocator (spawned_in (entries_of logs.items))) }
-    /// ensures memory { IfErr result (λ refused. IsNoMemory refused.error
+    /// ensures reserved { OnOk result (first_unreserved entities.old.allocator
+    ///     (spawned_in (entries_of logs.old.items)) ≡ None) }
+    /// ensures not_reserved { IfErr result (λ error. unreserved_of error
+    ///     ≡ first_unreserved entities.old.allocator (spawned_in (entries_of logs.old.items))) }
+    /// ensures memory { IfErr result (λ error. error ≡ NoMemory
     ///     → (0 < made_at_flush entities.old.allocator)
     ///     ⊎ (vec_capacity born.old < vec_len born.old + length entities.old.allocator.taken)) }
-    /// ensures handed_back { IfErr result (λ refused. refused.logs.items ≡ logs.items) }
+    /// ensures kept { OnErr result (logs.new.items ≡ logs.old.items) }
     /// ensures err { OnErr result (entities.new ≡ entities.old) }
     /// ensures unchanged { OnErr result (born.new.items ≡ born.old.items) }
     /// ```
@@ -112,24 +115,18 @@ impl<C> SyncPoint<C> {
     #[inline]
     pub fn begin(
         entities: &mut Entities,
-        logs: Vec<Log<C>>,
+        logs: &mut Vec<Log<C>>,
         born: &mut Vec<Handle>,
-    ) -> Result<Self, Unbegun<C>> {
-        if let Some(handle) = unreserved(entities, &logs) {
-            return Err(Unbegun {
-                logs,
-                error: BeginError::NotReserved { handle },
-            });
+    ) -> Result<Self, BeginError> {
+        if let Some(handle) = unreserved(entities, logs) {
+            return Err(BeginError::NotReserved { handle });
         }
         if entities.flush(born).is_err() {
-            return Err(Unbegun {
-                logs,
-                error: BeginError::Memory,
-            });
+            return Err(BeginError::Memory);
         }
         Ok(SyncPoint {
             front: None,
-            rest: Rest::of(logs),
+            rest: Rest::of(mem::replace(logs, Vec::new())),
         })
     }
 
