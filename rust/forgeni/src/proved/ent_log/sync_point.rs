@@ -68,7 +68,7 @@ pub struct SyncPoint<C> {
 }
 
 impl<C> SyncPoint<C> {
-    /// Brings to life all that is reserved, and appends it to `born`, as
+    /// Brings to life all that is reserved, and appends it to `out`, as
     /// [`flush`](Entities::flush) does. The sync point has the entries of these logs, one log after
     /// the other, and the list of logs is empty then. What a log reserved that isn't among them comes
     /// to life too.
@@ -94,7 +94,7 @@ impl<C> SyncPoint<C> {
     ///     (entities.new.allocator ≡ after_flush entities.old.allocator) }
     /// ensures rows { entities.new.rows ≡ entities.old.rows }
     /// ensures born { OnOk result
-    ///     (born.new.items ≡ born.old.items ++ born entities.old.allocator) }
+    ///     (out.new.items ≡ out.old.items ++ born entities.old.allocator) }
     /// ensures alive { OnOk result
     ///     (All (IsLive entities.new.allocator) (spawned_in (entries_of logs.old.items))) }
     ///
@@ -105,10 +105,10 @@ impl<C> SyncPoint<C> {
     ///     ≡ first_unreserved entities.old.allocator (spawned_in (entries_of logs.old.items))) }
     /// ensures memory { IfErr result (λ error. error ≡ NoMemory
     ///     → (0 < made_at_flush entities.old.allocator)
-    ///     ⊎ (vec_capacity born.old < vec_len born.old + length entities.old.allocator.taken)) }
+    ///     ⊎ (vec_capacity out.old < vec_len out.old + length entities.old.allocator.taken)) }
     /// ensures kept { OnErr result (logs.new.items ≡ logs.old.items) }
     /// ensures err { OnErr result (entities.new ≡ entities.old) }
-    /// ensures unchanged { OnErr result (born.new.items ≡ born.old.items) }
+    /// ensures unchanged { OnErr result (out.new.items ≡ out.old.items) }
     /// ```
     ///
     /// </details>
@@ -116,12 +116,12 @@ impl<C> SyncPoint<C> {
     pub fn begin(
         entities: &mut Entities,
         logs: &mut Vec<Log<C>>,
-        born: &mut Vec<Handle>,
+        out: &mut Vec<Handle>,
     ) -> Result<Self, BeginError> {
         if let Some(handle) = unreserved(entities, logs) {
             return Err(BeginError::NotReserved { handle });
         }
-        if entities.flush(born).is_err() {
+        if entities.flush(out).is_err() {
             return Err(BeginError::Memory);
         }
         Ok(SyncPoint {
