@@ -35,6 +35,7 @@ LEFT_OUT, FEATURE = {"devices", "ent_script", "spawnrun", "spawnrun_lib", "trace
 # The paths of the kit, and what stands for them.
 PATHS = {f"std::{it}": f"crate::kit::{it}" for it in "alloc collections sync thread".split()}
 PATHS |= {f"std::{it}": f"core::{it}" for it in "cmp error fmt hash marker mem num".split()}
+PATHS |= {"std::vec": "alloc::vec"}
 PATHS |= {it: f"crate::kit::{it}" for it in "atomic_table either itoa smallvec".split()} | {"thiserror": ""}
 # The right to allocate, as a type or a value, and a type that a ghost trait bounds are written so until they go, each by its class.
 RIGHT, GHOST = "@right", "@ghost"
@@ -45,7 +46,7 @@ NEEDS = {"collect_in": "crate::kit::vec::CollectIn", "list call": "crate::kit::v
 MODEL, GLOBAL, ERROR = "std::marker::Model", "std::alloc::Global", "thiserror::Error"
 IMPORTS = named(
     "std: fmt mem; std::alloc: AllocError AllocFailed; std::cmp: Ordering; std::collections: BTreeMap LinkedList; std::error: Error;"
-    "std::hash: Hash Hasher; std::marker: PhantomData; std::num: NonZeroU32 NonZeroU64; std::sync: Arc; std::thread: Threads join_mut;"
+    "std::hash: Hash Hasher; std::marker: PhantomData; std::num: NonZeroU32 NonZeroU64; std::sync: Arc; std::thread: Threads join_mut; std::vec: IntoIter;"
     "atomic_table: Badge Join Play Seat Split Table TableRule; either: Either Left Right; itoa: Buffer Integer; smallvec: SmallVec"
 )
 ASSOCIATED = named(
@@ -60,7 +61,7 @@ PRELUDE = set(
 METHODS = set(
     "all as_bytes as_chunks as_mut_slice as_slice binary_search binary_search_by_key capacity cast_signed cast_unsigned checked_add "
     "checked_sub clear close_with cmp collect contains copied count enumerate extend_from_slice extend_with_clones fetch_add fetch_sub "
-    "filter format free get get_mut insert into into_badge into_seat is_ascii_digit is_empty is_err is_ok is_none is_none_or is_some iter "
+    "filter format free get get_mut insert into into_badge into_iter into_seat is_ascii_digit is_empty is_err is_none is_none_or is_ok is_some "
     "iter_mut join_seat len load_new_seat map map_err max min next next_back ok ok_or parse pop position push push_reserved remove "
     "reserve resize retain reverse saturating_add saturating_mul saturating_sub size_hint sort_by_cached_key sort_by_key sort_unstable "
     "split_at split_at_mut split_first split_first_chunk split_last split_seat swap_remove take then to_le_bytes truncate unwrap "

@@ -51,7 +51,7 @@ pub const DROP: &str = "Drop";
 pub const RIGHT: &str = "Global";
 
 /// Types of the kit whose last argument may be that type.
-pub const RIGHT_TYPES: &[&str] = &["Arc", "Table", "Vec"];
+pub const RIGHT_TYPES: &[&str] = &["Arc", "IntoIter", "Table", "Vec"];
 
 /// In a list of how arguments may begin: the right to allocate, and no more.
 pub const OF_RIGHT: &[&str] = &["alloc"];
@@ -718,6 +718,7 @@ const MODULES: &[Module] = &[
         "crate::kit::thread",
         &["Threads", "join_mut"],
     ),
+    module("std::vec", "alloc::vec", &["IntoIter"]),
     Module {
         path: "thiserror",
         to: "",

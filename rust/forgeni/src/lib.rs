@@ -124,6 +124,40 @@
 //! # Ok::<(), Box<dyn std::error::Error>>(())
 //! ```
 //!
+//! # Commands of your own
+//!
+//! With components and a world of your own, systems fill a [`Log`] each, with commands of your type. A
+//! [`SyncPoint`] brings to life what they spawned, and calls your closure at each command, in the order
+//! of the systems:
+//!
+//! ```
+//! use forgeni::{Entities, Entry, Handle, HandleMap, Log, SyncPoint};
+//!
+//! let mut entities = Entities::new();
+//! let mut names: HandleMap<String> = HandleMap::new();
+//!
+//! let mut logs: Vec<Log<(Handle, &str)>> = vec![Log::new(), Log::new()];
+//! entities.phase(1, |_, reservers| {
+//!     for (log, name) in logs.iter_mut().zip(["cart", "ship"]) {
+//!         let one = log.spawn(&mut reservers[0])?;
+//!         log.push((one, name))?;
+//!     }
+//!     Ok::<(), forgeni::ReserveError>(())
+//! })??;
+//!
+//! let mut born = Vec::new();
+//! let mut sync = SyncPoint::begin(&mut entities, &mut logs, &mut born)?;
+//! sync.apply(&mut entities, |_, entry| match entry {
+//!     Entry::Spawn(_) => Ok(()),
+//!     Entry::Command((one, name)) => match names.insert(one, name.to_owned()) {
+//!         Ok(_) => Ok(()),
+//!         Err(refused) => Err((entry, refused.error)),
+//!     },
+//! })?;
+//! assert_eq!(names[born[1]], "ship");
+//! # Ok::<(), Box<dyn std::error::Error>>(())
+//! ```
+//!
 //! # Saves and snapshots
 //!
 //! [`Entities::write_image`] writes an allocator as bytes, and [`Entities::read_image`] reads it back.
@@ -181,6 +215,11 @@
 //!   last of them.
 //! - **Queues are applied to another world** than that of their phase: [`SyncError::OtherWorld`], which
 //!   hands them back.
+//! - **A log of another phase**: [`BeginError::NotReserved`], since a spawn of it isn't reserved. Nothing has
+//!   changed. A log that is lost, as with a system that panics, takes its commands along. What it reserved
+//!   comes to life with the others.
+//! - **The closure of a [`SyncPoint`] fails**: the entry that it hands back and those behind it are left, and
+//!   [`apply`](SyncPoint::apply) goes on there. If it panics, the entry is gone and those behind it are left.
 //! - **Bytes aren't the image of an allocator**: an [`ImageFault`]. What is read has exactly these bytes
 //!   for its image, whoever wrote them.
 //! - **Memory runs out**: an `Err`. Nothing has changed, unless a sync point stopped ([`Stopped`], and
@@ -205,10 +244,10 @@
 //!
 //! # Proved, trusted, tested
 //!
-//! **Proved** is the source, call by call: [`Entities`], [`Shared`], [`Reserver`], [`HandleMap`],
-//! [`Storage`], [`World`], [`Commands`], [`trace::Checker`] and their parts are the proved types. The
-//! clauses of a contract use the words of the folders `specs/` of the repository. The proofs are made
-//! before what only they need is taken out of the source.
+//! **Proved** is the source, call by call: [`Entities`], [`Shared`], [`Reserver`], [`HandleMap`], [`Log`],
+//! [`SyncPoint`], [`Storage`], [`World`], [`Commands`], [`trace::Checker`] and their parts are the proved
+//! types. The clauses of a contract use the words of the folders `specs/` of the repository. The proofs
+//! are made before what only they need is taken out of the source.
 //!
 //! **Trusted** are the prover, the program that takes it out (`rust/erase`), the module `kit`, which
 //! has Rust's own types in place of those of Rattle's library, rustc and its libraries, and that no
@@ -275,6 +314,7 @@ pub mod handle_map;
 mod kit;
 mod lending;
 mod lent;
+mod log;
 mod numbers;
 #[cfg(feature = "rayon")]
 mod on_rayon;
@@ -312,6 +352,7 @@ pub use frames::{run_frame, run_frame_on, FrameError, Join, StdThreads};
 pub use handle::{Handle, ParseHandleError};
 pub use handle_map::{HandleMap, InsertError, Uninserted};
 pub use lent::Lent;
+pub use log::{BeginError, Entry, Log, Reserves, SyncPoint};
 #[cfg(feature = "rayon")]
 pub use on_rayon::Rayon;
 pub use proved::ent_alloc::Limits;

@@ -18,6 +18,7 @@ mod like_bevy;
 mod like_hecs;
 mod like_slotmap;
 mod limits;
+mod logs;
 mod model;
 mod panics;
 mod phases;

@@ -14,6 +14,7 @@
 pub mod devices;
 pub mod ent_alloc;
 pub mod ent_handle;
+pub mod ent_log;
 pub mod ent_queue;
 pub mod ent_replay;
 pub mod ent_runner;

@@ -1,0 +1,2 @@
+mod Unreserved
+mod InTurn

@@ -1,0 +1,4 @@
+pub mod Logs
+pub mod Spawning
+pub mod Beginning
+pub mod HandingOn

@@ -1,0 +1,10 @@
+use ent_handle::Handle;
+
+/// What a [`Log`](crate::Log) has of one call, and a sync point hands on.
+#[derive(Clone, Copy, Debug, PartialEq, Eq, Hash, Drop)]
+pub enum Entry<C> {
+    /// A handle that a spawn returned. It is alive when the sync point hands on its first entry.
+    Spawn(Handle),
+    /// A command of the caller's.
+    Command(C),
+}

@@ -1,0 +1,129 @@
+ghost use Rattle.std.specs.Prelude.{◌≡◌, [], ◌∷◌, ◌++◌, Result, IfOk, OnOk, OnErr, IsErrOf};
+ghost use Rattle.std.specs.Vec.Iter.{into_iter_items};
+ghost use Rattle.ent_handle.specs.Handle.{Handle as HandleValue};
+ghost use Rattle.ent_alloc.specs.declared.refused.Refused.{Refused as Refusal};
+ghost use Rattle.ent_log.specs.declared.entry.Entry.TheVariants.{Spawn, Command};
+ghost use Rattle.ent_log.specs.Logs.{first_unreserved, spawned_in};
+ghost use Rattle.ent_log.specs.Spawning.{returned};
+
+use crate::entry::Entry;
+use crate::reserves::Reserves;
+use ent_alloc::{Entities, ReserveError, State};
+use ent_handle::{Handle, Memory};
+use std::alloc::Global;
+use std::marker::Model;
+use std::vec::IntoIter;
+
+/// What one system spawns and commands, in the order of issue. `C` is the caller's type of commands.
+///
+/// A [`SyncPoint`](crate::SyncPoint) brings to life what was spawned, and hands on the entries. A log
+/// may go to another thread, and several systems of one worker have a log each.
+#[must_use]
+#[derive(Drop)]
+pub struct Log<C> {
+    entries: Vec<Entry<C>>,
+}
+
+impl<C> Model for Log<C> {
+    ghost use Rattle.std.specs.Prelude.{List};
+    ghost use Rattle.ent_log.specs.declared.entry.Entry.{Entry};
+
+    ghost Value = { List (Entry C) };
+
+    ghost view = { λ l. l.entries.items };
+}
+
+impl<C> Log<C> {
+    /// A log without entries. It takes no memory.
+    #[must_use]
+    pub fn new(alloc: Global) -> Self
+        ensures { result ≡ [] }
+    {
+        Log {
+            entries: Vec::new(alloc),
+        }
+    }
+
+    /// The entries, in the order of issue.
+    #[must_use]
+    pub fn entries(&self) -> &[Entry<C>]
+        ensures { result.now ≡ self.now }
+    {
+        &self.entries
+    }
+
+    /// Reserves a handle at once, and adds its entry. Room for the entry is allocated first, so each
+    /// handle that is reserved has one.
+    ///
+    /// ```
+    /// use forgeni::{Entities, Entry, Log};
+    ///
+    /// let (shared, mut reservers) = Entities::new().share(1)?;
+    /// let mut log: Log<()> = Log::new();
+    /// let cart = log.spawn(&mut reservers[0])?;
+    /// assert_eq!(log.entries(), [Entry::Spawn(cart)]);
+    /// # drop(shared);
+    /// # Ok::<(), Box<dyn std::error::Error + Send + Sync>>(())
+    /// ```
+    ///
+    /// # Errors
+    ///
+    /// The log is as it was.
+    ///
+    /// - [`ReserveError::Memory`] if there is no room for the entry. Nothing was reserved.
+    /// - [`ReserveError::Space`] and [`ReserveError::Quota`] as the reservation returns them.
+    pub fn spawn<S: Reserves>(&mut self, source: &mut S) -> Result<Handle, ReserveError>
+        ensures ok { IfOk result (λ handle. self.new ≡ self.old ++ Spawn handle ∷ []) }
+        ensures err { OnErr result (self.new ≡ self.old) }
+
+        // Anything but Memory is the result of one reservation.
+        ensures replies { (reply : Result HandleValue Refusal) → result ≡ returned reply
+            → S.may_reserve source.old reply source.new }
+        ensures memory { IsErrOf result ReserveError.Memory → source.new ≡ source.old }
+    {
+        self.entries.reserve(1)?;
+        let handle = source.reserve_one()?;
+        self.entries.push_reserved(Entry::Spawn(handle));
+        Ok(handle)
+    }
+
+    /// The entries, to be taken out one by one.
+    pub(crate) fn into_entries(self) -> IntoIter<Entry<C>, Global>
+        ensures { into_iter_items result ≡ self }
+    {
+        self.entries.into_iter()
+    }
+
+    /// The first handle of a spawn that isn't reserved.
+    pub(crate) fn unreserved(&self, entities: &Entities) -> Option<Handle>
+        ensures { result ≡ first_unreserved entities.now.allocator (spawned_in self.now) }
+    {
+        let mut rest = self.entries.as_slice();
+        while let Some((entry, behind)) = rest.split_first() {
+            if let Entry::Spawn(handle) = entry {
+                if entities.state(*handle) != State::Reserved {
+                    return Some(*handle);
+                }
+            }
+            rest = behind;
+        }
+        None
+    }
+}
+
+impl<C: Drop> Log<C> {
+    /// Adds a command, which the sync point hands on in its turn.
+    ///
+    /// # Errors
+    ///
+    /// [`OutOfMemory`](Memory) if there is no room for it. The log is as it was, and the command is
+    /// dropped.
+    pub fn push(&mut self, command: C) -> Result<(), Memory>
+        ensures ok { OnOk result (self.new ≡ self.old ++ Command command ∷ []) }
+        ensures err { OnErr result (self.new ≡ self.old) }
+    {
+        self.entries.reserve(1)?;
+        self.entries.push_reserved(Entry::Command(command));
+        Ok(())
+    }
+}

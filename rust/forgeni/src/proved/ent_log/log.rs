@@ -1,0 +1,151 @@
+// Made of crates/ent_log/src/log.rt by rust/erase. It isn't edited by hand.
+
+use alloc::vec::Vec;
+use crate::kit::vec::FallibleVec;
+use crate::proved::ent_log::entry::Entry;
+use crate::proved::ent_log::reserves::Reserves;
+use crate::proved::ent_alloc::{Entities, ReserveError, State};
+use crate::proved::ent_handle::{Handle, Memory};
+use alloc::vec::IntoIter;
+
+/// What one system spawns and commands, in the order of issue. `C` is the caller's type of commands.
+///
+/// A [`SyncPoint`](crate::proved::ent_log::SyncPoint) brings to life what was spawned, and hands on the entries. A log
+/// may go to another thread, and several systems of one worker have a log each.
+#[must_use]
+pub struct Log<C> {
+    entries: Vec<Entry<C>>,
+}
+
+impl<C> Log<C> {
+    /// A log without entries. It takes no memory.
+    ///
+    /// <details><summary>Contract</summary>
+    ///
+    /// In the words of the folder `specs/` of crate `ent_log`:
+    ///
+    /// ```text
+    /// ensures { result ≡ [] }
+    /// ```
+    ///
+    /// </details>
+    #[must_use]
+    #[inline]
+    pub fn new() -> Self {
+        Log {
+            entries: Vec::new(),
+        }
+    }
+
+    /// The entries, in the order of issue.
+    ///
+    /// <details><summary>Contract</summary>
+    ///
+    /// In the words of the folder `specs/` of crate `ent_log`:
+    ///
+    /// ```text
+    /// ensures { result.now ≡ self.now }
+    /// ```
+    ///
+    /// </details>
+    #[must_use]
+    #[inline]
+    pub fn entries(&self) -> &[Entry<C>] {
+        &self.entries
+    }
+
+    /// Reserves a handle at once, and adds its entry. Room for the entry is allocated first, so each
+    /// handle that is reserved has one.
+    ///
+    /// ```
+    /// use forgeni::{Entities, Entry, Log};
+    ///
+    /// let (shared, mut reservers) = Entities::new().share(1)?;
+    /// let mut log: Log<()> = Log::new();
+    /// let cart = log.spawn(&mut reservers[0])?;
+    /// assert_eq!(log.entries(), [Entry::Spawn(cart)]);
+    /// # drop(shared);
+    /// # Ok::<(), Box<dyn std::error::Error + Send + Sync>>(())
+    /// ```
+    ///
+    /// # Errors
+    ///
+    /// The log is as it was.
+    ///
+    /// - [`ReserveError::Memory`] if there is no room for the entry. Nothing was reserved.
+    /// - [`ReserveError::Space`] and [`ReserveError::Quota`] as the reservation returns them.
+    ///
+    /// <details><summary>Contract</summary>
+    ///
+    /// In the words of the folder `specs/` of crate `ent_log`:
+    ///
+    /// ```text
+    /// ensures ok { IfOk result (λ handle. self.new ≡ self.old ++ Spawn handle ∷ []) }
+    /// ensures err { OnErr result (self.new ≡ self.old) }
+    ///
+    /// // Anything but Memory is the result of one reservation.
+    /// ensures replies { (reply : Result HandleValue Refusal) → result ≡ returned reply
+    ///     → S.may_reserve source.old reply source.new }
+    /// ensures memory { IsErrOf result ReserveError.Memory → source.new ≡ source.old }
+    /// ```
+    ///
+    /// </details>
+    #[inline]
+    pub fn spawn<S: Reserves>(&mut self, source: &mut S) -> Result<Handle, ReserveError> {
+        self.entries.reserve_fallibly(1)?;
+        let handle = source.reserve_one()?;
+        self.entries.push_reserved(Entry::Spawn(handle));
+        Ok(handle)
+    }
+
+    /// The entries, to be taken out one by one.
+    #[inline]
+    pub(super) fn into_entries(self) -> IntoIter<Entry<C>>
+        // ensures { into_iter_items result ≡ self }
+    {
+        self.entries.into_iter()
+    }
+
+    /// The first handle of a spawn that isn't reserved.
+    #[inline]
+    pub(super) fn unreserved(&self, entities: &Entities) -> Option<Handle>
+        // ensures { result ≡ first_unreserved entities.now.allocator (spawned_in self.now) }
+    {
+        let mut rest = self.entries.as_slice();
+        while let Some((entry, behind)) = rest.split_first() {
+            if let Entry::Spawn(handle) = entry {
+                if entities.state(*handle) != State::Reserved {
+                    return Some(*handle);
+                }
+            }
+            rest = behind;
+        }
+        None
+    }
+}
+
+impl<C> Log<C> {
+    /// Adds a command, which the sync point hands on in its turn.
+    ///
+    /// # Errors
+    ///
+    /// [`OutOfMemory`](Memory) if there is no room for it. The log is as it was, and the command is
+    /// dropped.
+    ///
+    /// <details><summary>Contract</summary>
+    ///
+    /// In the words of the folder `specs/` of crate `ent_log`:
+    ///
+    /// ```text
+    /// ensures ok { OnOk result (self.new ≡ self.old ++ Command command ∷ []) }
+    /// ensures err { OnErr result (self.new ≡ self.old) }
+    /// ```
+    ///
+    /// </details>
+    #[inline]
+    pub fn push(&mut self, command: C) -> Result<(), Memory> {
+        self.entries.reserve_fallibly(1)?;
+        self.entries.push_reserved(Entry::Command(command));
+        Ok(())
+    }
+}

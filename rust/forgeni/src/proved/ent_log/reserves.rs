@@ -1,0 +1,24 @@
+// Made of crates/ent_log/src/reserves.rt by rust/erase. It isn't edited by hand.
+
+use crate::proved::ent_alloc::Refused;
+use crate::proved::ent_handle::Handle;
+
+/// Who reserves handles for a [`Log`](crate::proved::ent_log::Log), one at a time.
+pub trait Reserves {
+    /// Reserves one handle. The next flush brings it to life.
+    ///
+    /// # Errors
+    ///
+    /// [`Refused`], if there is none.
+    ///
+    /// <details><summary>Contract</summary>
+    ///
+    /// In the words of the folder `specs/` of crate `ent_log`:
+    ///
+    /// ```text
+    /// ensures { may_reserve self.old result self.new }
+    /// ```
+    ///
+    /// </details>
+    fn reserve_one(&mut self) -> Result<Handle, Refused>;
+}

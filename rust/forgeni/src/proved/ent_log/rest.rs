@@ -1,0 +1,61 @@
+// Made of crates/ent_log/src/rest.rt by rust/erase. It isn't edited by hand.
+
+use alloc::vec::Vec;
+use crate::proved::ent_log::entry::Entry;
+use crate::proved::ent_log::log::Log;
+use alloc::vec::IntoIter;
+
+/// The entries of logs that are left: those of one log, and then all logs behind it.
+pub(super) struct Rest<C> {
+    entries: IntoIter<Entry<C>>,
+    logs: IntoIter<Log<C>>,
+}
+
+impl<C> Rest<C> {
+    /// All entries of these logs.
+    #[inline]
+    pub(super) fn of(logs: Vec<Log<C>>) -> Self
+        // ensures { result ≡ entries_of logs.items }
+    {
+        Rest {
+            entries: Vec::new().into_iter(),
+            logs: logs.into_iter(),
+        }
+    }
+
+    /// Takes the first entry out.
+    #[inline]
+    pub(super) fn take_next(&mut self) -> Option<Entry<C>>
+        // ensures first { IfSome result (λ entry. self.old ≡ entry ∷ self.new) }
+        // ensures none { IfNone result (self.old ≡ []) }
+        // ensures done { IfNone result (self.new ≡ []) }
+    {
+        first_of(&mut self.entries, &mut self.logs)
+    }
+}
+
+/// Takes the first entry out of these entries, or of the first of these logs that has one.
+#[inline]
+fn first_of<C>(
+    entries: &mut IntoIter<Entry<C>>,
+    logs: &mut IntoIter<Log<C>>,
+) -> Option<Entry<C>>
+    // ensures first { IfSome result (λ entry.
+    //     into_iter_items entries.old ++ entries_of (into_iter_items logs.old)
+    //     ≡ entry ∷ (into_iter_items entries.new ++ entries_of (into_iter_items logs.new))) }
+    // ensures none { IfNone result
+    //     (into_iter_items entries.old ++ entries_of (into_iter_items logs.old) ≡ []) }
+    // ensures done { IfNone result
+    //     (into_iter_items entries.new ++ entries_of (into_iter_items logs.new) ≡ []) }
+{
+    if let Some(entry) = entries.next() {
+        return Some(entry);
+    }
+    while let Some(log) = logs.next() {
+        *entries = log.into_entries();
+        if let Some(entry) = entries.next() {
+            return Some(entry);
+        }
+    }
+    None
+}
