@@ -78,7 +78,8 @@ fn a_command_sees_what_those_before_it_did() {
     logs[0].push(Despawn(a)).expect("memory");
     logs[1].push(Despawn(a)).expect("memory");
     logs[1].push(Despawn(b)).expect("memory");
-    let mut sync = SyncPoint::begin(&mut entities, &mut logs, &mut vec![]).expect("nothing is born");
+    let mut sync =
+        SyncPoint::begin(&mut entities, &mut logs, &mut vec![]).expect("nothing is born");
     let mut run = |entities: &mut Entities, entry: Entry<Command>| match entry {
         Entry::Command(Despawn(one)) => match entities.free(one) {
             Ok(_) => Ok(()),
@@ -89,7 +90,10 @@ fn a_command_sees_what_those_before_it_did() {
 
     // It stops at the second command, which comes back, however often it is tried.
     for _ in 0..3 {
-        assert_eq!(sync.apply(&mut entities, &mut run), Err(FreeError::NotAlive));
+        assert_eq!(
+            sync.apply(&mut entities, &mut run),
+            Err(FreeError::NotAlive)
+        );
         assert!(!entities.is_alive(a) && entities.is_alive(b));
     }
     assert_eq!(sync.take_next(), Some(Entry::Command(Despawn(a))));
@@ -156,7 +160,8 @@ fn a_panic_of_the_closure_leaves_the_rest() {
         let mut entities = small(4, 2);
         let all: Vec<Handle> = (0..4).map(|_| entities.alloc().expect("a slot")).collect();
         let mut logs = vec![named(&all[..2]), named(&all[2..])];
-        let mut sync = SyncPoint::begin(&mut entities, &mut logs, &mut vec![]).expect("nothing is born");
+        let mut sync =
+            SyncPoint::begin(&mut entities, &mut logs, &mut vec![]).expect("nothing is born");
         let mut calls = 0;
         let ended = catch_unwind(AssertUnwindSafe(|| {
             sync.apply(&mut entities, |entities, entry| {
