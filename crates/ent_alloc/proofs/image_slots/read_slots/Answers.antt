@@ -1,5 +1,5 @@
 use Rattle.std.proofs.Common.{rules, ◌≡◌, ◌≢◌, ◌+◌, ◌<◌, ◌++◌}
-use Rattle.std.proofs.Common.{ℕ, List, [], length, arith, sym, ap, ◌∙◌, subst, slice_index}
+use Rattle.std.proofs.Common.{ℕ, List, [], ◌∷◌, length, arith, sym, ap, ◌∙◌, subst, slice_index}
 use Rattle.std.specs.List.{flat_map}
 use Rattle.std.proofs.lemmas.List.{append_assoc, flat_map_more, length-append}
 use Rattle.ent_alloc.specs.Limits.{Limits}
@@ -58,7 +58,7 @@ loop-index-preserved c =
     let more = read_more c.args.limits records pending c.loop-index.live loop.read slot
     c.in-Some.ensures.within c.in-Some.ensures.fits can
     (omega (arith, at, c.ranges.made.fits, c.loop-index-test.true)) in
-    let items = c.push_reserved.ensures.items in
+    let items = c.push_reserved.ensures.items ∙ ap (λ s. records ++ s ∷ []) c.of.ensures in
     let placed = back ∙ new in
     let lives = ap (c.loop-index.live +◌) c.occupants_of-live.ensures.value in
     let joined = ap (flat_map record_bytes records ++◌) c.in-Some.ensures.bytes
