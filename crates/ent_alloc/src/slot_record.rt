@@ -2,7 +2,7 @@ ghost use Rattle.std.specs.Prelude.{◌≡◌, ◌+◌, ◌-◌, ◌^◌, ◌<�
 ghost use Rattle.std.specs.Prelude.{length, map, replicate, All, vec_len, vec_capacity};
 ghost use Rattle.ent_handle.specs.Handle.{IsHandle};
 ghost use Rattle.ent_alloc.specs.Sequential.{fresh};
-ghost use Rattle.ent_alloc.specs.Slots.{new_record, is_alive, occupancy_of, handle_at, reused};
+ghost use Rattle.ent_alloc.specs.Slots.{new_record, is_alive, lives, occupancy_of, handle_at, reused};
 
 use crate::packed_slot::PackedSlot;
 use ent_handle::Handle;
@@ -52,6 +52,16 @@ pub(crate) fn occupancy_of(records: &[PackedSlot], handle: Handle) -> Option<Occ
     } else {
         None
     }
+}
+
+/// Whether the handle is that of the living occupant of its slot.
+pub(crate) fn is_living(records: &[PackedSlot], handle: Handle) -> bool
+    ensures { result ≡ lives (occupancy_of records.now handle) }
+{
+    let index = handle.index() as usize;
+    // The generation, by the call whose contract says that it is in range.
+    let generation = (handle.to_bits() >> 32) as u32;
+    index < records.len() && records[index].is_occupied_by(generation)
 }
 
 /// The first occupant of a slot.
