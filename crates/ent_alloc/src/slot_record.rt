@@ -47,8 +47,10 @@ pub(crate) fn occupancy_of(records: &[PackedSlot], handle: Handle) -> Option<Occ
     ensures { result ≡ occupancy_of records.now handle }
 {
     let index = handle.index() as usize;
-    if index < records.len() && records[index].generation() == handle.generation() {
-        Some(records[index].occupancy())
+    // The generation, by the call whose contract says that it is in range.
+    let generation = (handle.to_bits() >> 32) as u32;
+    if index < records.len() {
+        records[index].occupancy_at(generation)
     } else {
         None
     }
