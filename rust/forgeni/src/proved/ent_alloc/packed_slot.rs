@@ -133,11 +133,10 @@ impl PackedSlot {
         // ensures value { result ≡ self.now.generation }
         // ensures within { HasGeneration self.now }
     {
-        if self.mark == NOBODY {
-            self.number
-        } else {
-            self.mark & (NOBODY - 1)
-        }
+        // Both are read first, so that the choice takes no branch.
+        let number = self.number;
+        let generation = self.mark & (NOBODY - 1);
+        if generation == 0 { number } else { generation }
     }
 
     /// Who has the slot.
@@ -155,6 +154,33 @@ impl PackedSlot {
             Occupancy::Pending {
                 position: self.number,
             }
+        }
+    }
+
+    /// Who has the slot, if its generation is this one. The mark of a living occupant is the first
+    /// that it is compared with.
+    #[inline]
+    pub(super) fn occupancy_at(&self, generation: u32) -> Option<Occupancy>
+        // requires least { 1 ≤ generation }
+        // requires greatest { generation < 2 ^ 31 }
+        // ensures { result ≡ (if self.now.generation == generation
+        //     then Some self.now.occupancy
+        //     else None) }
+    {
+        if self.mark == generation && self.number == NO_ROW {
+            Some(Occupancy::Alive)
+        } else if self.mark == generation {
+            Some(Occupancy::AliveWithRow { row: self.number })
+        } else if self.mark == generation + NOBODY && self.number == NO_ROW {
+            Some(Occupancy::AliveWithRow { row: NO_ROW })
+        } else if self.mark == generation + NOBODY {
+            Some(Occupancy::Pending {
+                position: self.number,
+            })
+        } else if self.mark == NOBODY && self.number == generation {
+            Some(Occupancy::Retired)
+        } else {
+            None
         }
     }
 

@@ -47,11 +47,24 @@ pub(super) fn occupancy_of(records: &[PackedSlot], handle: Handle) -> Option<Occ
     // ensures { result ≡ occupancy_of records.now handle }
 {
     let index = handle.index() as usize;
-    if index < records.len() && records[index].generation() == handle.generation() {
-        Some(records[index].occupancy())
+    // The generation, by the call whose contract says that it is in range.
+    let generation = (handle.to_bits() >> 32) as u32;
+    if index < records.len() {
+        records[index].occupancy_at(generation)
     } else {
         None
     }
+}
+
+/// Whether the handle is that of the living occupant of its slot.
+#[inline]
+pub(super) fn is_living(records: &[PackedSlot], handle: Handle) -> bool
+    // ensures { result ≡ lives (occupancy_of records.now handle) }
+{
+    let index = handle.index() as usize;
+    // The generation, by the call whose contract says that it is in range.
+    let generation = (handle.to_bits() >> 32) as u32;
+    index < records.len() && records[index].is_occupied_by(generation)
 }
 
 /// The first occupant of a slot.

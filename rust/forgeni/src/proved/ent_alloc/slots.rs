@@ -113,10 +113,7 @@ impl Slots {
     pub(super) fn is_alive(&self, handle: Handle) -> bool
         // ensures { result ≡ set.contains self.now.live handle }
     {
-        match self.occupancy_of(handle) {
-            Some(Occupancy::Alive | Occupancy::AliveWithRow { .. }) => true,
-            Some(Occupancy::Pending { .. } | Occupancy::Retired) | None => false,
-        }
+        slot_record::is_living(&self.records, handle)
     }
 
     /// The row that is kept with an occupant.
