@@ -1,5 +1,5 @@
 -- What the record of a living occupant has.
-use Rattle.std.proofs.Common.{rules, ◌≡◌, ◌<◌, true, false, eqb, List, length, None, ℕ, get_or, set}
+use Rattle.std.proofs.Common.{rules, ◌≡◌, ◌<◌, true, false, eqb, List, length, None, ℕ}
 use Rattle.std.proofs.Common.{arith}
 use Rattle.std.proofs.lemmas.Grind.{common_steps}
 use Rattle.std.specs.FinSet as sets
@@ -8,7 +8,6 @@ use Rattle.ent_handle.specs.Handle.{Handle}
 use Rattle.ent_alloc.specs.Limits.{Limits}
 use Rattle.ent_alloc.specs.Roster.{Roster}
 use Rattle.ent_alloc.specs.declared.slot_record.SlotRecord.{SlotRecord}
-use Rattle.ent_alloc.specs.declared.slot_record.Occupancy.{Occupancy}
 use Rattle.ent_alloc.specs.Slots.{is_alive, record_at, roster_of}
 use Rattle.ent_alloc.proofs.Occupants.{is_occupant, contains_occupants}
 use Rattle.ent_alloc.proofs.KeptRows.{row_at}
@@ -41,10 +40,3 @@ is_occupant-same_slot records h q lives e = grind (arith, common_steps)
 pub row_at-same_slot : (records : List SlotRecord) (h q : Handle) → is_occupant records h ≡ true
     → eqb q.index h.index ≡ true → eqb q.generation h.generation ≡ false → row_at records q ≡ None
 row_at-same_slot records h q lives e ne = grind (arith, common_steps)
-
--- its record, which was lent at its index, gets another occupancy
-pub lent_set : (records : List SlotRecord) (h : Handle) (at : ℕ) (lent : SlotRecord)
-    (o : Occupancy) → is_occupant records h ≡ true → at ≡ h.index → lent ≡ get_or records at lent
-    → set records at (record { generation = lent.generation; occupancy = o }) ≡ set records h.index
-    (record { generation = (record_at records h.index).generation; occupancy = o })
-lent_set records h at lent o lives here is = grind (arith, common_steps)

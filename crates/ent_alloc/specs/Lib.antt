@@ -3,6 +3,7 @@ pub mod Sequential
 pub mod Span
 pub mod Roster
 pub mod Slots
+pub mod Packed
 pub mod Living
 pub mod Sound
 pub mod Reserved

@@ -215,6 +215,8 @@ impl Entities {
     /// - [`AllocError::Space`](AllocFault::Space) if every slot has a living entity or is retired.
     /// - [`AllocError::Memory`](AllocFault::Memory) if there is no memory for a new slot. It is
     ///   never returned if an old slot waits.
+    // Not inlined, its result goes through memory.
+    #[inline(always)]
     pub fn alloc(&mut self) -> Result<Handle, AllocFault>
         ensures front { IfOk result (λ h. slice_get self.old.allocator.pool 0 ≡ Some h) }
         ensures within { IfOk result (IsWithin self.old.allocator.limits) }

@@ -14,6 +14,7 @@ ghost use Rattle.ent_alloc.specs.declared.slot_record.SlotRecord.{SlotRecord};
 
 use crate::image_fault::ImageFault;
 use crate::limits::Limits;
+use crate::packed_slot::PackedSlot;
 use crate::slot_record::{Occupancy, SlotRecord};
 use std::alloc::{AllocError, Global};
 
@@ -82,14 +83,14 @@ fn write_slot(slot: SlotRecord, out: &mut Vec<u8>)
 }
 
 /// Appends the slots, by rising index. There is room for them.
-pub(crate) fn write_slots(records: &[SlotRecord], out: &mut Vec<u8>)
+pub(crate) fn write_slots(records: &[PackedSlot], out: &mut Vec<u8>)
     requires { vec_len out.old + 12 * length records.now ≤ vec_capacity out.old }
     ensures written { out.new.items ≡ out.old.items ++ flat_map record_bytes records.now }
     ensures fits { (index : ℕ) → index < length records.now
         → number_of (record_at records.now index).occupancy < 2 ^ 32 }
 {
     for record in records {
-        write_slot(*record, out);
+        write_slot(record.record(), out);
     }
 }
 
@@ -191,7 +192,7 @@ fn vacant_positions(alloc: Global, count: u32) -> Result<Vec<u32>, AllocError>
 /// What is read of the slots of an image.
 #[derive(Drop)]
 pub(crate) struct SlotLists {
-    pub(crate) records: Vec<SlotRecord>,
+    pub(crate) records: Vec<PackedSlot>,
     pub(crate) pending: Vec<u32>,
     pub(crate) live: u32,
 }
@@ -234,7 +235,7 @@ pub(crate) fn read_slots(
             return Err(ImageFault::Slot { index });
         }
         live += occupants_of(record);
-        records.push_reserved(record);
+        records.push_reserved(PackedSlot::of(record));
     }
     match vacant_position(&pending) {
         Some(position) => Err(ImageFault::Position {

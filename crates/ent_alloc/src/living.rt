@@ -5,7 +5,7 @@ ghost use Rattle.std.specs.Iterator.SizeHint.{IsWithinCount};
 ghost use Rattle.ent_alloc.specs.Slots.{occupants};
 ghost use Rattle.ent_alloc.specs.Living.{HasGeneration, AreLeft};
 
-use crate::slot_record::SlotRecord;
+use crate::packed_slot::PackedSlot;
 use ent_handle::Handle;
 use std::marker::Model;
 
@@ -15,7 +15,7 @@ use std::marker::Model;
 /// Between two handles it looks at each slot once. After the last handle it looks at none.
 #[derive(Clone, Drop)]
 pub struct Living<'a> {
-    records: &'a [SlotRecord],
+    records: &'a [PackedSlot],
     index: u32,
     left: u32,
 }
@@ -39,7 +39,7 @@ impl<'a> Model for Living<'a> {
 
 impl<'a> Living<'a> {
     /// The living occupants of all slots. There are `left`.
-    pub(crate) fn new(records: &'a [SlotRecord], left: u32) -> Self
+    pub(crate) fn new(records: &'a [PackedSlot], left: u32) -> Self
         requires { AreLeft 0 records.now left }
         ensures { result ≡ occupants 0 records.now }
     {
@@ -89,9 +89,9 @@ impl ExactSizeIterator for Living<'_> {
 
 /// The first living occupant of the slots from an index on, and the records after its own.
 fn first_occupant_of<'a>(
-    records: &'a [SlotRecord],
+    records: &'a [PackedSlot],
     index: u32,
-) -> Option<(Handle, &'a [SlotRecord])>
+) -> Option<(Handle, &'a [PackedSlot])>
     requires numbered { index + length records.now < 2 ^ 32 }
     requires generations { All HasGeneration records.now }
     ensures found { IfSome result (λ first. occupants index records.now
@@ -103,7 +103,7 @@ fn first_occupant_of<'a>(
 {
     for (position, record) in records.iter().enumerate() {
         if record.is_alive() {
-            let handle = Handle::from_parts(index + position as u32, record.generation);
+            let handle = Handle::from_parts(index + position as u32, record.generation());
             return Some((handle, &records[position + 1..]));
         }
     }

@@ -2,8 +2,9 @@ ghost use Rattle.std.specs.Prelude.{◌≡◌, ◌+◌, ◌-◌, ◌^◌, ◌<�
 ghost use Rattle.std.specs.Prelude.{length, map, replicate, All, vec_len, vec_capacity};
 ghost use Rattle.ent_handle.specs.Handle.{IsHandle};
 ghost use Rattle.ent_alloc.specs.Sequential.{fresh};
-ghost use Rattle.ent_alloc.specs.Slots.{new_record, is_alive, occupancy_of, handle_at, reused};
+ghost use Rattle.ent_alloc.specs.Slots.{new_record, is_alive, lives, occupancy_of, handle_at, reused};
 
+use crate::packed_slot::PackedSlot;
 use ent_handle::Handle;
 
 /// Who has a slot.
@@ -30,16 +31,6 @@ pub(crate) struct SlotRecord {
 }
 
 impl SlotRecord {
-    /// A new slot, with its first occupant.
-    pub(crate) fn new() -> Self
-        ensures { result ≡ new_record }
-    {
-        SlotRecord {
-            generation: 1,
-            occupancy: Occupancy::Alive,
-        }
-    }
-
     /// Whether a living entity has the slot.
     pub(crate) fn is_alive(&self) -> bool
         ensures { result ≡ is_alive self.now.occupancy }
@@ -52,15 +43,27 @@ impl SlotRecord {
 }
 
 /// Who has the handle's slot; `None` if the slot wasn't made or is at another generation.
-pub(crate) fn occupancy_of(records: &[SlotRecord], handle: Handle) -> Option<Occupancy>
+pub(crate) fn occupancy_of(records: &[PackedSlot], handle: Handle) -> Option<Occupancy>
     ensures { result ≡ occupancy_of records.now handle }
 {
     let index = handle.index() as usize;
-    if index < records.len() && records[index].generation == handle.generation() {
-        Some(records[index].occupancy)
+    // The generation, by the call whose contract says that it is in range.
+    let generation = (handle.to_bits() >> 32) as u32;
+    if index < records.len() {
+        records[index].occupancy_at(generation)
     } else {
         None
     }
+}
+
+/// Whether the handle is that of the living occupant of its slot.
+pub(crate) fn is_living(records: &[PackedSlot], handle: Handle) -> bool
+    ensures { result ≡ lives (occupancy_of records.now handle) }
+{
+    let index = handle.index() as usize;
+    // The generation, by the call whose contract says that it is in range.
+    let generation = (handle.to_bits() >> 32) as u32;
+    index < records.len() && records[index].is_occupied_by(generation)
 }
 
 /// The first occupant of a slot.
@@ -72,7 +75,7 @@ pub(crate) fn first_occupant(index: u32) -> Handle
 }
 
 /// Makes `count` slots, and appends their first occupants to a list. There is room in both.
-pub(crate) fn make_all(records: &mut Vec<SlotRecord>, count: u32, out: &mut Vec<Handle>)
+pub(crate) fn make_all(records: &mut Vec<PackedSlot>, count: u32, out: &mut Vec<Handle>)
     requires room { vec_len records.old + count ≤ vec_capacity records.old }
     requires list_room { vec_len out.old + count ≤ vec_capacity out.old }
     requires indices { vec_len records.old + count < 2 ^ 32 }
@@ -83,14 +86,14 @@ pub(crate) fn make_all(records: &mut Vec<SlotRecord>, count: u32, out: &mut Vec<
 {
     let made = records.len() as u32;
     for index in made..made + count {
-        records.push_reserved(SlotRecord::new());
+        records.push_reserved(PackedSlot::new());
         out.push_reserved(first_occupant(index));
     }
 }
 
 /// Gives each of these slots its next occupant, and appends the occupants to a list that has room
 /// for them.
-pub(crate) fn reuse_all(records: &mut [SlotRecord], indices: &[u32], out: &mut Vec<Handle>)
+pub(crate) fn reuse_all(records: &mut [PackedSlot], indices: &[u32], out: &mut Vec<Handle>)
     requires made { All (λ index. index < length records.old) indices.now }
     requires handles { All (λ index. IsHandle (handle_at records.old index)) indices.now }
     requires room { vec_len out.old + length indices.now ≤ vec_capacity out.old }
@@ -98,8 +101,7 @@ pub(crate) fn reuse_all(records: &mut [SlotRecord], indices: &[u32], out: &mut V
     ensures listed { out.new.items ≡ out.old.items ++ map (handle_at records.old) indices.now }
 {
     for index in indices {
-        let record = &mut records[*index as usize];
-        record.occupancy = Occupancy::Alive;
-        out.push_reserved(Handle::from_parts(*index, record.generation));
+        let generation = records[*index as usize].reuse();
+        out.push_reserved(Handle::from_parts(*index, generation));
     }
 }

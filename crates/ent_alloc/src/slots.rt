@@ -15,8 +15,9 @@ use crate::image_fault::ImageFault;
 use crate::image_slots::{SlotLists, read_slots, write_slots};
 use crate::limits::Limits;
 use crate::living::Living;
+use crate::packed_slot::PackedSlot;
 use crate::slot_record;
-use crate::slot_record::{Occupancy, SlotRecord, first_occupant, make_all, reuse_all};
+use crate::slot_record::{Occupancy, first_occupant, make_all, reuse_all};
 use ent_handle::{Handle, Memory};
 use std::alloc::Global;
 use std::marker::Model;
@@ -25,7 +26,7 @@ use std::marker::Model;
 #[derive(Drop)]
 pub(crate) struct Slots {
     pub(crate) limits: Limits,
-    pub(crate) records: Vec<SlotRecord>,
+    pub(crate) records: Vec<PackedSlot>,
     pub(crate) pending: Vec<u32>,
     pub(crate) live: u32,
 }
@@ -130,10 +131,7 @@ impl Slots {
     pub(crate) fn is_alive(&self, handle: Handle) -> bool
         ensures { result ≡ set.contains self.now.live handle }
     {
-        match self.occupancy_of(handle) {
-            Some(Occupancy::Alive | Occupancy::AliveWithRow { .. }) => true,
-            Some(Occupancy::Pending { .. } | Occupancy::Retired) | None => false,
-        }
+        slot_record::is_living(&self.records, handle)
     }
 
     /// The row that is kept with an occupant.
@@ -174,7 +172,7 @@ impl Slots {
         requires { set.contains self.old.live handle ≡ true }
         ensures { self.new ≡ record self.old { rows = maps.insert self.old.rows handle row } }
     {
-        self.records[handle.index() as usize].occupancy = Occupancy::AliveWithRow { row };
+        self.records[handle.index() as usize] = PackedSlot::with_row(handle.generation(), row);
     }
 
     /// The handle that waits at a position.
@@ -183,7 +181,7 @@ impl Slots {
         ensures { slice_get self.now.pending position ≡ Some result }
     {
         let index = self.pending[position];
-        Handle::from_parts(index, self.records[index as usize].generation)
+        Handle::from_parts(index, self.records[index as usize].generation())
     }
 
     /// Gives the slot that waits last its next occupant. `None` if no slot waits, and nothing
@@ -199,9 +197,7 @@ impl Slots {
         ensures unchanged { IfNone result (self.new ≡ self.old) }
     {
         let index = self.pending.pop()?;
-        let record = &mut self.records[index as usize];
-        record.occupancy = Occupancy::Alive;
-        let generation = record.generation;
+        let generation = self.records[index as usize].reuse();
         self.live += 1;
         Some(Handle::from_parts(index, generation))
     }
@@ -217,7 +213,7 @@ impl Slots {
         ensures err { OnErr result (self.new ≡ self.old) }
     {
         let handle = first_occupant(self.made());
-        self.records.push(SlotRecord::new())?;
+        self.records.push(PackedSlot::new())?;
         self.live += 1;
         Ok(handle)
     }
@@ -274,10 +270,7 @@ impl Slots {
         let generation = handle.generation() + 1;
         let position = self.pending.len() as u32;
         self.pending.push(index)?;
-        self.records[index as usize] = SlotRecord {
-            generation,
-            occupancy: Occupancy::Pending { position },
-        };
+        self.records[index as usize] = PackedSlot::pending(generation, position);
         self.live -= 1;
         Ok(Handle::from_parts(index, generation))
     }
@@ -290,8 +283,7 @@ impl Slots {
           rows = maps.remove self.old.rows handle;
         } }
     {
-        let index = handle.index();
-        self.records[index as usize].occupancy = Occupancy::Retired;
+        self.records[handle.index() as usize] = PackedSlot::retired(handle.generation());
         self.live -= 1;
     }
 

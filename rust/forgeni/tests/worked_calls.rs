@@ -231,3 +231,22 @@ fn dropped_in_any_order() {
     drop(all);
     assert_eq!(moved.len(), 10);
 }
+
+/// A row takes all of its 32 bits, beside an entity without one.
+#[test]
+fn rows_of_every_size() {
+    let mut entities = Entities::new();
+    let bare = entities.alloc().unwrap();
+    let one = entities.alloc().unwrap();
+    for row in [0, 1, u32::MAX - 1, u32::MAX, 0] {
+        entities.try_set_row(one, row).expect("alive");
+        assert_eq!((entities.row(one), entities.row(bare)), (Some(row), None));
+        assert!(entities.is_alive(one) && entities.contains(one));
+    }
+    entities.try_set_row(one, u32::MAX).expect("alive");
+    let next = entities.free(one).unwrap().next.unwrap();
+    assert!(!entities.is_alive(one) && entities.row(one).is_none());
+    assert_eq!(entities.alloc(), Ok(next));
+    assert_eq!((entities.row(next), entities.len()), (None, 2));
+    assert!(entities.iter().eq([bare, next]));
+}

@@ -73,10 +73,10 @@ fn ours(slots: u32) -> TakesOver {
     })
 }
 
-/// Lists of the same sizes as those of `ours`: 12 bytes for a slot, and 4 for one that waits.
+/// Lists of the same sizes as those of `ours`: 8 bytes for a slot, and 4 for one that waits.
 fn bytes(slots: u32) -> TakesOver {
     let source = (
-        vec![[1_u32; 3]; slots as usize],
+        vec![[1_u32; 2]; slots as usize],
         vec![1_u32; slots as usize / 4],
     );
     let mut target = source.clone();

@@ -1,5 +1,5 @@
 use Rattle.std.proofs.Common.{rules, ◌≡◌, ◌≢◌, ◌+◌, ◌*◌, ◌<◌, ◌++◌, Some}
-use Rattle.std.proofs.Common.{ℕ, List, [], length, arith, sym, ap, ◌∙◌, subst, slice_index, drop}
+use Rattle.std.proofs.Common.{ℕ, List, [], ◌∷◌, length, arith, sym, ap, ◌∙◌, subst, slice_index, drop}
 use Rattle.std.specs.List.{flat_map}
 use Rattle.std.proofs.lemmas.List.{append_assoc, flat_map_more}
 use Rattle.ent_alloc.specs.Limits.{Limits}
@@ -124,7 +124,7 @@ loop-slot-preserved c =
     let more = read_more c.args.limits records pending c.loop-slot.live loop.read slot
     c.in-Some.ensures.within c.in-Some.ensures.fits can
     (omega (arith, loop.made, c.ranges.made.fits, lt)) in
-    let items = c.push_reserved.ensures.items in
+    let items = c.push_reserved.ensures.items ∙ ap (λ s. records ++ s ∷ []) c.of.ensures in
     let placed = back ∙ new in
     let lives = ap (c.loop-slot.live +◌) c.occupants_of-live.ensures.value in
     let joined = ap (flat_map record_bytes records ++◌) (slot_cut bytes c.args.made

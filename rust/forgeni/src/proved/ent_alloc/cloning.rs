@@ -12,7 +12,7 @@ impl Entities {
     /// handles are reserved, and the limits are the same. So to the same calls both return the same.
     /// From then on each goes its own way.
     ///
-    /// It copies the slots as bytes: 12 for each slot that was made, and 4 for each that waits. It
+    /// It copies the slots as bytes: 8 for each slot that was made, and 4 for each that waits. It
     /// takes no memory if no slot was made.
     ///
     /// ```

@@ -295,29 +295,22 @@ impl Entities {
     /// - [`AllocError::Space`](AllocFault::Space) if every slot has a living entity or is retired.
     /// - [`AllocError::Memory`](AllocFault::Memory) if there is no memory for a new slot. It is
     ///   never returned if an old slot waits.
-    ///
-    /// <details><summary>Contract</summary>
-    ///
-    /// In the words of the folder `specs/` of crate `ent_alloc`:
-    ///
-    /// ```text
-    /// ensures front { IfOk result (λ h. slice_get self.old.allocator.pool 0 ≡ Some h) }
-    /// ensures within { IfOk result (IsWithin self.old.allocator.limits) }
-    /// ensures ok { IfOk result (λ h. self.new.allocator ≡ after_alloc self.old.allocator h) }
-    /// ensures rows { self.new.rows ≡ self.old.rows }
-    /// ensures no_row { IfOk result (λ h. map.get self.new.rows h ≡ None) }
-    /// ensures rows_of_living { HasRowsOfLiving self.new }
-    /// ensures needs_flush { IsErrOf result AllocFault.NeedsFlush
-    ///     ↔ (0 < self.old.allocator.asked) }
-    /// ensures space { IsErrOf result AllocFault.Space
-    ///     ↔ ((self.old.allocator.asked ≡ 0) × (self.old.allocator.pool ≡ [])) }
-    /// ensures memory { IsErrOf result AllocFault.Memory → top self.old.allocator ≡ 0 }
-    /// ensures err { OnErr result (self.new ≡ self.old) }
-    /// ```
-    ///
-    /// </details>
-    #[inline]
-    pub fn alloc(&mut self) -> Result<Handle, AllocFault> {
+    // Not inlined, its result goes through memory.
+    #[inline(always)]
+    pub fn alloc(&mut self) -> Result<Handle, AllocFault>
+        // ensures front { IfOk result (λ h. slice_get self.old.allocator.pool 0 ≡ Some h) }
+        // ensures within { IfOk result (IsWithin self.old.allocator.limits) }
+        // ensures ok { IfOk result (λ h. self.new.allocator ≡ after_alloc self.old.allocator h) }
+        // ensures rows { self.new.rows ≡ self.old.rows }
+        // ensures no_row { IfOk result (λ h. map.get self.new.rows h ≡ None) }
+        // ensures rows_of_living { HasRowsOfLiving self.new }
+        // ensures needs_flush { IsErrOf result AllocFault.NeedsFlush
+        //     ↔ (0 < self.old.allocator.asked) }
+        // ensures space { IsErrOf result AllocFault.Space
+        //     ↔ ((self.old.allocator.asked ≡ 0) × (self.old.allocator.pool ≡ [])) }
+        // ensures memory { IsErrOf result AllocFault.Memory → top self.old.allocator ≡ 0 }
+        // ensures err { OnErr result (self.new ≡ self.old) }
+    {
         if self.needs_flush() {
             Err(AllocFault::NeedsFlush)
         } else if let Some(handle) = self.slots.reuse_last() {

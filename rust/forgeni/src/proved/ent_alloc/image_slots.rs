@@ -6,6 +6,7 @@ use alloc::vec::Vec;
 use crate::kit::vec::FallibleVec;
 use crate::proved::ent_alloc::image_fault::ImageFault;
 use crate::proved::ent_alloc::limits::Limits;
+use crate::proved::ent_alloc::packed_slot::PackedSlot;
 use crate::proved::ent_alloc::slot_record::{Occupancy, SlotRecord};
 use crate::kit::alloc::AllocError;
 
@@ -78,14 +79,14 @@ fn write_slot(slot: SlotRecord, out: &mut Vec<u8>)
 
 /// Appends the slots, by rising index. There is room for them.
 #[inline]
-pub(super) fn write_slots(records: &[SlotRecord], out: &mut Vec<u8>)
+pub(super) fn write_slots(records: &[PackedSlot], out: &mut Vec<u8>)
     // requires { vec_len out.old + 12 * length records.now ≤ vec_capacity out.old }
     // ensures written { out.new.items ≡ out.old.items ++ flat_map record_bytes records.now }
     // ensures fits { (index : ℕ) → index < length records.now
     //     → number_of (record_at records.now index).occupancy < 2 ^ 32 }
 {
     for record in records {
-        write_slot(*record, out);
+        write_slot(record.record(), out);
     }
 }
 
@@ -192,7 +193,7 @@ fn vacant_positions(count: u32) -> Result<Vec<u32>, AllocError>
 
 /// What is read of the slots of an image.
 pub(super) struct SlotLists {
-    pub(super) records: Vec<SlotRecord>,
+    pub(super) records: Vec<PackedSlot>,
     pub(super) pending: Vec<u32>,
     pub(super) live: u32,
 }
@@ -235,7 +236,7 @@ pub(super) fn read_slots(
             return Err(ImageFault::Slot { index });
         }
         live += occupants_of(record);
-        records.push_reserved(record);
+        records.push_reserved(PackedSlot::of(record));
     }
     match vacant_position(&pending) {
         Some(position) => Err(ImageFault::Position {

@@ -1,6 +1,6 @@
 // Made of crates/ent_alloc/src/living.rt by rust/erase. It isn't edited by hand.
 
-use crate::proved::ent_alloc::slot_record::SlotRecord;
+use crate::proved::ent_alloc::packed_slot::PackedSlot;
 use crate::proved::ent_handle::Handle;
 
 /// The handles of the living entities, by rising slot.
@@ -9,7 +9,7 @@ use crate::proved::ent_handle::Handle;
 /// Between two handles it looks at each slot once. After the last handle it looks at none.
 #[derive(Clone)]
 pub struct Living<'a> {
-    records: &'a [SlotRecord],
+    records: &'a [PackedSlot],
     index: u32,
     left: u32,
 }
@@ -17,7 +17,7 @@ pub struct Living<'a> {
 impl<'a> Living<'a> {
     /// The living occupants of all slots. There are `left`.
     #[inline]
-    pub(super) fn new(records: &'a [SlotRecord], left: u32) -> Self
+    pub(super) fn new(records: &'a [PackedSlot], left: u32) -> Self
         // requires { AreLeft 0 records.now left }
         // ensures { result ≡ occupants 0 records.now }
     {
@@ -67,9 +67,9 @@ impl ExactSizeIterator for Living<'_> {
 /// The first living occupant of the slots from an index on, and the records after its own.
 #[inline]
 fn first_occupant_of<'a>(
-    records: &'a [SlotRecord],
+    records: &'a [PackedSlot],
     index: u32,
-) -> Option<(Handle, &'a [SlotRecord])>
+) -> Option<(Handle, &'a [PackedSlot])>
     // requires numbered { index + length records.now < 2 ^ 32 }
     // requires generations { All HasGeneration records.now }
     // ensures found { IfSome result (λ first. occupants index records.now
@@ -81,7 +81,7 @@ fn first_occupant_of<'a>(
 {
     for (position, record) in records.iter().enumerate() {
         if record.is_alive() {
-            let handle = Handle::from_parts(index + position as u32, record.generation);
+            let handle = Handle::from_parts(index + position as u32, record.generation());
             return Some((handle, &records[position + 1..]));
         }
     }

@@ -14,6 +14,7 @@ mod image_fault;
 mod image_slots;
 mod limits;
 mod living;
+mod packed_slot;
 mod refused;
 mod requesting;
 mod requests;

@@ -7,14 +7,15 @@ use crate::proved::ent_alloc::image_fault::ImageFault;
 use crate::proved::ent_alloc::image_slots::{SlotLists, read_slots, write_slots};
 use crate::proved::ent_alloc::limits::Limits;
 use crate::proved::ent_alloc::living::Living;
+use crate::proved::ent_alloc::packed_slot::PackedSlot;
 use crate::proved::ent_alloc::slot_record;
-use crate::proved::ent_alloc::slot_record::{Occupancy, SlotRecord, first_occupant, make_all, reuse_all};
+use crate::proved::ent_alloc::slot_record::{Occupancy, first_occupant, make_all, reuse_all};
 use crate::proved::ent_handle::{Handle, Memory};
 
 /// The slots that were made, and those of them that wait for their next occupant.
 pub(super) struct Slots {
     pub(super) limits: Limits,
-    pub(super) records: Vec<SlotRecord>,
+    pub(super) records: Vec<PackedSlot>,
     pub(super) pending: Vec<u32>,
     pub(super) live: u32,
 }
@@ -112,10 +113,7 @@ impl Slots {
     pub(super) fn is_alive(&self, handle: Handle) -> bool
         // ensures { result ≡ set.contains self.now.live handle }
     {
-        match self.occupancy_of(handle) {
-            Some(Occupancy::Alive | Occupancy::AliveWithRow { .. }) => true,
-            Some(Occupancy::Pending { .. } | Occupancy::Retired) | None => false,
-        }
+        slot_record::is_living(&self.records, handle)
     }
 
     /// The row that is kept with an occupant.
@@ -161,7 +159,7 @@ impl Slots {
         // requires { set.contains self.old.live handle ≡ true }
         // ensures { self.new ≡ record self.old { rows = maps.insert self.old.rows handle row } }
     {
-        self.records[handle.index() as usize].occupancy = Occupancy::AliveWithRow { row };
+        self.records[handle.index() as usize] = PackedSlot::with_row(handle.generation(), row);
     }
 
     /// The handle that waits at a position.
@@ -171,7 +169,7 @@ impl Slots {
         // ensures { slice_get self.now.pending position ≡ Some result }
     {
         let index = self.pending[position];
-        Handle::from_parts(index, self.records[index as usize].generation)
+        Handle::from_parts(index, self.records[index as usize].generation())
     }
 
     /// Gives the slot that waits last its next occupant. `None` if no slot waits, and nothing
@@ -188,9 +186,7 @@ impl Slots {
         // ensures unchanged { IfNone result (self.new ≡ self.old) }
     {
         let index = self.pending.pop()?;
-        let record = &mut self.records[index as usize];
-        record.occupancy = Occupancy::Alive;
-        let generation = record.generation;
+        let generation = self.records[index as usize].reuse();
         self.live += 1;
         Some(Handle::from_parts(index, generation))
     }
@@ -207,7 +203,7 @@ impl Slots {
         // ensures err { OnErr result (self.new ≡ self.old) }
     {
         let handle = first_occupant(self.made());
-        self.records.push_fallibly(SlotRecord::new())?;
+        self.records.push_fallibly(PackedSlot::new())?;
         self.live += 1;
         Ok(handle)
     }
@@ -266,10 +262,7 @@ impl Slots {
         let generation = handle.generation() + 1;
         let position = self.pending.len() as u32;
         self.pending.push_fallibly(index)?;
-        self.records[index as usize] = SlotRecord {
-            generation,
-            occupancy: Occupancy::Pending { position },
-        };
+        self.records[index as usize] = PackedSlot::pending(generation, position);
         self.live -= 1;
         Ok(Handle::from_parts(index, generation))
     }
@@ -283,8 +276,7 @@ impl Slots {
         //   rows = maps.remove self.old.rows handle;
         // } }
     {
-        let index = handle.index();
-        self.records[index as usize].occupancy = Occupancy::Retired;
+        self.records[handle.index() as usize] = PackedSlot::retired(handle.generation());
         self.live -= 1;
     }
 

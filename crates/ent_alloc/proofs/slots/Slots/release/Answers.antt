@@ -18,6 +18,34 @@ index_mut-requires c =
     let is = lives (goal.at.index_mut-requires c).After-self in
     omega (arith, occupant_made c.self.inside.records.items c.args.handle is)
 
+pub pending-requires-clause-greatest : goal.pending-requires-clause-greatest
+pending-requires-clause-greatest c =
+    let records = c.self.inside.records.items in
+    let at = (goal.at.pending-requires-clause-greatest c).After-self in
+    let is = lives at in
+    omega (
+      arith,
+      not_last at,
+      occupant_generation records c.args.handle is,
+      c.self.invariant.greatest c.args.handle.index (occupant_made records c.args.handle is),
+      c.self.invariant.limited.generations,
+      c.generation-generation.ensures,
+    )
+
+pub pending-requires-clause-few : goal.pending-requires-clause-few
+pending-requires-clause-few c =
+    let e = c.self.inside in
+    let is = lives (goal.at.pending-requires-clause-few c).After-self in
+    let some = one_lives e.limits e.records.items e.pending.items e.live c.args.handle
+    c.self.invariant is in
+    omega (
+      arith,
+      some,
+      c.self.invariant.each_once,
+      c.self.invariant.few,
+      c.self.invariant.limited,
+    )
+
 pub overflow_sub-self : goal.overflow_sub-self
 overflow_sub-self c =
     let records = c.self.inside.records.items in

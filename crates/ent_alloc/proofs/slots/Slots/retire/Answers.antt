@@ -1,8 +1,7 @@
 use Rattle.std.proofs.Common.{rules, ◌≡◌, true, arith}
-use Rattle.ent_alloc.specs.declared.slot_record.Occupancy.TheVariants.{Retired}
 use Rattle.ent_alloc.proofs.Occupants.{is_occupant}
 use Rattle.ent_alloc.proofs.Released.{one_lives, retire_keeps_links, roster_of-retire}
-use Rattle.ent_alloc.proofs.LivingOccupant.{occupant_made, lives_in, lent_set}
+use Rattle.ent_alloc.proofs.LivingOccupant.{occupant_made, occupant_generation, lives_in}
 use Rattle.ent_alloc.proofs.slots.Slots.retire.Goals.{After-self}
 use Rattle.ent_alloc.proofs.slots.Slots.retire.Goals as goal
 
@@ -26,17 +25,19 @@ overflow_sub-self c =
 pub invariant_of-self : goal.invariant_of-self
 invariant_of-self c =
     let e = c.self.inside in
+    let h = c.args.handle in
     let lives = lives (goal.at.invariant_of-self c).After-self in
-    rw (lent_set e.records.items c.args.handle c.index-index.result c.index_mut.result.now Retired
-    lives
-    c.index-index.ensures c.index_mut.ensures.value) (search (rules, retire_keeps_links, lives))
+    let same = occupant_generation e.records.items h lives in
+    let keeps = retire_keeps_links e.limits e.records.items e.pending.items e.live h
+    c.self.invariant lives in
+    search (rules, same, keeps)
 
 pub returns : goal.returns
 returns c =
     let e = c.self.inside in
+    let h = c.args.handle in
     let lives = lives (goal.at.returns c).After-self in
-    let whole = roster_of-retire e.limits e.records.items e.pending.items e.live c.args.handle
+    let same = occupant_generation e.records.items h lives in
+    let whole = roster_of-retire e.limits e.records.items e.pending.items e.live h
     c.self.invariant lives in
-    rw (lent_set e.records.items c.args.handle c.index-index.result c.index_mut.result.now Retired
-    lives
-    c.index-index.ensures c.index_mut.ensures.value) (search (rules, whole, c.self.view_is))
+    search (rules, same, whole, c.self.view_is)

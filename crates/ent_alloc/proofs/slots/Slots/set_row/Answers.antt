@@ -1,8 +1,7 @@
 use Rattle.std.proofs.Common.{rules, ◌≡◌, true, arith}
-use Rattle.ent_alloc.specs.declared.slot_record.Occupancy.TheVariants.{AliveWithRow}
 use Rattle.ent_alloc.proofs.Occupants.{is_occupant}
 use Rattle.ent_alloc.proofs.Looked.{set_row_keeps_links, roster_of-set_row}
-use Rattle.ent_alloc.proofs.LivingOccupant.{occupant_made, lives_in, lent_set}
+use Rattle.ent_alloc.proofs.LivingOccupant.{occupant_made, occupant_generation, lives_in}
 use Rattle.ent_alloc.proofs.slots.Slots.set_row.Goals.{After-self}
 use Rattle.ent_alloc.proofs.slots.Slots.set_row.Goals as goal
 
@@ -22,16 +21,17 @@ invariant_of-self c =
     let e = c.self.inside in
     let h = c.args.handle in
     let lives = lives (goal.at.invariant_of-self c).After-self in
-    rw (lent_set e.records.items h c.index.result c.index_mut.result.now
-    (AliveWithRow c.args.row) lives c.index.ensures c.index_mut.ensures.value)
-    (search (rules, set_row_keeps_links, c.args.row, c.self.invariant, lives))
+    let same = occupant_generation e.records.items h lives in
+    let keeps = set_row_keeps_links e.limits e.records.items e.pending.items e.live h c.args.row
+    c.self.invariant lives in
+    search (rules, same, keeps)
 
 pub returns : goal.returns
 returns c =
     let e = c.self.inside in
     let h = c.args.handle in
     let lives = lives (goal.at.returns c).After-self in
+    let same = occupant_generation e.records.items h lives in
     let whole = roster_of-set_row e.limits e.records.items e.pending.items e.live h c.args.row
     c.self.invariant lives in
-    rw (lent_set e.records.items h c.index.result c.index_mut.result.now (AliveWithRow c.args.row)
-    lives c.index.ensures c.index_mut.ensures.value) (search (rules, whole, c.self.view_is))
+    search (rules, same, whole, c.self.view_is)
