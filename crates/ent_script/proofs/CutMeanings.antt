@@ -41,7 +41,7 @@ as_str-cut l d = search rules
 pub as_name-cut : (l : ℕ) (d : Data) → as_name (cut l d) ≡ as_name d
 as_name-cut l d = search rules
 
-whole-cut : (l : ℕ) (d : Data) → whole (cut l d) ≡ whole d
+pub whole-cut : (l : ℕ) (d : Data) → whole (cut l d) ≡ whole d
 whole-cut l d = search rules
 
 among_cut : (l : ℕ) (allowed : List (List ℕ)) (ms : List (List ℕ × Data)) → keys_among allowed

@@ -1,8 +1,8 @@
 -- The keys of an operation as they are put in, and what it is by them.
 use Rattle.std.proofs.Common.{◌≡◌, ◌∙◌, ℕ, List, [], ◌∷◌, Bool, true, false, ◌&&◌, Option}
 use Rattle.std.proofs.Common.{Some, None, option_map, is_some, Ordering, Less, Equal, Greater}
-use Rattle.std.proofs.Common.{nat_cmp, is_eq, bytes_eq, refl, sym, ap, map, Bor}
-use Rattle.std.proofs.Common.{option_and_then, codes, Err}
+use Rattle.std.proofs.Common.{nat_cmp, is_eq, bytes_eq, refl, sym, ap, Bor}
+use Rattle.std.proofs.Common.{option_and_then, codes, Err, ◌||◌}
 use Rattle.std.specs.Prelude.{option_copied}
 use Rattle.std.proofs.lemmas.Map.Text.{is_eq-slice_cmp}
 use Rattle.std.proofs.lemmas.Slice.Eq.{bytes_eq-Decides}
@@ -27,7 +27,6 @@ use Rattle.ent_script.specs.declared.kind.Kind.{Kind}
 use Rattle.ent_script.specs.declared.kind.Kind.TheVariants as kinds
 use Rattle.ent_script.proofs.CutMeanings.{bundle-cut, with-cut, count-cut, binding-cut, removed-cut}
 use Rattle.ent_script.proofs.CutMeanings.{target-cut, as_name-cut}
-use Rattle.ent_script.proofs.Values.{any_lent}
 use Rattle.ent_script.proofs.Puts.{found_here, found_before}
 
 -- ---- whether each key is one of some
@@ -72,25 +71,35 @@ right : (b : Bool) → b ≡ (b && true)
 right true = refl
 right false = refl
 
-never : (b : Bool) → false ≡ (b && false)
-never true = refl
-never false = refl
+swap : (a b : Bool) → (a && b) ≡ (b && a)
+swap true true = refl
+swap true false = refl
+swap false true = refl
+swap false false = refl
 
-module _ (allowed : List (Bor (List ℕ))) (k : List ℕ) (d : Data) (ms : Members) where
-  abbrev names : List (List ℕ)
-  names = map (λ (name : Bor (List ℕ)). name.now) allowed
+-- all keys are among some, if those before are, and the key is
+pub with_key : (allowed : List (List ℕ)) (k : List ℕ) (d : Data) (ms : Members) (are one : Bool)
+    → AreAmong allowed are ms → AreAmong allowed one (put k d no_members)
+    → AreAmong allowed (are && one) (put k d ms)
+with_key allowed k d ms are one a o =
+    swap are one ∙ ap (λ b. b && are) (o ∙ sym (right (one_of allowed k)))
+    ∙ ap (λ b. one_of allowed k && b) a ∙ sym (among-put allowed k d ms)
 
-  pub among_then : (r are : Bool) → r ≡ list_any (λ name. bytes_eq k name.now) allowed
-      → are ≡ true → AreAmong names are ms → AreAmong names r (put k d ms)
-  among_then r are is all e =
-      is ∙ any_lent k allowed ∙ right (one_of names k)
-      ∙ ap (λ b. one_of names k && b) (sym all ∙ e) ∙ sym (among-put names k d ms)
+-- a key that is one of one, two or three
+pub one_key : (a : Bool) → a ≡ ((a || false) && true)
+one_key true = refl
+one_key false = refl
 
-  pub among_else : (are : Bool) → are ≡ false → AreAmong names are ms
-      → AreAmong names are (put k d ms)
-  among_else are none e =
-      none ∙ never (one_of names k)
-      ∙ ap (λ b. one_of names k && b) (sym none ∙ e) ∙ sym (among-put names k d ms)
+pub two_keys : (a b : Bool) → (a || b) ≡ ((a || (b || false)) && true)
+two_keys true b = refl
+two_keys false true = refl
+two_keys false false = refl
+
+pub three_keys : (a b c : Bool) → ((a || b) || c) ≡ ((a || (b || (c || false))) && true)
+three_keys true b c = refl
+three_keys false true c = refl
+three_keys false false true = refl
+three_keys false false false = refl
 
 -- ---- what is under a key
 

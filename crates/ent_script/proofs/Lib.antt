@@ -13,6 +13,7 @@ pub mod Finding
 pub mod Openings
 pub mod PassedOver
 pub mod CutMeanings
+pub mod Tops
 pub mod Listing
 pub mod Operations
 pub mod Puts

@@ -7,6 +7,8 @@ pub mod Numbers
 pub mod Ranges
 pub mod Passing
 pub mod Cut
+pub mod Top
 pub mod Streaming
+pub mod Front
 pub mod Part
 pub mod Fields

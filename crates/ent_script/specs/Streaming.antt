@@ -85,12 +85,6 @@ begins_object (Token.boolean b ∷ ts) = false
 begins_object (Token.null ∷ ts) = false
 begins_object (Token.bad ∷ ts) = false
 
--- The elements were found, each cut, unless memory ran out.
-abbrev pub FindsElements : Result (Option (Vec Value)) ReadFault → Option (List Data) → Type 0
-FindsElements (Ok found) o =
-    option_map (λ vs. map view vs.items) found ≡ option_map (map (cut 0)) o
-FindsElements (Err e) o = e ≡ fault.Memory
-
 -- Whether memory ran out.
 abbrev pub ran_out : {A : Type 0} → Result A ReadFault → Bool
 ran_out (Ok x) = false

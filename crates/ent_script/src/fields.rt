@@ -1,25 +1,16 @@
-ghost use Rattle.std.specs.Prelude.{◌≡◌, ℕ, ◌≤◌, List, length, map, Some, OnOk};
+ghost use Rattle.std.specs.Prelude.{◌≡◌, ℕ, ◌≤◌, List, length, Some, OnOk};
 ghost use Rattle.json.specs.Json.{value, members};
 ghost use Rattle.json.specs.Token.{Token as SpecToken};
 ghost use Rattle.serde_json.specs.Data.{Data, Members, no_members, put};
 ghost use Rattle.serde_json.specs.Read.{of_members, converted};
 ghost use Rattle.ent_script.specs.Cut.{cut};
 ghost use Rattle.ent_script.specs.Part.{data_of};
-ghost use Rattle.ent_script.specs.Fields.{AreAmong, AreKinds, AreFields, ReadsFields};
+ghost use Rattle.ent_script.specs.Fields.{AreKinds, AreFields, ReadsFields};
 
-use crate::elements::is_among;
 use crate::part::{Part, read_part};
 use crate::read_fault::ReadFault;
 use json::Reader;
 use std::alloc::Global;
-
-/// Whether the key is one of these, as those before it are.
-fn are_among(are: bool, key: &str, allowed: &[&str]) -> bool
-    ensures { (d : Data) (ms : Members) → AreAmong (map (λ name. name.now) allowed.now) are ms
-        → AreAmong (map (λ name. name.now) allowed.now) result (put key.now d ms) }
-{
-    are && is_among(key, allowed)
-}
 
 /// Which kinds of operation have each of the keys that were read.
 #[derive(Clone, Copy)]
@@ -37,12 +28,14 @@ impl Kinds {
         ensures { (d : Data) (ms : Members) → AreKinds self ms
             → AreKinds result (put key.now d ms) }
     {
+        let is_as = key == "as";
+        let is_on = key == "on";
         Kinds {
-            spawn: are_among(self.spawn, key, &["spawn", "as"]),
-            spawn_many: are_among(self.spawn_many, key, &["spawn_many", "with", "as"]),
-            insert: are_among(self.insert, key, &["insert", "on"]),
-            remove: are_among(self.remove, key, &["remove", "on"]),
-            despawn: are_among(self.despawn, key, &["despawn"]),
+            spawn: self.spawn & ((key == "spawn") | is_as),
+            spawn_many: self.spawn_many & ((key == "spawn_many") | (key == "with") | is_as),
+            insert: self.insert & ((key == "insert") | is_on),
+            remove: self.remove & ((key == "remove") | is_on),
+            despawn: self.despawn & (key == "despawn"),
         }
     }
 }

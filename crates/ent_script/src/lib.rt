@@ -12,6 +12,7 @@ mod fields;
 mod format;
 mod frame;
 mod frames;
+mod front;
 mod heading;
 mod kind;
 mod names;
@@ -28,6 +29,7 @@ mod script;
 mod streaming;
 mod system;
 mod target;
+mod top;
 mod writing;
 
 pub use bundle::Bundle;

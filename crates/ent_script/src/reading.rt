@@ -1,15 +1,14 @@
 ghost use Rattle.std.specs.Prelude.{◌≡◌, ◌≤◌, length, map, option_map, IfOk, IfErr};
 ghost use Rattle.std.specs.Prelude.{string_bytes, ◌∷◌, ℕ, List, Some, Ok, false, codes};
-ghost use Rattle.std.specs.Prelude.{option_and_then, IfSome};
+ghost use Rattle.std.specs.Prelude.{IfSome};
 ghost use Rattle.std.specs.Bool.{MatchBool};
 ghost use Rattle.json.specs.Json.{value, members};
 ghost use Rattle.json.specs.Token.{Token as SpecToken, begin_object};
 ghost use Rattle.serde_json.specs.Data.{Data, Members, no_members};
 ghost use Rattle.serde_json.specs.Find.{get, get_member};
 ghost use Rattle.serde_json.specs.Read.{of_members, converted, read};
-ghost use Rattle.ent_script.specs.Json.{at_most};
-ghost use Rattle.ent_script.specs.Streaming.{begins_object, FindsElements, frames_of};
-ghost use Rattle.ent_script.specs.Streaming.{heading_of_text, ran_out};
+ghost use Rattle.ent_script.specs.Streaming.{begins_object, frames_of, ran_out};
+ghost use Rattle.ent_script.specs.Front.{IsFront, ReadsFront};
 ghost use Rattle.ent_script.specs.declared.read_fault.ReadFault.TheVariants.{Memory};
 ghost use Rattle.serde_json.specs.View.{view};
 ghost use Rattle.ent_script.specs.Json.{whole_within as whole_of};
@@ -20,17 +19,17 @@ ghost use Rattle.ent_script.specs.Reading.{script_of_text};
 ghost use Rattle.ent_script.specs.Reading.{ReadsAs, ReadsList};
 
 use crate::cause::ScriptCause;
-use crate::cutting::read_cut;
 use crate::elements::{are_keys_among, members, name, whole_within};
 use crate::format::Format;
 use crate::frame::Frame;
 use crate::frames::frames;
+use crate::front::Front;
 use crate::heading::Heading;
 use crate::names::Names;
 use crate::passing::pass_value;
 use crate::read_fault::ReadFault;
 use crate::script::Script;
-use crate::streaming::read_elements;
+use crate::top::read_top;
 use ent_alloc::Limits;
 use json::{Reader, Scratch, Token};
 use serde_json::Value;
@@ -121,16 +120,22 @@ fn owned(alloc: Global, names: &[&str]) -> Result<Vec<String>, ReadFault>
 /// How deep arrays and objects nest at most.
 const DEPTH: usize = 127;
 
-/// The heading that a text means. If the text is no JSON, that is found first.
-fn heading_in(alloc: Global, text: &str, scratch: &mut Scratch) -> Result<Heading, ReadFault>
-    ensures { ReadsAs result (heading_of_text text.now) }
+/// What a text says before its frames. If the text is no JSON, that is found first.
+fn front_in(alloc: Global, text: &str, scratch: &mut Scratch) -> Result<Front, ReadFault>
+    ensures front { ReadsFront result text.now }
+    ensures few { IfOk result (λ front. IfSome front.components
+        (λ values. length values.items ≤ 256)) }
 {
     let mut reader = Reader::new(text, scratch)?;
-    let value = read_cut(alloc, &mut reader, DEPTH, 1)?;
+    let top = read_top(alloc, &mut reader, DEPTH)?;
     if reader.next().is_some() {
         return Err(ReadFault::Json);
     }
-    Ok(heading(&value)?)
+    let heading = heading(&top.value)?;
+    Ok(Front {
+        heading,
+        components: top.components,
+    })
 }
 
 /// Takes the brace that begins an object, if one is next.
@@ -139,49 +144,6 @@ fn opens(reader: &mut Reader<'_>) -> bool
         (begins_object reader.old ≡ false) }
 {
     matches!(reader.next(), Some(Token::BeginObject))
-}
-
-/// The elements of `components`, each cut, of an object of which the brace was taken. Of a key that
-/// stands twice the last counts.
-fn components_inside(
-    alloc: Global,
-    reader: &mut Reader<'_>,
-    depth: usize,
-) -> Result<Option<Vec<Value>>, ReadFault>
-    ensures found { (n : ℕ) (ms : Members) (rest : List SpecToken)
-        → converted (λ ms. of_members ms no_members) (members (value depth) n reader.old)
-        ≡ Some (ms, rest)
-        → FindsElements result (option_and_then (at_most 256)
-        (get_member (codes "components") ms)) }
-    ensures few { IfOk result (λ found. IfSome found (λ values. length values.items ≤ 256)) }
-{
-    let mut found = None;
-    'members: while let Some(key) = reader.next_key()? {
-        if key == "components" {
-            found = None;
-            found = read_elements(alloc, reader, depth, 0, 256)?;
-        } else {
-            pass_value(reader, depth)?;
-        }
-    }
-    Ok(found)
-}
-
-/// The elements of the `components` of a text, each cut, if it is JSON.
-fn components_in(
-    alloc: Global,
-    text: &str,
-    scratch: &mut Scratch,
-) -> Result<Option<Vec<Value>>, ReadFault>
-    ensures found { (d : Data) → read text.now ≡ Some d
-        → FindsElements result (option_and_then (at_most 256) (get (codes "components") d)) }
-    ensures few { IfOk result (λ found. IfSome found (λ values. length values.items ≤ 256)) }
-{
-    let mut reader = Reader::new(text, scratch)?;
-    if !opens(&mut reader) {
-        return Ok(None);
-    }
-    components_inside(alloc, &mut reader, DEPTH - 1)
 }
 
 fn ran_out(read: &Result<Vec<Frame>, ReadFault>) -> bool
@@ -239,18 +201,20 @@ fn frames_in(
     frames_inside(alloc, format, components, &mut reader, DEPTH - 1)
 }
 
-/// The script that a text with this heading means.
+/// The script that a text with this front means.
 #[tactic(auto, unfolding(crate::specs::Reading::script_of))]
 fn script_in(
     alloc: Global,
-    heading: Heading,
+    front: Front,
     text: &str,
     scratch: &mut Scratch,
 ) -> Result<Script, ReadFault>
-    ensures { (d : Data) → read text.now ≡ Some d → in_script (heading_of d) ≡ Ok heading
+    requires { IfSome front.components (λ values. length values.items ≤ 256) }
+    ensures { (d : Data) → read text.now ≡ Some d → IsFront front d
         → ReadsAs result (script_of d) }
 {
-    let values = components_in(alloc, text, scratch)?.ok_or(ScriptCause::Components)?;
+    let heading = front.heading;
+    let values = front.components.ok_or(ScriptCause::Components)?;
     let components = different_names(alloc, &values)?;
     let frames = frames_in(alloc, heading.format, &components, text, scratch)?;
     let names = owned(alloc, components.as_slice())?;
@@ -260,7 +224,7 @@ fn script_in(
 /// The script that a JSON text means.
 ///
 /// It takes time linear in the text, but for look-ups of names in logarithmic time. The text is
-/// read more than once, and no more than one operation is kept at a time as a value.
+/// read twice, and no more than one operation is kept at a time as a value.
 ///
 /// # Errors
 ///
@@ -274,6 +238,6 @@ pub fn read_script(alloc: Global, text: &[u8]) -> Result<Script, ReadFault>
         return Err(ReadFault::Json);
     };
     let mut scratch = Scratch::new(alloc);
-    let heading = heading_in(alloc, checked, &mut scratch)?;
-    script_in(alloc, heading, checked, &mut scratch)
+    let front = front_in(alloc, checked, &mut scratch)?;
+    script_in(alloc, front, checked, &mut scratch)
 }

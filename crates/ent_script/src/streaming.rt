@@ -1,11 +1,13 @@
 ghost use Rattle.std.specs.Prelude.{◌≡◌, ◌≢◌, ℕ, ◌<◌, ◌≤◌, true, List, length, Some, None};
-ghost use Rattle.std.specs.Prelude.{Ok, OnOk, IfOk, IfSome};
+ghost use Rattle.std.specs.Prelude.{Ok, OnOk, IfOk, IfErr, IfSome, ◌⊎◌, ◌-◌, MatchResult};
+ghost use Rattle.std.specs.Prelude.{if◌then◌else◌};
 ghost use Rattle.json.specs.Json.{value, items};
 ghost use Rattle.json.specs.Token.{Token as SpecToken};
 ghost use Rattle.serde_json.specs.Data.{Data, Items, array};
 ghost use Rattle.serde_json.specs.Read.{of_json, of_items, converted};
-ghost use Rattle.ent_script.specs.declared.read_fault.ReadFault.TheVariants.{Memory};
+ghost use Rattle.ent_script.specs.declared.read_fault.ReadFault.TheVariants.{Json, Memory};
 ghost use Rattle.ent_script.specs.Fields.{BeginsObject};
+ghost use Rattle.ent_script.specs.Passing.{Passes, left, after_value, after_items};
 ghost use Rattle.ent_script.specs.Streaming.{BeginsArray, PassesAtMost, FaultOfArray};
 ghost use Rattle.ent_script.specs.Streaming.{ReadsElements};
 
@@ -21,6 +23,10 @@ pub(crate) fn begins_array(reader: &mut Reader<'_>, depth: usize) -> Result<bool
     ensures value { (d : Data) (rest : List SpecToken)
         → converted of_json (value depth reader.old) ≡ Some (d, rest)
         → BeginsArray depth result reader.new d rest }
+    ensures passes { MatchResult result
+        (λ begins. after_value depth reader.old
+        ≡ (if begins then after_items (depth - 1) reader.new else Some reader.new))
+        (λ _. after_value depth reader.old ≡ None) }
     ensures deep { result ≡ Ok true → 0 < depth }
     ensures shorter { OnOk result (length reader.new < length reader.old) }
     ensures no_longer { length reader.new ≤ length reader.old }
@@ -65,6 +71,9 @@ pub(crate) fn passes_at_most(
     ensures value { (n : ℕ) (ds : Items) (rest : List SpecToken)
         → converted of_items (items (value depth) n reader.old) ≡ Some (ds, rest)
         → PassesAtMost most result reader.new ds rest }
+    ensures passes { (n : ℕ) → length reader.old ≤ n → MatchResult result
+        (λ _. left (converted of_items (items (value depth) n reader.old)) ≡ Some reader.new)
+        (λ _. left (converted of_items (items (value depth) n reader.old)) ≡ None) }
     ensures shorter { OnOk result (length reader.new ≤ length reader.old) }
     ensures no_longer { length reader.new ≤ length reader.old }
 {
@@ -117,7 +126,9 @@ pub(crate) fn read_elements(
     ensures value { (d : Data) (rest : List SpecToken)
         → converted of_json (value depth reader.old) ≡ Some (d, rest)
         → ReadsElements levels most result reader.new d rest }
+    ensures passes { Passes result reader.new (after_value depth reader.old) }
     ensures few { IfOk result (λ found. IfSome found (λ values. length values.items ≤ most)) }
+    ensures kind { IfErr result (λ e. (e ≡ Json) ⊎ (e ≡ Memory)) }
     ensures shorter { OnOk result (length reader.new < length reader.old) }
     ensures no_longer { length reader.new ≤ length reader.old }
 {
@@ -137,7 +148,10 @@ fn elements_cut(
     ensures value { (n : ℕ) (ds : Items) (rest : List SpecToken)
         → converted of_items (items (value depth) n reader.old) ≡ Some (ds, rest)
         → ReadsElements levels most result reader.new (array ds) rest }
+    ensures passes { (n : ℕ) → length reader.old ≤ n → Passes result reader.new
+        (left (converted of_items (items (value depth) n reader.old))) }
     ensures few { IfOk result (λ found. IfSome found (λ values. length values.items ≤ most)) }
+    ensures kind { IfErr result (λ e. (e ≡ Json) ⊎ (e ≡ Memory)) }
     ensures shorter { OnOk result (length reader.new ≤ length reader.old) }
     ensures no_longer { length reader.new ≤ length reader.old }
 {

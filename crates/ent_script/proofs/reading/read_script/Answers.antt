@@ -10,8 +10,8 @@ use Rattle.ent_script.proofs.reading.read_script.Goals as goal
 pub returns-in_default-clause-exact : goal.returns-in_default-clause-exact
 returns-in_default-clause-exact c = search (rules, json_none)
 
-pub returns-in_err-heading-clause-exact : goal.returns-in_err-heading-clause-exact
-returns-in_err-heading-clause-exact c =
+pub returns-in_err-front-clause-exact : goal.returns-in_err-front-clause-exact
+returns-in_err-front-clause-exact c =
     grind (arith, common_steps, json_is, returned, passes_on, headed, heading_refused)
 
 pub returns-clause-exact : goal.returns-clause-exact

@@ -1,4 +1,8 @@
+use Rattle.std.proofs.lemmas.Grind.{common_steps}
+use Rattle.json.proofs.Grammar.{left-parse_map, value_is, value-begin_array}
 use Rattle.std.proofs.Common.{rules, ◌≡◌, [], arith}
+use Rattle.json.specs.Json.{value}
+use Rattle.ent_script.proofs.Turns.{converted-array}
 use Rattle.ent_script.proofs.Cuts.{opened_array}
 use Rattle.ent_script.proofs.Finding.{no_token, no_array, passed}
 use Rattle.ent_script.proofs.streaming.begins_array.Goals as goal
@@ -16,3 +20,14 @@ returns-in-BeginArray-clause-value c d rest e = search (rules, opened_array)
 
 pub returns : goal.returns
 returns c = search (rules, no_array, passed)
+
+pub returns-in_err-token-clause-passes : goal.returns-in_err-token-clause-passes
+returns-in_err-token-clause-passes c = search (rules, value_is)
+
+pub returns-then-depth-eq0-clause-passes : goal.returns-then-depth-eq0-clause-passes
+unfolding value
+returns-then-depth-eq0-clause-passes c = grind (arith, common_steps)
+
+pub returns-in-BeginArray-clause-passes : goal.returns-in-BeginArray-clause-passes
+returns-in-BeginArray-clause-passes c =
+    search (rules, value-begin_array, converted-array, left-parse_map)

@@ -1,18 +1,22 @@
 use Rattle.std.proofs.lemmas.Grind.{common_steps}
 use Rattle.std.proofs.Common.{◌≡◌, ℕ, ◌+◌, List, ◌++◌, length, map, None, arith, rules}
-use Rattle.std.proofs.Common.{append_assoc, true, false, le-leb, Bool}
+use Rattle.std.proofs.Common.{append_assoc, true, false, le-leb, Bool, ap, option_map, [], ◌∙◌, Option, Vec, Global}
 use Rattle.std.proofs.lemmas.Bool.{lt-leb}
 use Rattle.std.proofs.lemmas.List.{map-append, append-nil}
-use Rattle.std.specs.Prelude.{Ok, nat_le}
+use Rattle.std.specs.Prelude.{Ok, Err, nat_le}
 use Rattle.json.specs.Token.{Token}
-use Rattle.json.specs.Json.{after_end_array, value}
+use Rattle.json.specs.Json.{after_end_array, items, value}
 use Rattle.serde_json.specs.Data.{Data, Items}
+use Rattle.serde_json.specs.Read.{of_items, converted}
 use Rattle.serde_json.specs.View.{view}
 use Rattle.serde_json.specs.declared.value.Value.{Value}
 use Rattle.ent_script.specs.Cut.{cut}
 use Rattle.ent_script.specs.Json.{list_of}
+use Rattle.ent_script.specs.Passing.{left}
 use Rattle.ent_script.specs.Streaming.{PassesAtMost}
 use Rattle.ent_script.proofs.Finding.{next_item, last_item, impossible}
+use Rattle.ent_script.proofs.Stepping.{goes_on, goes_stuck, goes_over, passes_refused}
+use Rattle.ent_script.specs.declared.read_fault.ReadFault.TheVariants.{Json}
 use Rattle.ent_script.proofs.streaming.elements_cut.Goals as goal
 
 lengths : (levels : ℕ) (all later : List Data) (front : List Value)
@@ -52,6 +56,10 @@ elements-preserved c =
           let at = l.invariant.found n ds rest e in
           let next = next_item (value c.args.depth) at.0 l.reader rest at.1 going.0 at.2 in
           search (rules, next, append_assoc, map-append);
+      same = λ n h.
+          goes_on (value c.args.depth) _ l.reader c.read_cut.new.reader (l.invariant.same n h) going.0
+          (rw (← going.1) (ap (option_map (λ p. p.1)) c.in_ok-read_cut.ensures.ok.1))
+          (rw (← going.1) c.in_ok-read_cut.ensures.shorter);
       few = grind (arith, common_steps, full);
       shorter = grind arith;
     }
@@ -59,3 +67,41 @@ elements-preserved c =
 pub returns-clause-value : goal.returns-clause-value
 returns-clause-value c n ds rest e =
     grind (arith, common_steps, last_item, lengths, le-leb, append-nil)
+
+pub returns-clause-passes : goal.returns-clause-passes
+returns-clause-passes c n h =
+    let l = c.elements in
+    goes_over (value c.args.depth) _ l.reader c.take_end_array.new.self (l.invariant.same n h)
+    (grind arith)
+
+pub returns-in_err-read_cut-clause-passes : goal.returns-in_err-read_cut-clause-passes
+returns-in_err-read_cut-clause-passes c n h =
+    let l = c.elements in
+    let going : (after_end_array l.reader ≡ None) × (c.take_end_array.new.self ≡ l.reader) = grind
+    arith in
+    let stuck = goes_stuck (value c.args.depth) _ l.reader [] (l.invariant.same n h) going.0 in
+    let none = λ (is : c.in_err-read_cut.field-0.0 ≡ Json).
+    stuck (rw (← going.1) (ap (option_map (λ p. p.1)) (c.in_err-read_cut.ensures.json (ap Err is)))) in
+    let fault = passes_refused (Option (Vec Value Global)) c.in_err-read_cut.field-0.0
+    c.read_cut.new.reader _ c.in_err-read_cut.ensures.kind none in
+    search (rules, fault)
+
+pub returns-then-len-most-clause-passes : goal.returns-then-len-most-clause-passes
+returns-then-len-most-clause-passes c n h =
+    let l = c.elements in
+    let going : (after_end_array l.reader ≡ None) × (c.take_end_array.new.self ≡ l.reader) = grind
+    arith in
+    let at = l.invariant.same n h in
+    at.2 ∙ rw (← going.1) (c.in_ok-passes_at_most.ensures.passes at.0 (rw going.1 at.1))
+
+pub returns-in_err-passes_at_most-clause-passes :
+    goal.returns-in_err-passes_at_most-clause-passes
+returns-in_err-passes_at_most-clause-passes c n h =
+    let l = c.elements in
+    let going : (after_end_array l.reader ≡ None) × (c.take_end_array.new.self ≡ l.reader) = grind
+    arith in
+    let at = l.invariant.same n h in
+    let refused = c.in_err-passes_at_most.ensures.passes at.0 (rw going.1 at.1) in
+    let none : left (converted of_items (items (value c.args.depth) n c.args.reader.now)) ≡ None =
+    at.2 ∙ rw (← going.1) refused in
+    search (rules, none)

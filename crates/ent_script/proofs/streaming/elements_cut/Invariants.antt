@@ -6,6 +6,8 @@ use Rattle.serde_json.specs.Read.{of_items, converted}
 use Rattle.serde_json.specs.View.{view}
 use Rattle.ent_script.specs.Cut.{cut}
 use Rattle.ent_script.specs.Json.{list_of}
+use Rattle.ent_script.specs.Passing.{left}
+use Rattle.ent_script.proofs.Stepping.{Goes}
 use Rattle.ent_script.proofs.streaming.elements_cut.Given as goal
 
 abbrev pub invariant-elements : goal.invariant-elements
@@ -16,6 +18,8 @@ invariant-elements l = record {
       × (converted of_items (items (value l.depth) m l.reader) ≡ Some (later, rest))
       × (map (cut l.levels) (list_of ds)
       ≡ map view l.found.items ++ map (cut l.levels) (list_of later));
+  same : (n : ℕ) → length l.initial.reader ≤ n → Goes (value l.depth)
+      (left (converted of_items (items (value l.depth) n l.initial.reader))) l.reader;
   few : length l.found.items ≤ l.most;
   shorter : length l.reader ≤ length l.initial.reader;
 }

@@ -1,4 +1,6 @@
-use Rattle.std.proofs.Common.{rules, ◌≡◌, ℕ, ◌+◌, ◌<◌, List, length, Bool, true, false, refl}
+use Rattle.std.proofs.Common.{rules, ◌≡◌, ℕ, ◌+◌, ◌<◌, List, length, Bool, true, false, refl, []}
+use Rattle.std.proofs.Common.{None}
+use Rattle.json.specs.Json.{after_end_array, value}
 use Rattle.std.proofs.Common.{arith}
 use Rattle.std.specs.Prelude.{Ok}
 use Rattle.json.specs.Token.{Token}
@@ -7,6 +9,7 @@ use Rattle.ent_script.specs.Json.{list_of}
 use Rattle.ent_script.specs.Streaming.{PassesAtMost}
 use Rattle.ent_script.proofs.Finding.{next_item, last_item, not_passed}
 use Rattle.ent_script.proofs.PassedOver.{item_over}
+use Rattle.ent_script.proofs.Stepping.{goes_on, goes_stuck, goes_over}
 use Rattle.ent_script.proofs.streaming.passes_at_most.Goals as goal
 
 few : (fits : Bool) (all room most later : ℕ) → room ≡ 0 → 0 < later →
@@ -23,13 +26,52 @@ verdict true most room later left ds rest none fitting full same =
 verdict false most room later left ds rest none fitting full same = (full refl, same)
 
 pub loop-reader-preserved-then-room-eq0 : goal.loop-reader-preserved-then-room-eq0
-loop-reader-preserved-then-room-eq0 c = search (rules, item_over, few)
+loop-reader-preserved-then-room-eq0 c =
+    let l = c.loop-reader in
+    let going : (after_end_array l.reader ≡ None) × (c.take_end_array.new.self ≡ l.reader) = grind
+    arith in
+    let less : length c.pass_value.new.reader < length l.reader = rw (← going.1)
+    c.in_ok-pass_value.ensures.shorter in
+    record {
+      counted = λ n ds rest e. search (rules, item_over, few);
+      same = λ n h.
+          goes_on (value c.args.depth) _ l.reader c.pass_value.new.reader (l.invariant.same n h)
+          going.0 (rw (← going.1) c.in_ok-pass_value.ensures.value) less;
+      shorter = omega (arith, less, l.invariant.shorter);
+    }
 
 pub loop-reader-preserved : goal.loop-reader-preserved
-loop-reader-preserved c = search (rules, item_over)
+loop-reader-preserved c =
+    let l = c.loop-reader in
+    let going : (after_end_array l.reader ≡ None) × (c.take_end_array.new.self ≡ l.reader) = grind
+    arith in
+    let less : length c.pass_value.new.reader < length l.reader = rw (← going.1)
+    c.in_ok-pass_value.ensures.shorter in
+    record {
+      counted = λ n ds rest e. search (rules, item_over);
+      same = λ n h.
+          goes_on (value c.args.depth) _ l.reader c.pass_value.new.reader (l.invariant.same n h)
+          going.0 (rw (← going.1) c.in_ok-pass_value.ensures.value) less;
+      shorter = omega (arith, less, l.invariant.shorter);
+    }
 
 pub returns-in_err-pass_value-clause-value : goal.returns-in_err-pass_value-clause-value
 returns-in_err-pass_value-clause-value c n ds rest e = search (rules, next_item, not_passed)
 
 pub returns-clause-value : goal.returns-clause-value
 returns-clause-value c n ds rest e = search (rules, last_item, verdict)
+
+pub returns-in_err-pass_value-clause-passes : goal.returns-in_err-pass_value-clause-passes
+returns-in_err-pass_value-clause-passes c n h =
+    let l = c.loop-reader in
+    let going : (after_end_array l.reader ≡ None) × (c.take_end_array.new.self ≡ l.reader) = grind
+    arith in
+    let stuck = goes_stuck (value c.args.depth) _ l.reader [] (l.invariant.same n h) going.0
+    (rw (← going.1) c.in_err-pass_value.ensures.value) in
+    search (rules, stuck)
+
+pub returns-clause-passes : goal.returns-clause-passes
+returns-clause-passes c n h =
+    let l = c.loop-reader in
+    goes_over (value c.args.depth) _ l.reader c.take_end_array.new.self (l.invariant.same n h)
+    (grind arith)

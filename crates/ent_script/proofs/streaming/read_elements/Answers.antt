@@ -1,4 +1,5 @@
-use Rattle.std.proofs.Common.{arith}
+use Rattle.std.proofs.Common.{arith, rules, length}
+use Rattle.ent_script.proofs.Stepping.{begun, not_begun}
 use Rattle.ent_script.proofs.Openings.{array_begun, no_array_begun}
 use Rattle.ent_script.proofs.streaming.read_elements.Goals as goal
 
@@ -13,3 +14,13 @@ returns-clause-value c d rest e =
     let is = array_begun c.args.depth c.in_ok-begins_array.field-0 c.begins_array.new.reader d rest
     (c.in_ok-begins_array.ensures.value d rest e) (grind arith) in
     rw is.1 (c.elements_cut.ensures.value _ is.0 rest is.2)
+
+pub returns-then-not-branch-clause-passes : goal.returns-then-not-branch-clause-passes
+returns-then-not-branch-clause-passes c =
+    not_begun c.in_ok-begins_array.field-0 _ _ _ c.in_ok-begins_array.ensures.passes (grind arith)
+
+pub returns-clause-passes : goal.returns-clause-passes
+returns-clause-passes c =
+    let is = begun c.in_ok-begins_array.field-0 _ _ _ c.in_ok-begins_array.ensures.passes
+    (grind arith) in
+    rw is (c.elements_cut.ensures.passes (length c.begins_array.new.reader) (omega arith))

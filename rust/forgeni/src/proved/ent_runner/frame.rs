@@ -179,7 +179,8 @@ where
         claims,
         gate,
     };
-    run_all(rt, &stage, workers);
+    // More threads than systems would find nothing to run.
+    run_all(rt, &stage, workers, systems.len());
 }
 
 /// Closes the world, and collects the queues, unless memory ran out in a system or

@@ -109,10 +109,16 @@ impl Worker {
     }
 }
 
-/// All workers work side by side, each in a thread of its own if one can be started. One half of
-/// them goes to a new thread, again and again, so that no thread has to start all others.
+/// All workers work side by side, in so many threads if there are as many workers and each thread
+/// can be started. One half of the workers goes to a new thread, again and again, so that no thread
+/// has to start all others. Those that share a thread work one after the other.
 #[inline]
-pub(super) fn run_all<R, S, G>(rt: &R, stage: &Stage<'_, S, G>, workers: &mut [Worker])
+pub(super) fn run_all<R, S, G>(
+    rt: &R,
+    stage: &Stage<'_, S, G>,
+    workers: &mut [Worker],
+    threads: usize,
+)
 where
     R: Threads + Sync,
     S: System + Sync,
@@ -127,12 +133,23 @@ where
         return;
     }
     let (front, back) = workers.split_at_mut(workers.len() / 2);
-    run_both(rt, stage, front, back);
+    if threads < 2 {
+        run_all(rt, stage, front, threads);
+        run_all(rt, stage, back, threads);
+        return;
+    }
+    run_both(rt, stage, front, back, threads);
 }
 
-/// Both parts of the workers work side by side.
+/// Both parts of the workers work side by side, each in one half of the threads.
 #[inline]
-fn run_both<R, S, G>(rt: &R, stage: &Stage<'_, S, G>, front: &mut [Worker], back: &mut [Worker])
+fn run_both<R, S, G>(
+    rt: &R,
+    stage: &Stage<'_, S, G>,
+    front: &mut [Worker],
+    back: &mut [Worker],
+    threads: usize,
+)
 where
     R: Threads + Sync,
     S: System + Sync,
@@ -145,6 +162,8 @@ where
     // ensures back { HaveAllWorked S.may_issue S.may_leave stage.now.shared.now
     //     stage.now.claims.now stage.now.systems.now stage.now.view back.old back.new }
 {
+    let fewer = threads / 2;
+    let more = threads - fewer;
     let mut first = ||
         // requires { IsSync R.row × IsSync S.row × IsSync G.row
         //     × (stage.now.claims.now.numbers ≡ length stage.now.systems.now)
@@ -152,7 +171,7 @@ where
         // ensures { HaveAllWorked S.may_issue S.may_leave stage.entry.now.shared.now
         //     stage.entry.now.claims.now stage.entry.now.systems.now stage.entry.now.view
         //     front.entry.now front.exit.now }
-    { run_all(rt, stage, front) };
+    { run_all(rt, stage, front, fewer) };
     let mut second = ||
         // requires { IsSync R.row × IsSync S.row × IsSync G.row
         //     × (stage.now.claims.now.numbers ≡ length stage.now.systems.now)
@@ -160,6 +179,6 @@ where
         // ensures { HaveAllWorked S.may_issue S.may_leave stage.entry.now.shared.now
         //     stage.entry.now.claims.now stage.entry.now.systems.now stage.entry.now.view
         //     back.entry.now back.exit.now }
-    { run_all(rt, stage, back) };
+    { run_all(rt, stage, back, more) };
     join_mut(rt, &mut first, &mut second);
 }

@@ -1,18 +1,8 @@
 // Made of crates/ent_script/src/fields.rt by rust/erase. It isn't edited by hand.
 
-use crate::proved::ent_script::elements::is_among;
 use crate::proved::ent_script::part::{Part, read_part};
 use crate::proved::ent_script::read_fault::ReadFault;
 use crate::kit::programs::json::Reader;
-
-/// Whether the key is one of these, as those before it are.
-#[inline]
-fn are_among(are: bool, key: &str, allowed: &[&str]) -> bool
-    // ensures { (d : Data) (ms : Members) → AreAmong (map (λ name. name.now) allowed.now) are ms
-    //     → AreAmong (map (λ name. name.now) allowed.now) result (put key.now d ms) }
-{
-    are && is_among(key, allowed)
-}
 
 /// Which kinds of operation have each of the keys that were read.
 #[derive(Clone, Copy)]
@@ -31,12 +21,14 @@ impl Kinds {
         // ensures { (d : Data) (ms : Members) → AreKinds self ms
         //     → AreKinds result (put key.now d ms) }
     {
+        let is_as = key == "as";
+        let is_on = key == "on";
         Kinds {
-            spawn: are_among(self.spawn, key, &["spawn", "as"]),
-            spawn_many: are_among(self.spawn_many, key, &["spawn_many", "with", "as"]),
-            insert: are_among(self.insert, key, &["insert", "on"]),
-            remove: are_among(self.remove, key, &["remove", "on"]),
-            despawn: are_among(self.despawn, key, &["despawn"]),
+            spawn: self.spawn & ((key == "spawn") | is_as),
+            spawn_many: self.spawn_many & ((key == "spawn_many") | (key == "with") | is_as),
+            insert: self.insert & ((key == "insert") | is_on),
+            remove: self.remove & ((key == "remove") | is_on),
+            despawn: self.despawn & (key == "despawn"),
         }
     }
 }

@@ -13,6 +13,7 @@ mod fields;
 mod format;
 mod frame;
 mod frames;
+mod front;
 mod heading;
 mod kind;
 mod names;
@@ -29,6 +30,7 @@ mod script;
 mod streaming;
 mod system;
 mod target;
+mod top;
 mod writing;
 
 pub use bundle::Bundle;

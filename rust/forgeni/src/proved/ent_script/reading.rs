@@ -4,17 +4,17 @@ use alloc::vec::Vec;
 use crate::kit::programs::string::String;
 use crate::kit::vec::FallibleVec;
 use crate::proved::ent_script::cause::ScriptCause;
-use crate::proved::ent_script::cutting::read_cut;
 use crate::proved::ent_script::elements::{are_keys_among, members, name, whole_within};
 use crate::proved::ent_script::format::Format;
 use crate::proved::ent_script::frame::Frame;
 use crate::proved::ent_script::frames::frames;
+use crate::proved::ent_script::front::Front;
 use crate::proved::ent_script::heading::Heading;
 use crate::proved::ent_script::names::Names;
 use crate::proved::ent_script::passing::pass_value;
 use crate::proved::ent_script::read_fault::ReadFault;
 use crate::proved::ent_script::script::Script;
-use crate::proved::ent_script::streaming::read_elements;
+use crate::proved::ent_script::top::read_top;
 use crate::proved::ent_alloc::Limits;
 use crate::kit::programs::json::{Reader, Scratch, Token};
 use crate::kit::programs::serde_json::Value;
@@ -109,17 +109,23 @@ fn owned(names: &[&str]) -> Result<Vec<String>, ReadFault>
 /// How deep arrays and objects nest at most.
 const DEPTH: usize = 127;
 
-/// The heading that a text means. If the text is no JSON, that is found first.
+/// What a text says before its frames. If the text is no JSON, that is found first.
 #[inline]
-fn heading_in(text: &str, scratch: &mut Scratch) -> Result<Heading, ReadFault>
-    // ensures { ReadsAs result (heading_of_text text.now) }
+fn front_in(text: &str, scratch: &mut Scratch) -> Result<Front, ReadFault>
+    // ensures front { ReadsFront result text.now }
+    // ensures few { IfOk result (λ front. IfSome front.components
+    //     (λ values. length values.items ≤ 256)) }
 {
     let mut reader = Reader::new(text, scratch)?;
-    let value = read_cut(&mut reader, DEPTH, 1)?;
+    let top = read_top(&mut reader, DEPTH)?;
     if reader.next().is_some() {
         return Err(ReadFault::Json);
     }
-    Ok(heading(&value)?)
+    let heading = heading(&top.value)?;
+    Ok(Front {
+        heading,
+        components: top.components,
+    })
 }
 
 /// Takes the brace that begins an object, if one is next.
@@ -129,49 +135,6 @@ fn opens(reader: &mut Reader<'_>) -> bool
     //     (begins_object reader.old ≡ false) }
 {
     matches!(reader.next(), Some(Token::BeginObject))
-}
-
-/// The elements of `components`, each cut, of an object of which the brace was taken. Of a key that
-/// stands twice the last counts.
-#[inline]
-fn components_inside(
-    reader: &mut Reader<'_>,
-    depth: usize,
-) -> Result<Option<Vec<Value>>, ReadFault>
-    // ensures found { (n : ℕ) (ms : Members) (rest : List SpecToken)
-    //     → converted (λ ms. of_members ms no_members) (members (value depth) n reader.old)
-    //     ≡ Some (ms, rest)
-    //     → FindsElements result (option_and_then (at_most 256)
-    //     (get_member (codes "components") ms)) }
-    // ensures few { IfOk result (λ found. IfSome found (λ values. length values.items ≤ 256)) }
-{
-    let mut found = None;
-    'members: while let Some(key) = reader.next_key()? {
-        if key == "components" {
-            found = None;
-            found = read_elements(reader, depth, 0, 256)?;
-        } else {
-            pass_value(reader, depth)?;
-        }
-    }
-    Ok(found)
-}
-
-/// The elements of the `components` of a text, each cut, if it is JSON.
-#[inline]
-fn components_in(
-    text: &str,
-    scratch: &mut Scratch,
-) -> Result<Option<Vec<Value>>, ReadFault>
-    // ensures found { (d : Data) → read text.now ≡ Some d
-    //     → FindsElements result (option_and_then (at_most 256) (get (codes "components") d)) }
-    // ensures few { IfOk result (λ found. IfSome found (λ values. length values.items ≤ 256)) }
-{
-    let mut reader = Reader::new(text, scratch)?;
-    if !opens(&mut reader) {
-        return Ok(None);
-    }
-    components_inside(&mut reader, DEPTH - 1)
 }
 
 #[inline]
@@ -230,17 +193,19 @@ fn frames_in(
     frames_inside(format, components, &mut reader, DEPTH - 1)
 }
 
-/// The script that a text with this heading means.
+/// The script that a text with this front means.
 #[inline]
 fn script_in(
-    heading: Heading,
+    front: Front,
     text: &str,
     scratch: &mut Scratch,
 ) -> Result<Script, ReadFault>
-    // ensures { (d : Data) → read text.now ≡ Some d → in_script (heading_of d) ≡ Ok heading
+    // requires { IfSome front.components (λ values. length values.items ≤ 256) }
+    // ensures { (d : Data) → read text.now ≡ Some d → IsFront front d
     //     → ReadsAs result (script_of d) }
 {
-    let values = components_in(text, scratch)?.ok_or(ScriptCause::Components)?;
+    let heading = front.heading;
+    let values = front.components.ok_or(ScriptCause::Components)?;
     let components = different_names(&values)?;
     let frames = frames_in(heading.format, &components, text, scratch)?;
     let names = owned(components.as_slice())?;
@@ -250,7 +215,7 @@ fn script_in(
 /// The script that a JSON text means.
 ///
 /// It takes time linear in the text, but for look-ups of names in logarithmic time. The text is
-/// read more than once, and no more than one operation is kept at a time as a value.
+/// read twice, and no more than one operation is kept at a time as a value.
 ///
 /// # Errors
 ///
@@ -273,6 +238,6 @@ pub fn read_script(text: &[u8]) -> Result<Script, ReadFault> {
         return Err(ReadFault::Json);
     };
     let mut scratch = Scratch::new();
-    let heading = heading_in(checked, &mut scratch)?;
-    script_in(heading, checked, &mut scratch)
+    let front = front_in(checked, &mut scratch)?;
+    script_in(front, checked, &mut scratch)
 }

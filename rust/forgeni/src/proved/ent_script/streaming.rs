@@ -14,6 +14,10 @@ pub(super) fn begins_array(reader: &mut Reader<'_>, depth: usize) -> Result<bool
     // ensures value { (d : Data) (rest : List SpecToken)
     //     → converted of_json (value depth reader.old) ≡ Some (d, rest)
     //     → BeginsArray depth result reader.new d rest }
+    // ensures passes { MatchResult result
+    //     (λ begins. after_value depth reader.old
+    //     ≡ (if begins then after_items (depth - 1) reader.new else Some reader.new))
+    //     (λ _. after_value depth reader.old ≡ None) }
     // ensures deep { result ≡ Ok true → 0 < depth }
     // ensures shorter { OnOk result (length reader.new < length reader.old) }
     // ensures no_longer { length reader.new ≤ length reader.old }
@@ -60,6 +64,9 @@ pub(super) fn passes_at_most(
     // ensures value { (n : ℕ) (ds : Items) (rest : List SpecToken)
     //     → converted of_items (items (value depth) n reader.old) ≡ Some (ds, rest)
     //     → PassesAtMost most result reader.new ds rest }
+    // ensures passes { (n : ℕ) → length reader.old ≤ n → MatchResult result
+    //     (λ _. left (converted of_items (items (value depth) n reader.old)) ≡ Some reader.new)
+    //     (λ _. left (converted of_items (items (value depth) n reader.old)) ≡ None) }
     // ensures shorter { OnOk result (length reader.new ≤ length reader.old) }
     // ensures no_longer { length reader.new ≤ length reader.old }
 {
@@ -113,7 +120,9 @@ pub(super) fn read_elements(
     // ensures value { (d : Data) (rest : List SpecToken)
     //     → converted of_json (value depth reader.old) ≡ Some (d, rest)
     //     → ReadsElements levels most result reader.new d rest }
+    // ensures passes { Passes result reader.new (after_value depth reader.old) }
     // ensures few { IfOk result (λ found. IfSome found (λ values. length values.items ≤ most)) }
+    // ensures kind { IfErr result (λ e. (e ≡ Json) ⊎ (e ≡ Memory)) }
     // ensures shorter { OnOk result (length reader.new < length reader.old) }
     // ensures no_longer { length reader.new ≤ length reader.old }
 {
@@ -133,7 +142,10 @@ fn elements_cut(
     // ensures value { (n : ℕ) (ds : Items) (rest : List SpecToken)
     //     → converted of_items (items (value depth) n reader.old) ≡ Some (ds, rest)
     //     → ReadsElements levels most result reader.new (array ds) rest }
+    // ensures passes { (n : ℕ) → length reader.old ≤ n → Passes result reader.new
+    //     (left (converted of_items (items (value depth) n reader.old))) }
     // ensures few { IfOk result (λ found. IfSome found (λ values. length values.items ≤ most)) }
+    // ensures kind { IfErr result (λ e. (e ≡ Json) ⊎ (e ≡ Memory)) }
     // ensures shorter { OnOk result (length reader.new ≤ length reader.old) }
     // ensures no_longer { length reader.new ≤ length reader.old }
 {
