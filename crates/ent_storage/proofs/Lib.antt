@@ -31,3 +31,9 @@ pub mod Copies
 pub mod Found
 pub mod Kept
 pub mod Backwards
+pub mod ImageBytes
+pub mod ImageEntities
+pub mod ImageGiven
+pub mod ImageHeld
+pub mod ImageRead
+pub mod ImageValues
