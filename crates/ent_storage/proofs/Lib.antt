@@ -32,3 +32,9 @@ pub mod Copied
 pub mod Found
 pub mod Kept
 pub mod Backwards
+pub mod ImageBytes
+pub mod ImageEntities
+pub mod ImageGiven
+pub mod ImageHeld
+pub mod ImageRead
+pub mod ImageValues

@@ -15,3 +15,4 @@ pub mod Slots
 pub mod Lends
 pub mod Retained
 pub mod Copies
+pub mod Image

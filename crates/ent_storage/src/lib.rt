@@ -14,6 +14,8 @@ mod bundle;
 mod columns;
 mod fault;
 pub mod handle_map;
+mod image;
+mod image_fault;
 mod index;
 mod items;
 mod key;
@@ -29,6 +31,8 @@ mod storage;
 
 pub use bundle::Bundle;
 pub use fault::StorageFault;
+pub use image::{read_long, read_word, write_long, write_word};
+pub use image_fault::StorageImageFault;
 pub use items::Items;
 pub use pairs::search;
 pub use storage::Storage;

@@ -201,6 +201,7 @@ pub const OWN_CALLS: &[(&str, &[&str])] = &[
     ("lines", &["checking"]),
     ("read", &["applying"]),
     ("replace", &["calls"]),
+    ("width", &["storage"]),
     ("write", &["self"]),
 ];
 

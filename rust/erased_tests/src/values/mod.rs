@@ -10,3 +10,4 @@ mod inputs;
 mod maps;
 mod queues;
 mod replays;
+mod storages;

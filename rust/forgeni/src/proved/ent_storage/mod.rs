@@ -15,6 +15,8 @@ mod bundle;
 mod columns;
 mod fault;
 pub mod handle_map;
+mod image;
+mod image_fault;
 mod index;
 mod items;
 mod key;
@@ -30,6 +32,8 @@ mod storage;
 
 pub use bundle::Bundle;
 pub use fault::StorageFault;
+pub(crate) use image::{read_long, read_word, write_long, write_word};
+pub use image_fault::StorageImageFault;
 pub use items::Items;
 pub(crate) use pairs::search;
 pub use storage::Storage;

@@ -1,0 +1,289 @@
+-- Entities, one by one: what is written of them tells them.
+use Rattle.std.proofs.Common.{rules, ◌≡◌, ◌≢◌, refl, sym, ap, ◌∙◌, subst, ℕ, zero, suc, ℤ, ◌+◌, ◌^◌}
+use Rattle.std.proofs.Common.{◌<◌, ◌≤◌, Bool, true, false, IsTrue, List, [], ◌∷◌, ◌++◌, length, arith}
+use Rattle.std.proofs.Common.{Option, None, Some, IsSomeAnd, is_some, Contains, inl, inr, ◌||◌}
+use Rattle.std.proofs.Common.{get_or}
+use Rattle.std.specs.Prelude.{if◌then◌else◌}
+use Rattle.std.specs.List.{flat_map, range_with_len, list_any}
+use Rattle.std.specs.Int.{w64}
+use Rattle.std.specs.Int.RustNames.{FitsSigned}
+use Rattle.std.specs.Option.{option_map, option_map_or}
+use Rattle.std.specs.Prelude.{option_and_then}
+use Rattle.std.specs.FinMap as map
+use Rattle.std.proofs.lemmas.Bool.{cases_eq, cases_lt, false≢true}
+use Rattle.std.proofs.lemmas.List.{append_assoc, append-nil, length-append}
+use Rattle.ent_handle.specs.declared.birth.Birth.{Birth}
+use Rattle.ent_handle.specs.declared.component.ComponentId.{ComponentId}
+use Rattle.ent_handle.specs.Component.{component_cmp, component_cmp_total, component_cmp-IsAntisymmetric}
+use Rattle.ent_handle.specs.Handle.{Handle, handle_cmp_total, handle_cmp-IsAntisymmetric}
+use Rattle.ent_storage.specs.EntityMap.{Entity, EntityMap, birth_of, value_of}
+use Rattle.ent_storage.specs.Image.{word, long, birth_bytes, value_bytes, values_bytes, component}
+use Rattle.ent_storage.specs.Image.{entity_bytes, is_held, width_below, width, IsBirth}
+use Rattle.ent_storage.specs.Image.{IsStored, AreStored}
+use Rattle.ent_storage.proofs.ImageBytes.{length-word, length-long, same_words, same_longs}
+use Rattle.ent_storage.proofs.ImageValues.{AllFit, same_values}
+
+-- ---- births
+
+length-birth_bytes : (b : Birth) → length (birth_bytes b) ≡ 16
+length-birth_bytes b = search (rules, length-append, length-long, length-word)
+
+birth_then : (b : Birth) (rest : List ℕ) → birth_bytes b ++ rest
+    ≡ long b.frame ++ (word b.system ++ (word b.ordinal ++ rest))
+birth_then b rest =
+    append_assoc (long b.frame) (word b.system ++ word b.ordinal) rest
+    ∙ ap (long b.frame ++◌) (append_assoc (word b.system) (word b.ordinal) rest)
+
+same_births : (a b : Birth) (xs ys : List ℕ) → IsBirth a → IsBirth b → birth_bytes a ++ xs
+    ≡ birth_bytes b ++ ys → (a ≡ b) × (xs ≡ ys)
+same_births a b xs ys fa fb same =
+    let first = same_longs a.frame b.frame (word a.system ++ (word a.ordinal ++ xs))
+    (word b.system ++ (word b.ordinal ++ ys)) fa.frame fb.frame
+    (sym (birth_then a xs) ∙ same ∙ birth_then b ys) in
+    let second = same_words a.system b.system (word a.ordinal ++ xs) (word b.ordinal ++ ys)
+    fa.system fb.system first.1 in
+    let third = same_words a.ordinal b.ordinal xs ys fa.ordinal fb.ordinal second.1 in
+    ((λ i. record { frame = first.0 i; system = second.0 i; ordinal = third.0 i }), third.1)
+
+-- ---- one entity
+
+known : (o : Option Birth) → IsSomeAnd o IsBirth → (b : Birth) × ((o ≡ Some b) × IsBirth b)
+known None is = absurd is
+known (Some b) is = (b, (refl, is))
+
+-- the birth of an entity that is there
+pub birth_known : (m : EntityMap) (h : Handle) → IsStored m h
+    → (b : Birth) × ((birth_of m h ≡ Some b) × IsBirth b)
+birth_known m h is = known (birth_of m h) is.birth
+
+pub entity_is : (n : ℕ) (m : EntityMap) (h : Handle) (b : Birth) (rest : List ℕ)
+    → birth_of m h ≡ Some b
+    → entity_bytes n m h ++ rest ≡ birth_bytes b ++ (values_bytes (value_of m h) n ++ rest)
+unfolding entity_bytes
+entity_is n m h b rest is =
+    ap (λ o. (option_map_or birth_bytes o [] ++ values_bytes (value_of m h) n) ++ rest) is
+    ∙ append_assoc (birth_bytes b) (values_bytes (value_of m h) n) rest
+
+pub entity_alone : (n : ℕ) (m : EntityMap) (h : Handle) (b : Birth) → birth_of m h ≡ Some b
+    → entity_bytes n m h ≡ birth_bytes b ++ values_bytes (value_of m h) n
+unfolding entity_bytes
+entity_alone n m h b is = ap (λ o. option_map_or birth_bytes o [] ++ values_bytes (value_of m h) n) is
+
+-- an entity that was read
+pub entity_read : (n : ℕ) (m : EntityMap) (h : Handle) (b : Birth) (bytes left rest : List ℕ)
+    → birth_of m h ≡ Some b → bytes ≡ birth_bytes b ++ left
+    → left ≡ values_bytes (value_of m h) n ++ rest → bytes ≡ entity_bytes n m h ++ rest
+entity_read n m h b bytes left rest is first second =
+    first ∙ ap (birth_bytes b ++◌) second ∙ sym (entity_is n m h b rest is)
+
+-- no entity has fewer than 16 bytes
+pub entity_short : (n : ℕ) (m : EntityMap) (h : Handle) (bytes rest : List ℕ) → length bytes < 16
+    → IsStored m h → bytes ≢ entity_bytes n m h ++ rest
+entity_short n m h bytes rest short is same =
+    let birth = birth_known m h is in
+    let all = ap length (same ∙ entity_is n m h birth.0 rest birth.1.0) in
+    let long_enough = length-append (birth_bytes birth.0) (values_bytes (value_of m h) n ++ rest) in
+    omega (arith, length-birth_bytes birth.0)
+
+fit_all : (m : EntityMap) (h : Handle) → IsStored m h → AllFit (value_of m h)
+fit_all m h is id v at = is.values id v at
+
+-- where no values are written, no entity is
+pub entity_refused : (n : ℕ) (m : EntityMap) (h : Handle) (b : Birth) (bytes left rest : List ℕ)
+    → IsBirth b → bytes ≡ birth_bytes b ++ left
+    → ((value : ComponentId → Option ℤ) (more : List ℕ) → AllFit value
+    → left ≢ values_bytes value n ++ more)
+    → IsStored m h → bytes ≢ entity_bytes n m h ++ rest
+entity_refused n m h b bytes left rest fits first none is same =
+    let birth = birth_known m h is in
+    let parts = same_births b birth.0 left (values_bytes (value_of m h) n ++ rest) fits birth.1.1
+    (sym first ∙ same ∙ entity_is n m h birth.0 rest birth.1.0) in
+    none (value_of m h) rest (fit_all m h is) parts.1
+
+-- the two maps have the same birth under the handle, and the same first values
+pub record IsAlike (n : ℕ) (a b : EntityMap) (h : Handle) : Type 0 where
+  pub birth : birth_of a h ≡ birth_of b h
+  pub values : (k : ℕ) → k < n → value_of a h (component k) ≡ value_of b h (component k)
+
+same_entity : (n : ℕ) (a b : EntityMap) (h : Handle) (xs ys : List ℕ) → IsStored a h → IsStored b h
+    → entity_bytes n a h ++ xs ≡ entity_bytes n b h ++ ys → IsAlike n a b h × (xs ≡ ys)
+same_entity n a b h xs ys is_a is_b same =
+    let birth_a = birth_known a h is_a in
+    let birth_b = birth_known b h is_b in
+    let births = same_births birth_a.0 birth_b.0 (values_bytes (value_of a h) n ++ xs)
+    (values_bytes (value_of b h) n ++ ys) birth_a.1.1 birth_b.1.1
+    (sym (entity_is n a h birth_a.0 xs birth_a.1.0) ∙ same
+    ∙ entity_is n b h birth_b.0 ys birth_b.1.0) in
+    let values = same_values (value_of a h) (value_of b h) n xs ys (fit_all a h is_a)
+    (fit_all b h is_b) births.1 in (
+      record {
+        birth = birth_a.1.0 ∙ ap Some births.0 ∙ sym birth_b.1.0;
+        values = values.0;
+      },
+      values.1,
+    )
+
+-- what is written of an entity depends on it alone
+pub written_alike : (n : ℕ) (a b : EntityMap) (h : Handle) → map.get a h ≡ map.get b h
+    → entity_bytes n a h ≡ entity_bytes n b h
+unfolding entity_bytes
+written_alike n a b h same = ap (λ (o : Option Entity).
+    option_map_or birth_bytes (option_map (λ e. e.birth) o) []
+    ++ values_bytes (λ id. option_and_then (λ e. map.get e.components id) o) n) same
+
+pub stored_alike : (a b : EntityMap) (h : Handle) → map.get a h ≡ map.get b h → IsStored a h
+    → IsStored b h
+stored_alike a b h same is = record {
+  birth = subst (λ (o : Option Entity). IsSomeAnd (option_map (λ e. e.birth) o) IsBirth) same is.birth;
+  numbered = λ id v at. is.numbered id v
+      (ap (option_and_then (λ (e : Entity). map.get e.components id)) same ∙ at);
+  values = λ id v at. is.values id v
+      (ap (option_and_then (λ (e : Entity). map.get e.components id)) same ∙ at);
+}
+
+-- ---- entities
+
+first_in : (h : Handle) (hs : List Handle) → Contains (h ∷ hs) h
+first_in h hs = (0, omega arith, refl)
+
+later_in : (g h : Handle) (hs : List Handle) → Contains hs h → Contains (g ∷ hs) h
+later_in g h hs is = (suc is.0, omega (arith, is.1), is.2)
+
+pub all_alike : (n : ℕ) (a b : EntityMap) (hs : List Handle)
+    → ((h : Handle) → Contains hs h → map.get a h ≡ map.get b h)
+    → flat_map (entity_bytes n a) hs ≡ flat_map (entity_bytes n b) hs
+all_alike n a b [] each = refl
+all_alike n a b (h ∷ hs) each =
+    let here = written_alike n a b h (each h (first_in h hs)) in
+    let rest = all_alike n a b hs (λ g is. each g (later_in h g hs is)) in
+    λ i. here i ++ rest i
+
+one_of : (n : ℕ) (a b : EntityMap) (h : Handle) (hs : List Handle) → IsAlike n a b h
+    → ((g : Handle) → Contains hs g → IsAlike n a b g) → (g : Handle) (k : ℕ) → k < length (h ∷ hs)
+    → get_or (h ∷ hs) k g ≡ g → IsAlike n a b g
+one_of n a b h hs here rest g zero lt at = subst (IsAlike n a b) at here
+one_of n a b h hs here rest g (suc k) lt at = rest g (k, omega arith, at)
+
+pub same_listed : (n : ℕ) (a b : EntityMap) (hs : List Handle) (xs ys : List ℕ)
+    → ((h : Handle) → Contains hs h → IsStored a h) → ((h : Handle) → Contains hs h → IsStored b h)
+    → flat_map (entity_bytes n a) hs ++ xs ≡ flat_map (entity_bytes n b) hs ++ ys
+    → ((h : Handle) → Contains hs h → IsAlike n a b h) × (xs ≡ ys)
+same_listed n a b [] xs ys in_a in_b same = ((λ h is. absurd (omega (arith, is.1))), same)
+same_listed n a b (h ∷ hs) xs ys in_a in_b same =
+    let rest_a = flat_map (entity_bytes n a) hs in
+    let rest_b = flat_map (entity_bytes n b) hs in
+    let one = same_entity n a b h (rest_a ++ xs) (rest_b ++ ys) (in_a h (first_in h hs))
+    (in_b h (first_in h hs)) (sym (append_assoc (entity_bytes n a h) rest_a xs) ∙ same
+    ∙ append_assoc (entity_bytes n b h) rest_b ys) in
+    let rest = same_listed n a b hs xs ys (λ g is. in_a g (later_in h g hs is))
+    (λ g is. in_b g (later_in h g hs is)) one.1 in
+    ((λ g is. one_of n a b h hs one.0 rest.0 g is.0 is.1 is.2), rest.1)
+
+-- ---- the width
+
+most_of : (held : Bool) (n most : ℕ) → most ≤ n → (if held then suc n else most) ≤ suc n
+most_of true n most least = omega arith
+most_of false n most least = omega arith
+
+width_most : (m : EntityMap) (hs : List Handle) (n : ℕ) → width_below m hs n ≤ n
+width_most m hs zero = omega arith
+width_most m hs (suc n) = most_of (is_held m hs n) n (width_below m hs n) (width_most m hs n)
+
+pub width_few : (m : EntityMap) (hs : List Handle) → width m hs ≤ 256
+unfolding width
+width_few m hs = width_most m hs 256
+
+by_last : (m : EntityMap) (hs : List Handle) (n k : ℕ) (held : Bool) → is_held m hs n ≡ held
+    → (width_below m hs n ≤ k → k < n → is_held m hs k ≡ false)
+    → (if held then suc n else width_below m hs n) ≤ k → k < suc n → is_held m hs k ≡ false
+by_last m hs n k true is rest least below = absurd (omega arith)
+by_last m hs n k false is rest least below = elim (cases_eq k n) [
+  | inl same ↦ ap (is_held m hs) same ∙ is
+  | inr other ↦ rest least (omega arith)
+]
+
+not_held : (m : EntityMap) (hs : List Handle) (n k : ℕ) → width_below m hs n ≤ k → k < n
+    → is_held m hs k ≡ false
+not_held m hs zero k least below = absurd (omega arith)
+not_held m hs (suc n) k least below =
+    by_last m hs n k (is_held m hs n) refl (not_held m hs n k) least below
+
+or_false : (a b : Bool) → a || b ≡ false → (a ≡ false) × (b ≡ false)
+or_false true b is = absurd (false≢true (sym is))
+or_false false b is = (refl, is)
+
+fails_at : (p : Handle → Bool) (g : Handle) (hs : List Handle) → p g ≡ false
+    → ((h : Handle) → Contains hs h → p h ≡ false) → (h : Handle) (k : ℕ) → k < length (g ∷ hs)
+    → get_or (g ∷ hs) k h ≡ h → p h ≡ false
+fails_at p g hs here rest h zero lt at = ap p (sym at) ∙ here
+fails_at p g hs here rest h (suc k) lt at = rest h (k, omega arith, at)
+
+any_false : (p : Handle → Bool) (hs : List Handle) → list_any p hs ≡ false → (h : Handle)
+    → Contains hs h → p h ≡ false
+any_false p [] none h is = absurd (omega (arith, is.1))
+any_false p (g ∷ hs) none h is =
+    let both = or_false (p g) (list_any p hs) none in
+    fails_at p g hs both.0 (any_false p hs both.1) h is.0 is.1 is.2
+
+none_from : (o : Option ℤ) → ((v : ℤ) → o ≡ Some v → ⊥) → o ≡ None
+none_from None never = refl
+none_from (Some v) never = absurd (never v refl)
+
+-- no entity has a component past the width
+pub value_beyond : (m : EntityMap) (hs : List Handle) → AreStored m hs → (h : Handle) → Contains hs h
+    → (id : ComponentId) → width m hs ≤ id.0 → value_of m h id ≡ None
+unfolding width
+value_beyond m hs stored h is id least = none_from (value_of m h id) (λ v at.
+    let none = any_false (λ g. is_some (value_of m g (component id.0))) hs
+    (not_held m hs 256 id.0 least ((stored.each h is).numbered id v at)) h is in
+    false≢true (sym none ∙ ap is_some at))
+
+-- ---- all of them
+
+unwrapped : (o : Option Birth) → Birth → Birth
+unwrapped None b = b
+unwrapped (Some c) b = c
+
+inside : (m : EntityMap) (h : Handle) (o : Option Entity) → map.get m h ≡ o → (e : Entity)
+    → o ≡ Some e → IsTrue (map.contains_key m h)
+inside m h o is e some = ap is_some (is ∙ some)
+
+pub never_stored : (m : EntityMap) (h : Handle) → map.get m h ≡ None → IsStored m h → ⊥
+never_stored m h none is =
+    subst (λ (o : Option Entity). IsSomeAnd (option_map (λ e. e.birth) o) IsBirth) none is.birth
+
+module _ (a b : EntityMap) (hs : List Handle) (in_a : AreStored a hs) (in_b : AreStored b hs)
+    (n : ℕ) (beyond_a : (h : Handle) → Contains hs h → (id : ComponentId) → n ≤ id.0
+    → value_of a h id ≡ None)
+    (beyond_b : (h : Handle) → Contains hs h → (id : ComponentId) → n ≤ id.0 → value_of b h id ≡ None)
+    (alike : (h : Handle) → Contains hs h → IsAlike n a b h) where
+  same_values_of : (h : Handle) → Contains hs h → (id : ComponentId)
+      → value_of a h id ≡ value_of b h id
+  same_values_of h is id = elim (cases_lt id.0 n) [
+    | inl below ↦ (alike h is).values id.0 below
+    | inr past ↦
+        beyond_a h is id past ∙ sym (beyond_b h is id past)
+  ]
+
+  same_at : (h : Handle) (o p : Option Entity) → map.get a h ≡ o → map.get b h ≡ p → o ≡ p
+  unfolding unwrapped
+  same_at h None None is_a is_b = refl
+  same_at h None (Some f) is_a is_b =
+      absurd (never_stored a h is_a (in_a.each h (in_b.only h (inside b h (Some f) is_b f refl))))
+  same_at h (Some e) None is_a is_b =
+      absurd (never_stored b h is_b (in_b.each h (in_a.only h (inside a h (Some e) is_a e refl))))
+  same_at h (Some e) (Some f) is_a is_b =
+      let listed = in_a.only h (inside a h (Some e) is_a e refl) in
+      let births : e.birth ≡ f.birth = ap (λ o. unwrapped o e.birth)
+      (sym (ap (option_map (λ (x : Entity). x.birth)) is_a) ∙ (alike h listed).birth
+      ∙ ap (option_map (λ (x : Entity). x.birth)) is_b) in
+      let components : e.components ≡ f.components =
+      map.same_map component_cmp_total component_cmp-IsAntisymmetric e.components f.components (λ id.
+      sym (ap (option_and_then (λ (x : Entity). map.get x.components id)) is_a)
+      ∙ same_values_of h listed id
+      ∙ ap (option_and_then (λ (x : Entity). map.get x.components id)) is_b) in
+      λ i. Some (record { birth = births i; components = components i })
+
+  pub same_all : a ≡ b
+  same_all = map.same_map handle_cmp_total handle_cmp-IsAntisymmetric a b (λ h.
+      same_at h (map.get a h) (map.get b h) refl refl)

@@ -1,0 +1,64 @@
+-- An entity that was given a component.
+use Rattle.std.proofs.Common.{◌≡◌, ◌≢◌, refl, sym, ap, ◌∙◌, ℤ, true, false, [], ◌∷◌, Option, None}
+use Rattle.std.proofs.Common.{Some, is_some}
+use Rattle.std.specs.Option.{option_map, option_map_or}
+use Rattle.std.specs.Prelude.{option_and_then}
+use Rattle.std.specs.FinMap as map
+use Rattle.std.proofs.lemmas.Bool.{false≢true}
+use Rattle.ent_handle.specs.declared.component.ComponentId.{ComponentId}
+use Rattle.ent_handle.specs.Component.{component_cmp_total, component_cmp-IsAntisymmetric}
+use Rattle.ent_handle.specs.Handle.{Handle, handle_cmp_total, handle_cmp-IsAntisymmetric}
+use Rattle.ent_storage.specs.Components.{Components, with_items}
+use Rattle.ent_storage.specs.EntityMap.{Entity, EntityMap, birth_of, value_of, with_components, newborn}
+use Rattle.ent_storage.proofs.Keys.{get-insert_same, get-insert_other}
+
+module _ (m : EntityMap) (h : Handle) (id : ComponentId) (v : ℤ) where
+  abbrev pub given : EntityMap
+  given = with_components m h (λ held. with_items held ((id, v) ∷ []))
+
+  abbrev with_one : Entity → Entity
+  with_one e = record { birth = e.birth; components = map.insert e.components id v }
+
+  given_is : (e : Entity) → map.get m h ≡ Some e → given ≡ map.insert m h (with_one e)
+  given_is e at = ap (λ o. option_map_or (λ x. map.insert m h (with_one x)) o m) at
+
+  get_here : (e : Entity) → map.get m h ≡ Some e → map.get given h ≡ Some (with_one e)
+  get_here e at = ap (λ x. map.get x h) (given_is e at)
+      ∙ get-insert_same handle_cmp_total handle_cmp-IsAntisymmetric m h (with_one e) h refl
+
+  other_at : (q : Handle) → q ≢ h → (o : Option Entity) → map.get m h ≡ o
+      → map.get given q ≡ map.get m q
+  other_at q other None at =
+      ap (λ o. map.get (option_map_or (λ x. map.insert m h (with_one x)) o m) q) at
+  other_at q other (Some e) at = ap (λ x. map.get x q) (given_is e at)
+      ∙ get-insert_other handle_cmp_total handle_cmp-IsAntisymmetric m h (with_one e) q other
+
+  pub given_rest : (q : Handle) → q ≢ h → map.get given q ≡ map.get m q
+  given_rest q other = other_at q other (map.get m h) refl
+
+  module _ (there : is_some (birth_of m h) ≡ true) where
+    there_at : (o : Option Entity) → map.get m h ≡ o → (e : Entity) × (map.get m h ≡ Some e)
+    there_at None at = absurd (false≢true (sym (ap (λ (o : Option Entity).
+        is_some (option_map (λ e. e.birth) o)) at) ∙ there))
+    there_at (Some e) at = (e, at)
+
+    entity : (e : Entity) × (map.get m h ≡ Some e)
+    entity = there_at (map.get m h) refl
+
+    pub given_value : value_of given h id ≡ Some v
+    given_value =
+        ap (option_and_then (λ (e : Entity). map.get e.components id)) (get_here entity.0 entity.1)
+        ∙ get-insert_same component_cmp_total component_cmp-IsAntisymmetric entity.0.components id v id
+        refl
+
+    pub given_others : (other : ComponentId) → other ≢ id → value_of given h other ≡ value_of m h other
+    given_others other apart =
+        ap (option_and_then (λ (e : Entity). map.get e.components other)) (get_here entity.0 entity.1)
+        ∙ get-insert_other component_cmp_total component_cmp-IsAntisymmetric entity.0.components id v
+        other apart
+        ∙ sym (ap (option_and_then (λ (e : Entity). map.get e.components other)) entity.1)
+
+    pub given_birth : birth_of given h ≡ birth_of m h
+    given_birth =
+        ap (option_map (λ (e : Entity). e.birth)) (get_here entity.0 entity.1)
+        ∙ sym (ap (option_map (λ (e : Entity). e.birth)) entity.1)

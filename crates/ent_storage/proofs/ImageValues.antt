@@ -1,0 +1,177 @@
+-- The values of an entity, one by one: what is written tells them.
+use Rattle.std.proofs.Common.{◌≡◌, ◌≢◌, refl, sym, ap, ◌∙◌, ℕ, zero, suc, ℤ, ◌+◌, ◌-◌, ◌^◌, ◌<◌, ◌≤◌}
+use Rattle.std.proofs.Common.{List, [], ◌∷◌, ◌++◌, length, drop, get_or, Option, None, Some, add-one}
+use Rattle.std.proofs.Common.{arith, inl, inr}
+use Rattle.std.specs.Int.{w64, cast_unsigned, cast_signed}
+use Rattle.std.specs.Int.RustNames.{FitsSigned}
+use Rattle.std.specs.List.{flat_map, range_with_len}
+use Rattle.std.proofs.Math.Facts.{Fits-lt-pow, Fits-of_z, to_z-of_z}
+use Rattle.std.proofs.lemmas.Bool.{cases_eq}
+use Rattle.std.proofs.lemmas.List.{append_assoc, append-nil}
+use Rattle.ent_handle.specs.declared.component.ComponentId.{ComponentId}
+use Rattle.ent_storage.specs.Image.{long, value_bytes, values_bytes, component}
+use Rattle.ent_storage.proofs.ImageBytes.{same_longs}
+
+-- ---- pieces, one for each number
+
+module _ (f : ℕ → List ℕ) where
+  pieces_more : (a n : ℕ) → flat_map f (range_with_len a (suc n))
+      ≡ flat_map f (range_with_len a n) ++ f (a + n)
+  pieces_more a zero =
+      let at : a + 0 ≡ a = omega arith in
+      append-nil (f a) ∙ ap f (sym at)
+  pieces_more a (suc n) =
+      let at : a + 1 + n ≡ a + suc n = omega arith in
+      ap (f a ++◌) (pieces_more (a + 1) n
+      ∙ ap (λ k. flat_map f (range_with_len (a + 1) n) ++ f k) at)
+      ∙ sym (append_assoc (f a) (flat_map f (range_with_len (a + 1) n)) (f (a + suc n)))
+
+  -- the piece of one number, and those before and after it
+  pieces_split : (a n k : ℕ) → k < n → (rest : List ℕ) × (flat_map f (range_with_len a n)
+      ≡ flat_map f (range_with_len a k) ++ (f (a + k) ++ rest))
+  pieces_split a zero k lt = absurd (omega arith)
+  pieces_split a (suc n) zero lt =
+      let at : a ≡ a + 0 = omega arith in
+      let rest = flat_map f (range_with_len (a + 1) n) in
+      (rest, ap (λ k. f k ++ rest) at)
+  pieces_split a (suc n) (suc k) lt =
+      let inner = pieces_split (a + 1) n k (omega arith) in
+      let at : a + 1 + k ≡ a + suc k = omega arith in
+      let before = flat_map f (range_with_len (a + 1) k) in (
+        inner.0,
+        ap (f a ++◌) (inner.1 ∙ ap (λ j. before ++ (f j ++ inner.0)) at)
+            ∙ sym (append_assoc (f a) before (f (a + suc k) ++ inner.0)),
+      )
+
+-- pieces that are alike one by one
+pieces_alike : (f g : ℕ → List ℕ) (a n : ℕ) → ((k : ℕ) → a ≤ k → k < a + n → f k ≡ g k)
+    → flat_map f (range_with_len a n) ≡ flat_map g (range_with_len a n)
+pieces_alike f g a zero each = refl
+pieces_alike f g a (suc n) each =
+    let rest = pieces_alike f g (a + 1) n (λ k least below. each k (omega arith) (omega arith)) in
+    let here = each a (omega arith) (omega arith) in
+    λ i. here i ++ rest i
+
+-- ---- one value
+
+-- a value has 64 bits, if there is one
+abbrev pub Fits : Option ℤ → Type 0
+Fits value = (v : ℤ) → value ≡ Some v → FitsSigned w64 v
+
+abbrev pub AllFit : (ComponentId → Option ℤ) → Type 0
+AllFit value = (id : ComponentId) → Fits (value id)
+
+unsigned_below : (z : ℤ) → FitsSigned w64 z → cast_unsigned w64 z < 2 ^ 64
+unsigned_below z fits = Fits-lt-pow (Fits-of_z fits)
+
+not_below : (m n : ℕ) → m ≡ n → m < n → ⊥
+not_below m n is lt = omega arith
+
+same_value : (v w : Option ℤ) (xs ys : List ℕ) → Fits v → Fits w → value_bytes v ++ xs
+    ≡ value_bytes w ++ ys → (v ≡ w) × (xs ≡ ys)
+same_value None None xs ys fv fw same = (refl, ap (drop 1) same)
+same_value None (Some w) xs ys fv fw same =
+    absurd (not_below 0 1 (ap (λ bs. get_or bs 0 0) same) (omega arith))
+same_value (Some v) None xs ys fv fw same =
+    absurd (not_below 0 1 (sym (ap (λ bs. get_or bs 0 0) same)) (omega arith))
+same_value (Some v) (Some w) xs ys fv fw same =
+    let parts = same_longs (cast_unsigned w64 v) (cast_unsigned w64 w) xs ys
+    (unsigned_below v (fv v refl)) (unsigned_below w (fw w refl)) (ap (drop 1) same) in (
+      ap Some (sym (to_z-of_z (fv v refl)) ∙ ap (cast_signed w64) parts.0 ∙ to_z-of_z (fw w refl)),
+      parts.1,
+    )
+
+-- ---- values
+
+abbrev piece : (ComponentId → Option ℤ) → ℕ → List ℕ
+piece value k = value_bytes (value (component k))
+
+pub values_more : (value : ComponentId → Option ℤ) (n : ℕ) → values_bytes value (n + 1)
+    ≡ values_bytes value n ++ value_bytes (value (component n))
+values_more value n =
+    let at : 0 + n ≡ n = omega arith in
+    ap (values_bytes value) (add-one n) ∙ pieces_more (piece value) 0 n
+    ∙ ap (λ k. values_bytes value n ++ piece value k) at
+
+same_pieces : (f g : ComponentId → Option ℤ) (a n : ℕ) (xs ys : List ℕ) → AllFit f → AllFit g
+    → flat_map (piece f) (range_with_len a n) ++ xs ≡ flat_map (piece g) (range_with_len a n) ++ ys
+    → ((k : ℕ) → a ≤ k → k < a + n → f (component k) ≡ g (component k)) × (xs ≡ ys)
+same_pieces f g a zero xs ys ff fg same = ((λ k least below. absurd (omega arith)), same)
+same_pieces f g a (suc n) xs ys ff fg same =
+    let rest_f = flat_map (piece f) (range_with_len (a + 1) n) in
+    let rest_g = flat_map (piece g) (range_with_len (a + 1) n) in
+    let one = same_value (f (component a)) (g (component a)) (rest_f ++ xs) (rest_g ++ ys)
+    (ff (component a)) (fg (component a)) (sym (append_assoc (piece f a) rest_f xs) ∙ same
+    ∙ append_assoc (piece g a) rest_g ys) in
+    let rest = same_pieces f g (a + 1) n xs ys ff fg one.1 in (
+      λ k least below. elim (cases_eq k a) [
+        | inl is ↦ rw is one.0
+        | inr other ↦ rest.0 k (omega arith) (omega arith)
+      ],
+      rest.1,
+    )
+
+-- values that are written alike are the same
+pub same_values : (f g : ComponentId → Option ℤ) (n : ℕ) (xs ys : List ℕ) → AllFit f → AllFit g
+    → values_bytes f n ++ xs ≡ values_bytes g n ++ ys
+    → ((k : ℕ) → k < n → f (component k) ≡ g (component k)) × (xs ≡ ys)
+same_values f g n xs ys ff fg same =
+    let both = same_pieces f g 0 n xs ys ff fg same in
+    ((λ k below. both.0 k (omega arith) (omega arith)), both.1)
+
+-- ---- values that are read
+
+apart_by_number : (id : ComponentId) (n : ℕ) → id.0 ≢ n → id ≢ component n
+apart_by_number id n other is = other (ap (λ (c : ComponentId). c.0) is)
+
+module _ (old new : ComponentId → Option ℤ) (n : ℕ) (value : Option ℤ)
+    (here : new (component n) ≡ value)
+    (others : (id : ComponentId) → id ≢ component n → new id ≡ old id) where
+  -- the next one
+  pub read_more : (bytes rest left : List ℕ) → bytes ≡ values_bytes old n ++ rest
+      → rest ≡ value_bytes value ++ left → bytes ≡ values_bytes new (n + 1) ++ left
+  read_more bytes rest left before next =
+      let alike = pieces_alike (piece old) (piece new) 0 n (λ k least below.
+      ap value_bytes (sym (others (component k) (apart_by_number (component k) n (omega arith))))) in
+      before ∙ ap (values_bytes old n ++◌) next
+      ∙ sym (append_assoc (values_bytes old n) (value_bytes value) left)
+      ∙ ap (◌++ left) ((λ i. alike i ++ value_bytes (sym here i)) ∙ sym (values_more new n))
+
+  pub free_more : ((id : ComponentId) → n ≤ id.0 → old id ≡ None) → (id : ComponentId)
+      → n + 1 ≤ id.0 → new id ≡ None
+  free_more free id least = others id (apart_by_number id n (omega arith)) ∙ free id (omega arith)
+
+  pub fits_more : (P : ℕ → ℤ → Type 0) → ((id : ComponentId) (v : ℤ) → old id ≡ Some v → P id.0 v)
+      → ((v : ℤ) → value ≡ Some v → P n v) → (id : ComponentId) (v : ℤ) → new id ≡ Some v → P id.0 v
+  fits_more P each last id v is = elim (cases_eq id.0 n) [
+    | inl same ↦
+        let whole : id ≡ component n = ap component same in
+        rw same (last v (sym here ∙ ap new (sym whole) ∙ is))
+    | inr other ↦ each id v (sym (others id (apart_by_number id n other)) ∙ is)
+  ]
+
+-- where no value is next, no values are written
+pub none_next : (f g : ComponentId → Option ℤ) (width n : ℕ) (bytes rest more : List ℕ) → n < width
+    → AllFit f → AllFit g → bytes ≡ values_bytes f n ++ rest
+    → ((value : Option ℤ) (left : List ℕ) → rest ≢ value_bytes value ++ left)
+    → bytes ≢ values_bytes g width ++ more
+none_next f g width n bytes rest more lt ff fg before none same =
+    let split = pieces_split (piece g) 0 width n lt in
+    let at : 0 + n ≡ n = omega arith in
+    let whole : values_bytes f n ++ rest ≡ values_bytes g n
+    ++ (piece g (0 + n) ++ (split.0 ++ more)) =
+    sym before ∙ same ∙ ap (◌++ more) split.1
+    ∙ append_assoc (values_bytes g n) (piece g (0 + n) ++ split.0) more
+    ∙ ap (values_bytes g n ++◌) (append_assoc (piece g (0 + n)) split.0 more) in
+    let parts = same_values f g n rest (piece g (0 + n) ++ (split.0 ++ more)) ff fg whole in
+    none (g (component (0 + n))) (split.0 ++ more) parts.1
+
+pub below_more : (P : ComponentId → Type 0) (n : ℕ)
+    → ((id : ComponentId) → id.0 < n → P id) → P (component n)
+    → (id : ComponentId) → id.0 < n + 1 → P id
+below_more P n each last id below = elim (cases_eq id.0 n) [
+  | inl same ↦
+      let whole : id ≡ component n = ap component same in
+      rw whole last
+  | inr other ↦ each id (omega arith)
+]

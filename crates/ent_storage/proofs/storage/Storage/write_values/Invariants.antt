@@ -1,0 +1,17 @@
+use Rattle.std.proofs.Common.{◌≡◌, ◌≤◌, ◌<◌, ◌+◌, ◌-◌, ◌*◌, ◌++◌, IfSome, vec_len, vec_capacity}
+use Rattle.std.specs.Int.{w64}
+use Rattle.std.specs.Int.RustNames.{FitsSigned}
+use Rattle.ent_handle.specs.declared.component.ComponentId.{ComponentId}
+use Rattle.ent_storage.specs.EntityMap.{value_of}
+use Rattle.ent_storage.specs.Image.{values_bytes}
+use Rattle.ent_storage.proofs.storage.Storage.write_values.Given as goal
+
+abbrev pub invariant-loop-number : goal.invariant-loop-number
+invariant-loop-number l = record {
+  items : l.out.items
+      ≡ l.fn.out.items ++ values_bytes (value_of l.self.entities l.handle) l.number;
+  values : (id : ComponentId) → id.0 < l.number
+      → IfSome (value_of l.self.entities l.handle id) (FitsSigned w64);
+  room : vec_len l.out + 9 * (l.width - l.number) ≤ vec_capacity l.out;
+  capacity : vec_capacity l.fn.out ≤ vec_capacity l.out;
+}

@@ -1,0 +1,384 @@
+//! Entities as bytes, and back: what the image of a world has of its living ones.
+ghost use Rattle.std.specs.Prelude.{◌≡◌, ◌≢◌, ◌+◌, ◌*◌, ◌<◌, ◌≤◌, ◌++◌, ℕ, ℤ, List, [], ◌∷◌};
+ghost use Rattle.std.specs.Prelude.{Option, None, Some, IfSome, IfNone, OnSome, IsSomeAnd, IfOk, IfErr};
+ghost use Rattle.std.specs.Prelude.{OnOk, OnErr, IsTrue, Contains, AllPairs};
+ghost use Rattle.std.specs.Prelude.{length, is_some, true, slice_get, vec_len, vec_capacity};
+ghost use Rattle.std.specs.Int.{w64};
+ghost use Rattle.std.specs.Int.RustNames.{FitsSigned};
+ghost use Rattle.std.specs.FinMap as map;
+ghost use Rattle.ent_handle.specs.declared.component.ComponentId.{ComponentId as Component};
+ghost use Rattle.ent_handle.specs.Handle.{Handle as HandleValue};
+ghost use Rattle.ent_storage.specs.EntityMap.{EntityMap, birth_of, value_of, with_components};
+ghost use Rattle.ent_storage.specs.Components.{with_items};
+ghost use Rattle.ent_storage.specs.Image.{word, long, birth_bytes, value_bytes, values_bytes};
+ghost use Rattle.ent_storage.specs.Image.{entity_bytes, entities_bytes, is_held, width, IsBirth};
+ghost use Rattle.ent_storage.specs.Image.{IsStored, AreStored};
+
+use crate::image_fault::StorageImageFault;
+use crate::storage::Storage;
+use ent_handle::{Birth, ComponentId, Handle, Memory};
+use std::alloc::Global;
+
+/// Appends a number in four bytes. There is room for them.
+#[tactic(auto, unfolding(crate::specs::Image::word))]
+pub fn write_word(out: &mut Vec<u8>, number: u32)
+    requires { vec_len out.old + 4 ≤ vec_capacity out.old }
+    ensures items { out.new.items ≡ out.old.items ++ word number }
+    ensures len { vec_len out.new ≡ vec_len out.old + 4 }
+    ensures capacity { vec_capacity out.old ≤ vec_capacity out.new }
+{
+    let _ = out.extend_from_slice(&number.to_le_bytes());
+}
+
+/// Appends a number in eight bytes. There is room for them.
+#[tactic(auto, unfolding(crate::specs::Image::long))]
+pub fn write_long(out: &mut Vec<u8>, number: u64)
+    requires { vec_len out.old + 8 ≤ vec_capacity out.old }
+    ensures items { out.new.items ≡ out.old.items ++ long number }
+    ensures len { vec_len out.new ≡ vec_len out.old + 8 }
+    ensures capacity { vec_capacity out.old ≤ vec_capacity out.new }
+{
+    let _ = out.extend_from_slice(&number.to_le_bytes());
+}
+
+/// The number in four bytes.
+fn word_in(bytes: [u8; 4]) -> u32
+    ensures { bytes ≡ word result }
+{
+    u32::from_le_bytes(bytes)
+}
+
+/// The number in eight bytes.
+fn long_in(bytes: [u8; 8]) -> u64
+    ensures { bytes ≡ long result }
+{
+    u64::from_le_bytes(bytes)
+}
+
+/// The number in the first four bytes, and the bytes after them.
+pub fn read_word(bytes: &[u8]) -> (u32, &[u8])
+    requires { 4 ≤ length bytes.now }
+    ensures bytes { bytes.now ≡ word result.0 ++ result.1.now }
+    ensures len { length bytes.now ≡ 4 + length result.1.now }
+{
+    let (first, rest) = bytes.split_first_chunk().unwrap();
+    (word_in(*first), rest)
+}
+
+/// The number in the first eight bytes, and the bytes after them.
+pub fn read_long(bytes: &[u8]) -> (u64, &[u8])
+    requires { 8 ≤ length bytes.now }
+    ensures bytes { bytes.now ≡ long result.0 ++ result.1.now }
+    ensures len { length bytes.now ≡ 8 + length result.1.now }
+{
+    let (first, rest) = bytes.split_first_chunk().unwrap();
+    (long_in(*first), rest)
+}
+
+/// Appends a birth. There is room for its 16 bytes.
+fn write_birth(out: &mut Vec<u8>, birth: Birth)
+    requires { vec_len out.old + 16 ≤ vec_capacity out.old }
+    ensures items { out.new.items ≡ out.old.items ++ birth_bytes birth }
+    ensures fits { IsBirth birth }
+    ensures len { vec_len out.new ≡ vec_len out.old + 16 }
+    ensures capacity { vec_capacity out.old ≤ vec_capacity out.new }
+{
+    write_long(out, birth.frame);
+    write_word(out, birth.system);
+    write_word(out, birth.ordinal);
+}
+
+/// The birth in the first 16 bytes, and the bytes after them.
+fn read_birth(bytes: &[u8]) -> (Birth, &[u8])
+    requires { 16 ≤ length bytes.now }
+    ensures bytes { bytes.now ≡ birth_bytes result.0 ++ result.1.now }
+    ensures fits { IsBirth result.0 }
+{
+    let (frame, rest) = read_long(bytes);
+    let (system, rest) = read_word(rest);
+    let (ordinal, rest) = read_word(rest);
+    let birth = Birth {
+        frame,
+        system,
+        ordinal,
+    };
+    (birth, rest)
+}
+
+/// Appends the value of a component, or that there is none. There is room for its 9 bytes.
+fn write_value(out: &mut Vec<u8>, value: Option<i64>)
+    requires { vec_len out.old + 9 ≤ vec_capacity out.old }
+    ensures items { out.new.items ≡ out.old.items ++ value_bytes value }
+    ensures fits { IfSome value (FitsSigned w64) }
+    ensures len { vec_len out.new ≤ vec_len out.old + 9 }
+    ensures capacity { vec_capacity out.old ≤ vec_capacity out.new }
+{
+    match value {
+        None => out.push_reserved(0),
+        Some(value) => {
+            out.push_reserved(1);
+            write_long(out, value.cast_unsigned());
+        }
+    }
+}
+
+/// The value of a component that bytes begin with, if there is one, and the bytes after it; `None`
+/// if no value is so written.
+fn read_value(bytes: &[u8]) -> Option<(Option<i64>, &[u8])>
+    ensures found { IfSome result (λ r. bytes.now ≡ value_bytes r.0 ++ r.1.now) }
+    ensures fits { IfSome result (λ r. IfSome r.0 (FitsSigned w64)) }
+    ensures none { IfNone result ((value : Option ℤ) (rest : List ℕ)
+        → bytes.now ≢ value_bytes value ++ rest) }
+{
+    let (flag, rest) = bytes.split_first()?;
+    if *flag == 0 {
+        return Some((None, rest));
+    }
+    if *flag != 1 {
+        return None;
+    }
+    if rest.len() < 8 {
+        return None;
+    }
+    let (number, rest) = read_long(rest);
+    Some((Some(number.cast_signed()), rest))
+}
+
+impl Storage {
+    /// The entities of these handles, in their order, of which these are the bytes, all of them.
+    /// They get the places of the handles. There is room for `room` entities in all.
+    ///
+    /// # Errors
+    ///
+    /// Each but [`Memory`](StorageImageFault::Memory) says that no entities have these bytes.
+    pub fn read_image(
+        alloc: Global,
+        handles: &[Handle],
+        room: usize,
+        bytes: &[u8],
+    ) -> Result<Self, StorageImageFault>
+        requires apart { AllPairs (λ g h. g ≢ h) handles.now }
+        requires room { length handles.now ≤ room }
+        ensures found { IfOk result (λ s. entities_bytes s.entities handles.now ≡ bytes.now) }
+        ensures stored { IfOk result (λ s. AreStored s.entities handles.now) }
+        ensures places { IfOk result (λ s. s.places ≡ handles.now) }
+        ensures room { IfOk result (λ s. room ≤ length handles.now + s.spare) }
+
+        // The bytes of entities are read as these.
+        ensures exact { (m : EntityMap) → AreStored m handles.now
+            → entities_bytes m handles.now ≡ bytes.now → IfOk result (λ s. s.entities ≡ m) }
+        ensures refused { IfErr result (λ fault. fault ≢ StorageImageFault.Memory
+            → (m : EntityMap) → AreStored m handles.now
+            → entities_bytes m handles.now ≢ bytes.now) }
+    {
+        if bytes.len() < 4 {
+            return Err(StorageImageFault::Length);
+        }
+        let (width, rest) = read_word(bytes);
+        if width > 256 {
+            return Err(StorageImageFault::Width { width });
+        }
+        let mut storage = Storage::new(alloc);
+        storage.reserve(room)?;
+        let mut rest = rest;
+        for handle in handles {
+            let place = storage.len();
+            let Some(left) = read_entity(&mut storage, *handle, width, rest)? else {
+                return Err(StorageImageFault::Entity { place });
+            };
+            rest = left;
+        }
+        if !rest.is_empty() {
+            return Err(StorageImageFault::Length);
+        }
+        if storage.width() != width {
+            return Err(StorageImageFault::Width { width });
+        }
+        Ok(storage)
+    }
+
+    /// Whether any entity has the component.
+    fn is_held(&self, id: ComponentId) -> bool
+        ensures { result ≡ is_held self.now.entities self.now.places id.0 }
+    {
+        !self.dense(id).is_empty()
+    }
+
+    /// How many components there are up to the last one that any entity has.
+    pub fn width(&self) -> u32
+        ensures value { result ≡ width self.now.entities self.now.places }
+        ensures most { result ≤ 256 }
+    {
+        let mut width = 0;
+        for number in 0..256 {
+            if self.is_held(ComponentId(number as u8)) {
+                width = number + 1;
+            }
+        }
+        width
+    }
+
+    /// Appends the bytes of the entity at this place, which has to be that of the handle. There is
+    /// room for them.
+    pub fn write_entity(&self, place: usize, handle: Handle, width: u32, out: &mut Vec<u8>)
+        requires at { slice_get self.now.places place ≡ Some handle }
+        requires few { width ≤ 256 }
+        requires room { vec_len out.old + (16 + 9 * width) ≤ vec_capacity out.old }
+        ensures items { out.new.items
+            ≡ out.old.items ++ entity_bytes width self.now.entities handle }
+        ensures birth { IsSomeAnd (birth_of self.now.entities handle) IsBirth }
+        ensures values { (id : Component) → id.0 < width
+            → IfSome (value_of self.now.entities handle id) (FitsSigned w64) }
+        ensures capacity { vec_capacity out.old ≤ vec_capacity out.new }
+    {
+        write_birth(out, self.birth_at(place, handle));
+        self.write_values(place, handle, width, out);
+    }
+
+    /// Appends the values of the first components.
+    fn write_values(&self, place: usize, handle: Handle, width: u32, out: &mut Vec<u8>)
+        requires at { slice_get self.now.places place ≡ Some handle }
+        requires few { width ≤ 256 }
+        requires room { vec_len out.old + 9 * width ≤ vec_capacity out.old }
+        ensures items { out.new.items
+            ≡ out.old.items ++ values_bytes (value_of self.now.entities handle) width }
+        ensures values { (id : Component) → id.0 < width
+            → IfSome (value_of self.now.entities handle id) (FitsSigned w64) }
+        ensures capacity { vec_capacity out.old ≤ vec_capacity out.new }
+    {
+        for number in 0..width {
+            write_value(out, self.get_at(place, handle, ComponentId(number as u8)));
+        }
+    }
+
+    /// Gives the entity at this place the value of a component that it doesn't have, if there is one.
+    fn give(
+        &mut self,
+        place: usize,
+        handle: Handle,
+        id: ComponentId,
+        value: Option<i64>,
+    ) -> Result<(), Memory>
+        requires at { slice_get self.old.places place ≡ Some handle }
+        requires there { is_some (birth_of self.old.entities handle) ≡ true }
+        requires free { value_of self.old.entities handle id ≡ None }
+        ensures here { OnOk result (value_of self.new.entities handle id ≡ value) }
+        ensures others { (other : Component) → other ≢ id
+            → value_of self.new.entities handle other ≡ value_of self.old.entities handle other }
+        ensures birth { birth_of self.new.entities handle ≡ birth_of self.old.entities handle }
+        ensures rest { (h : HandleValue) → h ≢ handle
+            → map.get self.new.entities h ≡ map.get self.old.entities h }
+        ensures places { self.new.places ≡ self.old.places }
+        ensures spare { self.new.spare ≡ self.old.spare }
+        ensures err { OnErr result (self.new ≡ self.old) }
+    {
+        match value {
+            Some(value) => {
+                let item = item_of(id, value);
+                self.give_one(place, handle, item)
+            }
+            None => Ok(()),
+        }
+    }
+
+    /// Gives the entity at this place a component.
+    fn give_one(
+        &mut self,
+        place: usize,
+        handle: Handle,
+        item: (ComponentId, i64),
+    ) -> Result<(), Memory>
+        requires { slice_get self.old.places place ≡ Some handle }
+        ensures ok { OnOk result (self.new.entities
+            ≡ with_components self.old.entities handle (λ held. with_items held (item ∷ []))) }
+        ensures places { self.new.places ≡ self.old.places }
+        ensures spare { self.new.spare ≡ self.old.spare }
+        ensures err { OnErr result (self.new ≡ self.old) }
+    {
+        self.insert_at(place, handle, &[item])
+    }
+}
+
+/// A component and its value.
+fn item_of(id: ComponentId, value: i64) -> (ComponentId, i64)
+    ensures { result ≡ (id, value) }
+{
+    (id, value)
+}
+
+/// Gives the entity at this place the values that bytes begin with. Returns the bytes after them;
+/// `None` if no values are so written.
+fn read_values<'a>(
+    storage: &mut Storage,
+    place: usize,
+    handle: Handle,
+    width: u32,
+    bytes: &'a [u8],
+) -> Result<Option<&'a [u8]>, Memory>
+    requires at { slice_get storage.old.places place ≡ Some handle }
+    requires few { width ≤ 256 }
+    requires there { is_some (birth_of storage.old.entities handle) ≡ true }
+    requires free { (id : Component) → value_of storage.old.entities handle id ≡ None }
+    ensures found { IfOk result (λ r. IfSome r (λ rest.
+        bytes.now ≡ values_bytes (value_of storage.new.entities handle) width ++ rest.now)) }
+    ensures beyond { IfOk result (λ r. OnSome r ((id : Component) → width ≤ id.0
+        → value_of storage.new.entities handle id ≡ None)) }
+    ensures fits { (id : Component) (v : ℤ) → value_of storage.new.entities handle id ≡ Some v
+        → (id.0 < 256) × FitsSigned w64 v }
+    ensures none { IfOk result (λ r. IfNone r ((value : Component → Option ℤ) (rest : List ℕ)
+        → ((id : Component) (v : ℤ) → value id ≡ Some v → FitsSigned w64 v)
+        → bytes.now ≢ values_bytes value width ++ rest)) }
+    ensures birth { birth_of storage.new.entities handle ≡ birth_of storage.old.entities handle }
+    ensures rest { (h : HandleValue) → h ≢ handle
+        → map.get storage.new.entities h ≡ map.get storage.old.entities h }
+    ensures places { storage.new.places ≡ storage.old.places }
+    ensures spare { storage.new.spare ≡ storage.old.spare }
+{
+    let mut rest = bytes;
+    for number in 0..width {
+        let Some((value, left)) = read_value(rest) else {
+            return Ok(None);
+        };
+        storage.give(place, handle, ComponentId(number as u8), value)?;
+        rest = left;
+    }
+    Ok(Some(rest))
+}
+
+/// Adds the entity that bytes begin with. Returns the bytes after it; `None` if no entity is so
+/// written.
+fn read_entity<'a>(
+    storage: &mut Storage,
+    handle: Handle,
+    width: u32,
+    bytes: &'a [u8],
+) -> Result<Option<&'a [u8]>, Memory>
+    requires new { map.get storage.old.entities handle ≡ None }
+    requires few { width ≤ 256 }
+    requires room { 0 < storage.old.spare }
+    ensures found { IfOk result (λ r. IfSome r (λ rest.
+        bytes.now ≡ entity_bytes width storage.new.entities handle ++ rest.now)) }
+    ensures stored { IfOk result (λ r. OnSome r (IsStored storage.new.entities handle)) }
+    ensures beyond { IfOk result (λ r. OnSome r ((id : Component) → width ≤ id.0
+        → value_of storage.new.entities handle id ≡ None)) }
+    ensures none { IfOk result (λ r. IfNone r ((m : EntityMap) (rest : List ℕ)
+        → IsStored m handle → bytes.now ≢ entity_bytes width m handle ++ rest)) }
+    ensures rest { (h : HandleValue) → h ≢ handle
+        → map.get storage.new.entities h ≡ map.get storage.old.entities h }
+    ensures places { IfOk result (λ r. OnSome r
+        (storage.new.places ≡ storage.old.places ++ handle ∷ [])) }
+    ensures spare { IfOk result (λ r. OnSome r (storage.new.spare + 1 ≡ storage.old.spare)) }
+{
+    if bytes.len() < 16 {
+        return Ok(None);
+    }
+    let (birth, rest) = read_birth(bytes);
+    let place = storage.len();
+    let Ok(()) = storage.born_within(handle, birth) else {
+        unreachable!()
+    };
+    let Some(rest) = read_values(storage, place, handle, width, rest)? else {
+        return Ok(None);
+    };
+    Ok(Some(rest))
+}

@@ -1,0 +1,36 @@
+ghost use Rattle.std.specs.Prelude.{◌≡◌};
+ghost use Rattle.ent_storage.specs.declared.image_fault.StorageImageFault.TheVariants.{Memory as Refused};
+
+use ent_handle::Memory;
+use thiserror::Error;
+
+/// Why bytes were not read as the entities of a storage.
+#[derive(Clone, Copy, Debug, PartialEq, Eq, Hash, Error)]
+pub enum StorageImageFault {
+    /// There are fewer bytes than the entities have, or more.
+    #[error("bytes are missing or left over")]
+    Length,
+    /// No entity has the last of so many components, or there are no components of such numbers.
+    #[error("{width} components can't be right")]
+    Width {
+        /// How many components the image has.
+        width: u32,
+    },
+    /// The bytes of the entity at this place are those of no entity.
+    #[error("entity {place} is damaged")]
+    Entity {
+        /// How many entities stand before it.
+        place: usize,
+    },
+    /// Out of memory.
+    #[error("out of memory")]
+    Memory,
+}
+
+impl From<Memory> for StorageImageFault {
+    ghost from_gives = { λ _ fault. fault ≡ Refused };
+
+    fn from(_refused: Memory) -> Self {
+        StorageImageFault::Memory
+    }
+}

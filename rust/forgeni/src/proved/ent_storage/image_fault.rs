@@ -1,0 +1,42 @@
+// Made of crates/ent_storage/src/image_fault.rt by rust/erase. It isn't edited by hand.
+
+use crate::proved::ent_handle::Memory;
+
+/// Why bytes were not read as the entities of a storage.
+#[derive(Clone, Copy, Debug, PartialEq, Eq, Hash)]
+pub enum StorageImageFault {
+    /// There are fewer bytes than the entities have, or more.
+    Length,
+    /// No entity has the last of so many components, or there are no components of such numbers.
+    Width {
+        /// How many components the image has.
+        width: u32,
+    },
+    /// The bytes of the entity at this place are those of no entity.
+    Entity {
+        /// How many entities stand before it.
+        place: usize,
+    },
+    /// Out of memory.
+    Memory,
+}
+
+impl core::fmt::Display for StorageImageFault {
+    fn fmt(&self, f: &mut core::fmt::Formatter<'_>) -> core::fmt::Result {
+        match self {
+            StorageImageFault::Length => write!(f, "bytes are missing or left over"),
+            StorageImageFault::Width { width } => write!(f, "{width} components can't be right"),
+            StorageImageFault::Entity { place } => write!(f, "entity {place} is damaged"),
+            StorageImageFault::Memory => write!(f, "out of memory"),
+        }
+    }
+}
+
+impl core::error::Error for StorageImageFault {}
+
+impl From<Memory> for StorageImageFault {
+    #[inline]
+    fn from(_refused: Memory) -> Self {
+        StorageImageFault::Memory
+    }
+}
