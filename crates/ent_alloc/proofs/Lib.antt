@@ -42,3 +42,6 @@ pub mod ImageSound
 pub mod ImageRefused
 pub mod ImageHeader
 pub mod ImageOf
+pub mod Fronts
+pub mod Waits
+pub mod FrontPools

@@ -7,6 +7,7 @@ pub mod Living
 pub mod Sound
 pub mod Reserved
 pub mod Entities
+pub mod Front
 pub mod Image
 pub mod ImageRecords
 pub mod Fault
