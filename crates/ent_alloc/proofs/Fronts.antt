@@ -201,8 +201,11 @@ module _ (limits : Limits) (records : List SlotRecord) (pending : List ℕ) (liv
         ∙ get_or-map (handle_at records) pending (from + k) 0 d (omega arith)
 
     long_waited : length waited ≡ length hs
-    long_waited = omega (arith, length-drop from (map (handle_at records) pending),
-        length-map pending (handle_at records))
+    long_waited = omega (
+      arith,
+      length-drop from (map (handle_at records) pending),
+      length-map pending (handle_at records),
+    )
 
     -- what is so of those that waited last is so of these
     each : (P : Handle → Type 0) → ((position : ℕ) → from ≤ position → position < length pending
@@ -220,7 +223,10 @@ module _ (limits : Limits) (records : List SlotRecord) (pending : List ℕ) (liv
 
     all_wait : All Waits hs
     all_wait = each Waits (λ position late within. record {
-      position = position; late = late; within = within; is = refl;
+      position = position;
+      late = late;
+      within = within;
+      is = refl;
     })
 
     pub made_slots : All (λ h. h.index < length records) hs
@@ -352,10 +358,12 @@ module _ (limits : Limits) (records : List SlotRecord) (pending : List ℕ) (liv
             by_place (inr late) listed back =
                 let h = handle_at records (get_or pending position 0) in
                 let long = long_waited in
-                let has = Contains-permutation waited hs h same
-                (position - from, omega arith,
-                waited_at (position - from) h (omega arith)
-                ∙ ap (λ n. handle_at records (get_or pending n 0)) (omega arith)) in
+                let has = Contains-permutation waited hs h same (
+                  position - from,
+                  omega arith,
+                  waited_at (position - from) h (omega arith)
+                      ∙ ap (λ n. handle_at records (get_or pending n 0)) (omega arith),
+                ) in
                 absurd (none has.0 h has.1 (ap (λ (g : Handle). g.index) has.2 ∙ back))
 
     pub front_keeps_links : AreLinked limits after order live

@@ -114,12 +114,18 @@ module _ (limits : Limits) (records : List SlotRecord) (pending : List ℕ) (liv
     order = pending ++ range_with_len (length records) count
 
     grown_long : length grown ≡ length records + count
-    grown_long = omega (arith, length-append records (new_waiting (length pending) count),
-        length-new_waiting (length pending) count)
+    grown_long = omega (
+      arith,
+      length-append records (new_waiting (length pending) count),
+      length-new_waiting (length pending) count,
+    )
 
     order_long : length order ≡ length pending + count
-    order_long = omega (arith, length-append pending (range_with_len (length records) count),
-        length-range_with_len (length records) count)
+    order_long = omega (
+      arith,
+      length-append pending (range_with_len (length records) count),
+      length-range_with_len (length records) count,
+    )
 
     old_stays : (index : ℕ) → index < length records → record_at grown index
         ≡ record_at records index

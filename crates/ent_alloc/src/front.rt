@@ -110,7 +110,8 @@ impl Entities {
         ensures err { OnErr result (self.new ≡ self.old) }
         ensures memory { OnErr result (top self.old.allocator < length front.now) }
     {
-        let more = (front.len() as u32).saturating_sub(self.slots.waiting());
+        let waiting = self.slots.waiting();
+        let more = (front.len() as u32).saturating_sub(waiting);
         self.slots.make_waiting(more)?;
         self.slots.wait_last(front);
         Ok(())
