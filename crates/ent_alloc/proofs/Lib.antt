@@ -48,3 +48,6 @@ pub mod ImageFront
 pub mod ImageChunks
 pub mod ImageFaults
 pub mod ImageOf
+pub mod Fronts
+pub mod Waits
+pub mod FrontPools

@@ -7,6 +7,7 @@ mod asking;
 mod cloning;
 mod entities;
 mod fault;
+mod front;
 mod giving;
 mod image;
 mod image_fault;

@@ -254,6 +254,9 @@ pub const LIST_TRAIT: &str = "crate::kit::vec::FallibleVec";
 pub const RECEIVERS: &[(&str, bool)] = &[
     // A queue of commands, or what lends one.
     ("queue", false),
+    // The lists of the slots, where a file other than that of their type lends them.
+    ("pending", true),
+    ("records", true),
 ];
 
 /// Methods that only look at a value, so that nothing changes if they aren't called.

@@ -1,0 +1,276 @@
+-- A pool whose front comes in another order: the allocator stays sound, and the roster stands for
+-- it.
+use Rattle.std.proofs.Common.{rules, ◌≡◌, ◌⊎◌, inl, inr, sym, ap, ◌∙◌, subst, refl, ℕ, ◌+◌, ◌-◌, ◌<◌, ◌≤◌}
+use Rattle.std.proofs.Common.{List, [], ◌++◌, length, take, drop, reverse, All, AllPairs, arith}
+use Rattle.std.proofs.Common.{IsPermutation}
+use Rattle.std.proofs.lemmas.Bool.{cases_lt}
+use Rattle.std.proofs.lemmas.List.{length-append, length-reverse, length-drop, append_assoc}
+use Rattle.std.proofs.lemmas.List.{append-nil, take-append-drop, reverse-append, reverse-reverse}
+use Rattle.std.proofs.lemmas.List.{drop_all, take_all, length-take}
+use Rattle.std.proofs.lemmas.List.Elements.{All-append, All-weaker, All-take, All-drop}
+use Rattle.std.proofs.lemmas.List.Sorted.{All-permutation, IsPermutation-append_left}
+use Rattle.std.proofs.lemmas.List.Sorted.{IsPermutation-reverse, IsPermutation-trans}
+use Rattle.ent_handle.specs.Handle.{Handle}
+use Rattle.ent_alloc.specs.Roster.{Roster}
+use Rattle.ent_alloc.specs.Sequential.{Allocator, available, top, fresh}
+use Rattle.ent_alloc.specs.Sound.{IsSound, IsWithin, AreApart, IsLive}
+use Rattle.ent_alloc.specs.Entities.{idle, allocator_of, AreReserved}
+use Rattle.ent_alloc.specs.declared.requests.Requests.{Requests}
+use Rattle.ent_alloc.specs.Front.{with_front}
+use Rattle.ent_alloc.proofs.FreshHandles.{length-fresh, All-fresh, take_joined, drop_joined}
+use Rattle.ent_alloc.proofs.FreshHandles.{fresh-none}
+use Rattle.ent_alloc.proofs.LaidOut.{old_ones, IsLaidOut, flushed-laid_out, laid_out-sound}
+use Rattle.ent_alloc.proofs.ListLaws.{All-left, AllPairs-left, AllPairs-IsPermutation}
+use Rattle.ent_alloc.proofs.ListLaws.{take-append, drop-append, take-nil, drop-nil}
+use Rattle.ent_alloc.proofs.Reversed.{drop-reverse, take-reverse}
+use Rattle.ent_alloc.proofs.Meaning.{top_is, top_view, length-idle, pending_below, rest_is, none_is}
+use Rattle.ent_alloc.proofs.Meaning.{StandFor, closed}
+
+-- ---- the allocator
+
+module _ (s : Allocator) (hs : List Handle) (sound : IsSound s) (flushed : s.asked ≡ 0)
+    (few : length hs ≤ length s.pool) (same : IsPermutation (take (length hs) s.pool) hs) where
+  was : IsLaidOut s (old_ones s)
+  was = flushed-laid_out s sound flushed
+
+  abbrev n : ℕ
+  n = length hs
+
+  abbrev made : ℕ
+  made = s.made + (n - top s)
+
+  abbrev old : List Handle
+  old = hs ++ drop n (old_ones s)
+
+  all : available s ≡ s.pool
+  all = rw (was.taken, was.aside)
+
+  long : length s.pool ≡ top s + (s.limits.slots - s.made)
+  long = ap length was.pool ∙ length-append (old_ones s) (fresh s.made (s.limits.slots - s.made))
+      ∙ ap (top s +◌) (length-fresh s.made (s.limits.slots - s.made))
+
+  pool_is : hs ++ drop n s.pool ≡ old ++ fresh made (s.limits.slots - made)
+  pool_is =
+      let rest : s.limits.slots - s.made - (n - top s) ≡ s.limits.slots - made = omega arith in
+      ap (hs ++◌) (ap (drop n) was.pool
+      ∙ drop_joined s.made (s.limits.slots - s.made) (old_ones s) was.below n
+      ∙ ap (λ k. drop n (old_ones s) ++ fresh made k) rest)
+      ∙ sym (append_assoc hs (drop n (old_ones s)) (fresh made (s.limits.slots - made)))
+
+  moved : IsPermutation s.pool (hs ++ drop n s.pool)
+  moved = subst (λ pool. IsPermutation pool (hs ++ drop n s.pool)) (take-append-drop n s.pool)
+      (IsPermutation-append_left (drop n s.pool) (take n s.pool) hs same)
+
+  -- what is so of all that may be given is so of the old handles
+  each : (P : Handle → Type 0) → All P (available s) → All P old
+  each P holds = All-left P old (fresh made (s.limits.slots - made))
+      (subst (All P) pool_is (All-permutation P s.pool (hs ++ drop n s.pool) moved
+      (subst (All P) all holds)))
+
+  front_below : All (λ h. h.index < made) hs
+  front_below =
+      let P : Handle → Type 0 = λ h. h.index < made in
+      All-permutation P (take n s.pool) hs same
+      (subst (All P)
+      (sym (ap (take n) was.pool
+      ∙ take_joined s.made (s.limits.slots - s.made) (old_ones s) was.below n
+      (omega (arith, long))))
+      (All-append P (take n (old_ones s)) (fresh s.made (n - top s))
+      (All-take P n (old_ones s) (All-weaker (λ h. h.index < s.made) P (λ h lt. omega arith)
+      (old_ones s) was.below))
+      (All-fresh P s.made (n - top s) (λ k lt. omega arith))))
+
+  laid : IsLaidOut (with_front s hs) old
+  laid = record {
+    limits = was.limits;
+    made = omega (arith, long, was.made);
+    taken = was.taken;
+    aside = was.aside;
+    asked = was.asked;
+    pool = pool_is;
+    within = each (IsWithin s.limits) sound.within;
+    below = All-append (λ h. h.index < made) hs (drop n (old_ones s)) front_below
+        (All-drop (λ h. h.index < made) n (old_ones s)
+        (All-weaker (λ h. h.index < s.made) (λ h. h.index < made) (λ h lt. omega arith)
+        (old_ones s) was.below));
+    apart = AllPairs-left AreApart old (fresh made (s.limits.slots - made))
+        (subst (AllPairs AreApart) pool_is
+        (AllPairs-IsPermutation AreApart (λ g h ne e. ne (sym e)) s.pool (hs ++ drop n s.pool) moved
+        (subst (AllPairs AreApart) all sound.apart)));
+    live_within = was.live_within;
+    live_below = λ h alive. let lt = was.live_below h alive in omega arith;
+    live_apart = λ h alive. each (AreApart h) (sound.live h alive).apart;
+    one_occupant = was.one_occupant;
+  }
+
+  pub with_front-sound : IsSound (with_front s hs)
+  with_front-sound = laid_out-sound (with_front s hs) old laid
+
+-- ---- the roster
+
+-- with so many more slots, which wait after all others
+abbrev pub grown : Roster → ℕ → Roster
+grown r more = record r { pending = r.pending ++ fresh r.made more; made = r.made + more }
+
+-- the slots that wait last in another order
+abbrev pub turned : Roster → List Handle → Roster
+turned r hs = record r {
+  pending = take (length r.pending - length hs) r.pending ++ reverse hs;
+}
+
+module _ (r : Roster) (hs : List Handle) (sound : IsSound (allocator_of r 0 0))
+    (few : length hs ≤ length (idle r)) (same : IsPermutation (take (length hs) (idle r)) hs) where
+  abbrev pub more : ℕ
+  more = length hs - length r.pending
+
+  abbrev wide : List Handle
+  wide = r.pending ++ fresh r.made more
+
+  wide_long : length wide ≡ length r.pending + more
+  wide_long = omega (arith, length-append r.pending (fresh r.made more), length-fresh r.made more)
+
+  pub enough_wait : length hs ≤ length (grown r more).pending
+  enough_wait = omega (arith, wide_long)
+
+  pub room_is : r.made + more ≤ r.limits.slots
+  room_is = omega (arith, length-idle r, sound.made)
+
+  below : All (λ h. h.index < r.made) (reverse r.pending)
+  below = pending_below r 0 0 (omega arith) sound
+
+  as_many : more ≡ 0 → wide ≡ r.pending
+  as_many none = ap (λ k. r.pending ++ fresh r.made k) none
+      ∙ ap (r.pending ++◌) (fresh-none r.made) ∙ append-nil r.pending
+
+  pub same_waits : IsPermutation (drop (length wide - length hs) wide) hs
+  same_waits = by_count (cases_lt (length r.pending) (length hs))
+    where
+      by_count : (length r.pending < length hs) ⊎ (length hs ≤ length r.pending)
+          → IsPermutation (drop (length wide - length hs) wide) hs
+      by_count (inl over) =
+          let none : length wide - length hs ≡ 0 = omega (arith, wide_long) in
+          let front : take (length hs) (idle r) ≡ reverse r.pending ++ fresh r.made more =
+          take_joined r.made (r.limits.slots - r.made) (reverse r.pending) below (length hs)
+          (omega (arith, length-idle r, length-reverse r.pending))
+          ∙ ap (λ k. take (length hs) (reverse r.pending) ++ fresh r.made (length hs - k))
+          (length-reverse r.pending)
+          ∙ ap (◌++ fresh r.made more)
+          (take_all (length hs) (reverse r.pending) (omega (arith, length-reverse r.pending))) in
+          subst (λ k. IsPermutation (drop k wide) hs) (sym none)
+          (IsPermutation-trans wide (reverse r.pending ++ fresh r.made more) hs
+          (IsPermutation-append_left (fresh r.made more) r.pending (reverse r.pending)
+          (IsPermutation-reverse r.pending))
+          (subst (λ xs. IsPermutation xs hs) front same))
+      by_count (inr within) =
+          let none : more ≡ 0 = omega arith in
+          let whole = as_many none in
+          let last = drop (length r.pending - length hs) r.pending in
+          let front : take (length hs) (idle r) ≡ reverse last =
+          take_joined r.made (r.limits.slots - r.made) (reverse r.pending) below (length hs)
+          (omega (arith, length-idle r, length-reverse r.pending))
+          ∙ ap (λ k. take (length hs) (reverse r.pending) ++ fresh r.made k)
+          (omega (arith, length-reverse r.pending))
+          ∙ ap (take (length hs) (reverse r.pending) ++◌) (fresh-none r.made)
+          ∙ append-nil (take (length hs) (reverse r.pending))
+          ∙ take-reverse (length hs) r.pending in
+          subst (λ xs. IsPermutation (drop (length xs - length hs) xs) hs) (sym whole)
+          (IsPermutation-trans last (reverse last) hs (IsPermutation-reverse last)
+          (subst (λ xs. IsPermutation xs hs) front same))
+
+  kept_is : take (length wide - length hs) wide ≡ take (length r.pending - length hs) r.pending
+  kept_is = by_count (cases_lt (length r.pending) (length hs))
+    where
+      by_count : (length r.pending < length hs) ⊎ (length hs ≤ length r.pending)
+          → take (length wide - length hs) wide
+          ≡ take (length r.pending - length hs) r.pending
+      by_count (inl over) =
+          let none : length wide - length hs ≡ 0 = omega (arith, wide_long) in
+          let nothing : length r.pending - length hs ≡ 0 = omega arith in
+          ap (λ k. take k wide) none ∙ sym (ap (λ k. take k r.pending) nothing)
+      by_count (inr within) = ap (λ xs. take (length xs - length hs) xs) (as_many (omega arith))
+
+  pub front_view : allocator_of (turned (grown r more) hs) 0 0
+      ≡ with_front (allocator_of r 0 0) hs
+  front_view =
+      let tops : top (allocator_of r 0 0) ≡ length r.pending = top_is r 0 0 (omega arith) sound in
+      let kept = take (length r.pending - length hs) r.pending in
+      let back : reverse (take (length wide - length hs) wide ++ reverse hs) ≡ hs ++ reverse kept =
+      ap (λ xs. reverse (xs ++ reverse hs)) kept_is ∙ reverse-append kept (reverse hs)
+      ∙ ap (◌++ reverse kept) (reverse-reverse hs) in
+      let rest : drop (length hs) (idle r) ≡ reverse kept
+      ++ fresh (r.made + more) (r.limits.slots - (r.made + more)) =
+      drop_joined r.made (r.limits.slots - r.made) (reverse r.pending) below (length hs)
+      ∙ ap (λ k. drop (length hs) (reverse r.pending)
+      ++ fresh (r.made + (length hs - k)) (r.limits.slots - r.made - (length hs - k)))
+      (length-reverse r.pending)
+      ∙ ap (λ k. drop (length hs) (reverse r.pending) ++ fresh (r.made + more) k) (omega arith)
+      ∙ ap (◌++ fresh (r.made + more) (r.limits.slots - (r.made + more)))
+      (drop-reverse (length hs) r.pending) in
+      let pool : reverse (take (length wide - length hs) wide ++ reverse hs)
+      ++ fresh (r.made + more) (r.limits.slots - (r.made + more)) ≡ hs ++ drop (length hs) (idle r) =
+      ap (◌++ fresh (r.made + more) (r.limits.slots - (r.made + more))) back
+      ∙ append_assoc hs (reverse kept) (fresh (r.made + more) (r.limits.slots - (r.made + more)))
+      ∙ ap (hs ++◌) (sym rest) in
+      let made : r.made + more ≡ r.made + (length hs - top (allocator_of r 0 0)) =
+      ap (λ k. r.made + (length hs - k)) (sym tops) in
+      λ i. record {
+        limits = r.limits;
+        live = r.live;
+        pool = pool i;
+        taken = [];
+        aside = [];
+        made = made i;
+        asked = 0;
+      }
+
+-- ---- where the call begins and ends
+
+module _ (r : Roster) (requests : Requests) (s : Allocator) (hs : List Handle)
+    (reserved : AreReserved r requests.asked requests.served)
+    (view : allocator_of r requests.asked requests.served ≡ s) (flushed : s.asked ≡ 0)
+    (few : length hs ≤ length s.pool) (same : IsPermutation (take (length hs) s.pool) hs) where
+  view_at_rest : allocator_of r 0 0 ≡ s
+  view_at_rest = rest_is r requests.asked requests.served s reserved view flushed
+
+  sound_in : IsSound s
+  sound_in = subst IsSound view reserved.sound
+
+  sound_at_rest : IsSound (allocator_of r 0 0)
+  sound_at_rest = subst IsSound (sym view_at_rest) sound_in
+
+  pool_at_rest : idle r ≡ s.pool
+  pool_at_rest = ap (λ (s : Allocator). s.pool) view_at_rest
+
+  few_at_rest : length hs ≤ length (idle r)
+  few_at_rest = subst (λ pool. length hs ≤ length pool) (sym pool_at_rest) few
+
+  same_at_rest : IsPermutation (take (length hs) (idle r)) hs
+  same_at_rest = subst (λ pool. IsPermutation (take (length hs) pool) hs) (sym pool_at_rest) same
+
+  pub top_in : top s ≡ length r.pending
+  top_in = top_view r requests.asked requests.served s reserved view
+
+  pub few_in : length hs ≤ length r.pending + (r.limits.slots - r.made)
+  few_in = omega (arith, length-idle r, few_at_rest)
+
+  pub room_in : r.made + (length hs - length r.pending) ≤ r.limits.slots
+  room_in = room_is r hs sound_at_rest few_at_rest same_at_rest
+
+  module _ (r' : Roster) (grown_is : r' ≡ grown r (length hs - length r.pending)) where
+    pub enough_in : length hs ≤ length r'.pending
+    enough_in = subst (λ (r : Roster). length hs ≤ length r.pending) (sym grown_is)
+        (enough_wait r hs sound_at_rest few_at_rest same_at_rest)
+
+    pub waits_in : IsPermutation (drop (length r'.pending - length hs) r'.pending) hs
+    waits_in =
+        subst (λ (r : Roster). IsPermutation (drop (length r.pending - length hs) r.pending) hs)
+        (sym grown_is) (same_waits r hs sound_at_rest few_at_rest same_at_rest)
+
+    pub front_stands : (r'' : Roster) → r'' ≡ turned r' hs → StandFor r'' requests (with_front s hs)
+    front_stands r'' is =
+        let end = turned (grown r (length hs - length r.pending)) hs in
+        closed r'' end requests (with_front s hs) (is ∙ ap (λ r. turned r hs) grown_is)
+        (none_is r requests s reserved view flushed)
+        (front_view r hs sound_at_rest few_at_rest same_at_rest
+        ∙ ap (λ s. with_front s hs) view_at_rest)
+        (with_front-sound s hs sound_in flushed few same) reserved.rows

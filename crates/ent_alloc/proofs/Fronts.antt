@@ -1,0 +1,497 @@
+-- The slots that wait last in another order: the vectors stay linked, and the roster has the
+-- handles in that order.
+use Rattle.std.proofs.Common.{rules, ◌≡◌, ◌≢◌, ◌⊎◌, inl, inr, ℕ, zero, suc, ◌+◌, ◌-◌, ◌<◌, ◌≤◌, refl, sym}
+use Rattle.std.proofs.Common.{ap, ◌∙◌, List, [], ◌∷◌, ◌++◌, length, get_or, set, take, drop, map, subst}
+use Rattle.std.proofs.Common.{reverse, All, AllPairs, Contains, IsPermutation, arith, false, None}
+use Rattle.std.proofs.lemmas.Grind.{common_steps}
+use Rattle.std.proofs.lemmas.Bool.{cases_lt, cases_eq}
+use Rattle.std.proofs.lemmas.List.{length-set, get_or-set_same, get_or-set_other, get_or-map}
+use Rattle.std.proofs.lemmas.List.{length-map, length-drop, get_or-drop, get_or-take, same_lists}
+use Rattle.std.proofs.lemmas.List.{length-take-le, length-append, length-reverse, get_or-reverse}
+use Rattle.std.proofs.lemmas.List.{get_or_append_left, get_or-append-add}
+use Rattle.std.specs.FinSet as sets
+use Rattle.std.specs.FinMap as maps
+use Rattle.std.proofs.lemmas.List.Elements.{All-tail, All-cons}
+use Rattle.std.proofs.lemmas.List.Sorted.{All-permutation, Contains-permutation}
+use Rattle.ent_handle.specs.Handle.{Handle}
+use Rattle.ent_alloc.specs.Limits.{Limits}
+use Rattle.ent_alloc.specs.Roster.{Roster}
+use Rattle.ent_alloc.specs.Sound.{AreApart}
+use Rattle.ent_alloc.specs.declared.slot_record.SlotRecord.{SlotRecord}
+use Rattle.ent_alloc.specs.declared.slot_record.Occupancy.TheVariants.{Pending}
+use Rattle.ent_alloc.specs.Slots.{is_alive, row_of, record_at, no_slot, handle_at, occupants}
+use Rattle.ent_alloc.specs.Slots.{rows_from, roster_of, AreLinked}
+use Rattle.ent_alloc.specs.Front.{waiting_at, placed, moved}
+use Rattle.ent_alloc.proofs.ListLaws.{AllPairs-head, AllPairs-tail, AllPairs-drop}
+use Rattle.ent_alloc.proofs.ListLaws.{AllPairs-IsPermutation}
+use Rattle.ent_alloc.proofs.KeptRows.{rows_from-set}
+
+-- ---- the positions
+
+pub length-placed : (pending : List ℕ) (top : ℕ) (hs : List Handle) → length (placed pending top hs)
+    ≡ length pending
+length-placed pending top [] = refl
+length-placed pending top (h ∷ hs) =
+    length-placed (set pending (top - 1) h.index) (top - 1) hs
+    ∙ length-set pending (top - 1) h.index
+
+-- nothing changes from the top on
+pub placed-above : (pending : List ℕ) (top at : ℕ) (hs : List Handle) → length hs ≤ top → top ≤ at
+    → get_or (placed pending top hs) at 0 ≡ get_or pending at 0
+placed-above pending top at [] few above = refl
+placed-above pending top at (h ∷ hs) few above =
+    placed-above (set pending (top - 1) h.index) (top - 1) at hs (omega arith) (omega arith)
+    ∙ get_or-set_other pending (top - 1) at h.index 0 (omega arith)
+
+-- nor below them
+pub placed-below : (pending : List ℕ) (top at : ℕ) (hs : List Handle) → length hs ≤ top → at < top
+    - length hs → get_or (placed pending top hs) at 0 ≡ get_or pending at 0
+placed-below pending top at [] few below = refl
+placed-below pending top at (h ∷ hs) few below =
+    placed-below (set pending (top - 1) h.index) (top - 1) at hs (omega arith) (omega arith)
+    ∙ get_or-set_other pending (top - 1) at h.index 0 (omega arith)
+
+pub placed-at : (pending : List ℕ) (top k : ℕ) (hs : List Handle) (d : Handle) → length hs ≤ top
+    → top ≤ length pending → k < length hs → get_or (placed pending top hs) (top - 1 - k) 0
+    ≡ (get_or hs k d).index
+placed-at pending top k [] d few within below = absurd (omega arith)
+placed-at pending top zero (h ∷ hs) d few within below =
+    let at : top - 1 - 0 ≡ top - 1 = omega arith in
+    rw at
+    (placed-above (set pending (top - 1) h.index) (top - 1) (top - 1) hs (omega arith) (omega arith)
+    ∙ get_or-set_same pending (top - 1) h.index 0 (omega arith))
+placed-at pending top (suc k) (h ∷ hs) d few within below =
+    let next = placed-at (set pending (top - 1) h.index) (top - 1) k hs d (omega arith)
+    (omega (arith, length-set pending (top - 1) h.index)) (omega arith) in
+    let at : top - 1 - suc k ≡ top - 1 - 1 - k = omega arith in
+    rw at next
+
+-- ---- the records
+
+pub length-moved : (records : List SlotRecord) (top : ℕ) (hs : List Handle)
+    → length (moved records top hs) ≡ length records
+length-moved records top [] = refl
+length-moved records top (h ∷ hs) =
+    let w = waiting_at (record_at records h.index).generation (top - 1) in
+    length-moved (set records h.index w) (top - 1) hs ∙ length-set records h.index w
+
+pub moved-other : (records : List SlotRecord) (top at : ℕ) (hs : List Handle)
+    → All (λ h. h.index ≢ at) hs → record_at (moved records top hs) at ≡ record_at records at
+moved-other records top at [] others = refl
+moved-other records top at (h ∷ hs) others =
+    let w = waiting_at (record_at records h.index).generation (top - 1) in
+    let here : h.index ≢ at = others 0 h (omega arith) in
+    moved-other (set records h.index w) (top - 1) at hs (All-tail (λ h. h.index ≢ at) h hs others)
+    ∙ get_or-set_other records h.index at w no_slot (λ e. here (sym e))
+
+pub generation-moved : (records : List SlotRecord) (top at : ℕ) (hs : List Handle)
+    → All (λ h. h.index < length records) hs → (record_at (moved records top hs) at).generation
+    ≡ (record_at records at).generation
+generation-moved records top at [] made = refl
+generation-moved records top at (h ∷ hs) made =
+    let w = waiting_at (record_at records h.index).generation (top - 1) in
+    let long = length-set records h.index w in
+    let here : h.index < length records = made 0 h (omega arith) in
+    let step : (record_at (set records h.index w) at).generation
+    ≡ (record_at records at).generation = grind (arith, common_steps) in
+    generation-moved (set records h.index w) (top - 1) at hs
+    (λ k d lt. let below = made (suc k) d (omega arith) in omega (arith, long)) ∙ step
+
+pub moved-at : (records : List SlotRecord) (top k : ℕ) (hs : List Handle) (d : Handle)
+    → All (λ h. h.index < length records) hs → AllPairs AreApart hs → k < length hs
+    → (record_at (moved records top hs) (get_or hs k d).index).occupancy
+    ≡ Pending (top - 1 - k)
+moved-at records top k [] d made apart below = absurd (omega arith)
+moved-at records top zero (h ∷ hs) d made apart below =
+    let w = waiting_at (record_at records h.index).generation (top - 1) in
+    let others : All (λ g. g.index ≢ h.index) hs =
+    λ i e lt same. AllPairs-head AreApart h hs apart i e lt (sym same) in
+    let at : top - 1 ≡ top - 1 - 0 = omega arith in
+    ap (λ (r : SlotRecord). r.occupancy)
+    (moved-other (set records h.index w) (top - 1) h.index hs others
+    ∙ get_or-set_same records h.index w no_slot (made 0 h (omega arith)))
+    ∙ ap (λ n. Pending n) at
+moved-at records top (suc k) (h ∷ hs) d made apart below =
+    let w = waiting_at (record_at records h.index).generation (top - 1) in
+    let long = length-set records h.index w in
+    let next = moved-at (set records h.index w) (top - 1) k hs d
+    (λ i e lt. let below = made (suc i) e (omega arith) in omega (arith, long))
+    (AllPairs-tail AreApart h hs apart) (omega arith) in
+    let at : top - 1 - 1 - k ≡ top - 1 - suc k = omega arith in
+    next ∙ ap (λ n. Pending n) at
+
+-- ---- who lives
+
+-- the record has no occupant
+pub record IsVacant (r : SlotRecord) : Type 0 where
+  pub dead : is_alive r.occupancy ≡ false
+  pub bare : row_of r.occupancy ≡ None
+
+occupants-set : (from : ℕ) (records : List SlotRecord) (index : ℕ) (r : SlotRecord)
+    → is_alive r.occupancy ≡ false → is_alive (record_at records index).occupancy ≡ false
+    → occupants from (set records index r) ≡ occupants from records
+occupants-set from [] index r new old = refl
+occupants-set from (x ∷ records) zero r new old = search (rules)
+occupants-set from (x ∷ records) (suc index) r new old =
+    search (rules, occupants-set (from + 1) records index r new old)
+
+vacant-set : (records : List SlotRecord) (index at : ℕ) (w : SlotRecord) → IsVacant w
+    → IsVacant (record_at records at) → IsVacant (record_at (set records index w) at)
+vacant-set records index at w new old = grind (arith, common_steps)
+
+pub occupants-moved : (records : List SlotRecord) (top : ℕ) (hs : List Handle)
+    → All (λ h. IsVacant (record_at records h.index)) hs
+    → occupants 0 (moved records top hs) ≡ occupants 0 records
+occupants-moved records top [] vacant = refl
+occupants-moved records top (h ∷ hs) vacant =
+    let w = waiting_at (record_at records h.index).generation (top - 1) in
+    let here = vacant 0 h (omega arith) in
+    let empty : IsVacant w = record { dead = refl; bare = refl } in
+    occupants-moved (set records h.index w) (top - 1) hs
+    (λ k d lt. vacant-set records h.index (get_or hs k d).index w empty (vacant (suc k) d (omega arith)))
+    ∙ occupants-set 0 records h.index w refl here.dead
+
+pub rows-moved : (records : List SlotRecord) (top : ℕ) (hs : List Handle)
+    → All (λ h. IsVacant (record_at records h.index)) hs
+    → rows_from 0 (moved records top hs) ≡ rows_from 0 records
+rows-moved records top [] vacant = refl
+rows-moved records top (h ∷ hs) vacant =
+    let w = waiting_at (record_at records h.index).generation (top - 1) in
+    let here = vacant 0 h (omega arith) in
+    let empty : IsVacant w = record { dead = refl; bare = refl } in
+    rows-moved (set records h.index w) (top - 1) hs
+    (λ k d lt. vacant-set records h.index (get_or hs k d).index w empty (vacant (suc k) d (omega arith)))
+    ∙ rows_from-set 0 records h.index w refl here.bare
+
+-- ---- links
+
+-- one of them has the slot, or none
+among : (index : ℕ) (hs : List Handle)
+    → ((k : ℕ) × (k < length hs) × ((d : Handle) → (get_or hs k d).index ≡ index))
+    ⊎ All (λ h. h.index ≢ index) hs
+among index [] = inr (λ k d lt. absurd (omega arith))
+among index (h ∷ hs) = by_first (cases_eq h.index index) (among index hs)
+  where
+    by_first : (h.index ≡ index) ⊎ (h.index ≢ index)
+        → ((k : ℕ) × (k < length hs) × ((d : Handle) → (get_or hs k d).index ≡ index))
+        ⊎ All (λ h. h.index ≢ index) hs
+        → ((k : ℕ) × (k < length (h ∷ hs)) × ((d : Handle) → (get_or (h ∷ hs) k d).index ≡ index))
+        ⊎ All (λ h. h.index ≢ index) (h ∷ hs)
+    by_first (inl same) rest = inl (0, omega arith, λ d. same)
+    by_first (inr other) (inl found) = inl (suc found.0, omega (arith, found.1), found.2)
+    by_first (inr other) (inr none) = inr (All-cons (λ h. h.index ≢ index) h hs other none)
+
+module _ (limits : Limits) (records : List SlotRecord) (pending : List ℕ) (live : ℕ)
+    (hs : List Handle) (linked : AreLinked limits records pending live)
+    (few : length hs ≤ length pending)
+    (same : IsPermutation (drop (length pending - length hs) (map (handle_at records) pending)) hs)
+  where
+    abbrev from : ℕ
+    from = length pending - length hs
+
+    abbrev waited : List Handle
+    waited = drop from (map (handle_at records) pending)
+
+    waited_at : (k : ℕ) (d : Handle) → k < length waited → get_or waited k d
+        ≡ handle_at records (get_or pending (from + k) 0)
+    waited_at k d lt =
+        let long = length-drop from (map (handle_at records) pending) in
+        let all = length-map pending (handle_at records) in
+        get_or-drop from (map (handle_at records) pending) k d
+        ∙ get_or-map (handle_at records) pending (from + k) 0 d (omega arith)
+
+    long_waited : length waited ≡ length hs
+    long_waited = omega (
+      arith,
+      length-drop from (map (handle_at records) pending),
+      length-map pending (handle_at records),
+    )
+
+    -- what is so of those that waited last is so of these
+    each : (P : Handle → Type 0) → ((position : ℕ) → from ≤ position → position < length pending
+        → P (handle_at records (get_or pending position 0))) → All P hs
+    each P waits = All-permutation P waited hs same (λ k d lt.
+        subst P (sym (waited_at k d lt))
+        (waits (from + k) (omega arith) (let long = long_waited in omega arith)))
+
+    -- such a handle waits at one of the last positions
+    record Waits (h : Handle) : Type 0 where
+      position : ℕ
+      late : from ≤ position
+      within : position < length pending
+      is : handle_at records (get_or pending position 0) ≡ h
+
+    all_wait : All Waits hs
+    all_wait = each Waits (λ position late within. record {
+      position = position;
+      late = late;
+      within = within;
+      is = refl;
+    })
+
+    pub made_slots : All (λ h. h.index < length records) hs
+    made_slots = each (λ h. h.index < length records) (λ position late within.
+        linked.made position within)
+
+    all_vacant : All (λ h. IsVacant (record_at records h.index)) hs
+    all_vacant = each (λ h. IsVacant (record_at records h.index)) (λ position late within.
+        let is = linked.forward position within in
+        record { dead = ap is_alive is; bare = ap row_of is })
+
+    waited_apart : AllPairs AreApart waited
+    waited_apart i j d lt within same_slot =
+        let long = long_waited in
+        let first = waited_at i d (omega arith) in
+        let second = waited_at j d within in
+        let at_first = linked.forward (from + i) (omega arith) in
+        let at_second = linked.forward (from + j) (omega arith) in
+        let slots : get_or pending (from + i) 0 ≡ get_or pending (from + j) 0 =
+        sym (ap (λ (h : Handle). h.index) first) ∙ same_slot ∙ ap (λ (h : Handle). h.index) second in
+        grind (arith, common_steps)
+
+    apart : AllPairs AreApart hs
+    apart = AllPairs-IsPermutation AreApart (λ g h ne e. ne (sym e)) waited hs same waited_apart
+
+    abbrev after : List SlotRecord
+    after = moved records (length pending) hs
+
+    abbrev order : List ℕ
+    order = placed pending (length pending) hs
+
+    early_other : (position : ℕ) → position < from → All (λ h. h.index ≢ get_or pending position 0) hs
+    early_other position early = each (λ h. h.index ≢ get_or pending position 0)
+        (λ later late within e.
+        let at_first = linked.forward position (omega arith) in
+        let at_second = linked.forward later within in
+        grind (arith, common_steps))
+
+    made_after : (position : ℕ) → position < length order
+        → get_or order position 0 < length after
+    made_after position within =
+        let long = length-placed pending (length pending) hs in
+        let longer = length-moved records (length pending) hs in
+        by_place (cases_lt position from)
+      where
+        by_place : (position < from) ⊎ (from ≤ position) → get_or order position 0 < length after
+        by_place (inl early) =
+            let long = length-placed pending (length pending) hs in
+            let longer = length-moved records (length pending) hs in
+            let was = linked.made position (omega arith) in
+            let stays = placed-below pending (length pending) position hs few early in
+            omega arith
+        by_place (inr late) =
+            let long = length-placed pending (length pending) hs in
+            let longer = length-moved records (length pending) hs in
+            let k = length pending - 1 - position in
+            let at : length pending - 1 - k ≡ position = omega arith in
+            let d = handle_at records 0 in
+            let is = placed-at pending (length pending) k hs d few (omega arith) (omega arith) in
+            let below = made_slots k d (omega arith) in
+            omega (arith, ap (λ n. get_or order n 0) at)
+
+    forward_after : (position : ℕ) → position < length order
+        → (record_at after (get_or order position 0)).occupancy ≡ Pending position
+    forward_after position within = by_place (cases_lt position from)
+      where
+        by_place : (position < from) ⊎ (from ≤ position)
+            → (record_at after (get_or order position 0)).occupancy ≡ Pending position
+        by_place (inl early) =
+            let stays = placed-below pending (length pending) position hs few early in
+            ap (λ i. (record_at after i).occupancy) stays
+            ∙ ap (λ (r : SlotRecord). r.occupancy)
+            (moved-other records (length pending) (get_or pending position 0) hs
+            (early_other position early)) ∙ linked.forward position (omega arith)
+        by_place (inr late) =
+            let long = length-placed pending (length pending) hs in
+            let k = length pending - 1 - position in
+            let at : length pending - 1 - k ≡ position = omega arith in
+            let d = handle_at records 0 in
+            let is = placed-at pending (length pending) k hs d few (omega arith) (omega arith) in
+            ap (λ i. (record_at after i).occupancy)
+            (sym (ap (λ n. get_or order n 0) at) ∙ is)
+            ∙ moved-at records (length pending) k hs d made_slots apart (omega arith)
+            ∙ ap (λ n. Pending n) at
+
+    record Is (index position : ℕ) : Type 0 where
+      listed : position < length order
+      back : get_or order position 0 ≡ index
+
+    back_after : (index position : ℕ) → index < length after
+        → (record_at after index).occupancy ≡ Pending position → Is index position
+    back_after index position made is = by_slot (among index hs)
+      where
+        by_slot : ((k : ℕ) × (k < length hs) × ((d : Handle) → (get_or hs k d).index ≡ index))
+            ⊎ All (λ h. h.index ≢ index) hs → Is index position
+        by_slot (inl found) =
+            let long = length-placed pending (length pending) hs in
+            let k = found.0 in
+            let lt : k < length hs = found.1 in
+            let d = handle_at records 0 in
+            let slot : (get_or hs k d).index ≡ index = found.2 d in
+            let there = moved-at records (length pending) k hs d made_slots apart lt in
+            let here : Pending (length pending - 1 - k) ≡ Pending position =
+            sym there ∙ ap (λ i. (record_at after i).occupancy) slot ∙ is in
+            let at : length pending - 1 - k ≡ position = grind (arith, common_steps) in
+            record {
+              listed = omega arith;
+              back = sym (ap (λ n. get_or order n 0) at)
+                  ∙ placed-at pending (length pending) k hs d few (omega arith) lt ∙ slot;
+            }
+        by_slot (inr none) =
+            let long = length-placed pending (length pending) hs in
+            let longer = length-moved records (length pending) hs in
+            let was : (record_at records index).occupancy ≡ Pending position =
+            sym (ap (λ (r : SlotRecord). r.occupancy)
+            (moved-other records (length pending) index hs none)) ∙ is in
+            let listed = linked.listed index position (omega arith) was in
+            let back = linked.back index position (omega arith) was in
+            by_place (cases_lt position from) listed back
+          where
+            by_place : (position < from) ⊎ (from ≤ position) → position < length pending
+                → get_or pending position 0 ≡ index → Is index position
+            by_place (inl early) listed back =
+                let long = length-placed pending (length pending) hs in
+                record {
+                  listed = omega arith;
+                  back = placed-below pending (length pending) position hs few early ∙ back;
+                }
+            by_place (inr late) listed back =
+                let h = handle_at records (get_or pending position 0) in
+                let long = long_waited in
+                let has = Contains-permutation waited hs h same (
+                  position - from,
+                  omega arith,
+                  waited_at (position - from) h (omega arith)
+                      ∙ ap (λ n. handle_at records (get_or pending n 0)) (omega arith),
+                ) in
+                absurd (none has.0 h has.1 (ap (λ (g : Handle). g.index) has.2 ∙ back))
+
+    pub front_keeps_links : AreLinked limits after order live
+    front_keeps_links =
+        let long = length-placed pending (length pending) hs in
+        let longer = length-moved records (length pending) hs in
+        let living = occupants-moved records (length pending) hs all_vacant in
+        let generation : (index : ℕ) → (record_at after index).generation
+        ≡ (record_at records index).generation =
+        λ index. generation-moved records (length pending) index hs made_slots in
+        record {
+          limited = linked.limited;
+          few = omega (arith, linked.few);
+          counted = linked.counted ∙ ap length (sym living);
+          each_once = omega (arith, linked.each_once);
+          least = λ index lt. let was = linked.least index (omega arith) in omega (arith, generation index);
+          greatest = λ index lt.
+              let was = linked.greatest index (omega arith) in omega (arith, generation index);
+          made = made_after;
+          forward = forward_after;
+          listed = λ index position lt is. (back_after index position lt is).listed;
+          back = λ index position lt is. (back_after index position lt is).back;
+        }
+
+    all_named : All (λ h. handle_at records h.index ≡ h) hs
+    all_named = each (λ h. handle_at records h.index ≡ h) (λ position late within. refl)
+
+    short : length (take from (map (handle_at records) pending)) ≡ from
+    short = length-take-le from (map (handle_at records) pending)
+        (omega (arith, length-map pending (handle_at records)))
+
+    waits_after : (k : ℕ) (d : Handle) → k < length (map (handle_at after) order)
+        → get_or (map (handle_at after) order) k d
+        ≡ get_or (take from (map (handle_at records) pending) ++ reverse hs) k d
+    waits_after k d lt =
+        let long = length-placed pending (length pending) hs in
+        let all = length-map order (handle_at after) in
+        get_or-map (handle_at after) order k 0 d (omega arith) ∙ by_place (cases_lt k from)
+      where
+        by_place : (k < from) ⊎ (from ≤ k) → handle_at after (get_or order k 0)
+            ≡ get_or (take from (map (handle_at records) pending) ++ reverse hs) k d
+        by_place (inl early) =
+            let all = length-map pending (handle_at records) in
+            let slot = placed-below pending (length pending) k hs few early in
+            let stays = generation-moved records (length pending) (get_or pending k 0) hs made_slots in
+            ap (handle_at after) slot
+            ∙ (λ i. record { index = get_or pending k 0; generation = stays i })
+            ∙ sym (get_or-map (handle_at records) pending k 0 d (omega arith))
+            ∙ sym (get_or-take from (map (handle_at records) pending) k d early)
+            ∙ sym (get_or_append_left (take from (map (handle_at records) pending)) (reverse hs) d k
+            (omega (arith, short)))
+        by_place (inr late) =
+            let long = length-placed pending (length pending) hs in
+            let all = length-map order (handle_at after) in
+            let j = length pending - 1 - k in
+            let at : length pending - 1 - j ≡ k = omega arith in
+            let slot : get_or order k 0 ≡ (get_or hs j d).index =
+            sym (ap (λ n. get_or order n 0) at)
+            ∙ placed-at pending (length pending) j hs d few (omega arith) (omega arith) in
+            let stays =
+            generation-moved records (length pending) (get_or hs j d).index hs made_slots in
+            let first = short in
+            let back : length hs - 1 - (k - from) ≡ j = omega arith in
+            let there : length (take from (map (handle_at records) pending)) + (k - from) ≡ k =
+            omega arith in
+            ap (handle_at after) slot
+            ∙ (λ i. record { index = (get_or hs j d).index; generation = stays i })
+            ∙ all_named j d (omega arith)
+            ∙ sym (ap (λ n. get_or hs n d) back)
+            ∙ sym (get_or-reverse hs (k - from) d (omega arith))
+            ∙ sym (get_or-append-add (take from (map (handle_at records) pending)) (reverse hs)
+            (k - from) d)
+            ∙ ap (λ n. get_or (take from (map (handle_at records) pending) ++ reverse hs) n d) there
+
+    pub roster_of-front : roster_of limits after order ≡ record (roster_of limits records pending) {
+      pending = take from (roster_of limits records pending).pending ++ reverse hs;
+    }
+    roster_of-front =
+        let waits : map (handle_at after) order
+        ≡ take from (map (handle_at records) pending) ++ reverse hs =
+        same_lists _ _ (omega (
+          arith,
+          length-placed pending (length pending) hs,
+          length-map order (handle_at after),
+          length-append (take from (map (handle_at records) pending)) (reverse hs),
+          length-reverse hs,
+          short,
+        )) waits_after in
+        let living = occupants-moved records (length pending) hs all_vacant in
+        let rows = rows-moved records (length pending) hs all_vacant in
+        let made = length-moved records (length pending) hs in
+        λ i. record {
+          limits = limits;
+          live = sets.from_list (living i);
+          rows = maps.from_entries (rows i);
+          pending = waits i;
+          made = made i;
+        }
+
+-- the same of a roster that the vectors stand for
+module _ (limits : Limits) (records : List SlotRecord) (pending : List ℕ) (live : ℕ)
+    (hs : List Handle) (r : Roster) (linked : AreLinked limits records pending live)
+    (view : roster_of limits records pending ≡ r) (few : length hs ≤ length r.pending)
+    (same : IsPermutation (drop (length r.pending - length hs) r.pending) hs) where
+  long_view : length r.pending ≡ length pending
+  long_view = sym (ap (λ (r : Roster). length r.pending) view) ∙ length-map pending (handle_at records)
+
+  few_in : length hs ≤ length pending
+  few_in = omega (arith, long_view)
+
+  same_in : IsPermutation (drop (length pending - length hs) (map (handle_at records) pending)) hs
+  same_in = subst (λ xs. IsPermutation (drop (length pending - length hs) xs) hs)
+      (sym (ap (λ (r : Roster). r.pending) view))
+      (subst (λ k. IsPermutation (drop (k - length hs) r.pending) hs) long_view same)
+
+  pub slots_in : All (λ h. h.index < length records) hs
+  slots_in = made_slots limits records pending live hs linked few_in same_in
+
+  pub links_in : AreLinked limits (moved records (length pending) hs)
+      (placed pending (length pending) hs) live
+  links_in = front_keeps_links limits records pending live hs linked few_in same_in
+
+  pub roster_in : roster_of limits (moved records (length pending) hs)
+      (placed pending (length pending) hs) ≡ record r {
+        pending = take (length r.pending - length hs) r.pending ++ reverse hs;
+      }
+  roster_in =
+      roster_of-front limits records pending live hs linked few_in same_in
+      ∙ (λ i. record (view i) {
+        pending = take (sym long_view i - length hs) (view i).pending ++ reverse hs;
+      })

@@ -1,0 +1,77 @@
+use Rattle.std.proofs.Common.{rules, ◌≡◌, ◌+◌, ◌-◌, ap, ◌∙◌, subst, arith, length}
+use Rattle.ent_alloc.specs.Sequential.{top}
+use Rattle.ent_alloc.specs.Front.{with_front}
+use Rattle.ent_alloc.proofs.Meaning.{allocator_is, StandFor}
+use Rattle.ent_alloc.proofs.FrontPools.{few_in, room_in, enough_in, waits_in, front_stands, grown}
+use Rattle.ent_alloc.proofs.FrontPools.{top_in}
+use Rattle.ent_alloc.proofs.entities.Entities.set_front.Goals.{After-wait_last-arg-1}
+use Rattle.ent_alloc.proofs.entities.Entities.set_front.Goals.{After-wait_last}
+use Rattle.ent_alloc.proofs.entities.Entities.set_front.Goals as goal
+
+pub overflow_cast-front : goal.overflow_cast-front
+overflow_cast-front c =
+    let e = c.self.inside in
+    let few = few_in e.slots e.requests c.args.self.now.allocator c.args.front.now c.self.invariant
+    (allocator_is c.self.view_is) c.requires.flushed c.requires.few c.requires.same in
+    omega (
+      arith,
+      few,
+      c.waiting-waiting.ensures.value,
+      c.waiting-waiting.ensures.within,
+      c.waiting-waiting.ensures.few,
+      c.waiting-waiting.ensures.fits,
+    )
+
+pub make_waiting-requires : goal.make_waiting-requires
+make_waiting-requires c =
+    let e = c.self.inside in
+    let room = room_in e.slots e.requests c.args.self.now.allocator c.args.front.now c.self.invariant
+    (allocator_is c.self.view_is) c.requires.flushed c.requires.few c.requires.same in
+    omega (arith, room, c.waiting-waiting.ensures.value, c.saturating_sub-more.ensures)
+
+-- the slots that were made wait
+grown_is : (c : After-wait_last-arg-1) → c.make_waiting.new.self
+    ≡ grown c.self.inside.slots (length c.args.front.now - length c.self.inside.slots.pending)
+grown_is c =
+    c.in_ok-make_waiting.ensures.ok
+    ∙ ap (grown c.self.inside.slots)
+    (c.saturating_sub-more.ensures
+    ∙ ap (λ k. length c.args.front.now - k) c.waiting-waiting.ensures.value)
+
+pub wait_last-requires-clause-few : goal.wait_last-requires-clause-few
+wait_last-requires-clause-few c =
+    let e = c.self.inside in
+    enough_in e.slots e.requests c.args.self.now.allocator c.args.front.now c.self.invariant
+    (allocator_is c.self.view_is) c.requires.flushed c.requires.few c.requires.same
+    c.make_waiting.new.self
+    (grown_is (goal.at.wait_last-requires-clause-few c).After-wait_last-arg-1)
+
+pub wait_last-requires-clause-same : goal.wait_last-requires-clause-same
+wait_last-requires-clause-same c =
+    let e = c.self.inside in
+    waits_in e.slots e.requests c.args.self.now.allocator c.args.front.now c.self.invariant
+    (allocator_is c.self.view_is) c.requires.flushed c.requires.few c.requires.same
+    c.make_waiting.new.self
+    (grown_is (goal.at.wait_last-requires-clause-same c).After-wait_last-arg-1)
+
+-- what is left stands for the pool with this front
+left : (c : After-wait_last) → c.make_waiting.new.self
+    ≡ grown c.self.inside.slots (length c.args.front.now - length c.self.inside.slots.pending)
+    → StandFor c.wait_last.new.self c.self.inside.requests
+    (with_front c.args.self.now.allocator c.args.front.now)
+left c grown =
+    let e = c.self.inside in
+    front_stands e.slots e.requests c.args.self.now.allocator c.args.front.now c.self.invariant
+    (allocator_is c.self.view_is) c.requires.flushed c.requires.few c.requires.same
+    c.make_waiting.new.self grown c.wait_last.new.self
+    c.wait_last.ensures
+
+pub invariant_of-self-2 : goal.invariant_of-self-2
+invariant_of-self-2 c =
+    let at = goal.at.invariant_of-self-2 c in
+    (left at.After-wait_last (grown_is at.After-wait_last-arg-1)).reserved
+
+pub returns-clause-ok : goal.returns-clause-ok
+returns-clause-ok c =
+    let at = goal.at.returns-clause-ok c in
+    (left at.After-wait_last (grown_is at.After-wait_last-arg-1)).view

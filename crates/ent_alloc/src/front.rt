@@ -1,0 +1,119 @@
+//! The front of the pool in another order, and slots that are made for it.
+ghost use Rattle.std.specs.Prelude.{◌≡◌, ◌+◌, ◌-◌, ◌^◌, ◌<◌, ◌≤◌, ◌++◌, OnOk, OnErr, All};
+ghost use Rattle.std.specs.Prelude.{length, take, drop, reverse, vec_len, vec_capacity};
+ghost use Rattle.std.specs.Prelude.{IsPermutation};
+ghost use Rattle.std.specs.List.{range_with_len};
+ghost use Rattle.ent_alloc.specs.Sequential.{fresh as fresh_handles, top};
+ghost use Rattle.ent_alloc.specs.Entities.{HasRowsOfLiving};
+ghost use Rattle.ent_alloc.specs.Front.{new_waiting, placed, moved, with_front};
+
+use crate::entities::Entities;
+use crate::slot_record::{Occupancy, SlotRecord};
+use crate::slots::Slots;
+use ent_handle::{Handle, Memory};
+
+/// Makes `count` slots, which wait after all others. There is room in both lists.
+fn make_waiting(records: &mut Vec<SlotRecord>, pending: &mut Vec<u32>, count: u32)
+    requires room { vec_len records.old + count ≤ vec_capacity records.old }
+    requires list_room { vec_len pending.old + count ≤ vec_capacity pending.old }
+    requires indices { vec_len records.old + count < 2 ^ 32 }
+    requires positions { vec_len pending.old ≤ vec_len records.old }
+    ensures records { records.new.items
+        ≡ records.old.items ++ new_waiting (vec_len pending.old) count }
+    ensures listed { pending.new.items
+        ≡ pending.old.items ++ range_with_len (vec_len records.old) count }
+{
+    let made = records.len() as u32;
+    let waiting = pending.len() as u32;
+    for more in 0..count {
+        records.push_reserved(SlotRecord {
+            generation: 1,
+            occupancy: Occupancy::Pending {
+                position: waiting + more,
+            },
+        });
+        pending.push_reserved(made + more);
+    }
+}
+
+/// Lets the slots of these handles wait after all others, that of the first one last.
+fn wait_last(records: &mut [SlotRecord], pending: &mut [u32], order: &[Handle])
+    requires made { All (λ h. h.index < length records.old) order.now }
+    requires few { length order.now ≤ length pending.old }
+    requires positions { length pending.old < 2 ^ 32 }
+    ensures records { records.new ≡ moved records.old (length pending.old) order.now }
+    ensures listed { pending.new ≡ placed pending.old (length pending.old) order.now }
+{
+    let mut position = pending.len();
+    for handle in order {
+        position -= 1;
+        pending[position] = handle.index();
+        records[handle.index() as usize].occupancy = Occupancy::Pending {
+            position: position as u32,
+        };
+    }
+}
+
+impl Slots {
+    ghost use Rattle.ent_alloc.specs.Roster.{Roster};
+
+    /// Makes slots that wait after all others for their first occupants. All room is asked for
+    /// first: if memory runs out, nothing has changed.
+    pub(crate) fn make_waiting(&mut self, count: u32) -> Result<(), Memory>
+        requires { self.old.made + count ≤ self.old.limits.slots }
+        ensures ok { OnOk result (self.new ≡ record self.old {
+          pending = self.old.pending ++ fresh_handles self.old.made count;
+          made = self.old.made + count;
+        }) }
+        ensures err { OnErr result (self.new ≡ self.old) }
+        ensures memory { OnErr result (0 < count) }
+    {
+        self.records.reserve(count as usize)?;
+        self.pending.reserve(count as usize)?;
+        make_waiting(&mut self.records, &mut self.pending, count);
+        Ok(())
+    }
+
+    /// Lets the slots that wait last wait in another order: that of the first of these handles
+    /// last.
+    pub(crate) fn wait_last(&mut self, order: &[Handle])
+        requires few { length order.now ≤ length self.old.pending }
+        requires same { IsPermutation
+            (drop (length self.old.pending - length order.now) self.old.pending) order.now }
+        ensures { self.new ≡ record self.old {
+          pending = take (length self.old.pending - length order.now) self.old.pending
+              ++ reverse order.now;
+        } }
+    {
+        wait_last(&mut self.records, &mut self.pending, order);
+    }
+}
+
+impl Entities {
+    /// Makes the pool begin with these handles, in this order. They are those that it begins with
+    /// already. Their slots are made, and wait.
+    ///
+    /// Nothing may have been requested since the last flush.
+    ///
+    /// # Errors
+    ///
+    /// [`Memory`] if there is no memory for new slots. Nothing has changed then. It is never
+    /// returned if so many old slots wait.
+    pub fn set_front(&mut self, front: &[Handle]) -> Result<(), Memory>
+        requires flushed { self.old.allocator.asked ≡ 0 }
+        requires few { length front.now ≤ length self.old.allocator.pool }
+        requires same { IsPermutation
+            (take (length front.now) self.old.allocator.pool) front.now }
+        ensures ok { OnOk result (self.new.allocator ≡ with_front self.old.allocator front.now) }
+        ensures rows { self.new.rows ≡ self.old.rows }
+        ensures rows_of_living { HasRowsOfLiving self.new }
+        ensures err { OnErr result (self.new ≡ self.old) }
+        ensures memory { OnErr result (top self.old.allocator < length front.now) }
+    {
+        let waiting = self.slots.waiting();
+        let more = (front.len() as u32).saturating_sub(waiting);
+        self.slots.make_waiting(more)?;
+        self.slots.wait_last(front);
+        Ok(())
+    }
+}

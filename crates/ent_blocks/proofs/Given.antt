@@ -1,0 +1,56 @@
+-- What was used of the blocks: no handle twice, none that was alive, and a flush brings to life just
+-- these.
+use Rattle.std.proofs.Common.{rules, ◌≡◌, ◌≢◌, ◌⊎◌, ◌↔◌, inl, inr, sym, ap, subst, ℕ, ◌≤◌, List, []}
+use Rattle.std.proofs.Common.{◌++◌, length, get_or, map, All, AllPairs, Contains}
+use Rattle.std.specs.List.{flat_map}
+use Rattle.ent_handle.specs.Handle.{Handle}
+use Rattle.ent_alloc.specs.Sequential.{Allocator, top, after_flush}
+use Rattle.ent_alloc.specs.Sound.{IsSound, AreApart, IsLive}
+use Rattle.ent_alloc.specs.Front.{with_front}
+use Rattle.ent_alloc.proofs.FrontPools.{with_front-sound}
+use Rattle.ent_alloc.proofs.Flushes.{live-after_flush, live-stays, taken-lives}
+use Rattle.ent_alloc.proofs.ListLaws.{All-left, AllPairs-left}
+use Rattle.ent_alloc.proofs.Replies.{not_apart}
+use Rattle.ent_alloc.proofs.Soundness.{after_take-sound}
+use Rattle.ent_alloc.proofs.LaidOut.{flushed-laid_out}
+use Rattle.ent_blocks.specs.Blocks.{Block, used_of, dealt, unused, AreLaid, after_blocks}
+use Rattle.ent_blocks.proofs.Dealing.{order, order_long, order_same, closed_is}
+
+module _ (s : Allocator) (blocks : List Block) (sound : IsSound s) (flushed : s.asked ≡ 0)
+    (laid : AreLaid 0 (map unused blocks)) (within : dealt blocks ≤ length s.pool)
+    (waits : dealt blocks ≤ top s) where
+  abbrev pub used : List Handle
+  used = flat_map (used_of s.pool) blocks
+
+  few : length (order s blocks laid within) ≤ length s.pool
+  few = subst (λ n. n ≤ length s.pool) (sym (order_long s blocks laid within)) within
+
+  pub after_blocks-sound : IsSound (after_blocks s blocks)
+  after_blocks-sound = subst IsSound
+      (closed_is s blocks laid within (flushed-laid_out s sound flushed).taken flushed waits)
+      (after_take-sound (with_front s (order s blocks laid within)) (length used)
+      (with_front-sound s (order s blocks laid within) sound flushed few
+      (order_same s blocks laid within)))
+
+  abbrev pub left : List Handle
+  left = (after_blocks s blocks).aside ++ (after_blocks s blocks).pool
+
+  pub used-distinct : AllPairs (λ g h. g ≢ h) used
+  used-distinct i j d lt in_part same =
+      AllPairs-left AreApart used left after_blocks-sound.apart i j d lt in_part
+      (ap (λ (h : Handle). h.index) same)
+
+  pub used-not_live : All (λ h. ¬ (IsLive s h)) used
+  used-not_live k d lt alive =
+      let h = get_or used k d in
+      not_apart h (All-left (AreApart h) used left (after_blocks-sound.live h alive).apart k d lt)
+
+  pub used-live : (h : Handle) → IsLive (after_flush (after_blocks s blocks)) h
+      ↔ (IsLive s h ⊎ Contains used h)
+  used-live h = (
+    live-after_flush (after_blocks s blocks) h,
+    λ either. elim either [
+      | inl alive ↦ live-stays (after_blocks s blocks) h alive
+      | inr has ↦ taken-lives (after_blocks s blocks) h has
+    ],
+  )

@@ -1,0 +1,5 @@
+pub mod Dealing
+pub mod Positions
+pub mod Given
+pub mod Phases
+pub mod Openings

@@ -1,0 +1,111 @@
+-- Handles in blocks: the front of the pool is dealt to callers, and each is given the handles of
+-- its own block, in the pool's order, whatever the others do.
+use Rattle.std.specs.Prelude.{◌≡◌, ℕ, ◌+◌, ◌-◌, ◌^◌, ◌<◌, ◌≤◌, nat_le, if◌then◌else◌, List, [], ◌∷◌, ◌++◌}
+use Rattle.std.specs.Prelude.{length, take, drop, map, refl}
+use Rattle.std.specs.List.{flat_map, Contains}
+use Rattle.std.specs.Coded.{Coded, code_by, coded×, coded_ℕ, coded_list}
+use Rattle.std.specs.FinMap as maps
+use Rattle.ent_handle.specs.Handle.{Handle, handle_cmp, handle_code}
+use Rattle.ent_alloc.specs.Sequential.{Allocator, allocator_code, top}
+use Rattle.ent_alloc.specs.Sound.{IsSound}
+
+-- A block of the pool: how many handles stand before it, how many it has, and how many of them were
+-- used.
+pub record Block : Type 0 where
+  pub before : ℕ
+  pub size : ℕ
+  pub used : ℕ
+
+-- its handles, those that were used, and the rest
+abbrev pub handles_of : List Handle → Block → List Handle
+handles_of pool b = take b.size (drop b.before pool)
+
+abbrev pub used_of : List Handle → Block → List Handle
+used_of pool b = take b.used (handles_of pool b)
+
+abbrev pub rest_of : List Handle → Block → List Handle
+rest_of pool b = drop b.used (handles_of pool b)
+
+-- how many handles the blocks have in all
+abbrev pub dealt : List Block → ℕ
+dealt [] = 0
+dealt (b ∷ blocks) = b.size + dealt blocks
+
+-- Opening: a block for each size, one after the other from the pool's front, smaller where the pool
+-- ends.
+abbrev pub lesser : ℕ → ℕ → ℕ
+lesser n left = if nat_le n left then n else left
+
+abbrev pub blocks_from : ℕ → ℕ → List ℕ → List Block
+blocks_from before left [] = []
+blocks_from before left (n ∷ sizes) =
+    record { before = before; size = lesser n left; used = 0 }
+    ∷ blocks_from (before + lesser n left) (left - lesser n left) sizes
+
+-- All slots that are dealt are made: the fresh ones among them wait with generation 1. The pool is
+-- the same.
+abbrev pub after_opening : Allocator → ℕ → Allocator
+after_opening s count = record s { made = s.made + (count - top s) }
+
+-- Closing: what was used of the blocks is taken, in the order of the callers, and the pool is what
+-- is left of them, and then what was not dealt.
+abbrev pub after_blocks : Allocator → List Block → Allocator
+after_blocks s blocks = record s {
+  taken = flat_map (used_of s.pool) blocks;
+  pool = flat_map (rest_of s.pool) blocks ++ drop (dealt blocks) s.pool;
+  asked = length (flat_map (used_of s.pool) blocks);
+}
+
+-- the block as it was dealt
+abbrev pub unused : Block → Block
+unused b = record b { used = 0 }
+
+-- after so many more were used
+abbrev pub after_use : Block → ℕ → Block
+after_use b n = record b { used = b.used + n }
+
+-- ---- what contracts see
+
+-- the allocator as it was opened, the rows that are kept with its living handles, and the blocks as
+-- they were dealt
+pub record Blocks : Type 0 where
+  pub start : Allocator
+  pub rows : maps.FinMap handle_cmp ℕ
+  pub blocks : List Block
+
+-- the reserver's block is one of those of this phase
+abbrev pub IsOf : Blocks → Block → Type 0
+IsOf phase b = Contains phase.blocks (unused b)
+
+-- the reservers are all of this phase, in the order of the blocks
+abbrev pub AreOf : Blocks → List Block → Type 0
+AreOf phase reservers = map unused reservers ≡ phase.blocks
+
+-- For proofs: the blocks stand one after the other, and none of them was used.
+abbrev pub AreLaid : ℕ → List Block → Type 0
+AreLaid before [] = Unit {0}
+AreLaid before (b ∷ blocks) =
+    (b.before ≡ before) × (b.used ≡ 0) × AreLaid (before + b.size) blocks
+
+-- nothing is reserved, and all that is dealt waits
+pub record AreDealt (s : Allocator) (blocks : List Block) (capacity : ℕ) : Type 0 where
+  pub sound : IsSound s
+  pub flushed : s.asked ≡ 0
+  pub laid : AreLaid 0 blocks
+  pub waits : dealt blocks ≤ top s
+  pub within : dealt blocks ≤ length s.pool
+  pub room : dealt blocks ≤ capacity
+  pub few : dealt blocks < 2 ^ 32
+
+abbrev pub block_code : Coded Block
+block_code =
+    code_by (ℕ × (ℕ × ℕ)) (coded× coded_ℕ (coded× coded_ℕ coded_ℕ))
+    (λ b. (b.before, (b.size, b.used)))
+    (λ p. record { before = p.0; size = p.1.0; used = p.1.1 }) (λ _. refl)
+
+abbrev pub blocks_code : Coded Blocks
+blocks_code =
+    code_by (Allocator × (maps.FinMap handle_cmp ℕ × List Block))
+    (coded× allocator_code (coded× (maps.code handle_code coded_ℕ) (coded_list block_code)))
+    (λ b. (b.start, (b.rows, b.blocks)))
+    (λ p. record { start = p.0; rows = p.1.0; blocks = p.1.1 }) (λ _. refl)

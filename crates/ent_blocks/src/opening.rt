@@ -1,0 +1,83 @@
+ghost use Rattle.std.specs.Prelude.{◌≡◌, ◌+◌, ◌-◌, ◌^◌, ◌<◌, ◌≤◌, IfOk, IfErr, length, take};
+ghost use Rattle.std.specs.Prelude.{vec_capacity};
+ghost use Rattle.ent_blocks.specs.Blocks.{blocks_from, dealt, after_opening, lesser};
+
+use crate::block_reserver::BlockReserver;
+use crate::blocks::{Blocks, list};
+use ent_alloc::Entities;
+use ent_handle::{Handle, Memory};
+use std::alloc::Global;
+
+/// Deals the pool's front in blocks of these sizes, one after the other: a block is smaller where
+/// the pool ends. Each caller takes one of the reservers, which are in the order of the sizes.
+///
+/// The slots that are dealt are made: those among them that were never made wait from then on.
+///
+/// # Errors
+///
+/// [`Memory`], with the allocator as it was. All memory of the phase is asked for here.
+pub fn open_in_blocks(
+    alloc: Global,
+    entities: Entities,
+    sizes: &[u32],
+) -> Result<(Blocks, Vec<BlockReserver>), (Entities, Memory)>
+    requires flushed { entities.allocator.asked ≡ 0 }
+    ensures start { IfOk result (λ made. made.0.start
+        ≡ after_opening entities.allocator (dealt made.0.blocks)) }
+    ensures blocks { IfOk result (λ made. made.0.blocks
+        ≡ blocks_from 0 (length entities.allocator.pool) sizes.now) }
+    ensures reservers { IfOk result (λ made. made.1.items ≡ made.0.blocks) }
+    ensures rows { IfOk result (λ made. made.0.rows ≡ entities.rows) }
+    ensures err { IfErr result (λ refused. refused.0 ≡ entities) }
+{
+    let mut entities = entities;
+
+    // Its contract says that the state is sound.
+    let _top = entities.cursor();
+    let Ok((blocks, reservers, order)) = deal(alloc, &entities, sizes) else {
+        return Err((entities, Memory));
+    };
+    let Ok(()) = entities.set_front(&order) else {
+        return Err((entities, Memory));
+    };
+    Ok((Blocks::new(entities, blocks, order), reservers))
+}
+
+/// Blocks of these sizes, twice, and all handles that they have.
+fn deal(
+    alloc: Global,
+    entities: &Entities,
+    sizes: &[u32],
+) -> Result<(Vec<BlockReserver>, Vec<BlockReserver>, Vec<Handle>), Memory>
+    requires flushed { entities.now.allocator.asked ≡ 0 }
+    ensures blocks { IfOk result (λ d. d.0.items
+        ≡ blocks_from 0 (length entities.now.allocator.pool) sizes.now) }
+    ensures reservers { IfOk result (λ d. d.1.items ≡ d.0.items) }
+    ensures within { IfOk result (λ d. dealt d.0.items ≤ length entities.now.allocator.pool) }
+    ensures few { IfOk result (λ d. dealt d.0.items < 2 ^ 32) }
+    ensures order { IfOk result (λ d. d.2.items
+        ≡ take (dealt d.0.items) entities.now.allocator.pool) }
+    ensures room { IfOk result (λ d. dealt d.0.items ≤ vec_capacity d.2) }
+{
+    let mut blocks = Vec::with_capacity(alloc, sizes.len())?;
+    let mut reservers = Vec::with_capacity(alloc, sizes.len())?;
+    let mut before = 0;
+    let mut left = entities.left();
+    for size in sizes {
+        let given = lesser(*size, left);
+        blocks.push_reserved(BlockReserver::new(before, given));
+        reservers.push_reserved(BlockReserver::new(before, given));
+        before += given;
+        left -= given;
+    }
+    let mut order = Vec::with_capacity(alloc, before as usize)?;
+    list(entities, &mut order, 0, before);
+    Ok((blocks, reservers, order))
+}
+
+fn lesser(n: u32, left: u32) -> u32
+    ensures value { result ≡ lesser n left }
+    ensures within { result ≤ left }
+{
+    if n <= left { n } else { left }
+}
