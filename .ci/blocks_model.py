@@ -1,7 +1,7 @@
 #!/usr/bin/env python3
 """Compares the definition of a phase in blocks (crates/ent_blocks/specs/Blocks.antt) with a model
-that keeps slots and not lists of handles: random phases in blocks among single calls and requests
-to the shared cursor. Prints how many phases agreed, and fails at the first one that doesn't.
+that keeps slots and not lists of handles: random phases in blocks among `alloc` and `free`. Prints
+how many phases agreed, and fails at the first one that doesn't.
 
     .ci/blocks_model.py [phases] [seed]
 """

@@ -8,12 +8,12 @@ ghost use Rattle.ent_alloc.specs.Entities.{HasRowsOfLiving};
 ghost use Rattle.ent_alloc.specs.Front.{new_waiting, placed, moved, with_front};
 
 use crate::entities::Entities;
-use crate::slot_record::{Occupancy, SlotRecord};
+use crate::packed_slot::PackedSlot;
 use crate::slots::Slots;
 use ent_handle::{Handle, Memory};
 
 /// Makes `count` slots, which wait after all others. There is room in both lists.
-fn make_waiting(records: &mut Vec<SlotRecord>, pending: &mut Vec<u32>, count: u32)
+fn make_waiting(records: &mut Vec<PackedSlot>, pending: &mut Vec<u32>, count: u32)
     requires room { vec_len records.old + count ≤ vec_capacity records.old }
     requires list_room { vec_len pending.old + count ≤ vec_capacity pending.old }
     requires indices { vec_len records.old + count < 2 ^ 32 }
@@ -26,18 +26,13 @@ fn make_waiting(records: &mut Vec<SlotRecord>, pending: &mut Vec<u32>, count: u3
     let made = records.len() as u32;
     let waiting = pending.len() as u32;
     for more in 0..count {
-        records.push_reserved(SlotRecord {
-            generation: 1,
-            occupancy: Occupancy::Pending {
-                position: waiting + more,
-            },
-        });
+        records.push_reserved(PackedSlot::pending(1, waiting + more));
         pending.push_reserved(made + more);
     }
 }
 
 /// Lets the slots of these handles wait after all others, that of the first one last.
-fn wait_last(records: &mut [SlotRecord], pending: &mut [u32], order: &[Handle])
+fn wait_last(records: &mut [PackedSlot], pending: &mut [u32], order: &[Handle])
     requires made { All (λ h. h.index < length records.old) order.now }
     requires few { length order.now ≤ length pending.old }
     requires positions { length pending.old < 2 ^ 32 }
@@ -48,9 +43,8 @@ fn wait_last(records: &mut [SlotRecord], pending: &mut [u32], order: &[Handle])
     for handle in order {
         position -= 1;
         pending[position] = handle.index();
-        records[handle.index() as usize].occupancy = Occupancy::Pending {
-            position: position as u32,
-        };
+        let slot = &mut records[handle.index() as usize];
+        *slot = PackedSlot::pending(slot.generation(), position as u32);
     }
 }
 

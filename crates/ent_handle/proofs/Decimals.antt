@@ -1,24 +1,23 @@
 -- A decimal is what std's `decimal` writes of its value, and reading gives the value of nothing
 -- else.
-use Rattle.std.proofs.lemmas.Grind.{common_steps}
-use Rattle.std.proofs.Common.{◌≡◌, ℕ, ◌^◌, ◌<◌, ◌≤◌, ◌↔◌, true, false, List, [], ◌∷◌, length}
+use Rattle.std.proofs.Common.{◌≡◌, ℕ, ◌+◌, ◌*◌, ◌^◌, ◌<◌, ◌≤◌, ◌↔◌, true, false, List}
+use Rattle.std.proofs.Common.{[], ◌∷◌, length, take}
 use Rattle.std.proofs.Common.{get_or, Option, Result, Ok, Err, IsSome, IfSome, IfOk, IsErrOf, refl}
 use Rattle.std.proofs.Common.{sym, ap, subst, ◌∙◌, inl, inr, arith, rules}
 use Rattle.std.specs.Char.{is_ascii_digit}
 use Rattle.std.specs.Fmt.{decimal}
 use Rattle.std.specs.List.{list_all}
 use Rattle.std.specs.Option.{ok_or}
-use Rattle.std.specs.Result.{result_ok}
-use Rattle.std.specs.Str.{IsUtf8}
-use Rattle.std.specs.Str.Parse.{digits_value, ParsesUnsigned}
-use Rattle.std.proofs.lemmas.Str.{IsUtf8-from_ascii}
+use Rattle.std.specs.Str.Parse.{digits_value}
+use Rattle.std.proofs.lemmas.Int.Digits.{digits_value_more}
+use Rattle.std.proofs.lemmas.Str.{digit_value_digit}
 use Rattle.std.proofs.lemmas.Bool.{false≢true, cases_Bool, cases_eq, cases_lt, cond-true}
 use Rattle.std.proofs.lemmas.Bool.{cond-false, eqb-true, eq-eqb, ne_eqb, lt-ltb, le-ltb}
 use Rattle.std.proofs.lemmas.List.{nil_from_length}
-use Rattle.std.proofs.lemmas.Str.Parse.{IsNumeralModel, numerals_by_value, parse_digits}
+use Rattle.std.proofs.lemmas.Str.Parse.{IsNumeralModel, numerals_by_value, digit_at}
+use Rattle.std.proofs.lemmas.Str.Parse.{digits_value-take-le}
 use Rattle.std.proofs.lemmas.Fmt.{decimal_is_IsNumeral, decimal-digits_value, digits_decimal}
 use Rattle.std.proofs.lemmas.Fmt.{decimal_digit, decimal_nonempty, first_decimal}
-use Rattle.std.proofs.lemmas.Fmt.{IsAscii-from_digits}
 use Rattle.ent_handle.specs.declared.text.TextFault.{TextFault}
 use Rattle.ent_handle.specs.declared.text.TextFault.TheVariants.{Shape, Range}
 use Rattle.ent_handle.specs.Text.{is_decimal, IsDecimal, number_of}
@@ -106,20 +105,23 @@ pub number_range : (ds : List ℕ) (r : Result ℕ TextFault) → r ≡ number_o
 number_range ds r e =
     search (rules, cases_Bool, number_of_none, cases_lt, number_in_range, number_too_large)
 
--- digits are ASCII
-pub decimal_is_text : (ds : List ℕ) → IsDecimal ds → IsUtf8 ds
-decimal_is_text ds is = IsUtf8-from_ascii ds
-    (IsAscii-from_digits ds (digit_texts.to ds (plain_from_decimal ds is).digits))
+-- what one digit more adds
+pub value_more : (ds : List ℕ) (i : ℕ) → IsDecimal ds → i < length ds
+    → digits_value 10 (take (i + 1) ds) + 48 ≡ digits_value 10 (take i ds) * 10 + get_or ds i 0
+value_more ds i is within =
+    let more = digits_value_more 10 ds i within in
+    let digits = digit_texts.to ds (plain_from_decimal ds is).digits in
+    let digit = digit_value_digit (get_or ds i 0) (digit_at ds i digits within) in
+    omega (arith, more, digit)
 
--- what `parse` makes of a decimal
+-- no part of the digits before it writes more
+pub value_least : (ds : List ℕ) (i : ℕ) → digits_value 10 (take i ds) ≤ digits_value 10 ds
+value_least ds i = digits_value-take-le 10 ds i (omega arith)
+
+-- what a decimal is read as
 pub record IsValue (ds : List ℕ) (o : Option ℕ) : Type 0 where
   pub value : IfSome o (λ n. n ≡ digits_value 10 ds)
   pub in_range : IsSome o ↔ (digits_value 10 ds < 2 ^ 32)
-
-pub parsed : {E : Type 0} (ds text : List ℕ) (r : Result ℕ E) (o : Option ℕ) → IsDecimal ds → text
-    ≡ ds → ParsesUnsigned 32 10 text r → o ≡ result_ok r → IsValue ds o
-parsed ds text r o is same parses given =
-    grind (arith, common_steps, plain_from_decimal, parse_digits, digit_texts)
 
 pub number_from_value : (ds : List ℕ) (o : Option ℕ) → IsDecimal ds → IsValue ds o → ok_or o Range
     ≡ number_of ds

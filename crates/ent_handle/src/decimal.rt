@@ -34,9 +34,11 @@ pub(crate) fn decimal_value(bytes: &[u8]) -> Option<u32>
     ensures value { IfSome result (λ n. n ≡ digits_value 10 bytes.now) }
     ensures in_range { IsSome result ↔ (digits_value 10 bytes.now < 2 ^ 32) }
 {
-    // Digits are ASCII.
-    let text = str::from_utf8(bytes).unwrap();
-    text.parse().ok()
+    let mut value: u32 = 0;
+    for byte in bytes {
+        value = value.checked_mul(10)?.checked_add(u32::from(*byte - b'0'))?;
+    }
+    Some(value)
 }
 
 /// The number of this text, which is a decimal: `0`, or digits of which the first is not `0`.

@@ -756,6 +756,7 @@ const METHODS: &[&str] = &[
     "cast_signed",
     "cast_unsigned",
     "checked_add",
+    "checked_mul",
     "checked_sub",
     "clear",
     "close_with",

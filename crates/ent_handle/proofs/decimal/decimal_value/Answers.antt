@@ -1,13 +1,28 @@
-use Rattle.std.proofs.Common.{rules, ◌≡◌, arith}
-use Rattle.ent_handle.proofs.Decimals.{decimal_is_text, parsed}
+use Rattle.std.proofs.Common.{rules, arith, ◌+◌}
+use Rattle.std.proofs.lemmas.Grind.{common_steps}
+use Rattle.std.proofs.lemmas.List.{take_all}
+use Rattle.ent_handle.proofs.Decimals.{value_more, value_least}
 use Rattle.ent_handle.proofs.decimal.decimal_value.Goals as goal
 
-pub unwrap-text-requires : goal.unwrap-text-requires
-unwrap-text-requires c = search (rules, decimal_is_text, c.args.bytes.now, c.requires)
+pub returns-in_err-checked_mul-clause-in_range : goal.returns-in_err-checked_mul-clause-in_range
+returns-in_err-checked_mul-clause-in_range c =
+    let more = value_more c.args.bytes.now c.loop-byte.byte-index c.requires
+    (omega (arith, c.loop-byte-test.true)) in
+    let least = value_least c.args.bytes.now (c.loop-byte.byte-index + 1) in
+    grind (arith, common_steps, more, least)
 
-pub returns : goal.returns
-returns c =
-    let same : c.unwrap-text.result.now ≡ c.args.bytes.now = grind arith in
-    let v = parsed c.args.bytes.now c.unwrap-text.result.now c.parse.result c.ok.result c.requires
-    same c.parse.ensures.value.0 c.ok.ensures.value in
-    record { value = v.value; in_range = v.in_range }
+pub returns-in_err-value-clause-in_range : goal.returns-in_err-value-clause-in_range
+returns-in_err-value-clause-in_range c =
+    let more = value_more c.args.bytes.now c.loop-byte.byte-index c.requires
+    (omega (arith, c.loop-byte-test.true)) in
+    let least = value_least c.args.bytes.now (c.loop-byte.byte-index + 1) in
+    grind (arith, common_steps, more, least)
+
+pub loop-byte-preserved : goal.loop-byte-preserved
+loop-byte-preserved c =
+    let more = value_more c.args.bytes.now c.loop-byte.byte-index c.requires
+    (omega (arith, c.loop-byte-test.true)) in
+    grind (arith, common_steps, more)
+
+pub returns-clause-in_range : goal.returns-clause-in_range
+returns-clause-in_range c = search (rules, take_all)
