@@ -10,7 +10,7 @@ ghost use Rattle.ent_replay.specs.Histories.{IsAtRest, new_phase, StandInHistory
 ghost use Rattle.ent_replay.specs.Histories.{given_by_all};
 ghost use Rattle.ent_alloc.specs.History.{AreGivenOnce};
 
-use crate::by_caller::ByCaller;
+use crate::caller_table::CallerTable;
 use crate::event::Event;
 use crate::fault::ReplayFault;
 use crate::handle_list::HandleList;
@@ -33,8 +33,8 @@ const CALLERS: u32 = 1024;
 pub struct Machine {
     alloc: Global,
     entities: Entities,
-    spent: ByCaller<u64>,
-    calls: ByCaller<StoredCall>,
+    spent: CallerTable<u64>,
+    calls: CallerTable<StoredCall>,
 }
 
 impl Model for Machine {
@@ -73,8 +73,8 @@ impl Machine {
         Ok(Machine {
             alloc,
             entities,
-            spent: ByCaller::new(alloc),
-            calls: ByCaller::new(alloc),
+            spent: CallerTable::new(alloc),
+            calls: CallerTable::new(alloc),
         })
     }
 

@@ -1,6 +1,6 @@
 use Rattle.std.proofs.Common.{rules}
 use Rattle.ent_replay.proofs.Tables.{by_place-emptied}
-use Rattle.ent_replay.proofs.by_caller.empty.Goals as goal
+use Rattle.ent_replay.proofs.caller_table.empty.Goals as goal
 
 pub returns-in-Some-clause-values : goal.returns-in-Some-clause-values
 returns-in-Some-clause-values g c = search (rules, by_place-emptied)

@@ -1,6 +1,6 @@
 use Rattle.std.proofs.Common.{rules}
 use Rattle.ent_replay.proofs.Tables.{by_place-set, values_below}
-use Rattle.ent_replay.proofs.by_caller.put.Goals as goal
+use Rattle.ent_replay.proofs.caller_table.put.Goals as goal
 
 pub overflow_add-result : goal.overflow_add-result
 overflow_add-result g c = search (rules, values_below)
