@@ -76,6 +76,7 @@ ENDS = [
     (["spawnrun", "draw", "--slots", "1", "examples/data/reuse.json"], b"", 1, b"refused line 1 word\n", b"a line must be "),
     (["tracecheck", "--draw=no/folder", "examples/given_twice.txt"], b"x", 4, b"differs line 6: ", b"no/folder can't be written: "),
     (["tracecheck", "--draw", "no/folder", "examples/no_such.txt"], b"", 2, b"", b"error: unexpected argument 'examples/no_such.txt' found"),
+    (["tracecheck", "--draw", "examples/given_twice.txt"], DIFFERS, 2, b"", b"error: 'examples/given_twice.txt' is no SVG, and isn't written over\n\nUsage"),
     (["tracecheck", "--draw"], DIFFERS, 2, b"", b"Usage: tracecheck --draw FILE [OPTIONS]\n"),
     (["tracecheck", "--draw", "--help"], DIFFERS, 2, b"", b"Usage: tracecheck --draw FILE [OPTIONS]\n"),
     (["tracecheck", "--draw", "no/folder", "--slots", "0"], DIFFERS, 2, b"", b"error: invalid value '0' for '--slots <N>'"),

@@ -4,6 +4,7 @@ pub mod ScheduleLaws
 pub mod ScheduleLoop
 pub mod ScheduleWords
 pub mod Maps
+pub mod Tables
 pub mod Totals
 pub mod Conditions
 pub mod Moves

@@ -21,10 +21,10 @@ use Rattle.ent_replay.specs.Machine.{map_values}
 pub no_test : false ≡ true → ⊥
 no_test is = cc
 
-itself : (k : ℕ) → eq_by_cmp nat_cmp k k ≡ true
+pub itself : (k : ℕ) → eq_by_cmp nat_cmp k k ≡ true
 itself k = unsigned_tied k k ∙ eq-eqb k k refl
 
-apart : (q k : ℕ) → q ≢ k → eq_by_cmp nat_cmp q k ≡ false
+pub apart : (q k : ℕ) → q ≢ k → eq_by_cmp nat_cmp q k ≡ false
 apart q k other = unsigned_tied q k ∙ ne_eqb q k other
 
 -- ---- trees

@@ -4,6 +4,7 @@ pub mod Schedule
 pub mod Totals
 pub mod Held
 pub mod Machine
+pub mod Table
 pub mod Histories
 pub mod Trace
 pub mod Checker

@@ -3,6 +3,7 @@
 #![tactic(auto)]
 
 mod by_caller;
+mod caller_table;
 mod event;
 mod fault;
 mod handle_list;

@@ -10,7 +10,7 @@ ghost use Rattle.ent_replay.specs.Histories.{IsAtRest, new_phase, StandInHistory
 ghost use Rattle.ent_replay.specs.Histories.{given_by_all};
 ghost use Rattle.ent_alloc.specs.History.{AreGivenOnce};
 
-use crate::by_caller::ByCaller;
+use crate::caller_table::CallerTable;
 use crate::event::Event;
 use crate::fault::ReplayFault;
 use crate::handle_list::HandleList;
@@ -33,8 +33,8 @@ const CALLERS: u32 = 1024;
 pub struct Machine {
     alloc: Global,
     entities: Entities,
-    spent: ByCaller<u64>,
-    calls: ByCaller<StoredCall>,
+    spent: CallerTable<u64>,
+    calls: CallerTable<StoredCall>,
 }
 
 impl Model for Machine {
@@ -73,8 +73,8 @@ impl Machine {
         Ok(Machine {
             alloc,
             entities,
-            spent: ByCaller::new(alloc),
-            calls: ByCaller::new(alloc),
+            spent: CallerTable::new(alloc),
+            calls: CallerTable::new(alloc),
         })
     }
 
@@ -93,6 +93,8 @@ impl Machine {
     /// - `Memory`: tested last, and only if the event makes a slot, frees a handle whose slot isn't
     ///   retired, brings handles to life, opens a call or lists the handles of a reply. A reply and
     ///   a flush ask for their whole list before they list a handle.
+    // Not inlined, its result goes through memory.
+    #[inline(always)]
     pub fn step(&mut self, event: Event) -> Result<Outcome, ReplayFault>
         ensures outcome { ¬ (result ≡ Err ReplayFault.Memory) → result ≡ outcome_of self.old event }
         ensures state { ¬ (result ≡ Err ReplayFault.Memory)
@@ -149,6 +151,7 @@ impl Machine {
         Ok(outcomes)
     }
 
+    #[inline(always)]
     fn alloc(&mut self) -> Result<Outcome, ReplayFault>
         ensures { Makes (on_alloc self.old) self.old result self.new }
     {
@@ -163,6 +166,7 @@ impl Machine {
         }
     }
 
+    #[inline(always)]
     fn free(&mut self, handle: Handle) -> Result<Outcome, ReplayFault>
         ensures { Makes (on_free self.old handle) self.old result self.new }
     {
@@ -180,6 +184,7 @@ impl Machine {
         }
     }
 
+    #[inline(always)]
     fn flush(&mut self) -> Result<Outcome, ReplayFault>
         ensures { Makes (on_flush self.old) self.old result self.new }
     {
@@ -194,6 +199,7 @@ impl Machine {
         Ok(Outcome::Born(HandleList::new(born)))
     }
 
+    #[inline(always)]
     fn begin(&mut self, caller: u32, n: u32) -> Result<Outcome, ReplayFault>
         ensures { Makes (on_begin self.old caller n) self.old result self.new }
     {
@@ -222,6 +228,7 @@ impl Machine {
         Ok(Outcome::Open)
     }
 
+    #[inline(always)]
     fn take(&mut self, caller: u32) -> Result<Outcome, ReplayFault>
         ensures { Makes (on_step self.old caller) self.old result self.new }
     {
@@ -243,6 +250,7 @@ impl Machine {
         Ok(Outcome::Cursor(span.low))
     }
 
+    #[inline(always)]
     fn answer(&mut self, caller: u32) -> Result<Outcome, ReplayFault>
         ensures { Makes (on_answer self.old caller) self.old result self.new }
     {

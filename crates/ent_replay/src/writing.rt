@@ -136,6 +136,7 @@ fn write_space(out: &mut Vec<u8>, wanted: u32, left: u32) -> Result<(), Memory>
     append_number(out, left)
 }
 
+#[inline(always)]
 fn write_text(outcome: &Outcome, out: &mut Vec<u8>) -> Result<(), Memory>
     ensures ok { OnOk result (out.new.items ≡ out.old.items ++ outcome_text outcome.now) }
     ensures kept { OnErr result (take (vec_len out.old) out.new.items ≡ out.old.items) }
@@ -182,6 +183,7 @@ fn write_fault(fault: ReplayFault, out: &mut Vec<u8>) -> Result<(), Memory>
     }
 }
 
+#[inline(always)]
 fn write_line(outcome: &Result<Outcome, ReplayFault>, out: &mut Vec<u8>) -> Result<(), Memory>
     requires { outcome.now ≢ Err ReplayFault.Memory }
     ensures ok { OnOk result (out.new.items ≡ out.old.items ++ line_of outcome.now) }
@@ -208,6 +210,8 @@ fn write_line(outcome: &Result<Outcome, ReplayFault>, out: &mut Vec<u8>) -> Resu
 /// # Errors
 ///
 /// `Memory` if there is no room for all of the line. `out` keeps its items then.
+// Not inlined, the outcome goes through memory.
+#[inline(always)]
 pub fn write_outcome(
     outcome: &Result<Outcome, ReplayFault>,
     out: &mut Vec<u8>,

@@ -28,8 +28,8 @@ const OPTION: &str = "--draw";
 const HELP: &str = "Usage: tracecheck --draw FILE [OPTIONS]\n\n\
      Compares the trace on standard input, or in the file that is named by the last word, as 'tracecheck'\n\
      does without this option. If the trace differs, it also writes FILE: an SVG of the run that breaks,\n\
-     with the line that differs in red. If not, FILE is left alone. The comparison is proved. The code that\n\
-     draws isn't proved, and only this build by cargo has it.\n\n\
+     with the line that differs in red. If not, FILE is left alone, and so is a FILE that is no SVG. The\n\
+     comparison is proved. The code that draws isn't proved, and only this build by cargo has it.\n\n\
      Example:\n  tracecheck --draw picture.svg trace.txt\n\n\
      'tracecheck --help' names the other options, and the exit statuses.\n";
 
@@ -42,6 +42,9 @@ const DIFFERS: u8 = 1;
 const WORDS: u8 = 2;
 const MEMORY: u8 = 3;
 const DEVICE: u8 = 4;
+
+/// How each picture begins.
+const BEGIN: &[u8] = b"<svg ";
 
 /// How many letters a line of text in the picture has at most.
 const LINE: usize = 110;
@@ -96,11 +99,31 @@ type Failure = (u8, String);
 
 /// Checks the trace on standard input, or in the file that the last word names, and draws it if it differs.
 fn check(rt: HostRuntime, file: &str, words: &[&str]) -> Result<u8, Failure> {
+    if would_be_lost(file) {
+        return Err((
+            WORDS,
+            format!("error: '{file}' is no SVG, and isn't written over\n\n{HELP}"),
+        ));
+    }
     match named_file(rt, words, |words| limits(words).is_some()) {
         Ok(Some(input)) => check_input(input, file, &words[..words.len() - 1]),
         Ok(None) => check_input(rt.stdin(), file, words),
         Err(_) => Err(memory()),
     }
+}
+
+/// Whether a file of this name has something else than a picture in it, as a trace that is named in the picture's place.
+fn would_be_lost(file: &str) -> bool {
+    let is_file = std::fs::metadata(file).is_ok_and(|found| found.is_file() && found.len() > 0);
+    is_file && !begins_with(file, BEGIN)
+}
+
+/// Whether the file begins with these bytes. One that can't be read doesn't.
+fn begins_with(file: &str, begin: &[u8]) -> bool {
+    let mut found = Vec::new();
+    let opened = std::fs::File::open(file).map(|file| file.take(begin.len() as u64));
+    let read = opened.and_then(|mut first| first.read_to_end(&mut found));
+    read.is_ok() && found == begin
 }
 
 fn check_input(input: impl Read, file: &str, words: &[&str]) -> Result<u8, Failure> {
@@ -222,6 +245,24 @@ mod tests {
         for words in nameless {
             assert_eq!(file_in(words), (None, vec![]));
         }
+    }
+
+    #[test]
+    fn nothing_but_a_picture_is_written_over() {
+        let of_package = |name| format!("{}/{name}", env!("CARGO_MANIFEST_DIR"));
+        for name in ["LICENSE-MIT", "drawing/patterns.svg"] {
+            assert!(would_be_lost(&of_package(name)), "{name}");
+        }
+        for name in ["no/such/file", "drawing"] {
+            assert!(!would_be_lost(&of_package(name)), "{name}");
+        }
+        let made = std::env::temp_dir().join(format!("forgeni-{}.svg", process::id()));
+        let name = made.to_str().expect("a name of letters");
+        for text in ["", "<svg />"] {
+            std::fs::write(name, text).expect("a folder for files that go");
+            assert!(!would_be_lost(name), "{text}");
+        }
+        std::fs::remove_file(name).expect("the file that was written");
     }
 
     #[test]

@@ -3,7 +3,7 @@
 use alloc::vec::Vec;
 use crate::kit::prove_eq;
 use crate::kit::vec::FallibleVec;
-use crate::proved::ent_replay::by_caller::ByCaller;
+use crate::proved::ent_replay::caller_table::CallerTable;
 use crate::proved::ent_replay::event::Event;
 use crate::proved::ent_replay::fault::ReplayFault;
 use crate::proved::ent_replay::handle_list::HandleList;
@@ -22,8 +22,8 @@ const CALLERS: u32 = 1024;
 /// with the replies that their steps fixed. This project's own: Bevy has no such machine.
 pub struct Machine {
     entities: Entities,
-    spent: ByCaller<u64>,
-    calls: ByCaller<StoredCall>,
+    spent: CallerTable<u64>,
+    calls: CallerTable<StoredCall>,
 }
 
 /// Memory ran out while a list of events was applied.
@@ -56,8 +56,8 @@ impl Machine {
         prove_eq!(entities.cursor(), 0);
         Ok(Machine {
             entities,
-            spent: ByCaller::new(),
-            calls: ByCaller::new(),
+            spent: CallerTable::new(),
+            calls: CallerTable::new(),
         })
     }
 
@@ -76,23 +76,16 @@ impl Machine {
     /// - `Memory`: tested last, and only if the event makes a slot, frees a handle whose slot isn't
     ///   retired, brings handles to life, opens a call or lists the handles of a reply. A reply and
     ///   a flush ask for their whole list before they list a handle.
-    ///
-    /// <details><summary>Contract</summary>
-    ///
-    /// In the words of the folder `specs/` of crate `ent_replay`:
-    ///
-    /// ```text
-    /// ensures outcome { ¬ (result ≡ Err ReplayFault.Memory) → result ≡ outcome_of self.old event }
-    /// ensures state { ¬ (result ≡ Err ReplayFault.Memory)
-    ///     → self.new ≡ after_event self.old event }
-    /// ensures memory { result ≡ Err ReplayFault.Memory → self.new ≡ self.old }
-    /// ensures grows { result ≡ Err ReplayFault.Memory
-    ///     → event_takes_memory self.old (outcome_of self.old event) ≡ true }
-    /// ```
-    ///
-    /// </details>
-    #[inline]
-    pub fn step(&mut self, event: Event) -> Result<Outcome, ReplayFault> {
+    // Not inlined, its result goes through memory.
+    #[inline(always)]
+    pub fn step(&mut self, event: Event) -> Result<Outcome, ReplayFault>
+        // ensures outcome { ¬ (result ≡ Err ReplayFault.Memory) → result ≡ outcome_of self.old event }
+        // ensures state { ¬ (result ≡ Err ReplayFault.Memory)
+        //     → self.new ≡ after_event self.old event }
+        // ensures memory { result ≡ Err ReplayFault.Memory → self.new ≡ self.old }
+        // ensures grows { result ≡ Err ReplayFault.Memory
+        //     → event_takes_memory self.old (outcome_of self.old event) ≡ true }
+    {
         match event {
             Event::Alloc => self.alloc(),
             Event::Free(handle) => self.free(handle),
@@ -150,7 +143,7 @@ impl Machine {
         Ok(outcomes)
     }
 
-    #[inline]
+    #[inline(always)]
     fn alloc(&mut self) -> Result<Outcome, ReplayFault>
         // ensures { Makes (on_alloc self.old) self.old result self.new }
     {
@@ -165,7 +158,7 @@ impl Machine {
         }
     }
 
-    #[inline]
+    #[inline(always)]
     fn free(&mut self, handle: Handle) -> Result<Outcome, ReplayFault>
         // ensures { Makes (on_free self.old handle) self.old result self.new }
     {
@@ -183,7 +176,7 @@ impl Machine {
         }
     }
 
-    #[inline]
+    #[inline(always)]
     fn flush(&mut self) -> Result<Outcome, ReplayFault>
         // ensures { Makes (on_flush self.old) self.old result self.new }
     {
@@ -198,7 +191,7 @@ impl Machine {
         Ok(Outcome::Born(HandleList::new(born)))
     }
 
-    #[inline]
+    #[inline(always)]
     fn begin(&mut self, caller: u32, n: u32) -> Result<Outcome, ReplayFault>
         // ensures { Makes (on_begin self.old caller n) self.old result self.new }
     {
@@ -227,7 +220,7 @@ impl Machine {
         Ok(Outcome::Open)
     }
 
-    #[inline]
+    #[inline(always)]
     fn take(&mut self, caller: u32) -> Result<Outcome, ReplayFault>
         // ensures { Makes (on_step self.old caller) self.old result self.new }
     {
@@ -249,7 +242,7 @@ impl Machine {
         Ok(Outcome::Cursor(span.low))
     }
 
-    #[inline]
+    #[inline(always)]
     fn answer(&mut self, caller: u32) -> Result<Outcome, ReplayFault>
         // ensures { Makes (on_answer self.old caller) self.old result self.new }
     {

@@ -4,6 +4,7 @@
 //! report their outcomes. And recorded traces of an allocator, checked against the proved one.
 
 mod by_caller;
+mod caller_table;
 mod event;
 mod fault;
 mod handle_list;

@@ -141,7 +141,7 @@ fn write_space(out: &mut Vec<u8>, wanted: u32, left: u32) -> Result<(), Memory>
     append_number(out, left)
 }
 
-#[inline]
+#[inline(always)]
 fn write_text(outcome: &Outcome, out: &mut Vec<u8>) -> Result<(), Memory>
     // ensures ok { OnOk result (out.new.items ≡ out.old.items ++ outcome_text outcome.now) }
     // ensures kept { OnErr result (take (vec_len out.old) out.new.items ≡ out.old.items) }
@@ -189,7 +189,7 @@ fn write_fault(fault: ReplayFault, out: &mut Vec<u8>) -> Result<(), Memory>
     }
 }
 
-#[inline]
+#[inline(always)]
 fn write_line(outcome: &Result<Outcome, ReplayFault>, out: &mut Vec<u8>) -> Result<(), Memory>
     // requires { outcome.now ≢ Err ReplayFault.Memory }
     // ensures ok { OnOk result (out.new.items ≡ out.old.items ++ line_of outcome.now) }
@@ -216,7 +216,8 @@ fn write_line(outcome: &Result<Outcome, ReplayFault>, out: &mut Vec<u8>) -> Resu
 /// # Errors
 ///
 /// `Memory` if there is no room for all of the line. `out` keeps its items then.
-#[inline]
+// Not inlined, the outcome goes through memory.
+#[inline(always)]
 pub(crate) fn write_outcome(
     outcome: &Result<Outcome, ReplayFault>,
     out: &mut Vec<u8>,
