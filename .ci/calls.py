@@ -3,7 +3,7 @@
 
     calls.py TYPE..
 
-`CRATE::TYPE` is the type of one crate, if several have one of that name. `docs/CALLS.md` quotes what it prints, and `.ci/pages.py`
+`CRATE::TYPE` is the type of one crate, if several have one of that name. `docs/IN_RATTLE.md` quotes what it prints, and `.ci/pages.py`
 compares. It runs at the top of the repository.
 """
 

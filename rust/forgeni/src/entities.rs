@@ -23,8 +23,8 @@ impl Entities {
         Self::with_limits(Limits::GREATEST)
     }
 
-    /// [`flush`](Self::flush), which hands each handle to `each` instead, in the same order. All of
-    /// them are alive before the first is handed on, and stay so if `each` panics.
+    /// Like [`flush`](Self::flush), but passes each handle to `each`, in the same order. All of them
+    /// are alive before the first call, and stay alive if `each` panics.
     ///
     /// ```
     /// use forgeni::Entities;
@@ -39,7 +39,7 @@ impl Entities {
     ///
     /// # Errors
     ///
-    /// `OutOfMemory`, as of `flush`, and then nothing has changed and nothing is handed on.
+    /// `OutOfMemory`, as from `flush`. Nothing has changed then, and `each` isn't called.
     pub fn flush_with(&mut self, each: impl FnMut(Handle)) -> Result<(), OutOfMemory> {
         let mut born = Vec::new();
         self.flush(&mut born)?;

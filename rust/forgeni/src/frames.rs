@@ -17,9 +17,9 @@ pub use crate::proved::ent_total::FrameError;
 /// Runs each system once, on that many workers side by side, and then the sync point. It returns
 /// the report of the sync point.
 ///
-/// A worker takes the next system that nobody has taken yet, until none is left. The commands of
-/// the systems take effect in the order of the systems, whatever the order in which they ended. If a
-/// thread can't be started, another one does its work. One worker starts no thread.
+/// Each worker takes the next system that isn't taken yet, until none is left. The commands take
+/// effect in the order of the systems, whichever system ended first. If a thread can't be started,
+/// another one does its work. One worker starts no thread.
 ///
 /// # What depends on the workers
 ///
@@ -90,8 +90,8 @@ pub fn run_frame<S: System + Sync>(
     run_frame_on(&StdThreads, world, systems, workers)
 }
 
-/// [`run_frame`] on the threads of a [`Join`], such as a task pool: it starts no thread by itself. With the
-/// feature `rayon`, `Rayon` and a `rayon::ThreadPool` are such.
+/// [`run_frame`] on the threads of a [`Join`], such as a task pool. It starts no thread by itself. With
+/// the feature `rayon`, `Rayon` and `rayon::ThreadPool` are `Join`s.
 ///
 /// The workers are halved again and again, and each two halves are handed to the `Join`.
 ///
@@ -120,12 +120,12 @@ pub fn run_frame<S: System + Sync>(
 ///
 /// # Errors
 ///
-/// Those of [`run_frame`].
+/// The same as [`run_frame`].
 ///
 /// # Panics
 ///
-/// As [`run_frame`]. If no system panics and the `Join` does, its panic is handed on when all workers have
-/// ended. The frame is complete then: its report is lost, and the world is as after the sync point.
+/// The same as [`run_frame`]. If no system panics but the `Join` does, its panic is handed on when all
+/// workers have ended. The frame is complete then: only its report is lost.
 pub fn run_frame_on<J: Join + Sync, S: System + Sync>(
     join: &J,
     world: &mut World,

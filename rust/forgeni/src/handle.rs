@@ -5,12 +5,12 @@ use core::str::FromStr;
 pub use crate::proved::ent_handle::{Handle, TextFault as ParseHandleError};
 
 impl Handle {
-    /// A handle that is never alive, for what has to hold one before there is one. No allocator and
-    /// no world gives it, but for an allocator of
+    /// A handle that is never alive, to initialise a field before there is an entity. No allocator and
+    /// no world gives it, except an allocator of
     /// [`with_exact_limits`](crate::Entities::with_exact_limits). It is `4294967294v2147483647`, the
     /// greatest handle of both orders.
     ///
-    /// An `Option<Handle>` takes no more bytes, and says more.
+    /// An `Option<Handle>` is as large, and often clearer.
     ///
     /// ```
     /// use forgeni::{Entities, Handle, State};

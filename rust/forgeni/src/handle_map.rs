@@ -18,8 +18,8 @@ pub use crate::proved::ent_storage::handle_map::{
 impl<T> HandleMap<T> {
     /// Calls `change` on each value once, by rising slot.
     ///
-    /// It is what `iter_mut` is elsewhere: the kit of the proofs has no words for a map of which
-    /// several values are lent at once. [`get_mut`](Self::get_mut) lends one.
+    /// Use it in place of an `iter_mut`: a contract can't describe a map that lends several values at
+    /// once. [`get_mut`](Self::get_mut) lends one.
     ///
     /// ```
     /// use forgeni::{Handle, HandleMap};

@@ -6,11 +6,11 @@ use alloc::vec::Vec;
 use core::fmt;
 use core::ops::Deref;
 
-/// A [`Reserver`] that is lent by a [`phase`](crate::Entities::phase) or by a pool of them. It
-/// reserves as the reserver does, and costs no more.
+/// A [`Reserver`] that is lent by a [`phase`](crate::Entities::phase) or by a pool of reservers. It
+/// reserves as the reserver does, at no extra cost.
 ///
-/// The borrower can't keep the reserver, nor put another one in its place. So the phase has all of
-/// them at its end, even if this is dropped or forgotten.
+/// The borrower can neither keep the reserver nor replace it. So the phase has all of them at its
+/// end, even if a `Lent` is dropped or forgotten.
 pub struct Lent<'a> {
     reserver: &'a mut Reserver,
 }

@@ -65,10 +65,10 @@
 //!
 //! # Components
 //!
-//! A [`HandleMap`] has a value of any type for each of some handles, as a secondary map of a slot map
-//! has: at most one value for each slot, in one vector by slot. So a look-up is one access and a
-//! comparison. We recommend one map for each type of component, as in the example `particles`. Use
-//! [`Storage`] and [`World`] for births, reports, and frames that don't depend on the workers (below).
+//! A [`HandleMap`] has a value of any type for each of some handles, at most one for each slot, in one
+//! vector by slot, as slotmap's `SecondaryMap`. So a look-up is one access and a comparison. We
+//! recommend one map for each type of component, as in the example `particles`. Use [`Storage`] and
+//! [`World`] for births, reports, and frames that don't depend on the workers (below).
 //!
 //! ```
 //! use forgeni::{Entities, HandleMap};
@@ -82,7 +82,7 @@
 //!     assert!(entities.is_alive(one) && name == "carts");
 //! }
 //!
-//! // A map knows no allocator, so take out the values of what you free.
+//! // A map knows no allocator, so remove the values of what you free.
 //! entities.free(cart)?;
 //! assert_eq!(names.remove(cart).as_deref(), Some("carts"));
 //! assert_eq!(names.get(cart), None);
@@ -91,13 +91,14 @@
 //!
 //! # Worlds and frames
 //!
-//! A [`World`] has the allocator and what entities are made of, by numbered components of 64 bits. It
-//! knows when each entity was born. [`Storage`] keeps such components beside an `Entities` of your own.
+//! A [`World`] has the allocator, numbered components of 64 bits, and the birth of each entity: when
+//! and by whom it was spawned. [`Storage`] keeps such components beside an `Entities` of your own.
 //!
 //! A system reads the world as the frame began, and issues commands. A spawn reserves at once. The
 //! commands take effect in the order of the systems. `run_frame` runs systems on workers; its docs say
 //! what depends on their number. `run_frame_on` runs them on rayon or on a task pool of your own. To run
-//! systems by hand, use [`World::phase`] on a borrow, or [`World::open`], [`Commands`], [`OpenWorld::close`] and [`World::apply`]:
+//! systems by hand, use [`World::phase`] on a borrow, or [`World::open`], [`Commands`],
+//! [`OpenWorld::close`] and [`World::apply`]:
 //!
 //! ```
 //! use forgeni::{ComponentId, World};
@@ -162,7 +163,7 @@
 //!
 //! [`Entities::write_image`] writes an allocator as bytes, and [`Entities::read_image`] reads it back.
 //! [`Entities::try_clone_from`] takes a snapshot, or goes back to one, and so do those of [`World`] and
-//! [`HandleMap`]. Handles that were given after a save or a snapshot are given anew then.
+//! [`HandleMap`]. Handles that were given after a save or a snapshot will be given again.
 //!
 //! ```
 //! use forgeni::Entities;
@@ -215,11 +216,12 @@
 //!   last of them.
 //! - **Queues are applied to another world** than that of their phase: [`SyncError::OtherWorld`], which
 //!   hands them back.
-//! - **A log of another phase**: [`BeginError::NotReserved`], since a spawn of it isn't reserved. Nothing has
-//!   changed. A log that is lost, as with a system that panics, takes its commands along. What it reserved
-//!   comes to life with the others.
-//! - **The closure of a [`SyncPoint`] fails**: the entry that it hands back and those behind it are left, and
-//!   [`apply`](SyncPoint::apply) goes on there. If it panics, the entry is gone and those behind it are left.
+//! - **A log of another phase**: [`BeginError::NotReserved`], since a spawn of it isn't reserved. Nothing
+//!   has changed. If a log is lost, for example by a system that panics, so are its commands. What it
+//!   reserved comes to life with the others.
+//! - **The closure of a [`SyncPoint`] fails**: the entry that it hands back and those after it are left,
+//!   and [`apply`](SyncPoint::apply) goes on there. If it panics, the entry is gone and those after it
+//!   are left.
 //! - **Bytes aren't the image of an allocator**: an [`ImageFault`]. What is read has exactly these bytes
 //!   for its image, whoever wrote them.
 //! - **Memory runs out**: an `Err`. Nothing has changed, unless a sync point stopped ([`Stopped`], and
@@ -234,7 +236,7 @@
 //!   take the memory in between.
 //! - A slice or an array of handles becomes an answer of a [`trace::Call`], or a call or an error of a
 //!   trace is cloned.
-//! - A [`trace::Checker`] notes the first reservation of a caller in a run. It first allocates as much,
+//! - A [`trace::Checker`] records the first reservation of a caller in a run. It first allocates as much,
 //!   as for an `Arc`.
 //! - An [`Entities`], a [`Storage`] or a [`World`] is cloned by `Clone`. `try_clone` returns an error
 //!   instead.

@@ -1,14 +1,13 @@
-//! The numbers by which phases and worlds are told apart.
+//! The numbers that distinguish phases and worlds.
 //!
-//! This is what the package is trusted for: that no number is given twice. All that the numbers are
-//! for is proved.
+//! Trusted is that no number is given twice. Everything that the numbers are for is proved.
 
 use core::sync::atomic::{AtomicU64, Ordering};
 
 /// The number that is given next. It would take centuries to come round.
 static NEXT: AtomicU64 = AtomicU64::new(0);
 
-/// A number that nobody else is given.
+/// A number that is given only once.
 pub(crate) fn next_number() -> u64 {
     NEXT.fetch_add(1, Ordering::Relaxed)
 }

@@ -7,16 +7,16 @@ use crate::Entities;
 use alloc::vec::Vec;
 
 impl Entities {
-    /// Shares the allocator among `callers` reservers, 1 to 1,024, for as long as `run` takes. After
-    /// it the allocator is back, as [`Shared::close`] gives it back: `run` can lose no reserver,
-    /// since each is only [`Lent`] to it.
+    /// Shares the allocator among `callers` reservers, 1 to 1,024, for as long as `run` takes. Then
+    /// the allocator is back, as after [`Shared::close`]: `run` can't lose a reserver, since each is
+    /// only [`Lent`] to it.
     ///
     /// ```
     /// use forgeni::Entities;
     ///
     /// let mut entities = Entities::new();
     /// let first = entities.alloc()?;
-    /// let told = entities.phase(4, |shared, reservers| {
+    /// let replies = entities.phase(4, |shared, reservers| {
     ///     assert_eq!(shared.count(), 4);
     ///     std::thread::scope(|scope| {
     ///         let tasks: Vec<_> = reservers
@@ -26,7 +26,7 @@ impl Entities {
     ///         tasks.into_iter().map(|task| task.join().expect("no panic")).collect::<Vec<_>>()
     ///     })
     /// })?;
-    /// assert!(told.iter().all(Result::is_ok));
+    /// assert!(replies.iter().all(Result::is_ok));
     /// entities.flush(&mut Vec::new())?;
     /// assert_eq!(entities.len(), 41);
     /// assert!(entities.is_alive(first));

@@ -15,7 +15,7 @@ impl Entities {
     /// Shares the allocator among `callers` reservers, 1 to 1,024, each of which may go to a thread
     /// of its own. [`Shared::close`] gives the allocator back, with all that they reserved.
     ///
-    /// While it is shared nobody else can use it: it is inside the [`Shared`].
+    /// While it is shared, the allocator is inside the [`Shared`], and nothing else can use it.
     ///
     /// ```
     /// use forgeni::Entities;

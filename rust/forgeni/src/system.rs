@@ -8,7 +8,7 @@ use core::fmt;
 pub use crate::proved::ent_queue::Commands as SystemCommands;
 pub use crate::proved::ent_runner::System;
 
-/// The closure itself, as a [`System`]. By this call Rust knows the types of its parameters:
+/// Returns the closure, as a [`System`]. The call lets Rust infer the types of its parameters:
 ///
 /// ```
 /// use forgeni::{run_frame, system, World};

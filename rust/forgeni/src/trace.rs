@@ -1,9 +1,9 @@
 //! Whether another allocator answers as the proved one does.
 //!
-//! If you have an allocator of this kind already, you can keep it and check it: record what was
-//! called and what was answered, and feed it to a [`Checker`]. Calls that nothing overlaps go in one
-//! by one. Reservations of threads go in as a *run*, in no order but that of each caller's own: the
-//! checker finds an order in which the allocator may have answered so, or says that there is none.
+//! If you already have an allocator of this kind, you can keep it and check it: record its calls and
+//! answers, and feed them to a [`Checker`]. Calls that don't overlap others go in one by one.
+//! Reservations of threads go in as a *run*, each caller's in its own order: the checker finds an
+//! order in which the allocator may have answered so, or reports that there is none.
 //!
 //! ```
 //! use forgeni::trace::{Checker, FreeReply, Reservation};

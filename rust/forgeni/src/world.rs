@@ -33,10 +33,10 @@ impl World {
     }
 
     /// Another world in the same state: the same entities are alive, with the same births and
-    /// components, the same handles are reserved, and to the same calls both return the same. From then
-    /// on each goes its own way.
+    /// components, the same handles are reserved, and the same calls return the same. From then on the
+    /// two are independent.
     ///
-    /// Each has queues of its own: those of a phase of one are [`SyncError::OtherWorld`] to the other.
+    /// Neither takes the queues of the other's phases: [`SyncError::OtherWorld`].
     ///
     /// ```
     /// use forgeni::World;
@@ -51,7 +51,7 @@ impl World {
     ///
     /// # Errors
     ///
-    /// [`OutOfMemory`]. It never comes if no entity was ever alive.
+    /// [`OutOfMemory`], but never if no entity was ever alive.
     ///
     /// [`SyncError::OtherWorld`]: crate::SyncError::OtherWorld
     pub fn try_clone(&self) -> Result<Self, OutOfMemory> {
@@ -59,9 +59,9 @@ impl World {
     }
 
     /// Takes over the state of another world, as [`try_clone`](Self::try_clone) copies it. What this one
-    /// had before is gone, and queues of its phases are of another world now. The entities and their
-    /// components are copied into new memory. This is how a game that predicts goes back to a frame that
-    /// the server has confirmed:
+    /// had before is gone, and the queues of its earlier phases are refused. The entities and their
+    /// components are copied into new memory. With it, a game that predicts goes back to a frame that the
+    /// server has confirmed:
     ///
     /// ```
     /// use forgeni::World;
@@ -76,11 +76,12 @@ impl World {
     /// # Ok::<(), Box<dyn std::error::Error>>(())
     /// ```
     ///
-    /// Handles that were given since the clone was made are given anew afterwards. Keep none of them.
+    /// Handles that were given since the clone was made will be given again. Keep none of them.
     ///
     /// # Errors
     ///
-    /// [`OutOfMemory`]. Nothing has changed then. It never comes if no entity of the source was ever alive.
+    /// [`OutOfMemory`], and then nothing has changed. It never happens if no entity of the source was
+    /// ever alive.
     pub fn try_clone_from(&mut self, source: &Self) -> Result<(), OutOfMemory> {
         clone_world_from(self, source, next_number())
     }
@@ -116,8 +117,8 @@ impl World {
     ///
     /// # Aborts
     ///
-    /// Rust's `Arc` ends the process if memory runs out. So as much memory is asked for before, and the
-    /// process ends only if another thread takes it in between.
+    /// Rust's `Arc` ends the process if memory runs out. So as much memory is allocated and freed first,
+    /// and the process ends only if another thread takes it in between.
     pub fn open(self, count: usize) -> Result<(OpenWorld, Vec<Commands>), Unopened> {
         let opening = open(self, count)?;
         opening.numbered(next_number()).map_err(|phase| Unopened {

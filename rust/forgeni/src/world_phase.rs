@@ -8,9 +8,9 @@ use core::fmt;
 use core::ops::Deref;
 
 impl World {
-    /// Opens the world for `count` systems, 1 to 1,024, for as long as `run` takes. After it the
-    /// world is back, with all that was reserved, and [`apply`](Self::apply) takes the queues. `run`
-    /// can lose no system, since each is only [lent](LentCommands) to it.
+    /// Opens the world for `count` systems, 1 to 1,024, for as long as `run` takes. Then the world is
+    /// back, with all that was reserved, and [`apply`](Self::apply) takes the queues. `run` can't lose
+    /// a system, since each is only [lent](LentCommands) to it.
     ///
     /// ```
     /// use forgeni::{ComponentId, World};
@@ -70,11 +70,11 @@ pub(crate) fn closed((open, systems): (OpenWorld, Vec<Commands>)) -> (World, Que
     closed.expect("all systems of the phase are here, and nobody else has one")
 }
 
-/// The [`Commands`] of a system that are lent by a [`phase`](World::phase). They issue as those do,
-/// and cost no more.
+/// The [`Commands`] of a system, lent by a [`phase`](World::phase). They issue the same commands, at no
+/// extra cost.
 ///
-/// The borrower can't keep them, nor put others in their place. So the phase has all of them at its
-/// end, even if this is dropped or forgotten.
+/// The borrower can neither keep nor replace them. So the phase has all of them at its end, even if
+/// they are dropped or forgotten.
 pub struct LentCommands<'a> {
     commands: &'a mut Commands,
 }
