@@ -1,12 +1,17 @@
-//! Commands of a type of the caller's, in a log beside a plain list: both have the same allocator and maps.
+//! Commands of a type of the caller's: logs beside plain lists. Both have the same allocator and maps.
 
 use crate::{line_of_two, places, rounds, shift, timed, Run, COUNT};
 use forgeni::{Entities, Entry, Handle, HandleMap, Log, SyncPoint};
 use std::hint::black_box;
 
-/// How many rounds of three commands are issued, and how many entities there are before.
-const ROUNDS: u32 = COUNT / 3;
-const ENTITIES: u32 = 2 * ROUNDS;
+/// How many systems issue commands, and how many rounds of three each of them issues. A log has an entry
+/// more a round, and with this number both kinds of lists grow equally often.
+const SYSTEMS: u32 = 6;
+const ROUNDS: u32 = 5_600;
+
+/// All commands, and how many entities there are before.
+const COMMANDS: u32 = SYSTEMS * ROUNDS * 3;
+const ENTITIES: u32 = SYSTEMS * ROUNDS * 2;
 
 /// A command of a game.
 #[derive(Clone, Copy)]
@@ -20,7 +25,7 @@ type Ours = Log<Command>;
 type Plain = Vec<Command>;
 
 pub fn table() {
-    println!("| Work | Here | Plain Rust | Ratio | By place |");
+    println!("| Work of logs | Here | Plain Rust | Ratio | By place |");
     println!("|---|---|---|---|---|");
     line_of_two(
         rounds(),
@@ -31,15 +36,15 @@ pub fn table() {
     );
     line_of_two(
         rounds(),
-        "from the list to components, a command",
-        COUNT,
+        "from lists to components, a command",
+        COMMANDS,
         places!(apply, Ours),
         places!(apply, Plain),
     );
     line_of_two(
         rounds(),
         "issued and applied, a command",
-        COUNT,
+        COMMANDS,
         places!(issue_and_apply, Ours),
         places!(issue_and_apply, Plain),
     );
@@ -52,7 +57,7 @@ trait List: Sized {
     fn push(&mut self, command: Command);
 
     /// Brings to life what was spawned, and runs all commands.
-    fn apply(self, game: &mut Game);
+    fn apply(lists: Vec<Self>, game: &mut Game);
 }
 
 impl List for Ours {
@@ -72,10 +77,10 @@ impl List for Ours {
     }
 
     #[inline(always)]
-    fn apply(self, game: &mut Game) {
+    fn apply(mut lists: Vec<Self>, game: &mut Game) {
         let Game { entities, maps } = game;
-        let mut logs = vec![self];
-        let mut sync = SyncPoint::begin(entities, &mut logs, &mut Vec::new()).expect("reserved");
+        let mut born = Vec::new();
+        let mut sync = SyncPoint::begin(entities, &mut lists, &mut born).expect("reserved");
         let done = sync.apply(entities, |entities, entry| match entry {
             Entry::Spawn(_) => Ok(()),
             Entry::Command(command) => match maps.run(entities, command) {
@@ -104,11 +109,13 @@ impl List for Plain {
     }
 
     #[inline(always)]
-    fn apply(self, game: &mut Game) {
+    fn apply(lists: Vec<Self>, game: &mut Game) {
         let Game { entities, maps } = game;
         entities.flush(&mut Vec::new()).expect("memory");
-        for command in self {
-            assert!(maps.run(entities, command), "each has an effect");
+        for list in lists {
+            for command in list {
+                assert!(maps.run(entities, command), "each has an effect");
+            }
         }
     }
 }
@@ -160,15 +167,24 @@ impl Game {
     }
 }
 
-/// Issues the commands: each round spawns an entity, gives another one a component, and despawns a third one.
+/// The commands of all systems.
 #[inline(always)]
-fn issue<L: List>(list: &mut L, game: &mut Game, all: &[Handle]) {
-    for (round, pair) in (0..i64::from(ROUNDS)).zip(all.chunks_exact(2)) {
+fn issued<L: List>(game: &mut Game, all: &[Handle]) -> Vec<L> {
+    let parts = all.chunks_exact(all.len() / SYSTEMS as usize);
+    parts.map(|part| issued_by_one(game, part)).collect()
+}
+
+/// Each round spawns an entity, gives another one a component, and despawns a third one.
+#[inline(always)]
+fn issued_by_one<L: List>(game: &mut Game, part: &[Handle]) -> L {
+    let mut list = L::new();
+    for (round, pair) in (0..).zip(part.chunks_exact(2)) {
         let one = list.spawn(&mut game.entities);
         list.push(black_box(Command::Spawn(one, round, 1)));
         list.push(black_box(Command::Insert(pair[0], round)));
         list.push(black_box(Command::Despawn(pair[1])));
     }
+    list
 }
 
 /// Commands are pushed into a list that grows.
@@ -189,10 +205,9 @@ fn push<L: List, const PLACE: usize>() -> Run {
 fn apply<L: List, const PLACE: usize>() -> Run {
     shift::<PLACE>();
     let (mut game, all) = Game::new();
-    let mut list = L::new();
-    issue(&mut list, &mut game, &all);
+    let lists: Vec<L> = issued(&mut game, &all);
     let run = timed(|| {
-        list.apply(&mut game);
+        L::apply(lists, &mut game);
         0
     });
     Run {
@@ -206,9 +221,8 @@ fn issue_and_apply<L: List, const PLACE: usize>() -> Run {
     shift::<PLACE>();
     let (mut game, all) = Game::new();
     let run = timed(|| {
-        let mut list = L::new();
-        issue(&mut list, &mut game, &all);
-        list.apply(&mut game);
+        let lists: Vec<L> = issued(&mut game, &all);
+        L::apply(lists, &mut game);
         0
     });
     Run {
