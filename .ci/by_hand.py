@@ -15,7 +15,7 @@ import sys
 SOURCES, PAGE = pathlib.Path("rust/forgeni/src"), pathlib.Path("docs/BY_HAND.md")
 # What is made, what stands in for the kit, and what draws pictures. docs/BY_HAND.md says of each why it isn't counted.
 APART = {"proved", "kit"}
-MOST = {"lines of code": 1550, "functions with a branch": 30}
+MOST = {"lines of code": 1500, "functions with a branch": 30}
 BRANCHES, ITEMS = {"if", "else", "match", "while", "for", "loop"}, {"impl", "trait", "mod"}
 ROW = re.compile(r"^\| `([^`]+)` \| `([^`]+)` \|(.*)\|$", re.MULTILINE)
 TOKEN = re.compile(

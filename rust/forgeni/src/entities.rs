@@ -3,8 +3,8 @@
 use crate::errors::OutOfMemory;
 use crate::handle::Handle;
 use crate::proved::ent_alloc::Limits;
+use crate::shown::shows;
 use alloc::vec::Vec;
-use core::fmt;
 use core::iter::FusedIterator;
 
 pub use crate::proved::ent_alloc::{Entities, Freed, Living, State};
@@ -64,24 +64,9 @@ impl Default for Entities {
     }
 }
 
-impl fmt::Debug for Entities {
-    fn fmt(&self, out: &mut fmt::Formatter<'_>) -> fmt::Result {
-        out.debug_struct("Entities")
-            .field("len", &self.len())
-            .field("total", &self.total())
-            .field("top", &self.top())
-            .field("retired", &self.retired())
-            .field("reserved", &self.reserved())
-            .finish_non_exhaustive()
-    }
+shows! {
+    Entities: len total top retired reserved;
+    Living<'_>: len;
 }
 
 impl FusedIterator for Living<'_> {}
-
-impl fmt::Debug for Living<'_> {
-    fn fmt(&self, out: &mut fmt::Formatter<'_>) -> fmt::Result {
-        out.debug_struct("Living")
-            .field("len", &self.len())
-            .finish_non_exhaustive()
-    }
-}

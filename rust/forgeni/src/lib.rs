@@ -129,7 +129,7 @@
 //!
 //! With components and a world of your own, systems fill a [`Log`] each, with commands of your type. A
 //! [`SyncPoint`] brings to life what they spawned, and calls your closure at each command, in the order
-//! of the systems:
+//! of the systems. The example `game` is a game of such systems:
 //!
 //! ```
 //! use forgeni::{Entities, Entry, Handle, HandleMap, Log, SyncPoint};

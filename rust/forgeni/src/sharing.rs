@@ -3,6 +3,7 @@
 use crate::numbers::next_number;
 use crate::phase::closed;
 use crate::proved::ent_total::share;
+use crate::shown::shows;
 use crate::Entities;
 use alloc::vec::Vec;
 use core::error::Error;
@@ -57,22 +58,9 @@ impl Entities {
     }
 }
 
-impl fmt::Debug for Shared {
-    fn fmt(&self, out: &mut fmt::Formatter<'_>) -> fmt::Result {
-        out.debug_struct("Shared")
-            .field("count", &self.count())
-            .field("at_home", &self.at_home())
-            .finish_non_exhaustive()
-    }
-}
-
-impl fmt::Debug for Reserver {
-    fn fmt(&self, out: &mut fmt::Formatter<'_>) -> fmt::Result {
-        out.debug_struct("Reserver")
-            .field("number", &self.number())
-            .field("quota_left", &self.quota_left())
-            .finish_non_exhaustive()
-    }
+shows! {
+    Shared: count at_home;
+    Reserver: number quota_left;
 }
 
 impl fmt::Debug for Unshared {

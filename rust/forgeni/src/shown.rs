@@ -1,5 +1,5 @@
-//! Types that have another name in the package than where they are proved show that name.
-//! The erased tests take this file too.
+//! What `Debug` shows of types whose fields nobody should see, and of types that have another name in
+//! the package than where they are proved. The erased tests take this file too.
 
 use crate::proved::ent_handle::Memory as OutOfMemory;
 use crate::proved::ent_world::SyncReport as Report;
@@ -19,3 +19,18 @@ impl fmt::Debug for Report {
             .finish()
     }
 }
+
+/// `Debug` of types that show what these calls return, and say that there is more.
+macro_rules! shows {
+    ($($name:ident $(<$life:lifetime>)?: $($call:ident)*;)*) => {$(
+        impl core::fmt::Debug for $name $(<$life>)? {
+            fn fmt(&self, out: &mut core::fmt::Formatter<'_>) -> core::fmt::Result {
+                out.debug_struct(stringify!($name))
+                    $(.field(stringify!($call), &self.$call()))*
+                    .finish_non_exhaustive()
+            }
+        }
+    )*};
+}
+
+pub(crate) use shows;

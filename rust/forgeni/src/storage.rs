@@ -1,5 +1,6 @@
 //! A storage beside an allocator, and the bundles that entities are given.
 
+use crate::shown::shows;
 use alloc::alloc::handle_alloc_error;
 use core::alloc::Layout;
 use core::fmt;
@@ -15,12 +16,8 @@ impl Default for Storage {
     }
 }
 
-impl fmt::Debug for Storage {
-    fn fmt(&self, out: &mut fmt::Formatter<'_>) -> fmt::Result {
-        out.debug_struct("Storage")
-            .field("len", &self.len())
-            .finish_non_exhaustive()
-    }
+shows! {
+    Storage: len;
 }
 
 impl FusedIterator for Items<'_> {}

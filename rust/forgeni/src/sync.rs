@@ -1,26 +1,15 @@
 //! Sync points, and where they stop: what their proved sources can't have. The erased tests take this file too.
 
+use crate::shown::shows;
 use core::error::Error;
 use core::fmt;
 
 pub use crate::proved::ent_total::{GoOnError, Queues, Stop, Stopped, SyncError};
 pub use crate::proved::ent_world::{Fault, FaultKind, SyncReport as Report};
 
-impl fmt::Debug for Queues {
-    fn fmt(&self, out: &mut fmt::Formatter<'_>) -> fmt::Result {
-        out.debug_struct("Queues")
-            .field("len", &self.len())
-            .finish_non_exhaustive()
-    }
-}
-
-impl fmt::Debug for Stopped {
-    fn fmt(&self, out: &mut fmt::Formatter<'_>) -> fmt::Result {
-        out.debug_struct("Stopped")
-            .field("stop", &self.stop())
-            .field("so_far", &self.so_far())
-            .finish_non_exhaustive()
-    }
+shows! {
+    Queues: len;
+    Stopped: stop so_far;
 }
 
 impl fmt::Display for Stopped {

@@ -1,9 +1,9 @@
 //! Systems of frames.
 
+use crate::shown::shows;
 use crate::{OutOfMemory, View};
 use alloc::boxed::Box;
 use alloc::sync::Arc;
-use core::fmt;
 
 pub use crate::proved::ent_queue::Commands as SystemCommands;
 pub use crate::proved::ent_runner::System;
@@ -63,8 +63,6 @@ systems_behind! {
     [<S: System + ?Sized>] Arc<S>;
 }
 
-impl fmt::Debug for SystemCommands<'_> {
-    fn fmt(&self, out: &mut fmt::Formatter<'_>) -> fmt::Result {
-        out.debug_struct("SystemCommands").finish_non_exhaustive()
-    }
+shows! {
+    SystemCommands<'_>:;
 }

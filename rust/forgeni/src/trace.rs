@@ -42,6 +42,7 @@
 use crate::errors::OutOfMemory;
 use crate::handle::Handle;
 use crate::proved::ent_replay::trace::{write_difference, write_line};
+use crate::shown::shows;
 use alloc::vec::Vec;
 use core::error::Error;
 use core::fmt;
@@ -145,19 +146,7 @@ impl Error for Difference {}
 
 impl Error for CheckError {}
 
-impl fmt::Debug for Checker {
-    fn fmt(&self, out: &mut fmt::Formatter<'_>) -> fmt::Result {
-        out.debug_struct("Checker")
-            .field("calls", &self.calls())
-            .field("error", &self.error())
-            .finish_non_exhaustive()
-    }
-}
-
-impl fmt::Debug for Recorder {
-    fn fmt(&self, out: &mut fmt::Formatter<'_>) -> fmt::Result {
-        out.debug_struct("Recorder")
-            .field("calls", &self.calls())
-            .finish_non_exhaustive()
-    }
+shows! {
+    Checker: calls error;
+    Recorder: calls;
 }

@@ -2,6 +2,7 @@
 
 use crate::numbers::next_number;
 use crate::proved::ent_total::{clone_world, clone_world_from, new_world, open};
+use crate::shown::shows;
 use crate::world_phase::closed;
 use crate::{Limits, OutOfMemory, ShareError};
 use alloc::vec::Vec;
@@ -134,40 +135,6 @@ impl Default for World {
     }
 }
 
-impl fmt::Debug for World {
-    fn fmt(&self, out: &mut fmt::Formatter<'_>) -> fmt::Result {
-        out.debug_struct("World")
-            .field("len", &self.len())
-            .field("frame", &self.frame())
-            .finish_non_exhaustive()
-    }
-}
-
-impl fmt::Debug for OpenWorld {
-    fn fmt(&self, out: &mut fmt::Formatter<'_>) -> fmt::Result {
-        out.debug_struct("OpenWorld")
-            .field("count", &self.count())
-            .field("at_home", &self.at_home())
-            .finish_non_exhaustive()
-    }
-}
-
-impl fmt::Debug for Commands {
-    fn fmt(&self, out: &mut fmt::Formatter<'_>) -> fmt::Result {
-        out.debug_struct("Commands")
-            .field("number", &self.number())
-            .finish_non_exhaustive()
-    }
-}
-
-impl fmt::Debug for CommandQueue {
-    fn fmt(&self, out: &mut fmt::Formatter<'_>) -> fmt::Result {
-        out.debug_struct("CommandQueue")
-            .field("number", &self.number())
-            .finish_non_exhaustive()
-    }
-}
-
 impl Clone for View<'_> {
     fn clone(&self) -> Self {
         *self
@@ -176,12 +143,12 @@ impl Clone for View<'_> {
 
 impl Copy for View<'_> {}
 
-impl fmt::Debug for View<'_> {
-    fn fmt(&self, out: &mut fmt::Formatter<'_>) -> fmt::Result {
-        out.debug_struct("View")
-            .field("phase", &self.phase())
-            .finish_non_exhaustive()
-    }
+shows! {
+    World: len frame;
+    OpenWorld: count at_home;
+    Commands: number;
+    CommandQueue: number;
+    View<'_>: phase;
 }
 
 impl fmt::Debug for Unopened {

@@ -9,11 +9,13 @@ mod refusing;
 use common::{handle, this_program};
 use forgeni::trace::{Call, CheckError, Checker, FreeReply, Log, Reservation};
 use forgeni::{
-    AllocError, Birth, CommandQueue, Commands, ComponentId, Entities, Fault, FreeError, GoOnError,
-    Handle, HandleMap, ImageFault, InsertError, Limits, OpenWorld, OutOfMemory, Queues, Report,
-    ReserveError, ShareError, State, Stop, Storage, StorageError, SyncError, World,
+    AllocError, BeginError, Birth, CommandQueue, Commands, ComponentId, Entities, Entry, Fault,
+    FreeError, GoOnError, Handle, HandleMap, ImageFault, InsertError, Limits, OpenWorld,
+    OutOfMemory, Queues, Report, ReserveError, ShareError, State, Stop, Storage, StorageError,
+    SyncError, SyncPoint, World,
 };
 use refusing::{refusing, Refusal};
+use std::rc::Rc;
 
 const HP: ComponentId = ComponentId(0);
 
@@ -846,6 +848,131 @@ fn calls_of_a_log() {
         });
         assert_eq!(pushed, log.reservations().len());
         assert_eq!(pushed < 9, refused > 0);
+        refused
+    });
+}
+
+/// A spawn that is refused has reserved nothing and left no entry. Made again, it returns the handle that
+/// it would have returned.
+#[test]
+fn a_spawn_in_a_log_of_commands() {
+    let slots = (3..11).map(|index| handle(index, 1));
+    let wanted: Vec<Entry<()>> = [handle(1, 2)]
+        .into_iter()
+        .chain(slots)
+        .map(Entry::Spawn)
+        .collect();
+    each_in_turn(|refusal| {
+        let (shared, mut reservers) = three().share(1).expect("shared");
+        let only = &mut reservers[0];
+        let mut log = forgeni::Log::new();
+        let mut refusals = 0;
+        for number in 0..wanted.len() {
+            let quota = only.quota_left();
+            let (spawned, refused) = refusing(refusal, || log.spawn(only));
+            let one = spawned.unwrap_or_else(|error| {
+                assert!(refused > 0);
+                assert_eq!(error, ReserveError::Memory);
+                assert_eq!(log.entries(), &wanted[..number]);
+                assert_eq!(only.quota_left(), quota);
+                log.spawn(only).expect("memory")
+            });
+            assert_eq!(Entry::Spawn(one), wanted[number]);
+            assert_eq!(only.quota_left(), quota - 1);
+            refusals += refused;
+        }
+        assert_eq!(log.entries(), wanted);
+        assert_eq!(shared.close(reservers).expect("closed").reserved(), 9);
+        refusals
+    });
+}
+
+/// A command that is refused is dropped, and the log is as it was.
+#[test]
+fn a_push_to_a_log_of_commands() {
+    each_in_turn(|refusal| {
+        let command = Rc::new(());
+        let mut log = forgeni::Log::new();
+        let mut refusals = 0;
+        for number in 0..9 {
+            let (pushed, refused) = refusing(refusal, || log.push(Rc::clone(&command)));
+            pushed.unwrap_or_else(|OutOfMemory| {
+                assert!(refused > 0);
+                assert_eq!(
+                    (log.entries().len(), Rc::strong_count(&command)),
+                    (number, number + 1)
+                );
+                log.push(Rc::clone(&command)).expect("memory");
+            });
+            assert_eq!(
+                (log.entries().len(), Rc::strong_count(&command)),
+                (number + 1, number + 2)
+            );
+            refusals += refused;
+        }
+        refusals
+    });
+}
+
+/// Two logs of 49 spawns each, which this allocator has reserved.
+fn logs_of(entities: &mut Entities) -> Vec<forgeni::Log<u64>> {
+    let mut logs = vec![forgeni::Log::new(), forgeni::Log::new()];
+    for log in &mut logs {
+        for number in 0..49 {
+            log.spawn(entities).expect("a handle");
+            log.push(number).expect("memory");
+        }
+    }
+    logs
+}
+
+/// A sync point of logs that is refused leaves the allocator, the logs and the list of what is born as
+/// they were. One that has begun hands on its entries without memory. Without new slots, and with a list
+/// that has room, it begins without memory too.
+#[test]
+fn a_sync_point_of_logs() {
+    let entries = |logs: &[forgeni::Log<u64>]| -> Vec<Entry<u64>> {
+        logs.iter().flat_map(|log| log.entries().to_vec()).collect()
+    };
+    each_in_turn(|refusal| {
+        let mut entities = three();
+        let mut logs = logs_of(&mut entities);
+        let (before, written) = (told(&entities), entries(&logs));
+        let mut born = vec![handle(7, 7)];
+        let begin = || SyncPoint::begin(&mut entities, &mut logs, &mut born);
+        let (begun, refused) = refusing(refusal, begin);
+        let mut sync = begun.unwrap_or_else(|error| {
+            assert!(refused > 0);
+            assert_eq!(error, BeginError::Memory);
+            assert_eq!(logs.len(), 2);
+            assert_eq!((told(&entities), entries(&logs)), (before, written.clone()));
+            assert_eq!(born, [handle(7, 7)]);
+            SyncPoint::begin(&mut entities, &mut logs, &mut born).expect("memory")
+        });
+        assert_eq!(
+            (born.len(), born[0], born[98]),
+            (99, handle(7, 7), handle(1, 2))
+        );
+        assert_eq!(entities.len(), 100);
+        let mut left = written.into_iter();
+        let hand_on = || {
+            sync.apply(&mut entities, |_, entry| match left.next() {
+                Some(next) if next == entry => Ok(()),
+                _ => Err((entry, "another entry")),
+            })
+        };
+        let (handed, none) = refusing(Refusal::All { after: 0 }, hand_on);
+        assert_eq!((handed, none, left.next()), (Ok(()), 0, None));
+        assert_eq!(sync.take_next(), None);
+
+        for &one in &born[1..] {
+            entities.free(one).expect("memory");
+        }
+        born.clear();
+        let mut logs = logs_of(&mut entities);
+        let begin = || SyncPoint::begin(&mut entities, &mut logs, &mut born).is_ok();
+        let (begun, none) = refusing(Refusal::All { after: 0 }, begin);
+        assert_eq!((begun, none, born.len(), logs.len()), (true, 0, 98, 0));
         refused
     });
 }

@@ -14,6 +14,7 @@ mod counted;
 mod entities;
 mod frames;
 mod images;
+mod logs;
 mod peers;
 #[path = "../plain/mod.rs"]
 mod plain;
@@ -96,6 +97,10 @@ fn main() {
     }
     if wanted("components") {
         components::tables();
+        println!();
+    }
+    if wanted("logs") {
+        logs::table();
         println!();
     }
     if wanted("threads") {

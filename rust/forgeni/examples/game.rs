@@ -1,0 +1,248 @@
+//! A game to begin from, of 10,000 ships with drones. A frame has two stages of four systems, which run side
+//! by side on threads. Those of the first stage change components, each those of one map: if two changed the
+//! same map, it wouldn't compile. Those of the second stage look at all components, spawn, and issue commands
+//! of the game's own type, each into its log. A sync point runs the commands in the order of the systems.
+//!
+//! The game runs on 1, 2, 4 and 8 threads. Which handles it gets depends on them, and nothing else does:
+//!
+//! ```text
+//! threads: 1, launched: 46519, lost: 15871, digest: 782db46486321508
+//! threads: 2, launched: 46519, lost: 15871, digest: 782db46486321508
+//! threads: 4, launched: 46519, lost: 15871, digest: 782db46486321508
+//! threads: 8, launched: 46519, lost: 15871, digest: 782db46486321508
+//! ```
+
+use forgeni::{Entities, Entry, Handle, HandleMap, Lent, Log, ReserveError, SyncPoint};
+use std::{error::Error, iter, sync::Mutex, thread};
+
+const SHIPS: i32 = 10_000;
+const FRAMES: usize = 20;
+
+/// How far from the port it is, and how far it flies in a frame.
+#[derive(Debug)]
+struct Body {
+    place: i32,
+    speed: i32,
+}
+
+/// Its fuel, and what it gains in a frame. Without fuel it is lost.
+#[derive(Debug)]
+struct Tank {
+    fuel: i32,
+    gain: i32,
+}
+
+/// The components of all entities, and what has happened to them. Ships alone have a name and
+/// drones, and drones alone have a ship.
+#[derive(Default)]
+struct Parts {
+    bodies: HandleMap<Body>,
+    tanks: HandleMap<Tank>,
+    names: HandleMap<String>,
+    drones: HandleMap<Vec<Handle>>,
+    ships: HandleMap<Handle>,
+    events: Vec<Event>,
+}
+
+/// What the next frame is told.
+enum Event {
+    Launched,
+    Lost,
+}
+
+/// What a system wants done at the sync point, with entities that it has spawned or found.
+#[derive(Clone, Copy)]
+enum Command {
+    Build { ship: Handle, number: i32 },
+    Launch { drone: Handle, ship: Handle },
+    Turn(Handle),
+    Refuel { drone: Handle, ship: Handle },
+    Despawn(Handle),
+}
+
+#[derive(Default)]
+struct Game {
+    entities: Entities,
+    parts: Parts,
+    /// How often each event happened.
+    score: [usize; 2],
+}
+
+/// A system of one stage. It borrows what it reads and changes.
+type System<'a> =
+    Box<dyn FnOnce(&mut Log<Command>, &mut Lent<'_>) -> Result<(), ReserveError> + Send + 'a>;
+
+/// A system that changes components, and no more.
+fn change<'a>(run: impl FnOnce() + Send + 'a) -> System<'a> {
+    Box::new(|_, _| {
+        run();
+        Ok(())
+    })
+}
+
+/// Runs systems side by side. A thread takes the next one that nobody has taken.
+fn stage(
+    entities: &mut Entities,
+    threads: usize,
+    systems: [System<'_>; 4],
+) -> Result<Vec<Log<Command>>, Box<dyn Error>> {
+    let mut logs: Vec<_> = systems.iter().map(|_| Log::new()).collect();
+    entities.phase(threads, |_, reservers| {
+        let jobs = Mutex::new(systems.into_iter().zip(&mut logs));
+        let work = |reserver: &mut Lent<'_>| {
+            let mut taken = iter::from_fn(|| jobs.lock().expect("no panic").next());
+            taken.try_for_each(|(system, log)| system(log, reserver))
+        };
+        thread::scope(|scope| {
+            let start = |reserver| scope.spawn(|| work(reserver));
+            let running: Vec<_> = reservers.iter_mut().map(start).collect();
+            let mut running = running.into_iter();
+            running.try_for_each(|thread| thread.join().expect("no panic"))
+        })
+    })??;
+    Ok(logs)
+}
+
+impl Game {
+    fn new() -> Result<Self, Box<dyn Error>> {
+        let (mut game, mut log) = (Self::default(), Log::new());
+        for number in 0..SHIPS {
+            let ship = log.spawn(&mut game.entities)?;
+            log.push(Command::Build { ship, number })?;
+            for _ in 0..4 {
+                let drone = log.spawn(&mut game.entities)?;
+                log.push(Command::Launch { drone, ship })?;
+            }
+        }
+        game.sync(vec![log]).map(|()| game)
+    }
+
+    fn frame(&mut self, threads: usize) -> Result<(), Box<dyn Error>> {
+        let (all, score) = (&mut self.parts, &mut self.score);
+        let events = all.events.drain(..);
+        let systems: [System<'_>; 4] = [
+            change(|| all.bodies.for_each_mut(|_, body| body.place += body.speed)),
+            change(|| all.tanks.for_each_mut(|_, tank| tank.fuel += tank.gain)),
+            change(|| {
+                // A ship of six drones gets a star a frame.
+                let star = |ship| (all.drones[ship].len() >= 6).then_some('*');
+                all.names.for_each_mut(|ship, name| name.extend(star(ship)));
+            }),
+            change(|| events.for_each(|event| score[event as usize] += 1)),
+        ];
+        let logs = stage(&mut self.entities, threads, systems)?;
+        self.sync(logs)?;
+
+        // The commands come in this order. So all find their entities, since those that go go last.
+        let all = &self.parts;
+        let systems: [System<'_>; 4] = [
+            Box::new(|log, _| {
+                let mut far = all.bodies.iter().filter(|it| it.1.place * it.1.speed > 100);
+                far.try_for_each(|(one, _)| Ok(log.push(Command::Turn(one))?))
+            }),
+            Box::new(|log, reserver| {
+                for ship in all.drones.keys().filter(|it| all.tanks[*it].fuel >= 60) {
+                    let drone = log.spawn(reserver)?;
+                    log.push(Command::Launch { drone, ship })?;
+                }
+                Ok(())
+            }),
+            Box::new(|log, _| {
+                let mut full = all.ships.iter().filter(|it| all.tanks[it.0].fuel > 15);
+                full.try_for_each(|(drone, &ship)| Ok(log.push(Command::Refuel { drone, ship })?))
+            }),
+            Box::new(|log, _| {
+                let mut empty = all.tanks.iter().filter(|(_, tank)| tank.fuel <= 0);
+                empty.try_for_each(|(one, _)| Ok(log.push(Command::Despawn(one))?))
+            }),
+        ];
+        let logs = stage(&mut self.entities, threads, systems)?;
+        self.sync(logs)
+    }
+
+    /// Brings to life what was spawned, and runs the commands. The first that fails ends the game.
+    fn sync(&mut self, mut logs: Vec<Log<Command>>) -> Result<(), Box<dyn Error>> {
+        let mut sync = SyncPoint::begin(&mut self.entities, &mut logs, &mut Vec::new())?;
+        sync.apply(&mut self.entities, |entities, entry| match entry {
+            Entry::Spawn(_) => Ok(()),
+            Entry::Command(command) => {
+                let done = self.parts.run(entities, command);
+                done.map_err(|error| (entry, error))
+            }
+        })
+    }
+}
+
+impl Parts {
+    fn run(&mut self, entities: &mut Entities, command: Command) -> Result<(), Box<dyn Error>> {
+        match command {
+            Command::Build { ship, number } => {
+                let (speed, fuel) = (number % 17 - 8, 200 + number % 60);
+                self.bodies.insert(ship, Body { place: 0, speed })?;
+                self.tanks.insert(ship, Tank { fuel, gain: -2 })?;
+                self.names.insert(ship, format!("ship {number}"))?;
+                self.drones.insert(ship, Vec::new())?;
+            }
+            Command::Launch { drone, ship } => {
+                self.tanks[ship].fuel -= 40;
+                self.drones[ship].push(drone);
+                let place = self.bodies[ship].place;
+                let gain = (self.tanks[ship].fuel + place).rem_euclid(3) - 1;
+                self.bodies.insert(drone, Body { place, speed: gain })?;
+                self.tanks.insert(drone, Tank { fuel: 12, gain })?;
+                self.ships.insert(drone, ship)?;
+                self.events.push(Event::Launched);
+            }
+            Command::Turn(one) => self.bodies[one].speed *= -1,
+            Command::Refuel { drone, ship } => {
+                self.tanks[drone].fuel -= 5;
+                self.tanks[ship].fuel += 5;
+            }
+            Command::Despawn(one) => self.despawn(entities, one)?,
+        }
+        Ok(())
+    }
+
+    /// Takes an entity out, and its drones with it. A drone may have gone with its ship before.
+    fn despawn(&mut self, entities: &mut Entities, one: Handle) -> Result<(), Box<dyn Error>> {
+        if !entities.is_alive(one) {
+            return Ok(());
+        }
+        entities.free(one)?;
+        self.bodies.remove(one);
+        self.tanks.remove(one);
+        self.names.remove(one);
+        self.events.push(Event::Lost);
+        let ship = self.ships.remove(one);
+        if let Some(drones) = ship.and_then(|ship| self.drones.get_mut(ship)) {
+            drones.retain(|drone| *drone != one);
+        }
+        let mut drones = self.drones.remove(one).into_iter().flatten();
+        drones.try_for_each(|drone| self.despawn(entities, drone))
+    }
+
+    /// A number made of all components by FNV-1a, whatever handles their entities have.
+    fn digest(&self) -> u64 {
+        let digests = self.bodies.iter().map(|(one, body)| {
+            let (tank, name) = (&self.tanks[one], self.names.get(one));
+            let drones = self.drones.get(one).map(Vec::len);
+            let ship = self.ships.get(one).map(|ship| &self.names[*ship]);
+            let text = format!("{body:?} {tank:?} {name:?} {drones:?} {ship:?}");
+            let bytes = text.bytes().map(u64::from);
+            bytes.fold(0, |sum, byte| (sum ^ byte).wrapping_mul(0x100_0000_01b3))
+        });
+        digests.fold(0, u64::wrapping_add)
+    }
+}
+
+fn main() -> Result<(), Box<dyn Error>> {
+    let mut first = None;
+    for threads in [1, 2, 4, 8] {
+        let mut game = Game::new()?;
+        (0..FRAMES).try_for_each(|_| game.frame(threads))?;
+        let ([launched, lost], digest) = (game.score, game.parts.digest());
+        println!("threads: {threads}, launched: {launched}, lost: {lost}, digest: {digest:016x}");
+        assert_eq!(*first.get_or_insert(digest), digest, "another game");
+    }
+    Ok(())
+}
