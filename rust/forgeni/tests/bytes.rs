@@ -23,7 +23,7 @@ const BYTES: usize = N as usize;
 const HANDLE: usize = 8;
 
 /// What a slot of an allocator takes: its generation, and what became of its occupant.
-const SLOT: usize = 12;
+const SLOT: usize = 8;
 
 /// What a thing takes that has a thread of its own: two cache lines.
 const APART: usize = 128;
