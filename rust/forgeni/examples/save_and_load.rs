@@ -60,7 +60,7 @@ impl Game {
         let lit = self.sparks.len();
         for row in (0..lit).rev() {
             let (one, seed) = self.sparks[row];
-            if mixed(seed ^ frame) % 16 > 0 {
+            if !mixed(seed ^ frame).is_multiple_of(16) {
                 continue;
             }
             self.entities.free(one)?;
