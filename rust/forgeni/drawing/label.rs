@@ -66,7 +66,7 @@ impl Label {
         matches!(self.class, "reserved" | "retired")
     }
 
-    /// How its text is drawn: on a full bar in the colour of the paper.
+    /// How its text is drawn: on a full bar in the colour of the background.
     pub(super) fn class_of_text(&self) -> &'static str {
         if self.class == "alive" {
             "alive"

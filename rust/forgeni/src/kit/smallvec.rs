@@ -58,7 +58,7 @@ impl<T: Copy + Default, const N: usize> SmallVec<T, N> {
         }
     }
 
-    /// Does what `insert` does, where the items don't all stand in the list itself.
+    /// `insert` for a list whose items are on the heap, or are moved there by this one.
     #[inline(never)]
     fn insert_with_memory(&mut self, at: usize, value: T) -> Result<(), AllocFailed<T>> {
         match self {
