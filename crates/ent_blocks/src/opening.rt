@@ -1,4 +1,5 @@
-ghost use Rattle.std.specs.Prelude.{◌≡◌, ◌+◌, ◌-◌, ◌^◌, ◌<◌, ◌≤◌, IfOk, IfErr, length, take};
+ghost use Rattle.std.specs.Prelude.{◌≡◌, ◌+◌, ◌-◌, ◌^◌, ◌<◌, ◌≤◌};
+ghost use Rattle.std.specs.Prelude.{IfOk, IfErr, OnErr, length, take};
 ghost use Rattle.std.specs.Prelude.{vec_capacity};
 ghost use Rattle.ent_blocks.specs.Blocks.{blocks_from, dealt, after_opening, lesser};
 
@@ -15,7 +16,8 @@ use std::alloc::Global;
 ///
 /// # Errors
 ///
-/// [`Memory`], with the allocator as it was. All memory of the phase is asked for here.
+/// [`Memory`], with the allocator as it was. All memory of the phase is asked for here. No sizes
+/// take no memory.
 pub fn open_in_blocks(
     alloc: Global,
     entities: Entities,
@@ -29,6 +31,7 @@ pub fn open_in_blocks(
     ensures reservers { IfOk result (λ made. made.1.items ≡ made.0.blocks) }
     ensures rows { IfOk result (λ made. made.0.rows ≡ entities.rows) }
     ensures err { IfErr result (λ refused. refused.0 ≡ entities) }
+    ensures memory { OnErr result (0 < length sizes.now) }
 {
     let mut entities = entities;
 
@@ -58,6 +61,7 @@ fn deal(
     ensures order { IfOk result (λ d. d.2.items
         ≡ take (dealt d.0.items) entities.now.allocator.pool) }
     ensures room { IfOk result (λ d. dealt d.0.items ≤ vec_capacity d.2) }
+    ensures memory { OnErr result (0 < length sizes.now) }
 {
     let mut blocks = Vec::with_capacity(alloc, sizes.len())?;
     let mut reservers = Vec::with_capacity(alloc, sizes.len())?;

@@ -37,7 +37,7 @@ fn queues_stand_in_the_order_of_the_systems(rt: HostRuntime) {
     assert_first_saw_all(&rt, rt.alloc(), 4, &Rendezvous::new(40, 1), 1);
 }
 
-/// One worker takes the systems one after the other, and the gate is told of each before it runs.
+/// One worker takes the systems one after the other, and the gate hears of each before it runs.
 #[test]
 fn the_gate_is_told_before_a_system_runs(rt: HostRuntime) {
     let alloc = rt.alloc();

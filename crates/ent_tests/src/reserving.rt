@@ -1,5 +1,5 @@
 //! Threads that reserve side by side. In the last two tests they want more handles than there are:
-//! some are served, each other one is told what was left, and the requests of all count.
+//! some are served, each other one gets what was left, and the requests of all count.
 ghost use Rattle.std.specs.Prelude.{◌≡◌, All};
 ghost use Rattle.ent_shared.specs.Phase.{IsOf};
 
@@ -164,7 +164,7 @@ fn four_threads_request_singly(rt: HostRuntime) {
     refusals.assert_are(&rt, 30, 0);
 }
 
-/// Two bulks are served, one is told what is left, and from then on nothing is.
+/// Two bulks are served, one is refused with what is left, and from then on nothing is left.
 #[test]
 fn four_threads_request_in_bulks(rt: HostRuntime) {
     let requests = Requests { times: 3, n: 4 };

@@ -66,14 +66,14 @@ issuing all = map (λ (i : Commands). i.reserver) all
 abbrev pub issued : List Commands → List (List Command)
 issued all = map (λ (i : Commands). i.queue) all
 
--- what is at home and what these bring, behind it
+-- what is returned and what these bring, behind it
 abbrev pub reservers_home : OpenWorld → List Commands → List Reserver
 reservers_home p all = p.home ++ issuing all
 
 abbrev pub queues_home : OpenWorld → List Commands → List (List Command)
 queues_home p all = p.queues ++ issued all
 
--- They are all of this phase, and with those at home no more than it has.
+-- They are all of this phase, and with those returned no more than it has.
 abbrev pub MayComeHome : OpenWorld → List Commands → Type 0
 MayComeHome p all =
     AreCommandsOf p.number all × (length (reservers_home p all) ≤ p.world.shared.count)
@@ -132,9 +132,9 @@ pub record IsClosed (opened : Opened) (home : List Reserver) (after : World) : T
   pub brings_to_life : BringsToLife opened.shared.start after.allocator
       (given_in (history_of (records_of home)))
 
--- The phase ended with those of its reservers that are at home: the world is the one that was
+-- The phase ended with those of its reservers that are returned: the world is the one that was
 -- opened, and a front of the pool is reserved. It counts what these have requested, and of the
--- others no more than their quota. It has all handles that these got. If all are at home, it counts
+-- others no more than their quota. It has all handles that these got. If all are returned, it counts
 -- exactly what they have requested, and the cursor is where their history leaves it.
 pub record IsClosedLost (opened : Opened) (home : List Reserver) (after : World) : Type 0 where
   pub phase : after.phase ≡ opened.phase

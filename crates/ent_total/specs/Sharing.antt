@@ -14,7 +14,7 @@ pub record Opening : Type 0 where
   pub home : List inner.Reserver
 
 -- the number by which phases are told apart, the allocator that is shared, and the reservers that
--- are at home
+-- are returned
 pub record Shared : Type 0 where
   pub number : ℕ
   pub shared : inner.Shared
@@ -34,11 +34,11 @@ reservers_of reservers = map (λ (r : Reserver). r.reserver) reservers
 abbrev pub AreOf : ℕ → List Reserver → Type 0
 AreOf number reservers = All (λ (r : Reserver). r.number ≡ number) reservers
 
--- the reservers at home, and these behind them
+-- the reservers returned, and these behind them
 abbrev pub all_home : Shared → List Reserver → List inner.Reserver
 all_home s reservers = s.home ++ reservers_of reservers
 
--- They are all of this phase, and with those at home no more than it has.
+-- They are all of this phase, and with those returned no more than it has.
 abbrev pub MayComeHome : Shared → List Reserver → Type 0
 MayComeHome s reservers =
     AreOf s.number reservers × (length (all_home s reservers) ≤ s.shared.count)

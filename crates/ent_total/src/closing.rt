@@ -23,7 +23,7 @@ use crate::unclosed::{CloseError, Unclosed};
 use ent_alloc::Entities;
 
 impl<J: Numbering> Shared<J> {
-    /// Ends the phase with all its reservers: those that are at home, and these. The allocator is as
+    /// Ends the phase with all its reservers: those that are returned, and these. The allocator is as
     /// if their reservations had been made one by one, in the order of their atomic steps, and
     /// [`flush`](Entities::flush) brings to life what they were given. It takes no memory.
     ///
@@ -49,7 +49,7 @@ impl<J: Numbering> Shared<J> {
     ///
     /// [`Unclosed`] has the error, and the `Shared`, which goes on. The error is the first of these
     /// that holds: [`CloseError::OtherPhase`] and [`CloseError::Missing`], with all reservers
-    /// handed back; [`CloseError::InUse`], and then those that came are at home.
+    /// handed back; [`CloseError::InUse`], and then those that came are returned.
     pub fn close(mut self, reservers: Vec<Reserver<J>>) -> Result<Entities, Unclosed<J>>
         // All reservations stand in one history that is legal and respects every reserver.
         ensures legal { OnOk result (IsLegal self.shared.start
@@ -132,7 +132,7 @@ impl<J: Numbering> Shared<J> {
     ///
     /// [`Unclosed`] has the error, and the `Shared`, which goes on. The error is the first of these
     /// that holds: [`CloseError::OtherPhase`], with all reservers handed back;
-    /// [`CloseError::InUse`], and then those that came are at home. As long as a reserver that
+    /// [`CloseError::InUse`], and then those that came are returned. As long as a reserver that
     /// wasn't handed in exists, it is `InUse`. One that was given to [`core::mem::forget`] exists
     /// for good.
     pub fn close_lost(mut self, reservers: Vec<Reserver<J>>) -> Result<Entities, Unclosed<J>>
@@ -189,7 +189,7 @@ impl<J: Numbering> Shared<J> {
         }
     }
 
-    /// How many reservers are missing beside those at home and these, if these may come home.
+    /// How many reservers are missing beside those returned and these, if these may come home.
     fn missing(&self, reservers: &[Reserver<J>]) -> Option<usize>
         ensures home { IsSome result ↔ MayComeHome self.now reservers.now }
         ensures count { IfSome result (λ missing.

@@ -132,7 +132,7 @@ impl<J: Numbering> OpenWorld<J> {
         }
     }
 
-    /// How many systems are missing beside those at home and these, if these may come home.
+    /// How many systems are missing beside those returned and these, if these may come home.
     fn missing(&self, queues: &[CommandQueue<J>]) -> Option<usize>
         ensures home { IsSome result ↔ MayComeHome self.now queues.now }
         ensures count { IfSome result (λ missing.

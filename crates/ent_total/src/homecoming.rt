@@ -19,7 +19,7 @@ pub(crate) fn are_of<J: Numbering>(number: u64, reservers: &[Reserver<J>]) -> bo
     true
 }
 
-/// Adds the reservers of the reservers to those at home, behind them. There is room for them.
+/// Adds the reservers of the reservers to those returned, behind them. There is room for them.
 pub(crate) fn bring_home<J: Numbering>(
     home: &mut Vec<ent_shared::Reserver>,
     shared: &ent_shared::Shared,

@@ -57,7 +57,7 @@ impl<J: Numbering> Model for OpenWorld<J> {
     } };
 
     ghost invariant = { λ p. record {
-      -- the number stands for this world, and the reservers at home came with it
+      -- the number stands for this world, and the reservers returned came with it
       stands_for : J.world_of p.number ≡ arc_value p.world;
       own : All (IsOf (arc_value p.world).shared) p.home.items;
       -- a system that came home brought its reserver and its queue
@@ -184,7 +184,7 @@ impl<J: Numbering> OpenWorld<J> {
         self.number
     }
 
-    /// A system with the last of the reservers that are at home, or `None` if none is.
+    /// A system with the last of the reservers that are returned, or `None` if none is.
     ///
     /// # Errors
     ///
@@ -209,8 +209,8 @@ impl<J: Numbering> OpenWorld<J> {
         Ok(Some(Commands::new(self.alloc, world, reserver, self.number)))
     }
 
-    /// Gives out the systems of the reservers at home, the last one first, to a list that has room
-    /// for them. One whose owner can't be counted stays at home, and so do the others.
+    /// Gives out the systems of the reservers returned, the last one first, to a list that has room
+    /// for them. One whose owner can't be counted stays with the phase, and so do the others.
     pub(crate) fn give_out(&mut self, systems: &mut Vec<Commands<J>>)
         requires queues { self.old.queues ≡ [] }
         requires room { vec_len systems.old + length self.old.home ≤ vec_capacity systems.old }

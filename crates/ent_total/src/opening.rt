@@ -41,7 +41,7 @@ impl<J: Numbering> Model for Opening<J> {
 
     ghost view = { λ o. record { shared = arc_value o.shared; home = o.home.items } };
 
-    // The reservers at home came with this allocator, and there is room for all of them, at home
+    // The reservers returned came with this allocator, and there is room for all of them, returned
     // and where they are given out.
     ghost invariant = { λ o. All (IsOf (arc_value o.shared)) o.home.items
         × ((arc_value o.shared).count ≤ vec_capacity o.home)
@@ -127,7 +127,7 @@ impl<J: Numbering> Opening<J> {
     ///
     /// # Errors
     ///
-    /// The same, with some reservers at home in the phase: each owns a part of the allocator, and no
+    /// The same, with some reservers returned to the phase: each owns a part of the allocator, and no
     /// more owners could be counted. That takes 2^62 of them.
     pub fn numbered(
         self,

@@ -51,7 +51,7 @@ impl<J: Numbering> Model for Shared<J> {
       home = s.home.items;
     } };
 
-    // The number stands for this allocator, the reservers at home came with it, and there is room
+    // The number stands for this allocator, the reservers returned came with it, and there is room
     // for all of them.
     ghost invariant = { λ s. (J.shared_of s.number ≡ arc_value s.shared)
         × All (IsOf (arc_value s.shared)) s.home.items
@@ -80,7 +80,7 @@ impl<J: Numbering> Shared<J> {
         }
     }
 
-    /// How many reservers it has, whether they exist, are at home or were lost.
+    /// How many reservers it has, whether they exist, are returned or were lost.
     #[must_use]
     pub fn count(&self) -> usize
         ensures { result ≡ self.now.shared.count }
@@ -88,7 +88,7 @@ impl<J: Numbering> Shared<J> {
         self.shared.count()
     }
 
-    /// How many reservers are at home: a close that was refused took them.
+    /// How many reservers are returned: a close that was refused took them.
     #[must_use]
     pub fn at_home(&self) -> usize
         ensures { result ≡ length self.now.home }
@@ -175,7 +175,7 @@ impl<J: Numbering> Shared<J> {
         self.number
     }
 
-    /// The last of the reservers that are at home, or `None` if none is. It takes no memory.
+    /// The last of the reservers that are returned, or `None` if none is. It takes no memory.
     ///
     /// # Errors
     ///
@@ -207,8 +207,8 @@ impl<J: Numbering> Shared<J> {
         }))
     }
 
-    /// Gives out those at home, the last one first, to a list that has room for them. One whose
-    /// owner can't be counted stays at home, and so do the others.
+    /// Gives out those returned, the last one first, to a list that has room for them. One whose
+    /// owner can't be counted stays with the phase, and so do the others.
     pub(crate) fn give_out(&mut self, reservers: &mut Vec<Reserver<J>>)
         requires room { vec_len reservers.old + length self.old.home ≤ vec_capacity reservers.old }
         requires of { AreOf self.old.number reservers.old.items }
@@ -232,7 +232,7 @@ impl<J: Numbering> Shared<J> {
         bring_home(&mut self.home, &self.shared, self.number, reservers);
     }
 
-    /// The allocator with the reservers that are at home, if no other reserver owns it too.
+    /// The allocator with the reservers that are returned, if no other reserver owns it too.
     pub(crate) fn end(self) -> Result<(ent_shared::Shared, Vec<ent_shared::Reserver>), Self>
         ensures ok { IfOk result (λ parts. (parts.0 ≡ self.shared) × (parts.1.items ≡ self.home)) }
         ensures own { IfOk result (λ parts. All (IsOf parts.0) parts.1.items) }

@@ -21,7 +21,7 @@ pub(crate) fn are_of<J: Numbering>(number: u64, queues: &[CommandQueue<J>]) -> b
     true
 }
 
-/// Adds the reservers and the queues to those at home, behind them. There is room for them.
+/// Adds the reservers and the queues to those returned, behind them. There is room for them.
 pub(crate) fn bring_home<J: Numbering>(
     home: &mut Vec<Reserver>,
     queues_home: &mut Vec<ent_queue::CommandQueue>,

@@ -169,7 +169,7 @@ impl<J: Numbering> WorldOpening<J> {
     ///
     /// # Errors
     ///
-    /// The same, with the reservers of some systems at home in the phase: each system owns a part of
+    /// The same, with the reservers of some systems returned to the phase: each system owns a part of
     /// the world, and no more owners could be counted. That takes 2^62 of them.
     pub fn numbered(
         self,

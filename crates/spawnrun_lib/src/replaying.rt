@@ -18,7 +18,7 @@ use ent_replay::{
 };
 use std::alloc::Global;
 
-// After how many events it is told how far a run is.
+// The events between two reports of how far a run is.
 const STEP: usize = 65_536;
 
 // Runs schedules over an empty allocator of these limits.

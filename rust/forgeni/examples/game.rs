@@ -44,7 +44,7 @@ struct Parts {
     events: Vec<Event>,
 }
 
-/// What the next frame is told.
+/// What one frame hands on to the next.
 enum Event {
     Launched,
     Lost,

@@ -3,7 +3,7 @@ use Rattle.std.specs.Prelude.{vec_capacity}
 use Rattle.ent_total.specs.Issuing.{AreNew, issuing}
 use Rattle.ent_total.proofs.open_world.OpenWorld.give_out.Given as goal
 
--- each time one less is at home
+-- each time one less is returned
 abbrev pub decreases-loop-system : goal.decreases-loop-system
 decreases-loop-system g l = length l.self.home
 

@@ -3,7 +3,7 @@ use Rattle.std.specs.Prelude.{All, vec_capacity}
 use Rattle.ent_total.specs.Sharing.{Reserver, AreOf, reservers_of}
 use Rattle.ent_total.proofs.shared.Shared.give_out.Given as goal
 
--- each time one less is at home
+-- each time one less is returned
 abbrev pub decreases-loop-reserver : goal.decreases-loop-reserver
 decreases-loop-reserver g l = length l.self.home
 
