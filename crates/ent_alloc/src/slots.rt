@@ -12,7 +12,7 @@ ghost use Rattle.ent_alloc.specs.FirstFault.{first_failing, slots_tests};
 
 use crate::cloning::{overwrite, reserve_for};
 use crate::image_fault::ImageFault;
-use crate::image_slots::{SlotLists, read_slots, write_slots};
+use crate::image_slots::{SlotLists, read_slots, write_rowless_slots, write_slots};
 use crate::limits::Limits;
 use crate::living::Living;
 use crate::packed_slot::PackedSlot;
@@ -321,6 +321,18 @@ impl Slots {
         ensures slots { AreSlots self.now }
     {
         write_slots(&self.records, out);
+    }
+
+    /// Appends what an image has of the slots, as if no occupant had a row. There is room for it.
+    pub(crate) fn write_image_without_rows(&self, out: &mut Vec<u8>)
+        requires { vec_len out.old + 12 * self.now.made ≤ vec_capacity out.old }
+        ensures written { out.new.items
+            ≡ out.old.items ++ slots_bytes (record self.now { rows = maps.empty }) }
+        ensures slots { AreSlots (record self.now { rows = maps.empty }) }
+        ensures len { vec_len out.new ≡ vec_len out.old + 12 * self.now.made }
+        ensures capacity { vec_capacity out.old ≤ vec_capacity out.new }
+    {
+        write_rowless_slots(&self.records, out);
     }
 
     /// The slots that an image has: that many, of which so many wait.
