@@ -212,7 +212,7 @@ impl Storage {
             → value_of self.now.entities h id ≡ Some v → id.0 < result }
     {
         // Each component has a column, and there are no more than 256.
-        prove_eq!((self.living.columns() > 256), false);
+        prove_eq!(self.living.beyond(), 0);
         let mut width = 0;
         for number in 0..256 {
             if self.is_held(ComponentId(number as u8)) {

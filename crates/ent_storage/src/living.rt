@@ -173,13 +173,14 @@ impl Living {
         self.residents[place].birth = birth;
     }
 
-    /// How many columns there are. Each component that an entity has is one of them.
-    pub fn columns(&self) -> usize
-        ensures few { result ≤ 256 }
+    /// How many columns there are beyond those of the 256 components: none. Each component that an
+    /// entity has is one of these.
+    pub fn beyond(&self) -> usize
+        ensures none { result ≡ 0 }
         ensures within { All (λ entity. (id : Component) (v : ℤ)
-            → finite.get entity.components id ≡ Some v → id.0 < result) self.now.entities }
+            → finite.get entity.components id ≡ Some v → id.0 < 256) self.now.entities }
     {
-        self.columns.len()
+        self.columns.len().saturating_sub(256)
     }
 
     /// The value of a component of the entity at the place, if it has the component.

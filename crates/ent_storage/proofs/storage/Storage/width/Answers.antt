@@ -21,7 +21,7 @@ returns-clause-within c h id v is =
     let living = c.self.inside.living.entities in
     let index = counted living c.self.inside.index.by_handle in
     let below = within living index _ c.args.self.now c.self.invariant.indexed c.self.view_is
-    c.columns.result c.columns.ensures.few c.columns.ensures.within h id v is in
+    256 (omega arith) c.beyond.ensures.within h id v is in
     let all : c.loop-number.number ≡ 256 = omega (
       arith,
       c.loop-number-test.false,

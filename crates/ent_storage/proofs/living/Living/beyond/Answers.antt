@@ -4,7 +4,7 @@ use Rattle.ent_storage.specs.Living.{LivingEntity}
 use Rattle.ent_storage.specs.declared.living.Resident.{Resident}
 use Rattle.ent_storage.proofs.ColumnsAtPlaces.{get_components, value_inside}
 use Rattle.ent_storage.proofs.EntitiesOfResidents.{read_from}
-use Rattle.ent_storage.proofs.living.Living.columns.Goals as goal
+use Rattle.ent_storage.proofs.living.Living.beyond.Goals as goal
 
 pub returns-clause-within : goal.returns-clause-within
 returns-clause-within c i d lt id v at =
@@ -14,4 +14,4 @@ returns-clause-within c i d lt id v at =
     resident d in
     let inside = value_inside columns i id v (sym (get_components columns i id)
     ∙ sym (ap (λ (e : LivingEntity). finite.get e.components id) read) ∙ at) in
-    omega (arith, inside, c.len.ensures)
+    omega (arith, inside, c.self.invariant.0.numbered)
