@@ -77,7 +77,7 @@ CONSTANT = named(
     "ent_storage/handle_map: limit new with_limit; ent_storage/handle_map/limit: of slots"
 )
 # What `prove_eq!` may call, and whose stand-in is an enum alone (the empty path: what is imported from these crates).
-READS, WITHOUT_METHODS = {"cursor"}, {"", "either::Either"}
+READS, WITHOUT_METHODS = {"beyond", "cursor"}, {"", "either::Either"}
 # Types with a layout of their own, the one of which the results derive the equality, and those of data, which derives more in the results.
 LAYOUTS = dict.fromkeys(named("ent_replay: Log; ent_total: Commands Reserver"), "#[repr(align(128))]")
 LAYOUTS |= {"ent_handle::Handle": "#[repr(transparent)]"}

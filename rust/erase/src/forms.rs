@@ -260,7 +260,7 @@ pub const RECEIVERS: &[(&str, bool)] = &[
 ];
 
 /// Methods that only look at a value, so that nothing changes if they aren't called.
-pub const LOOKING: &[&str] = &["cursor"];
+pub const LOOKING: &[&str] = &["beyond", "cursor"];
 
 /// The names of Rust's prelude. No source may give one of them another meaning.
 pub const PRELUDE: &[&str] = &[
