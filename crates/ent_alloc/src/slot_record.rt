@@ -101,7 +101,7 @@ pub(crate) fn reuse_all(records: &mut [PackedSlot], indices: &[u32], out: &mut V
     ensures listed { out.new.items ≡ out.old.items ++ map (handle_at records.old) indices.now }
 {
     let start = out.len();
-    // The list is extended at once, so that no item is a test for room.
+    // The list grows at once, so that no handle takes a test for room.
     out.resize(start + indices.len(), first_occupant(0))
         .unwrap();
     reuse_each(records, indices, &mut out[start..]);
