@@ -97,7 +97,7 @@ impl<M: Form> Walked for With<M> {
 pub fn table() {
     let beside = Components::of::<With<SecondaryMap<i64>>>();
     let apart = Components::of::<With<ApartMap<i64>>>();
-    println!("| Work | Entities | Beside its value | Apart | Ratio | By place |");
+    println!("| Work of a map | Entities | Beside its value | Apart | Ratio | By place |");
     println!("|---|---|---|---|---|---|");
     for (at, order) in ["rising", "scattered"].into_iter().enumerate() {
         let name = format!("Spawn, 4 times `get`, despawn, {order}");
@@ -109,9 +109,9 @@ pub fn table() {
     }
     lines("`iter`, a value", beside.walk, apart.walk);
     println!();
-    println!("| Work | Slots | `alloc` | `Vec::push` | Ratio | By place |");
+    println!("| A new slot | Slots | `alloc` | `Vec::push` | Ratio | By place |");
     println!("|---|---|---|---|---|---|");
-    lines("a new slot", places!(made), places!(pushed));
+    lines("made", places!(made), places!(pushed));
 }
 
 /// A line of each size.
