@@ -3,16 +3,16 @@
 
     docs/performance.py measure [PART..]   runs the scripts that the page names (or those with a PART in their names), puts
                                            their tables into the page, and draws the chart
-    docs/performance.py draw               draws docs/performance.svg of the tables in the page
-    docs/performance.py check              ends with status 1 if the chart is another one, or a table is missing
+    docs/performance.py draw               draws docs/performance.svg of the tables in the page, and writes its table of limits
+    docs/performance.py check              ends with status 1 if the chart or the limits are others, or a table is missing
 
 The figures stand in the page alone. Above each table stands a line that says what prints it:
 
     <!-- measured by COMMAND -->
 
-The command prints one table or several. A table of the page is the printed one whose head begins with the same two columns. A line that begins with a dash and
-the command says when and on what machine they were measured. `measure` needs what the scripts need: `cargo` and `rt` on the path, and the
-two peers that docs/PERFORMANCE.md names. A script builds what it measures, which takes a few minutes more where it has not been built.
+The command prints one table or several. A table of the page is the printed one whose head begins with the same two columns. A line that
+begins with a dash and the command says when and on what machine they were measured. `measure` needs what the scripts need: `cargo` and
+`rt` on the path, and the two peers that docs/PERFORMANCE.md names. A script builds what it measures, which takes a few minutes more where it has not been built.
 """
 
 import datetime
@@ -20,6 +20,7 @@ import math
 import os
 import pathlib
 import re
+import statistics
 import subprocess
 import sys
 import time
@@ -214,6 +215,56 @@ def drawn(lines):
     return f"{head}\n<style>{STYLE}\n</style>\n{body}\n</svg>\n"
 
 
+# The table of limits: a work, the head of its table, how its rows begin, and the limits of the median of their ratios.
+
+LIMITS_HEAD = "| Work | Limit | Ratio to plain Rust | Limit | Ratio to slotmap |"
+LIMITS = [
+    ("`alloc`, then `free`", ("Work", "Here"), ["`alloc`, then"], 0.95, None),
+    ("`state`, `contains`, `is_alive`", ("Work", "Here"), ["`state`", "`contains`", "`is_alive`"], 1.0, 1.1),
+    ("A phase to `flush` to `free`, singly", ("Work", "Here"), ["A phase"], 1.05, None),
+    ("The same, 64 at once", ("Work", "Here"), ["The same"], 1.2, None),
+    ("`request` to `flush` to `free`", ("Work", "Here"), ["`request`"], 0.5, None),
+    ("Spawn, 4 times `get`, despawn, rising", ("Work", "Entities"), ["Spawn, 4 times `get`, despawn, rising"], 1.1, 1.05),
+    ("The same, scattered", ("Work", "Entities"), ["Spawn, 4 times `get`, despawn, scattered"], 1.1, 1.15),
+    ("`iter` over a map", ("Work", "Entities"), ["`iter`"], 1.05, 0.9),
+    ("A command of `apply`, of each kind", ("Command of `apply`", "Order"), [""], 1.0, None),
+    ("A `Storage`, and `born`", ("Work of a `Storage`", "Entities"), [""], 1.2, None),
+    ("A frame of 64 systems that compute, 4 workers", ("Systems", "Workers"), ["compute | 4"], 1.1, None),
+    ("`Entities::try_clone_from`; plain: a copy", ("Slots", "`try_clone_from`"), [""], 1.3, 1.2),
+    ("`HandleMap::clone_from`; plain: `Vec<Option<T>>`", ("Slots", "`HandleMap<i64>::clone_from`"), [""], 1.3, None),
+]
+
+
+def medians_of(lines, columns, begins):
+    """The medians of the columns `Ratio` of a table, over its rows that begin so."""
+    for _, begin, end in measured_tables(lines):
+        head = cells_of(lines[begin])
+        if head[:2] == [*columns]:
+            rows = [cells_of(it) for it in lines[begin + 2 : end]]
+            rows = [it for it in rows if " | ".join(it).startswith(tuple(begins))]
+            for at in [at for at, name in enumerate(head) if name == "Ratio"]:
+                ratios = [float(it[at]) for it in rows if it[at]]
+                yield statistics.median(ratios) if ratios else None
+
+
+def beside_limit(limit, ratio):
+    """The two cells of a limit and of what was measured."""
+    if limit is None or ratio is None:
+        return "|"
+    return f"{limit:.2f} | " + (f"{ratio:.2f}" if round(ratio, 2) <= limit else f"**{ratio:.2f}**")
+
+
+def with_limits(lines):
+    """These lines, with the table of limits that follows from the other tables."""
+    rows = []
+    for name, columns, begins, plain, slots in LIMITS:
+        beside_plain, beside_slots, *_ = [*medians_of(lines, columns, begins), None, None]
+        rows.append(f"| {name} | {beside_limit(plain, beside_plain)} | {beside_limit(slots, beside_slots)} |")
+    at = lines.index(LIMITS_HEAD)
+    end = next(end for begin, end in tables_of(lines) if begin == at)
+    return [*lines[: at + 2], *rows, *lines[end:]]
+
+
 # Measuring.
 
 
@@ -273,6 +324,12 @@ def measure(parts):
         lines = with_tables(lines, command, ran.stdout.splitlines())
         lines = [day_of(command) + machine(free) if it.startswith(day_of(command)) else it for it in lines]
         PAGE.write_text("\n".join(lines) + "\n")
+    draw(lines)
+
+
+def draw(lines):
+    """Writes the table of limits, and draws the chart."""
+    PAGE.write_text("\n".join(with_limits(lines)) + "\n")
     CHART.write_text(drawn(lines))
 
 
@@ -286,6 +343,8 @@ def faults_of(lines):
             yield f"docs/PERFORMANCE.md: there is no {command.split()[0]}"
         if not any(it.startswith(day_of(command)) for it in lines):
             yield f"docs/PERFORMANCE.md: no line says when {command} was measured"
+    if with_limits(lines) != lines:
+        yield "the table of limits isn't what `docs/performance.py draw` writes of the page's tables"
     if not CHART.exists() or CHART.read_text() != drawn(lines):
         yield "docs/performance.svg isn't what `docs/performance.py draw` draws of the page's tables"
 
@@ -296,7 +355,7 @@ def main(words):
         case ["measure", *parts]:
             measure(parts)
         case ["draw"]:
-            CHART.write_text(drawn(lines))
+            draw(lines)
         case ["check"]:
             faults = [*faults_of(lines)]
             print(*faults, f"performance: {len([*measured_tables(lines)])} tables, {len(faults)} faults", sep="\n")
