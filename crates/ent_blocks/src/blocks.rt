@@ -332,7 +332,7 @@ impl<J: BlockNumbering> Blocks<J> {
         }
         match missing(&self.parts, &reservers) {
             None => Err(self.unended(reservers, EndError::Order)),
-            Some(0) => self.end(reservers),
+            Some(0) => self.end_with(reservers),
             Some(count) => Err(self.unended(reservers, EndError::Missing { count })),
         }
     }
@@ -396,11 +396,11 @@ impl<J: BlockNumbering> Blocks<J> {
         if missing(&self.parts, &reservers).is_none() {
             return Err(self.unended(reservers, EndError::Order));
         }
-        self.end(reservers)
+        self.end_with(reservers)
     }
 
     /// Ends the phase with these reservers, of some of its blocks.
-    fn end(self, reservers: Vec<BlockReserver<J>>) -> Result<Entities, Unended<J>>
+    fn end_with(self, reservers: Vec<BlockReserver<J>>) -> Result<Entities, Unended<J>>
         ensures after { IfOk result (λ entities. entities.allocator ≡ after_blocks
             self.phase.start (accounted self.phase.blocks (blocks_of reservers.items))) }
         ensures rows { IfOk result (λ entities. entities.rows ≡ self.phase.rows) }

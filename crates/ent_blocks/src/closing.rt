@@ -54,7 +54,7 @@ fn reach(reservers: &[Part]) -> u32
 {
     let mut end = 0;
     for reserver in reservers {
-        end = greater(end, reserver.end());
+        end = greater(end, reserver.used_end());
     }
     end
 }

@@ -75,7 +75,7 @@ impl Part {
         self.used += n;
     }
     /// One past the position of the last handle that was used; 0 if none was.
-    pub(crate) fn end(&self) -> u32
+    pub(crate) fn used_end(&self) -> u32
         requires { self.now.before + self.now.size < 2 ^ 32 }
         ensures value { result ≡ end_of self.now }
         ensures within { result ≤ self.now.before + self.now.size }

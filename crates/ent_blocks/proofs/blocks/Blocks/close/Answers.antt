@@ -24,8 +24,8 @@ returns-in-Some-eq0-clause-after g c =
     let full : accounted c.args.self.phase.blocks rs ≡ rs =
     ap (λ (p : Phase). accounted p.phase.blocks rs) (sym c.self.view_is)
     ∙ all_accounted bs rs among all in
-    subst (λ (bs : List Block). IfOk c.end.result
-    (λ e. e.allocator ≡ after_blocks c.args.self.phase.start bs)) full c.end.ensures.after
+    subst (λ (bs : List Block). IfOk c.end_with.result
+    (λ e. e.allocator ≡ after_blocks c.args.self.phase.start bs)) full c.end_with.ensures.after
 
 pub returns-in-Some-eq0-clause-all : goal.returns-in-Some-eq0-clause-all
 returns-in-Some-eq0-clause-all g c =
@@ -47,4 +47,4 @@ returns-in-Some-eq0-clause-all g c =
     ap (λ (p : Phase). accounted p.phase.blocks rs) (sym c.self.view_is)
     ∙ all_accounted bs rs among all in
     let fact : map unused rs ≡ c.args.self.phase.blocks =
-    ap (map unused) (sym full) ∙ c.end.ensures.unused in search (rules, fact)
+    ap (map unused) (sym full) ∙ c.end_with.ensures.unused in search (rules, fact)

@@ -8,7 +8,7 @@ use Rattle.ent_blocks.specs.Blocks.{accounted, blocks_of}
 use Rattle.ent_blocks.proofs.Accounts.{unused_accounted}
 use Rattle.ent_blocks.proofs.Phases.{closing}
 use Rattle.ent_blocks.proofs.Given.{used-distinct, used-not_live, used-live}
-use Rattle.ent_blocks.proofs.blocks.Blocks.end.Goals as goal
+use Rattle.ent_blocks.proofs.blocks.Blocks.end_with.Goals as goal
 
 pub returns-in_default-clause-unused : goal.returns-in_default-clause-unused
 returns-in_default-clause-unused g c =
