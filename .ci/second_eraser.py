@@ -79,7 +79,7 @@ CONSTANT = named(
 # What `prove_eq!` may call, and whose stand-in is an enum alone (the empty path: what is imported from these crates).
 READS, WITHOUT_METHODS = {"beyond", "cursor"}, {"", "either::Either"}
 # Types with a layout of their own, the one of which the results derive the equality, and those of data, which derives more in the results.
-LAYOUTS = dict.fromkeys(named("ent_replay: Log; ent_total: Commands Reserver"), "#[repr(align(128))]")
+LAYOUTS = dict.fromkeys(named("ent_blocks: BlockReserver; ent_replay: Log; ent_total: Commands Reserver"), "#[repr(align(128))]")
 LAYOUTS |= {"ent_handle::Handle": "#[repr(transparent)]"}
 WORD_TYPE, DATA = "ent_handle::Handle", named("ent_replay: Call CheckError Difference FlushReply Log Reservation ReserveReply")
 # What a type derives in the results, if nothing is left of its derive: errors that hand back queues, and reports.

@@ -433,6 +433,11 @@ pub const LAYOUTS: &[Layout] = &[
     },
     // A reservation writes the reserver, so two of them in a list share no line of a processor's cache.
     Layout {
+        krate: "ent_blocks",
+        name: "BlockReserver",
+        attribute: "#[repr(align(128))]",
+    },
+    Layout {
         krate: "ent_total",
         name: "Reserver",
         attribute: "#[repr(align(128))]",

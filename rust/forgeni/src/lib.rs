@@ -300,6 +300,7 @@ extern crate alloc;
 #[cfg(any(feature = "std", test))]
 extern crate std;
 
+mod blocks;
 mod cloning;
 mod component;
 #[cfg(feature = "programs")]
@@ -346,6 +347,7 @@ mod waiting;
 mod world;
 mod world_phase;
 
+pub use blocks::{BlockError, BlockReserver, Blocks, DealError, EndError, Undealt, Unended};
 pub use component::{Birth, ComponentId};
 pub use entities::{Entities, Freed, Living, State};
 pub use errors::{Absent, AllocError, FreeError, ImageFault, OutOfMemory, Refused, ReserveError};

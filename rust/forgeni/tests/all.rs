@@ -5,6 +5,7 @@
 mod common;
 mod worlds;
 
+mod blocks;
 mod clones;
 mod errors;
 #[cfg(feature = "std")]
