@@ -38,3 +38,4 @@ pub mod ImageGiven
 pub mod ImageHeld
 pub mod ImageRead
 pub mod ImageValues
+pub mod Sparse

@@ -14,7 +14,6 @@ mod error;
 mod generation;
 mod iter;
 mod keys;
-mod limit;
 mod retaining;
 mod slot;
 mod values;
@@ -22,10 +21,10 @@ mod values;
 pub use crate::handle_map::error::{InsertError, Uninserted};
 pub use crate::handle_map::iter::Iter;
 pub use crate::handle_map::keys::Keys;
-use crate::handle_map::limit::Limit;
 use crate::handle_map::retaining::retain_slots;
 use crate::handle_map::slot::{Slot, append_clones, make_slot};
 pub use crate::handle_map::values::Values;
+use crate::limit::Limit;
 use ent_handle::{Handle, Memory};
 use std::alloc::Global;
 use std::marker::Model;
@@ -603,7 +602,7 @@ fn generation_in<T>(slots: &[Slot<T>], index: usize) -> u32
 }
 
 /// Which slot a handle is of. It says too that there is such a slot.
-fn index_of(handle: Handle) -> usize
+pub(crate) fn index_of(handle: Handle) -> usize
     ensures value { result ≡ handle.index }
     ensures in_range { result < 2 ^ 32 - 1 }
 {

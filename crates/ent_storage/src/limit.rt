@@ -8,7 +8,7 @@ use std::marker::Model;
 ///
 /// It is kept as the first handle, in the order of handles, that the map refuses.
 #[derive(Drop)]
-pub(super) struct Limit {
+pub(crate) struct Limit {
     end: Handle,
 }
 
@@ -28,7 +28,7 @@ impl Model for Limit {
 
 impl Limit {
     /// The limit of that many slots. The greatest number is no limit: there are no more slots.
-    pub(super) fn of(slots: u32) -> Self
+    pub(crate) fn of(slots: u32) -> Self
         ensures { result ≡ slots }
     {
         let end = match Handle::new(slots, 1) {
@@ -39,7 +39,7 @@ impl Limit {
     }
 
     /// How many slots it is.
-    pub(super) fn slots(&self) -> u32
+    pub(crate) fn slots(&self) -> u32
         ensures { result ≡ self.now }
     {
         if self.end.generation() == 1 {
@@ -50,7 +50,7 @@ impl Limit {
     }
 
     /// Whether the map takes no value for the handle.
-    pub(super) fn refuses(&self, handle: Handle) -> bool
+    pub(crate) fn refuses(&self, handle: Handle) -> bool
         ensures { IsTrue result ↔ IsBeyond self.now handle }
     {
         // The second comparison implies the first one. But that one costs less, and for most
