@@ -10,6 +10,7 @@ ghost use Rattle.ent_storage.specs.HandleMap.{no_limit, IsBeyond, without_slot, 
 ghost use Rattle.ent_storage.specs.Retained.{Retains};
 ghost use Rattle.ent_storage.specs.Slots.{generation_of, slot_at, value_in};
 
+mod emptying;
 mod error;
 mod generation;
 mod iter;
@@ -18,6 +19,7 @@ mod retaining;
 mod slot;
 mod values;
 
+use crate::handle_map::emptying::move_values;
 pub use crate::handle_map::error::{InsertError, Uninserted};
 pub use crate::handle_map::iter::Iter;
 pub use crate::handle_map::keys::Keys;
@@ -477,6 +479,29 @@ impl<T: Drop> HandleMap<T> {
         ensures kept { self.new ≡ record self.old { values = self.new.values } }
     {
         retain_slots(&mut self.slots, &mut self.len, keep);
+    }
+
+    /// The handles and their values, by rising slot.
+    ///
+    /// ```
+    /// use forgeni::{Handle, HandleMap};
+    ///
+    /// let handle = |index| Handle::new(index, 1).unwrap();
+    /// let names: HandleMap<&str> = [(handle(8), "Bob"), (handle(3), "Ada")].into_iter().collect();
+    /// assert_eq!(names.into_entries()?, [(handle(3), "Ada"), (handle(8), "Bob")]);
+    /// # Ok::<(), forgeni::OutOfMemory>(())
+    /// ```
+    ///
+    /// # Errors
+    ///
+    /// Out of memory. The values are dropped.
+    pub fn into_entries(self, alloc: Global) -> Result<Vec<(Handle, T)>, Memory>
+        ensures entries { IfOk result (λ all. all.items ≡ map.entries self.values) }
+        ensures memory { OnErr result (0 < map.len self.values) }
+    {
+        let mut all = Vec::with_capacity(alloc, self.len)?;
+        move_values(self.slots, self.len, &mut all);
+        Ok(all)
     }
 
     /// Drops all values. The room stays.

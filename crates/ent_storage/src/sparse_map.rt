@@ -1,6 +1,6 @@
 //! A map from handles to values of any type, of which few handles have one.
-ghost use Rattle.std.specs.Prelude.{◌≡◌, ◌≢◌, ◌↔◌, ◌+◌, ◌-◌, ◌^◌, ◌<◌, ◌≤◌, ◌⊎◌, IsTrue, OnOk, OnErr};
-ghost use Rattle.std.specs.Prelude.{IfOk, IfErr, Some, IsSome, None, length, option_copied};
+ghost use Rattle.std.specs.Prelude.{◌≡◌, ◌≢◌, ◌↔◌, ◌+◌, ◌-◌, ◌^◌, ◌<◌, ◌≤◌, ◌⊎◌, IsTrue, OnOk};
+ghost use Rattle.std.specs.Prelude.{OnErr, IfOk, IfErr, Some, IsSome, None, length, option_copied};
 ghost use Rattle.std.specs.Prelude.{vec_capacity};
 ghost use Rattle.std.specs.List.{AppendsClones};
 ghost use Rattle.std.specs.Option.{option_copied_mut};
@@ -27,13 +27,13 @@ use std::mem;
 /// A value of any type for each of few handles: a rare component. At most one handle of a slot has
 /// a value.
 ///
-/// It has the same calls as [`HandleMap`](crate::handle_map::HandleMap). The values lie side by
-/// side, and each slot takes only four bytes, for the position of its value. So ten values among a
-/// million slots take 4.5 MB with values of any size, and are walked in the time of the ten. A
-/// look-up is two accesses to vectors, where a `HandleMap` makes one.
+/// It takes and refuses what a [`HandleMap`](crate::handle_map::HandleMap) does. The values lie
+/// side by side, and each slot takes only four bytes, for the position of its value. So ten values
+/// among a million slots take 4.5 MB with values of any size, and are walked in the time of the
+/// ten. A look-up is two accesses to vectors, where a `HandleMap` makes one.
 ///
-/// It does not know which handles an allocator has given or freed. A value that nobody removes stays
-/// until a later occupant of its slot gets one, and can't be found by that one's handle.
+/// It does not know which handles an allocator has given or freed. A value that nobody removes
+/// stays until a later occupant of its slot gets one, and can't be found by that one's handle.
 ///
 /// ```
 /// use forgeni::{Entities, SparseMap};
@@ -52,8 +52,8 @@ use std::mem;
 /// # Ok::<(), Box<dyn std::error::Error + Send + Sync>>(())
 /// ```
 ///
-/// **A handle from a save or a network may make the map take much memory**, four bytes for each slot
-/// up to its own. So give a map for such handles a [limit](Self::with_limit).
+/// **A handle from a save or a network may make the map take much memory**, four bytes for each
+/// slot up to its own. So give a map for such handles a [limit](Self::with_limit).
 ///
 /// Contracts see a finite map from handles to values (`values`), for how many values there is room
 /// (`room`), for how many slots (`slots`), and for how many slots there may be values (`limit`).
@@ -100,8 +100,8 @@ impl<T> SparseMap<T> {
     /// A map without values, which refuses each handle whose slot is at or above this limit. It
     /// takes no memory.
     ///
-    /// [`Entities::total`](forgeni::Entities::total) is a limit that fits an allocator as long as it
-    /// makes no new slots. [`set_limit`](Self::set_limit) changes the limit.
+    /// [`Entities::total`](forgeni::Entities::total) is a limit that fits an allocator as long as
+    /// it makes no new slots. [`set_limit`](Self::set_limit) changes the limit.
     #[must_use]
     pub fn with_limit(alloc: Global, limit: u32) -> Self
         ensures { result ≡ record { values = map.empty; room = 0; slots = 0; limit = limit } }
@@ -113,8 +113,8 @@ impl<T> SparseMap<T> {
         }
     }
 
-    /// For how many slots the map may have values, from slot 0 on: 4,294,967,295, which is no limit,
-    /// or the limit that was set.
+    /// For how many slots the map may have values, from slot 0 on: 4,294,967,295, which is no
+    /// limit, or the limit that was set.
     #[must_use]
     pub fn limit(&self) -> u32
         ensures { result ≡ self.now.limit }
@@ -245,7 +245,8 @@ impl<T> SparseMap<T> {
         Iter::new(&self.entries)
     }
 
-    /// The handles and their values, in the order of [`entries`](Self::entries). It takes no memory.
+    /// The handles and their values, in the order of [`entries`](Self::entries). It takes no
+    /// memory.
     #[must_use]
     pub fn into_entries(self) -> Vec<(Handle, T)>
         ensures { AreEntries self.values result.items }
@@ -255,8 +256,8 @@ impl<T> SparseMap<T> {
 }
 
 impl<T: Drop> SparseMap<T> {
-    /// Gives the handle a value, and returns the one that it had. If an earlier occupant of the slot
-    /// has one, that is dropped.
+    /// Gives the handle a value, and returns the one that it had. If an earlier occupant of the
+    /// slot has one, that is dropped.
     ///
     /// If there is room for the slot ([`slots`](Self::slots)) and for one value more
     /// ([`capacity`](Self::capacity)), or the slot has a value, it takes no memory, and constant
@@ -368,20 +369,21 @@ impl<T: Clone> SparseMap<T> {
         })
     }
 
-    /// Drops all values, and gives this map a clone of each value of the source, room for the slots of
-    /// the source, and its limit.
+    /// Drops all values, and gives this map a clone of each value of the source, room for the slots
+    /// of the source, and its limit.
     ///
-    /// If there is room for as many slots and values as the source has, it takes no memory but for the
-    /// clones.
+    /// If there is room for as many slots and values as the source has, it takes no memory but for
+    /// the clones.
     ///
     /// # Errors
     ///
-    /// Out of memory. Nothing has changed if there wasn't room for the source. If there was, no values
-    /// are left.
+    /// Out of memory. Nothing has changed if there wasn't room for the source. If there was, no
+    /// values are left.
     ///
     /// # Panics
     ///
-    /// A panic of a clone is handed on. Nothing has changed, or no values are left, as after an error.
+    /// A panic of a clone is handed on. Nothing has changed, or no values are left, as after an
+    /// error.
     pub fn try_clone_from(&mut self, alloc: Global, source: &Self) -> Result<(), Memory>
         ensures clones { OnOk result (AreCloned T.is_clone source.now.values self.new.values) }
         ensures slots { OnOk result (self.new.slots ≡ source.now.slots) }
@@ -397,8 +399,8 @@ impl<T: Clone> SparseMap<T> {
             *self = source.try_clone(alloc)?;
             return Ok(());
         }
-        // While the list is out of the map, a panic of a value's `drop` or `clone` leaves a map without
-        // values.
+        // While the list is out of the map, a panic of a value's `drop` or `clone` leaves a map
+        // without values.
         let mut entries = mem::replace(&mut self.entries, Vec::new(alloc));
         entries.clear();
         overwrite(&mut self.positions, &source.positions);
