@@ -1,4 +1,4 @@
-// Made of crates/ent_storage/src/handle_map/limit.rt by rust/erase. It isn't edited by hand.
+// Made of crates/ent_storage/src/limit.rt by rust/erase. It isn't edited by hand.
 
 use crate::proved::ent_handle::Handle;
 
