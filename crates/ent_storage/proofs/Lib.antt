@@ -39,3 +39,4 @@ pub mod ImageHeld
 pub mod ImageWidth
 pub mod ImageRead
 pub mod ImageValues
+pub mod Sparse

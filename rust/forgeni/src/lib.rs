@@ -337,6 +337,7 @@ mod room;
 mod serde_impls;
 mod sharing;
 mod shown;
+pub mod sparse_map;
 mod storage;
 mod sync;
 #[cfg(feature = "std")]
@@ -363,6 +364,7 @@ pub use proved::ent_alloc::Limits;
 #[cfg(feature = "std")]
 pub use reservers::{Lends, Reservers, Unpooled};
 pub use sharing::{CloseError, OtherPhase, Reserver, ShareError, Shared, Unclosed, Unshared};
+pub use sparse_map::SparseMap;
 pub use storage::{Bundle, Items, Storage, StorageError};
 pub use sync::{Fault, FaultKind, GoOnError, Queues, Report, Stop, Stopped, SyncError};
 #[cfg(feature = "std")]

@@ -26,6 +26,7 @@ mod phases;
 mod recording;
 mod reserving;
 mod sharing;
+mod sparse_map;
 mod storage_model;
 mod texts;
 mod threads;

@@ -1,35 +1,19 @@
-ghost use Rattle.std.specs.Prelude.{◌≡◌, ◌↔◌, IsTrue};
-ghost use Rattle.ent_storage.specs.HandleMap.{IsBeyond};
+// Made of crates/ent_storage/src/limit.rt by rust/erase. It isn't edited by hand.
 
-use ent_handle::Handle;
-use std::marker::Model;
+use crate::proved::ent_handle::Handle;
 
 /// For how many slots a map may have values, from slot 0 on.
 ///
 /// It is kept as the first handle, in the order of handles, that the map refuses.
-#[derive(Drop)]
 pub(super) struct Limit {
     end: Handle,
 }
 
-impl Model for Limit {
-    ghost use Rattle.std.specs.Prelude.{ℕ};
-    ghost use Rattle.std.specs.Coded.{coded_ℕ};
-    ghost use Rattle.ent_storage.specs.Limit.{limit_of, IsEnd};
-
-    ghost Value = { ℕ };
-
-    ghost coded = { coded_ℕ };
-
-    ghost view = { λ l. limit_of l.end };
-
-    ghost invariant = { λ l. IsEnd l.end };
-}
-
 impl Limit {
     /// The limit of that many slots. The greatest number is no limit: there are no more slots.
-    pub(super) fn of(slots: u32) -> Self
-        ensures { result ≡ slots }
+    #[inline]
+    pub(super) const fn of(slots: u32) -> Self
+        // ensures { result ≡ slots }
     {
         let end = match Handle::new(slots, 1) {
             Some(first) => first,
@@ -39,8 +23,9 @@ impl Limit {
     }
 
     /// How many slots it is.
-    pub(super) fn slots(&self) -> u32
-        ensures { result ≡ self.now }
+    #[inline]
+    pub(super) const fn slots(&self) -> u32
+        // ensures { result ≡ self.now }
     {
         if self.end.generation() == 1 {
             self.end.index()
@@ -50,8 +35,9 @@ impl Limit {
     }
 
     /// Whether the map takes no value for the handle.
+    #[inline]
     pub(super) fn refuses(&self, handle: Handle) -> bool
-        ensures { IsTrue result ↔ IsBeyond self.now handle }
+        // ensures { IsTrue result ↔ IsBeyond self.now handle }
     {
         // The second comparison implies the first one. But that one costs less, and for most
         // handles it is the only one made.

@@ -1,19 +1,35 @@
-// Made of crates/ent_storage/src/handle_map/limit.rt by rust/erase. It isn't edited by hand.
+ghost use Rattle.std.specs.Prelude.{◌≡◌, ◌↔◌, IsTrue};
+ghost use Rattle.ent_storage.specs.HandleMap.{IsBeyond};
 
-use crate::proved::ent_handle::Handle;
+use ent_handle::Handle;
+use std::marker::Model;
 
 /// For how many slots a map may have values, from slot 0 on.
 ///
 /// It is kept as the first handle, in the order of handles, that the map refuses.
-pub(super) struct Limit {
+#[derive(Drop)]
+pub(crate) struct Limit {
     end: Handle,
+}
+
+impl Model for Limit {
+    ghost use Rattle.std.specs.Prelude.{ℕ};
+    ghost use Rattle.std.specs.Coded.{coded_ℕ};
+    ghost use Rattle.ent_storage.specs.Limit.{limit_of, IsEnd};
+
+    ghost Value = { ℕ };
+
+    ghost coded = { coded_ℕ };
+
+    ghost view = { λ l. limit_of l.end };
+
+    ghost invariant = { λ l. IsEnd l.end };
 }
 
 impl Limit {
     /// The limit of that many slots. The greatest number is no limit: there are no more slots.
-    #[inline]
-    pub(super) const fn of(slots: u32) -> Self
-        // ensures { result ≡ slots }
+    pub(crate) fn of(slots: u32) -> Self
+        ensures { result ≡ slots }
     {
         let end = match Handle::new(slots, 1) {
             Some(first) => first,
@@ -23,9 +39,8 @@ impl Limit {
     }
 
     /// How many slots it is.
-    #[inline]
-    pub(super) const fn slots(&self) -> u32
-        // ensures { result ≡ self.now }
+    pub(crate) fn slots(&self) -> u32
+        ensures { result ≡ self.now }
     {
         if self.end.generation() == 1 {
             self.end.index()
@@ -35,9 +50,8 @@ impl Limit {
     }
 
     /// Whether the map takes no value for the handle.
-    #[inline]
-    pub(super) fn refuses(&self, handle: Handle) -> bool
-        // ensures { IsTrue result ↔ IsBeyond self.now handle }
+    pub(crate) fn refuses(&self, handle: Handle) -> bool
+        ensures { IsTrue result ↔ IsBeyond self.now handle }
     {
         // The second comparison implies the first one. But that one costs less, and for most
         // handles it is the only one made.
