@@ -125,11 +125,11 @@ impl<T> FallibleVec<T> for Vec<T> {
 
     fn shrink_to_fit_fallibly(&mut self) {
         let () = Self::HAVE_A_SIZE;
-        if self.capacity() > self.len() {
-            if let Ok(mut fitting) = Self::with_capacity_fallibly(self.len()) {
-                fitting.append(self);
-                *self = fitting;
-            }
+        if self.capacity() > self.len()
+            && let Ok(mut fitting) = Self::with_capacity_fallibly(self.len())
+        {
+            fitting.append(self);
+            *self = fitting;
         }
     }
 
