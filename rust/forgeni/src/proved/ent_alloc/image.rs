@@ -205,6 +205,20 @@ impl Entities {
         Ok(())
     }
 
+    /// Appends the image that the allocator has if none of its entities has a row, for a caller whose
+    /// rows follow from what it writes beside it. There is room for it.
+    #[inline]
+    pub(crate) fn write_image_without_rows(&self, out: &mut Vec<u8>)
+        // requires { vec_len out.old + (40 + 12 * self.now.allocator.made) ≤ vec_capacity out.old }
+        // ensures written { out.new.items ≡ out.old.items ++ image (without_rows self.now) }
+        // ensures has_image { HasImage (without_rows self.now) }
+        // ensures len { vec_len out.new ≡ vec_len out.old + (40 + 12 * self.now.allocator.made) }
+        // ensures capacity { vec_capacity out.old ≤ vec_capacity out.new }
+    {
+        write_header(self.header(), out);
+        self.slots.write_image_without_rows(out);
+    }
+
     /// The allocator whose image these bytes are, all of them.
     ///
     /// The bytes may come from anywhere. Each image that [`write_image`](Self::write_image) writes is

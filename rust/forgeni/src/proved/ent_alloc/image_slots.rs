@@ -90,6 +90,36 @@ pub(super) fn write_slots(records: &[PackedSlot], out: &mut Vec<u8>)
     }
 }
 
+/// The same slot, whose occupant has no row.
+#[inline]
+fn without_row(slot: SlotRecord) -> SlotRecord
+    // ensures { result ≡ without_row slot }
+{
+    let occupancy = match slot.occupancy {
+        Occupancy::AliveWithRow { .. } => Occupancy::Alive,
+        other => other,
+    };
+    SlotRecord {
+        generation: slot.generation,
+        occupancy,
+    }
+}
+
+/// Appends the slots as if no occupant had a row, by rising index. There is room for them.
+#[inline]
+pub(super) fn write_rowless_slots(records: &[PackedSlot], out: &mut Vec<u8>)
+    // requires { vec_len out.old + 12 * length records.now ≤ vec_capacity out.old }
+    // ensures written { out.new.items ≡ out.old.items ++ flat_map rowless_bytes records.now }
+    // ensures fits { (index : ℕ) → index < length records.now
+    //     → number_of (without_row (record_at records.now index)).occupancy < 2 ^ 32 }
+    // ensures len { vec_len out.new ≡ vec_len out.old + 12 * length records.now }
+    // ensures capacity { vec_capacity out.old ≤ vec_capacity out.new }
+{
+    for record in records {
+        write_slot(without_row(record.record()), out);
+    }
+}
+
 /// The record that three words tell of; `None` if no slot within the limits is so written.
 #[inline]
 fn record_of(limits: Limits, generation: u32, kind: u32, number: u32) -> Option<SlotRecord>

@@ -5,7 +5,7 @@ use crate::kit::vec::FallibleVec;
 use crate::proved::ent_alloc::cloning::{overwrite, reserve_for};
 use crate::proved::ent_alloc::fault::FreeFault;
 use crate::proved::ent_alloc::image_fault::ImageFault;
-use crate::proved::ent_alloc::image_slots::{SlotLists, read_slots, write_slots};
+use crate::proved::ent_alloc::image_slots::{SlotLists, read_slots, write_rowless_slots, write_slots};
 use crate::proved::ent_alloc::limits::Limits;
 use crate::proved::ent_alloc::living::Living;
 use crate::proved::ent_alloc::packed_slot::PackedSlot;
@@ -339,6 +339,19 @@ impl Slots {
         // ensures slots { AreSlots self.now }
     {
         write_slots(&self.records, out);
+    }
+
+    /// Appends what an image has of the slots, as if no occupant had a row. There is room for it.
+    #[inline]
+    pub(super) fn write_image_without_rows(&self, out: &mut Vec<u8>)
+        // requires { vec_len out.old + 12 * self.now.made ≤ vec_capacity out.old }
+        // ensures written { out.new.items
+        //     ≡ out.old.items ++ slots_bytes (record self.now { rows = maps.empty }) }
+        // ensures slots { AreSlots (record self.now { rows = maps.empty }) }
+        // ensures len { vec_len out.new ≡ vec_len out.old + 12 * self.now.made }
+        // ensures capacity { vec_capacity out.old ≤ vec_capacity out.new }
+    {
+        write_rowless_slots(&self.records, out);
     }
 
     /// The slots that an image has: that many, of which so many wait.

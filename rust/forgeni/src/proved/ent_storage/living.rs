@@ -199,6 +199,25 @@ impl Living {
         self.residents[place].birth = birth;
     }
 
+    /// How many columns there are beyond those of the 256 components: none. Each component that an
+    /// entity has is one of these.
+    ///
+    /// <details><summary>Contract</summary>
+    ///
+    /// In the words of the folder `specs/` of crate `ent_storage`:
+    ///
+    /// ```text
+    /// ensures none { result ≡ 0 }
+    /// ensures within { All (λ entity. (id : Component) (v : ℤ)
+    ///     → finite.get entity.components id ≡ Some v → id.0 < 256) self.now.entities }
+    /// ```
+    ///
+    /// </details>
+    #[inline]
+    pub fn beyond(&self) -> usize {
+        self.columns.len().saturating_sub(256)
+    }
+
     /// The value of a component of the entity at the place, if it has the component.
     #[inline]
     pub(crate) fn value(&self, place: usize, id: ComponentId) -> Option<i64>

@@ -1,0 +1,134 @@
+// Made of crates/ent_alloc/src/prepared.rt by rust/erase. It isn't edited by hand.
+
+//! An allocator that is about to take over another one. Its memory is taken first, by a step of its
+//! own: so a caller that copies more than an allocator takes all memory before anything changes.
+
+use alloc::vec::Vec;
+use crate::proved::ent_alloc::cloning::{overwrite, reserve_for};
+use crate::proved::ent_alloc::entities::Entities;
+use crate::proved::ent_alloc::limits::Limits;
+use crate::proved::ent_alloc::packed_slot::PackedSlot;
+use crate::proved::ent_alloc::requests::Requests;
+use crate::proved::ent_alloc::slots::Slots;
+use crate::proved::ent_handle::Memory;
+
+/// An allocator and the room that its lists have.
+///
+/// Contracts see the allocator, and for how many slots there is room, in all and of those that wait.
+pub struct Prepared {
+    limits: Limits,
+    records: Vec<PackedSlot>,
+    pending: Vec<u32>,
+    live: u32,
+    requests: Requests,
+}
+
+impl Prepared {
+    /// This allocator, with the room that it has.
+    ///
+    /// <details><summary>Contract</summary>
+    ///
+    /// In the words of the folder `specs/` of crate `ent_alloc`:
+    ///
+    /// ```text
+    /// ensures { result.entities ≡ entities }
+    /// ```
+    ///
+    /// </details>
+    #[inline]
+    pub fn of(entities: Entities) -> Self {
+        let Entities { slots, requests } = entities;
+        let Slots {
+            limits,
+            records,
+            pending,
+            live,
+        } = slots;
+        Prepared {
+            limits,
+            records,
+            pending,
+            live,
+            requests,
+        }
+    }
+
+    /// The allocator.
+    ///
+    /// <details><summary>Contract</summary>
+    ///
+    /// In the words of the folder `specs/` of crate `ent_alloc`:
+    ///
+    /// ```text
+    /// ensures value { result ≡ self.entities }
+    /// ensures rows_of_living { HasRowsOfLiving result }
+    /// ```
+    ///
+    /// </details>
+    #[inline]
+    pub fn into_entities(self) -> Entities {
+        Entities {
+            slots: Slots {
+                limits: self.limits,
+                records: self.records,
+                pending: self.pending,
+                live: self.live,
+            },
+            requests: self.requests,
+        }
+    }
+
+    /// Makes room for the slots of another allocator. It takes no memory if this one has made as
+    /// many, and as many wait.
+    ///
+    /// # Errors
+    ///
+    /// Out of memory. There may be more room than before.
+    ///
+    /// <details><summary>Contract</summary>
+    ///
+    /// In the words of the folder `specs/` of crate `ent_alloc`:
+    ///
+    /// ```text
+    /// ensures entities { self.new.entities ≡ self.old.entities }
+    /// ensures slots { OnOk result (source.now.allocator.made ≤ self.new.slots) }
+    /// ensures waiting { OnOk result (top source.now.allocator ≤ self.new.waiting) }
+    /// ensures memory { OnErr result
+    ///     ((self.old.entities.allocator.made < source.now.allocator.made)
+    ///     ⊎ (top self.old.entities.allocator < top source.now.allocator)) }
+    /// ```
+    ///
+    /// </details>
+    #[inline]
+    pub fn reserve_for(&mut self, source: &Entities) -> Result<(), Memory> {
+        reserve_for(&mut self.records, source.slots.records.len())?;
+        reserve_for(&mut self.pending, source.slots.pending.len())?;
+        Ok(())
+    }
+
+    /// The same allocator as another one, in the lists of this one. It takes no memory.
+    #[inline]
+    pub(crate) fn take_over(self, source: &Entities) -> Entities
+        // requires slots { source.now.allocator.made ≤ self.slots }
+        // requires waiting { top source.now.allocator ≤ self.waiting }
+        // ensures value { result ≡ source.now }
+        // ensures rows_of_living { HasRowsOfLiving result }
+    {
+        let Prepared {
+            mut records,
+            mut pending,
+            ..
+        } = self;
+        overwrite(&mut records, &source.slots.records);
+        overwrite(&mut pending, &source.slots.pending);
+        Entities {
+            slots: Slots {
+                limits: source.slots.limits,
+                records,
+                pending,
+                live: source.slots.live,
+            },
+            requests: source.requests,
+        }
+    }
+}

@@ -1,0 +1,62 @@
+// Made of crates/ent_world/src/image_fault.rt by rust/erase. It isn't edited by hand.
+
+use crate::proved::ent_alloc::ImageFault;
+use crate::proved::ent_handle::Memory;
+use crate::proved::ent_storage::StorageImageFault;
+use crate::kit::alloc::AllocError;
+
+/// Why bytes were not read as the image of a world: the first fault that they have, in this order.
+#[derive(Clone, Copy, Debug, PartialEq, Eq, Hash)]
+#[non_exhaustive]
+pub enum WorldImageFault {
+    /// The bytes don't begin as the image of a world does.
+    Magic,
+    /// The image is of another version of the format.
+    Version {
+        /// The version that the image names.
+        version: u32,
+    },
+    /// There are fewer bytes than those before the allocator's part, or than that part has.
+    Length,
+    /// The allocator's part is the image of no allocator.
+    Entities(ImageFault),
+    /// A living entity has a row. Those of a world aren't written.
+    Row {
+        /// The index of its slot.
+        index: u32,
+    },
+    /// The bytes after the allocator's part are those of no entities.
+    Storage(StorageImageFault),
+    /// Out of memory.
+    Memory,
+}
+
+impl core::fmt::Display for WorldImageFault {
+    fn fmt(&self, f: &mut core::fmt::Formatter<'_>) -> core::fmt::Result {
+        match self {
+            WorldImageFault::Magic => write!(f, "not an image of a world"),
+            WorldImageFault::Version { version } => write!(f, "version {version} is not known"),
+            WorldImageFault::Length => write!(f, "bytes are missing"),
+            WorldImageFault::Entities(..) => write!(f, "the allocator's part is damaged"),
+            WorldImageFault::Row { index } => write!(f, "slot {index} has a row"),
+            WorldImageFault::Storage(..) => write!(f, "the entities' part is damaged"),
+            WorldImageFault::Memory => write!(f, "out of memory"),
+        }
+    }
+}
+
+impl core::error::Error for WorldImageFault {}
+
+impl From<AllocError> for WorldImageFault {
+    #[inline]
+    fn from(_refused: AllocError) -> Self {
+        WorldImageFault::Memory
+    }
+}
+
+impl From<Memory> for WorldImageFault {
+    #[inline]
+    fn from(_refused: Memory) -> Self {
+        WorldImageFault::Memory
+    }
+}
