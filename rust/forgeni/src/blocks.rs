@@ -8,7 +8,7 @@ use alloc::vec::Vec;
 use core::error::Error;
 use core::fmt;
 
-pub use crate::proved::ent_blocks::{BlockError, BlockReserver, Blocks};
+pub use crate::proved::ent_blocks::{BlockError, BlockReserver, BlockSize, Blocks};
 pub use crate::proved::ent_blocks::{DealError, EndError, Undealt, Unended};
 
 impl Entities {
