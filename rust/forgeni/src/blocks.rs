@@ -2,13 +2,11 @@
 
 use crate::numbers::next_number;
 use crate::proved::ent_blocks::open_in_blocks;
-use crate::shown::shows;
+use crate::shown::{fails, shows};
 use crate::Entities;
 use alloc::vec::Vec;
-use core::error::Error;
-use core::fmt;
 
-pub use crate::proved::ent_blocks::{BlockError, BlockReserver, Blocks};
+pub use crate::proved::ent_blocks::{BlockError, BlockReserver, BlockSize, Blocks};
 pub use crate::proved::ent_blocks::{DealError, EndError, Undealt, Unended};
 
 impl Entities {
@@ -60,37 +58,7 @@ shows! {
     BlockReserver: size used;
 }
 
-impl fmt::Debug for Undealt {
-    fn fmt(&self, out: &mut fmt::Formatter<'_>) -> fmt::Result {
-        out.debug_struct("Undealt")
-            .field("entities", &self.entities)
-            .field("error", &self.error)
-            .finish()
-    }
+fails! {
+    Undealt: entities error;
+    Unended: blocks reservers error;
 }
-
-impl fmt::Display for Undealt {
-    fn fmt(&self, out: &mut fmt::Formatter<'_>) -> fmt::Result {
-        self.error.fmt(out)
-    }
-}
-
-impl Error for Undealt {}
-
-impl fmt::Debug for Unended {
-    fn fmt(&self, out: &mut fmt::Formatter<'_>) -> fmt::Result {
-        out.debug_struct("Unended")
-            .field("blocks", &self.blocks)
-            .field("reservers", &self.reservers)
-            .field("error", &self.error)
-            .finish()
-    }
-}
-
-impl fmt::Display for Unended {
-    fn fmt(&self, out: &mut fmt::Formatter<'_>) -> fmt::Result {
-        self.error.fmt(out)
-    }
-}
-
-impl Error for Unended {}

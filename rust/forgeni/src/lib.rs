@@ -348,7 +348,8 @@ mod waiting;
 mod world;
 mod world_phase;
 
-pub use blocks::{BlockError, BlockReserver, Blocks, DealError, EndError, Undealt, Unended};
+pub use blocks::{BlockError, BlockReserver, BlockSize, Blocks};
+pub use blocks::{DealError, EndError, Undealt, Unended};
 pub use component::{Birth, ComponentId};
 pub use entities::{Entities, Freed, Living, State};
 pub use errors::{Absent, AllocError, FreeError, ImageFault, OutOfMemory, Refused, ReserveError};

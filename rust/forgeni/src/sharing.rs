@@ -3,11 +3,9 @@
 use crate::numbers::next_number;
 use crate::phase::closed;
 use crate::proved::ent_total::share;
-use crate::shown::shows;
+use crate::shown::{fails, shows};
 use crate::Entities;
 use alloc::vec::Vec;
-use core::error::Error;
-use core::fmt;
 
 pub use crate::proved::ent_total::{CloseError, OtherPhase, Reserver, ShareError};
 pub use crate::proved::ent_total::{Shared, Unclosed, Unshared};
@@ -63,37 +61,7 @@ shows! {
     Reserver: number quota_left;
 }
 
-impl fmt::Debug for Unshared {
-    fn fmt(&self, out: &mut fmt::Formatter<'_>) -> fmt::Result {
-        out.debug_struct("Unshared")
-            .field("entities", &self.entities)
-            .field("error", &self.error)
-            .finish()
-    }
+fails! {
+    Unshared: entities error;
+    Unclosed: shared reservers error;
 }
-
-impl fmt::Display for Unshared {
-    fn fmt(&self, out: &mut fmt::Formatter<'_>) -> fmt::Result {
-        self.error.fmt(out)
-    }
-}
-
-impl Error for Unshared {}
-
-impl fmt::Debug for Unclosed {
-    fn fmt(&self, out: &mut fmt::Formatter<'_>) -> fmt::Result {
-        out.debug_struct("Unclosed")
-            .field("shared", &self.shared)
-            .field("reservers", &self.reservers)
-            .field("error", &self.error)
-            .finish()
-    }
-}
-
-impl fmt::Display for Unclosed {
-    fn fmt(&self, out: &mut fmt::Formatter<'_>) -> fmt::Result {
-        self.error.fmt(out)
-    }
-}
-
-impl Error for Unclosed {}

@@ -2,12 +2,10 @@
 
 use crate::numbers::next_number;
 use crate::proved::ent_total::{clone_world, clone_world_from, new_world, open};
-use crate::shown::shows;
+use crate::shown::{fails, shows};
 use crate::world_phase::closed;
 use crate::{Limits, OutOfMemory, ShareError};
 use alloc::vec::Vec;
-use core::error::Error;
-use core::fmt;
 
 pub use crate::proved::ent_total::{CommandQueue, Commands, FinishError, OpenWorld};
 pub use crate::proved::ent_total::{Unfinished, Unopened, World};
@@ -151,37 +149,7 @@ shows! {
     View<'_>: phase;
 }
 
-impl fmt::Debug for Unopened {
-    fn fmt(&self, out: &mut fmt::Formatter<'_>) -> fmt::Result {
-        out.debug_struct("Unopened")
-            .field("world", &self.world)
-            .field("error", &self.error)
-            .finish()
-    }
+fails! {
+    Unopened: world error;
+    Unfinished: open queues error;
 }
-
-impl fmt::Display for Unopened {
-    fn fmt(&self, out: &mut fmt::Formatter<'_>) -> fmt::Result {
-        self.error.fmt(out)
-    }
-}
-
-impl Error for Unopened {}
-
-impl fmt::Debug for Unfinished {
-    fn fmt(&self, out: &mut fmt::Formatter<'_>) -> fmt::Result {
-        out.debug_struct("Unfinished")
-            .field("open", &self.open)
-            .field("queues", &self.queues)
-            .field("error", &self.error)
-            .finish()
-    }
-}
-
-impl fmt::Display for Unfinished {
-    fn fmt(&self, out: &mut fmt::Formatter<'_>) -> fmt::Result {
-        self.error.fmt(out)
-    }
-}
-
-impl Error for Unfinished {}

@@ -8,6 +8,7 @@
 //! installed.
 
 mod births;
+mod blocks;
 mod clones;
 mod components;
 mod counted;
@@ -110,6 +111,10 @@ fn main() {
     }
     if wanted("threads") {
         threads::table();
+        println!();
+    }
+    if wanted("blocks") {
+        blocks::tables();
         println!();
     }
     if wanted("frames") {

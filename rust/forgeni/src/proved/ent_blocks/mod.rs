@@ -6,6 +6,7 @@
 mod accounting;
 mod block_error;
 mod block_reserver;
+mod block_size;
 mod blocks;
 mod closing;
 mod opening;
@@ -16,6 +17,7 @@ mod unended;
 
 pub use block_error::BlockError;
 pub use block_reserver::BlockReserver;
+pub use block_size::BlockSize;
 pub use blocks::Blocks;
 pub use opening::{Deal, open_in_blocks};
 pub use undealt::{DealError, Undealt};

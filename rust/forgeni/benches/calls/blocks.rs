@@ -1,0 +1,198 @@
+//! Phases in blocks beside phases of the shared cursor: reservations on threads, opening, and the end of a
+//! phase with its flush.
+
+use crate::{median, COUNT};
+use forgeni::{BlockReserver, Blocks, Entities, Handle, Reserver, Shared};
+use std::hint::black_box;
+use std::sync::atomic::{AtomicU64, Ordering};
+use std::sync::Barrier;
+use std::thread;
+use std::time::Instant;
+
+/// How often each number is timed.
+const ROUNDS: usize = 31;
+
+pub fn tables() {
+    println!("| Threads | `Blocks::reserve` | `Reserver::reserve` | An atomic counter | Ratio |");
+    println!("|---|---|---|---|---|");
+    for threads in [1, 2, 4, 8] {
+        let (mut blocks, mut shared, mut counter) = (vec![], vec![], vec![]);
+        for _ in 0..ROUNDS {
+            blocks.push(in_blocks(threads));
+            shared.push(in_turn(threads));
+            counter.push(counted(threads));
+        }
+        let [a, b, c] = [blocks, shared, counter].map(|all| median(all) * 1e9 / f64::from(COUNT));
+        println!("| {threads} | {a:.2} | {b:.2} | {c:.2} | {:.3} |", a / b);
+    }
+    println!();
+    println!("| Blocks | Opening, ns a block |");
+    println!("|---|---|");
+    for count in [16, 64, 1024] {
+        let each = median((0..ROUNDS).map(|_| opening(count)).collect());
+        println!("| {count} | {:.1} |", each * 1e9 / count as f64);
+    }
+    println!();
+    println!("| Close and flush, ns a handle | In blocks | Shared | Ratio |");
+    println!("|---|---|---|---|");
+    for (name, is_old, spare) in [
+        ("new slots, blocks used up", false, 0),
+        ("old slots, blocks used up", true, 0),
+        ("new slots, blocks half used", false, 1),
+        ("old slots, blocks half used", true, 1),
+    ] {
+        let blocks = median((0..ROUNDS).map(|_| end_of_blocks(is_old, spare)).collect());
+        let shared = median((0..ROUNDS).map(|_| end_of_shared(is_old)).collect());
+        let [a, b] = [blocks, shared].map(|all| all * 1e9 / f64::from(64 * HANDLES));
+        println!("| {name} | {a:.2} | {b:.2} | {:.2} |", a / b);
+    }
+    println!();
+    println!("| A phase of 64 callers that use 10 handles each | Microseconds |");
+    println!("|---|---|");
+    for (name, old) in [("new slots", 0), ("old slots", 64 * 256)] {
+        let frame = |size| median((0..ROUNDS).map(|_| frame(old, size)).collect()) * 1e6;
+        println!("| blocks of 256, {name} | {:.1} |", frame(256));
+        println!("| blocks of 10, {name} | {:.1} |", frame(10));
+        let shared = median((0..ROUNDS).map(|_| shared_frame(old)).collect());
+        println!("| the shared cursor, {name} | {:.1} |", shared * 1e6);
+    }
+}
+
+/// The seconds that a thread takes for its work, the mean of all: they begin together.
+fn on_threads<T: Send>(each: &mut [T], work: impl Fn(&mut T) + Sync) -> f64 {
+    let start = &Barrier::new(each.len());
+    let (count, work) = (each.len(), &work);
+    let sum: f64 = thread::scope(|scope| {
+        let one = |it| {
+            scope.spawn(move || {
+                start.wait();
+                let from = Instant::now();
+                work(it);
+                from.elapsed().as_secs_f64()
+            })
+        };
+        let threads: Vec<_> = each.iter_mut().map(one).collect();
+        let seconds = threads.into_iter().map(|it| it.join().expect("it ends"));
+        seconds.sum()
+    });
+    sum / count as f64
+}
+
+fn in_blocks(threads: usize) -> f64 {
+    let (blocks, mut reservers) = opened(Entities::new(), &vec![COUNT; threads]);
+    on_threads(&mut reservers, |reserver| {
+        for _ in 0..COUNT {
+            black_box(blocks.reserve(reserver).expect("room"));
+        }
+    })
+}
+
+fn in_turn(threads: usize) -> f64 {
+    let (_shared, mut reservers) = Entities::new().share(threads).expect("shared");
+    on_threads(&mut reservers, |reserver: &mut Reserver| {
+        for _ in 0..COUNT {
+            black_box(reserver.reserve().expect("room"));
+        }
+    })
+}
+
+fn counted(threads: usize) -> f64 {
+    let counter = AtomicU64::new(0);
+    on_threads(&mut vec![(); threads], |()| {
+        for _ in 0..COUNT {
+            black_box(counter.fetch_add(1, Ordering::Relaxed));
+        }
+    })
+}
+
+fn opened(entities: Entities, sizes: &[u32]) -> (Blocks, Vec<BlockReserver>) {
+    entities.open_in_blocks(sizes).expect("memory")
+}
+
+fn opening(count: usize) -> f64 {
+    let (entities, sizes) = (Entities::new(), vec![256; count]);
+    let from = Instant::now();
+    let open = black_box(opened(entities, &sizes));
+    let seconds = from.elapsed().as_secs_f64();
+    drop(open);
+    seconds
+}
+
+/// How many handles each of the 64 callers uses.
+const HANDLES: u32 = 1024;
+
+/// An allocator of which so many slots wait.
+fn waiting(slots: u32) -> Entities {
+    let mut entities = Entities::new();
+    for one in entities.alloc_many(slots).expect("memory") {
+        entities.free(one).expect("alive");
+    }
+    entities
+}
+
+fn prepared(is_old: bool, slots: u32) -> Entities {
+    waiting(if is_old { slots } else { 0 })
+}
+
+/// A list that has room for all that comes to life.
+fn list() -> Vec<Handle> {
+    Vec::with_capacity(64 * HANDLES as usize)
+}
+
+fn end_of_blocks(is_old: bool, spare: u32) -> f64 {
+    let size = HANDLES * (1 + spare);
+    let (blocks, mut reservers) = opened(prepared(is_old, 64 * size), &[size; 64]);
+    for reserver in &mut reservers {
+        blocks.reserve_many(reserver, HANDLES).expect("room");
+    }
+    let mut born = list();
+    let from = Instant::now();
+    let mut entities = blocks.close(reservers).expect("memory");
+    entities.flush(&mut born).expect("memory");
+    let seconds = from.elapsed().as_secs_f64();
+    assert_eq!(black_box(born).len(), 64 * HANDLES as usize);
+    seconds
+}
+
+fn end_of_shared(is_old: bool) -> f64 {
+    let entities = prepared(is_old, 64 * HANDLES);
+    let (shared, mut reservers): (Shared, _) = entities.share(64).expect("shared");
+    for reserver in &mut reservers {
+        reserver.reserve_many(HANDLES).expect("room");
+    }
+    let mut born = list();
+    let from = Instant::now();
+    let mut entities = shared.close(reservers).expect("closed");
+    entities.flush(&mut born).expect("memory");
+    let seconds = from.elapsed().as_secs_f64();
+    assert_eq!(black_box(born).len(), 64 * HANDLES as usize);
+    seconds
+}
+
+fn frame(old: u32, size: u32) -> f64 {
+    let (entities, sizes, mut born) = (waiting(old), [size; 64], Vec::with_capacity(640));
+    let from = Instant::now();
+    let (blocks, mut reservers) = opened(entities, &sizes);
+    for reserver in &mut reservers {
+        for _ in 0..10 {
+            black_box(blocks.reserve(reserver).expect("room"));
+        }
+    }
+    let mut entities = blocks.close(reservers).expect("memory");
+    entities.flush(&mut born).expect("memory");
+    from.elapsed().as_secs_f64()
+}
+
+fn shared_frame(old: u32) -> f64 {
+    let (entities, mut born) = (waiting(old), Vec::with_capacity(640));
+    let from = Instant::now();
+    let (shared, mut reservers) = entities.share(64).expect("shared");
+    for reserver in &mut reservers {
+        for _ in 0..10 {
+            black_box(reserver.reserve().expect("room"));
+        }
+    }
+    let mut entities = shared.close(reservers).expect("closed");
+    entities.flush(&mut born).expect("memory");
+    from.elapsed().as_secs_f64()
+}
