@@ -74,15 +74,14 @@ pub struct Reader<'a> {
     /// Where the next token begins, or the end of the text.
     at: usize,
     place: Place,
-    /// Where strings without their escapes go. If the text has escapes, there is room for all of it that is left.
+    /// Where strings without their escapes go. There is room for all of the text that is left.
     scratch: &'a mut [u8],
 }
 
 impl<'a> Reader<'a> {
-    /// The contract: a reader of all tokens of the text, or an `Err` if the text has escapes and the scratch can't grow to its length.
+    /// The contract: a reader of all tokens of the text, or an `Err` if the scratch can't grow to the length of the text.
     pub fn new(text: &'a str, scratch: &'a mut Scratch) -> Result<Self, AllocError> {
-        // A text without a backslash has no escapes, and never takes the room.
-        if scratch.text.len() < text.len() && text.as_bytes().contains(&b'\\') {
+        if scratch.text.len() < text.len() {
             scratch.text.resize_fallibly(text.len(), 0)?;
         }
         let mut reader = Reader {
@@ -238,7 +237,10 @@ impl<'a> Reader<'a> {
     #[inline]
     fn pass_blanks(&mut self) {
         let bytes = self.text.as_bytes();
-        while self.at < bytes.len() && words::is_blank(bytes[self.at]) {
+        while bytes
+            .get(self.at)
+            .is_some_and(|byte| words::is_blank(*byte))
+        {
             self.at += 1;
         }
     }

@@ -35,14 +35,21 @@ fn plain_len(bytes: &[u8]) -> usize {
     const HIGH: u64 = 0x8080_8080_8080_8080;
     // The lowest byte that is marked is one that is less than `n`, though one above it may not be.
     let below = |word: u64, n: u64| word.wrapping_sub(ONES * n) & !word & HIGH;
-    let (chunks, rest) = bytes.as_chunks::<8>();
-    for (at, chunk) in chunks.iter().enumerate() {
+    let ends_in = |chunk: &[u8; 8]| {
         let word = u64::from_le_bytes(*chunk);
         let quote = below(word ^ (ONES * u64::from(b'"')), 1);
         let slash = below(word ^ (ONES * u64::from(b'\\')), 1);
         let found = quote | slash | below(word, 0x20);
-        if found != 0 {
-            return 8 * at + found.trailing_zeros() as usize / 8;
+        (found != 0).then(|| found.trailing_zeros() as usize / 8)
+    };
+    // Most strings are short.
+    if let Some(end) = bytes.first_chunk().and_then(ends_in) {
+        return end;
+    }
+    let (chunks, rest) = bytes.as_chunks::<8>();
+    for (at, chunk) in chunks.iter().enumerate() {
+        if let Some(end) = ends_in(chunk) {
+            return 8 * at + end;
         }
     }
     let ends = |byte: &u8| *byte == b'"' || *byte == b'\\' || *byte < 0x20;
@@ -51,6 +58,8 @@ fn plain_len(bytes: &[u8]) -> usize {
 }
 
 /// The string whose text begins here. No escape is shorter than what it stands for.
+#[cold]
+#[inline(never)]
 fn unescaped<'a>(bytes: &[u8], start: usize, scratch: &mut &'a mut [u8]) -> Option<Found<'a>> {
     let (mut at, mut len) = (start, 0);
     loop {
