@@ -8,8 +8,8 @@ Above each fenced block stands a line that says what the block is:
     <!-- ran by the gate --> commands, which `.ci/run` runs
     <!-- picture -->         a drawing
 
-A block without such a line is refused, so nothing that a page quotes goes uncompared. Two tables are compared too: the steps of
-docs/SCHEDULES.md with what the program prints, and the refusals of docs/SCRIPTS.md, script by script. Links and paths lead to what is there.
+A block without such a line is refused, so nothing that a page quotes goes uncompared. Two tables of docs/FORMATS.md are compared too: the steps
+of its first schedule with what the program prints, and the refusals of scripts, script by script. Links and paths lead to what is there.
 """
 
 import pathlib
@@ -18,6 +18,7 @@ import subprocess
 import sys
 
 PROGRAM = "crates/spawnrun/out/spawnrun"
+FORMATS = pathlib.Path("docs/FORMATS.md")
 MARK = re.compile(r"<!-- (from|prints|ran by the gate|picture)(?: (.*))? -->$")
 
 
@@ -92,22 +93,20 @@ def cells_of(page, head):
 
 def faults_of_schedule():
     """The steps of the page's schedule are the lines of its file, each with the line that it prints."""
-    cells = cells_of(pathlib.Path("docs/SCHEDULES.md"), "| Line | Prints | |")
+    cells = cells_of(FORMATS, "| Line | Prints | |")
     steps, said = [it[0].strip("`") for it in cells], [it[1].strip("`") for it in cells]
     file = "examples/two_callers.txt"
     if steps != pathlib.Path(file).read_text().splitlines():
-        yield f"docs/SCHEDULES.md: its schedule is not {file}"
+        yield f"{FORMATS}: its first schedule is not {file}"
     if said != printed(f"{PROGRAM} replay < {file}"):
-        yield "docs/SCHEDULES.md: its schedule doesn't print what it says"
+        yield f"{FORMATS}: its first schedule doesn't print what it says"
 
 
 def faults_of_refusals():
     """Each script of the table of refusals is refused with its line."""
-    page = pathlib.Path("docs/SCRIPTS.md")
-    cells = cells_of(page, "| Line | What is wrong | A script that meets it | The way out |")
-    for line, _, script, *_ in cells:
+    for line, _, script in cells_of(FORMATS, "| Line | What is wrong | A script that meets it |"):
         if script and printed(f"{PROGRAM} run", script.strip("`")) != [line.strip("`")]:
-            yield f"{page}: {script} isn't refused with {line}"
+            yield f"{FORMATS}: {script} isn't refused with {line}"
 
 
 def faults_of_paths(page):
