@@ -8,8 +8,9 @@ Above each fenced block stands a line that says what the block is:
     <!-- ran by the gate --> commands, which `.ci/run` runs
     <!-- picture -->         a drawing
 
-A block without such a line is refused, so nothing that a page quotes goes uncompared. Two tables of docs/FORMATS.md are compared too: the steps
-of its first schedule with what the program prints, and the refusals of scripts, script by script. Links and paths lead to what is there.
+A block without such a line is refused, so nothing that a page quotes goes uncompared. The Rust in the package's README is the front page of its
+docs, and `cargo test` runs it. Two tables of docs/FORMATS.md are compared too: the steps of its first schedule with what the program prints, and
+the refusals of scripts, script by script. Links and paths lead to what is there.
 """
 
 import pathlib
@@ -18,6 +19,7 @@ import subprocess
 import sys
 
 PROGRAM = "crates/spawnrun/out/spawnrun"
+FRONT_PAGE = pathlib.Path("rust/forgeni/README.md")
 FORMATS = pathlib.Path("docs/FORMATS.md")
 MARK = re.compile(r"<!-- (from|prints|ran by the gate|picture)(?: (.*))? -->$")
 
@@ -57,6 +59,7 @@ def blocks_of(page):
         if line.lstrip().startswith("```"):
             if block is None:
                 block, at = [], number
+                above = "<!-- ran by the gate -->" if page == FRONT_PAGE and line == "```rust" else above
             else:
                 yield at, above, block
                 block = above = None
