@@ -1,10 +1,11 @@
 #!/usr/bin/env python3
-"""Measures for docs/PERFORMANCE.md and draws its chart. It needs nothing but Python, and runs from any folder.
+"""Measures for docs/PERFORMANCE.md and draws its chart, and README's. It needs nothing but Python, and runs from any folder.
 
     docs/performance.py measure [PART..]   runs the scripts that the page names (or those with a PART in their names), puts
-                                           their tables into the page, and draws the chart
-    docs/performance.py draw               draws docs/performance.svg of the tables in the page
-    docs/performance.py check              ends with status 1 if the chart is another one, or a table is missing
+                                           their tables into the page, and draws the charts
+    docs/performance.py draw               draws the charts of the tables in the page: docs/performance.svg has all rows, and
+                                           docs/benchmarks.svg those of README
+    docs/performance.py check              ends with status 1 if a chart is another one, or a table is missing
 
 The figures stand in the page alone. Above each table stands a line that says what prints it:
 
@@ -27,7 +28,7 @@ from html import escape
 
 TOP = pathlib.Path(__file__).resolve().parent.parent
 PAGE = TOP / "docs/PERFORMANCE.md"
-CHART = TOP / "docs/performance.svg"
+CHART, FEW_CHART = TOP / "docs/performance.svg", TOP / "docs/benchmarks.svg"
 MARK = re.compile(r"<!-- measured by (.*) -->$")
 
 
@@ -116,24 +117,44 @@ def groups_of(lines):
     return groups
 
 
-# The picture. Each dot stands at a ratio of times; left of the line of the same time we are the faster side.
+# The rows of README's chart, by their labels, with what they are called there.
+FEW = {
+    "alloc, then free": "alloc, then free",
+    "contains": "contains",
+    "Reserver::reserve": "reserve, one thread",
+    "Reserver::reserve_into, 64 at once": "reserve 64 at once, one thread",
+    "singly, threads: 4": "reserve on 4 threads, then a flush",
+    "64 at once, threads: 4": "reserve 64 at once on 4 threads",
+    "apply, a command, scattered": "apply a command at a sync point",
+    "Spawn, 4 times get, despawn, rising: 100,000": "spawn, read 4 times, despawn",
+}
 
-TITLE = "Time of each call, ours beside a peer's"
+
+def few_of(groups):
+    """The one group of README's chart, in the order of FEW."""
+    rows = {label: (FEW[label], *others) for of in groups.values() for label, *others in of if label in FEW}
+    return {"": [rows[it] for it in FEW]}
+
+
+# The picture. Each mark stands at a ratio of times; left of the line of the same time we are the faster side. A peer's mark has a colour and
+# a shape, so that peers can be told apart by either.
+
+TITLE = "Time of each call, ours divided by a peer's"
 WIDTH, LEFT, RIGHT, ROW, HEAD = 940, 290, 760, 19, 30
 LEAST, MOST = -4, 2
-DOTS = [("plain", 4), ("slots", 5), ("slab", 6)]
+MARKS = {"plain": "M-4 0A4 4 0 1 1 4 0A4 4 0 1 1 -4 0Z", "slots": "M-4 -4H4V4H-4Z", "slab": "M-5 4L0 -5L5 4Z"}
 
 STYLE = """
-    .paper { fill: #ffffff } .faster { fill: #e9f6ec } .slower { fill: #fdf3ec }
+    .paper { fill: #ffffff } .faster { fill: #eef6f0 } .slower { fill: #f7f3ee }
     text { font: 12px system-ui, -apple-system, "Segoe UI", Helvetica, Arial, sans-serif; fill: #1f2328 }
     .title { font-size: 16px; font-weight: 600 } .group { font-weight: 600 } .quiet { fill: #59636e }
     .figure { text-anchor: end; font-variant-numeric: tabular-nums } .middle { text-anchor: middle }
     .grid { stroke: #d1d9e0 } .even { stroke: #59636e; stroke-width: 1.5 } .span { stroke: #818b98; stroke-width: 1.5 }
-    circle, path { stroke: #ffffff; stroke-width: 1 } .plain { fill: #79b0f2 } .slots { fill: #2f6fd0 } .slab { fill: #143a7b }
+    path { stroke: #ffffff; stroke-width: 1 } .plain { fill: #0072b2 } .slots { fill: #d55e00 } .slab { fill: #24292f }
     @media (prefers-color-scheme: dark) {
-        .paper { fill: #0d1117 } .faster { fill: #0f2117 } .slower { fill: #241a12 } text { fill: #e6edf3 } .quiet { fill: #9198a1 }
+        .paper { fill: #0d1117 } .faster { fill: #0f1a13 } .slower { fill: #1c1711 } text { fill: #e6edf3 } .quiet { fill: #9198a1 }
         .grid { stroke: #30363d } .even { stroke: #9198a1 } .span { stroke: #6e7681 }
-        circle, path { stroke: #0d1117 } .plain { fill: #3f6fb5 } .slots { fill: #77aef5 } .slab { fill: #dbe9ff }
+        path { stroke: #0d1117 } .plain { fill: #56b4e9 } .slots { fill: #e69f00 } .slab { fill: #f0f3f6 }
     }"""
 
 
@@ -151,32 +172,26 @@ def line(kind, x1, y1, x2, y2):
     return f'<line class="{kind}" x1="{x1}" y1="{y1}" x2="{x2}" y2="{y2}"/>'
 
 
-def dot(kind, size, ratio, y):
-    """A dot, or an arrow at the edge if it lies past it."""
-    x, power = place_of(ratio), math.log2(ratio)
-    if LEAST <= power <= MOST:
-        return f'<circle class="{kind}" cx="{x}" cy="{y}" r="{size}"/>'
-    tip = size * (1 if power > MOST else -1)
-    return f'<path class="{kind}" d="M{x - tip} {y - size}L{x + tip} {y}L{x - tip} {y + size}Z"/>'
+def mark(kind, x, y):
+    return f'<path class="{kind}" transform="translate({x} {y})" d="{MARKS[kind]}"/>'
 
 
 def row_of(label, ratios, span, y):
     yield text(16, y + 4, label, "")
     if len(span) == 2:
         yield line("span", place_of(span[0]), y, place_of(span[1]), y)
-    for (kind, size), ratio in reversed([*zip(DOTS, ratios)]):
+    for kind, ratio in reversed([*zip(MARKS, ratios)]):
         if ratio:
-            yield dot(kind, size, ratio, y)
+            yield mark(kind, place_of(ratio), y)
     for column, ratio in enumerate(ratios):
         if ratio:
             yield text(RIGHT + 70 + 48 * column, y + 4, f"{ratio:.2f}", "figure")
 
 
-def drawn(lines):
-    """The chart of the tables among these lines."""
-    groups = groups_of(lines)
-    top = 96
-    height = top + sum(HEAD + ROW * len(rows) for rows in groups.values()) + 34
+def drawn(groups):
+    """The chart of these groups of rows."""
+    top, heads = 96, HEAD if len(groups) > 1 else 10
+    height = top + sum(heads + ROW * len(rows) for rows in groups.values()) + 34
     bottom = height - 26
 
     marks = [
@@ -191,20 +206,20 @@ def drawn(lines):
         name = "the same" if power == 0 else f"{2**power}×" if power > 0 else f"1/{2**-power}"
         marks += [text(x, top - 8, name, "quiet middle"), text(x, bottom + 16, name, "quiet middle")]
     x = 16
-    for (kind, size), words in zip(DOTS, PEERS):
-        marks += [f'<circle class="{kind}" cx="{x + 6}" cy="48" r="{size}"/>', text(x + 18, 52, f"beside {words}", "quiet")]
+    for kind, words in zip(MARKS, PEERS):
+        marks += [mark(kind, x + 6, 48), text(x + 18, 52, f"beside {words}", "quiet")]
         x += 84 + 6.2 * len(words)
     marks += [
-        text(place_of(2.0**-2), top - 26, "◂ we take less time", "quiet middle"),
-        text(place_of(2.0**1), top - 26, "we take more time ▸", "quiet middle"),
+        text(place_of(2.0**-2), top - 26, "◂ Forgeni is faster", "quiet middle"),
+        text(place_of(2.0**1), top - 26, "Forgeni is slower ▸", "quiet middle"),
     ]
     marks.append(text(RIGHT + 106, top - 26, "our time ÷ the peer's", "quiet middle"))
-    for column, (kind, size) in enumerate(DOTS):
-        marks.append(f'<circle class="{kind}" cx="{RIGHT + 58 + 48 * column}" cy="{top - 12}" r="{size}"/>')
+    marks += [mark(kind, RIGHT + 58 + 48 * column, top - 12) for column, kind in enumerate(MARKS)]
     y = top
     for name, rows in groups.items():
-        marks += [f'<rect class="paper" x="{LEFT}" y="{y}" width="{RIGHT - LEFT}" height="{HEAD - 8}"/>', text(16, y + 18, name, "group")]
-        y += HEAD
+        if name:
+            marks += [f'<rect class="paper" x="{LEFT}" y="{y}" width="{RIGHT - LEFT}" height="{HEAD - 8}"/>', text(16, y + 18, name, "group")]
+        y += heads
         for label, ratios, span in rows:
             marks += row_of(label, ratios, span, y + 3)
             y += ROW
@@ -212,6 +227,17 @@ def drawn(lines):
     size = f'width="{WIDTH}" height="{height}" viewBox="0 0 {WIDTH} {height}"'
     head = f'<svg xmlns="http://www.w3.org/2000/svg" {size} role="img">\n<title>{TITLE}</title>'
     return f"{head}\n<style>{STYLE}\n</style>\n{body}\n</svg>\n"
+
+
+def charts_of(lines):
+    """Each chart of the tables among these lines, by its file."""
+    groups = groups_of(lines)
+    return {CHART: drawn(groups), FEW_CHART: drawn(few_of(groups))}
+
+
+def draw(lines):
+    for file, chart in charts_of(lines).items():
+        file.write_text(chart)
 
 
 # Measuring.
@@ -273,7 +299,7 @@ def measure(parts):
         lines = with_tables(lines, command, ran.stdout.splitlines())
         lines = [day_of(command) + machine(free) if it.startswith(day_of(command)) else it for it in lines]
         PAGE.write_text("\n".join(lines) + "\n")
-    CHART.write_text(drawn(lines))
+    draw(lines)
 
 
 def faults_of(lines):
@@ -286,8 +312,9 @@ def faults_of(lines):
             yield f"docs/PERFORMANCE.md: there is no {command.split()[0]}"
         if not any(it.startswith(day_of(command)) for it in lines):
             yield f"docs/PERFORMANCE.md: no line says when {command} was measured"
-    if not CHART.exists() or CHART.read_text() != drawn(lines):
-        yield "docs/performance.svg isn't what `docs/performance.py draw` draws of the page's tables"
+    for file, chart in charts_of(lines).items():
+        if not file.exists() or file.read_text() != chart:
+            yield f"docs/{file.name} isn't what `docs/performance.py draw` draws of the page's tables"
 
 
 def main(words):
@@ -296,7 +323,7 @@ def main(words):
         case ["measure", *parts]:
             measure(parts)
         case ["draw"]:
-            CHART.write_text(drawn(lines))
+            draw(lines)
         case ["check"]:
             faults = [*faults_of(lines)]
             print(*faults, f"performance: {len([*measured_tables(lines)])} tables, {len(faults)} faults", sep="\n")
