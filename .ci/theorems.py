@@ -209,7 +209,7 @@ def formula_of(clause):
 
 
 def theorems():
-    """Each theorem of the page: its call, its file, what is cited of it, what is to be written of its conditions, and what is wrong."""
+    """Each theorem of the page: its call, its file, what is cited of it, how its list begins, and what is wrong."""
     quotes = {at: (mark, [it.strip() for it in block]) for at, mark, block in pages.blocks_of(PAGE)}
     block = None
     for at, line in enumerate(PAGE.read_text().splitlines(), 1):
@@ -225,46 +225,40 @@ def theorems():
         if quoted:
             faults += [f"leaves out {it}" for clause in [*requires, *clauses] for it in clause if it not in block[1]]
         text = code_of([within, *signature, *itertools.chain(*requires, *clauses)])
-        conditions = [] if quoted or not requires else [f"It requires {', '.join(f'`{formula_of(it)}`' for it in requires)}."]
-        yield name, file, text, conditions, [f"{PAGE}:{at}: {name} {it}" for it in faults]
+        conditions = "" if quoted or not requires else f", which requires {', '.join(f'`{formula_of(it)}`' for it in requires)}"
+        yield name, file, text, f"To read for `{name}`{conditions}", [f"{PAGE}:{at}: {name} {it}" for it in faults]
 
 
 def wrapped(text):
-    """The lines of a text. A `~` is a space at which no line ends."""
-    lines = textwrap.wrap(text, width=140, break_long_words=False, break_on_hyphens=False)
-    return [it.replace("~", " ") for it in lines]
+    """The lines of an element of a list."""
+    return textwrap.wrap(text, width=140, subsequent_indent="  ", break_long_words=False, break_on_hyphens=False)
 
 
-
-def reading(items, before, conditions=()):
-    """The list of what there is to read for one theorem: how much, and how much of each crate that no theorem above it needs."""
-    files, known, crates = lines_by_file(items), lines_by_file(before), collections.Counter()
-    for it, lines in files.items():
-        crates[it.parts[1]] += len(set(lines) - set(known.get(it, [])))
-    listed = ", ".join(f"`{it}`~{count}" for it, count in crates.items() if count)
-    total = sum(map(len, files.values()))
-    added = f", {sum(crates.values())} of them not above" if crates.total() < total else ""
-    said = f"To read: {total} lines in {len(files)} files{added if listed else ''}" + (f": {listed}." if listed else ".")
-    return wrapped(" ".join([*conditions, said]))
+def reading(items, before, head):
+    """What there is to read for one theorem: how much, and how much of it no theorem above needs."""
+    files, known = lines_by_file(items), lines_by_file(before)
+    total, new = sum(map(len, files.values())), sum(len(set(lines) - set(known.get(it, []))) for it, lines in files.items())
+    added = f", {new} of them not above" if 0 < new < total else ""
+    return wrapped(f"- {head}: {total} lines in {len(files)} files{added}.")
 
 
 def kit_counted(kit):
     """How many definitions of the kit are cited."""
     modules = {module for module, _ in kit}
-    return wrapped(f"From the kit, which the gate doesn't prove again: {len(kit)} definitions in {len(modules)} modules. `show` names them.")
+    return wrapped(f"- From Rattle's library, which the gate doesn't prove again: {len(kit)} definitions in {len(modules)} modules.")
 
 
 def made():
     """The page as the sources want it, and what is wrong with its quotes."""
     lists, faults, all_items, all_kit = [], [], set(), set()
-    for _, file, text, conditions, wrong in theorems():
+    for _, file, text, head, wrong in theorems():
         items, kit = closure(file, text)
-        lists.append(reading(items, all_items, conditions))
+        lists.append(reading(items, all_items, head))
         faults += wrong
         all_items, all_kit = all_items | items, all_kit | kit
     text = PAGE.read_text()
-    lists += [reading(all_items, all_items), kit_counted(all_kit)]
-    parts = re.split(r"(<!-- (?:read .*|all|kit) -->\n)(?:.+\n)*", text)
+    lists += [reading(all_items, all_items, "To read for all of them"), kit_counted(all_kit)]
+    parts = re.split(r"(<!-- (?:read .*|all|kit) -->\n)(?:(?!<!-- ).+\n)*", text)
     parts[2::2] = ["\n".join([*each, parts[2 * at + 2]]) for at, each in enumerate(lists)]
     return "".join(parts), faults
 
