@@ -137,7 +137,7 @@ impl WorldOpening {
     ///
     /// # Errors
     ///
-    /// The same, with the reservers of some systems at home in the phase: each system owns a part of
+    /// The same, with the reservers of some systems returned to the phase: each system owns a part of
     /// the world, and no more owners could be counted. That takes 2^62 of them.
     #[inline]
     pub(crate) fn numbered(
@@ -156,7 +156,7 @@ impl WorldOpening {
         // ensures reservers { IfOk result (λ made. issuing made.1.items ≡ self.home) }
         // ensures systems { IfOk result (λ made. AreNew number self.world made.1.items) }
 
-        // What stands if not all could be given out.
+        // What holds if not all could be given out.
         // ensures err_phase { IfErr result (λ made. made.0 ≡ record {
         //   number = number;
         //   of_world = self.of_world;
