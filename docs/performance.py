@@ -7,7 +7,7 @@
                                            docs/benchmarks.svg those of README
     docs/performance.py check              ends with status 1 if a chart is another one, or a table is missing
 
-The figures stand in the page alone. Above each table stands a line that says what prints it:
+The figures stand in the page alone. A line above a table says what prints it, and the tables below it up to the next such line:
 
     <!-- measured by COMMAND -->
 
@@ -49,7 +49,7 @@ def tables_of(lines):
 def measured_tables(lines):
     """Each table that a command prints: the command, and where the table begins and ends."""
     for begin, end in tables_of(lines):
-        mark = MARK.match(lines[begin - 1])
+        mark = next((it for it in map(MARK.match, reversed(lines[:begin])) if it), None)
         if mark:
             yield mark.group(1), begin, end
 
