@@ -140,7 +140,8 @@ def few_of(groups):
 # a shape, so that peers can be told apart by either.
 
 TITLE = "Time of each call, ours divided by a peer's"
-WIDTH, LEFT, RIGHT, ROW, HEAD = 940, 290, 760, 19, 30
+# The plot has this width; to its left are the labels, whose letters have at most this one, and to its right the figures.
+PLOT, LETTER, FIGURES, ROW, HEAD = 470, 6.5, 180, 19, 30
 LEAST, MOST = -4, 2
 MARKS = {"plain": "M-4 0A4 4 0 1 1 4 0A4 4 0 1 1 -4 0Z", "slots": "M-4 -4H4V4H-4Z", "slab": "M-5 4L0 -5L5 4Z"}
 
@@ -158,10 +159,10 @@ STYLE = """
     }"""
 
 
-def place_of(ratio):
-    """Where a ratio stands, in the picture's width."""
+def place_of(ratio, left):
+    """Where a ratio is in the plot that begins there."""
     part = (min(max(math.log2(ratio), LEAST), MOST) - LEAST) / (MOST - LEAST)
-    return round(LEFT + part * (RIGHT - LEFT), 1)
+    return round(left + part * PLOT, 1)
 
 
 def text(x, y, words, kind):
@@ -176,32 +177,35 @@ def mark(kind, x, y):
     return f'<path class="{kind}" transform="translate({x} {y})" d="{MARKS[kind]}"/>'
 
 
-def row_of(label, ratios, span, y):
+def row_of(label, ratios, span, left, y):
     yield text(16, y + 4, label, "")
     if len(span) == 2:
-        yield line("span", place_of(span[0]), y, place_of(span[1]), y)
+        yield line("span", place_of(span[0], left), y, place_of(span[1], left), y)
     for kind, ratio in reversed([*zip(MARKS, ratios)]):
         if ratio:
-            yield mark(kind, place_of(ratio), y)
+            yield mark(kind, place_of(ratio, left), y)
     for column, ratio in enumerate(ratios):
         if ratio:
-            yield text(RIGHT + 70 + 48 * column, y + 4, f"{ratio:.2f}", "figure")
+            yield text(left + PLOT + 70 + 48 * column, y + 4, f"{ratio:.2f}", "figure")
 
 
 def drawn(groups):
     """The chart of these groups of rows."""
+    left = 30 + round(LETTER * max(len(label) for rows in groups.values() for label, *_ in rows))
+    right, width = left + PLOT, left + PLOT + FIGURES
+    even = place_of(1, left)
     top, heads = 96, HEAD if len(groups) > 1 else 10
     height = top + sum(heads + ROW * len(rows) for rows in groups.values()) + 34
     bottom = height - 26
 
     marks = [
-        f'<rect class="paper" width="{WIDTH}" height="{height}"/>',
-        f'<rect class="faster" x="{LEFT}" y="{top}" width="{place_of(1) - LEFT}" height="{bottom - top}"/>',
-        f'<rect class="slower" x="{place_of(1)}" y="{top}" width="{RIGHT - place_of(1)}" height="{bottom - top}"/>',
+        f'<rect class="paper" width="{width}" height="{height}"/>',
+        f'<rect class="faster" x="{left}" y="{top}" width="{even - left}" height="{bottom - top}"/>',
+        f'<rect class="slower" x="{even}" y="{top}" width="{right - even}" height="{bottom - top}"/>',
         text(16, 28, TITLE, "title"),
     ]
     for power in range(LEAST, MOST + 1):
-        x = place_of(2.0**power)
+        x = place_of(2.0**power, left)
         marks.append(line("even" if power == 0 else "grid", x, top, x, bottom))
         name = "the same" if power == 0 else f"{2**power}×" if power > 0 else f"1/{2**-power}"
         marks += [text(x, top - 8, name, "quiet middle"), text(x, bottom + 16, name, "quiet middle")]
@@ -210,21 +214,21 @@ def drawn(groups):
         marks += [mark(kind, x + 6, 48), text(x + 18, 52, f"beside {words}", "quiet")]
         x += 84 + 6.2 * len(words)
     marks += [
-        text(place_of(2.0**-2), top - 26, "◂ Forgeni is faster", "quiet middle"),
-        text(place_of(2.0**1), top - 26, "Forgeni is slower ▸", "quiet middle"),
+        text(place_of(2.0**-2, left), top - 26, "◂ Forgeni is faster", "quiet middle"),
+        text(place_of(2.0**1, left), top - 26, "Forgeni is slower ▸", "quiet middle"),
     ]
-    marks.append(text(RIGHT + 106, top - 26, "our time ÷ the peer's", "quiet middle"))
-    marks += [mark(kind, RIGHT + 58 + 48 * column, top - 12) for column, kind in enumerate(MARKS)]
+    marks.append(text(right + 106, top - 26, "our time ÷ the peer's", "quiet middle"))
+    marks += [mark(kind, right + 58 + 48 * column, top - 12) for column, kind in enumerate(MARKS)]
     y = top
     for name, rows in groups.items():
         if name:
-            marks += [f'<rect class="paper" x="{LEFT}" y="{y}" width="{RIGHT - LEFT}" height="{HEAD - 8}"/>', text(16, y + 18, name, "group")]
+            marks += [f'<rect class="paper" x="{left}" y="{y}" width="{PLOT}" height="{HEAD - 8}"/>', text(16, y + 18, name, "group")]
         y += heads
         for label, ratios, span in rows:
-            marks += row_of(label, ratios, span, y + 3)
+            marks += row_of(label, ratios, span, left, y + 3)
             y += ROW
     body = "\n".join(marks)
-    size = f'width="{WIDTH}" height="{height}" viewBox="0 0 {WIDTH} {height}"'
+    size = f'width="{width}" height="{height}" viewBox="0 0 {width} {height}"'
     head = f'<svg xmlns="http://www.w3.org/2000/svg" {size} role="img">\n<title>{TITLE}</title>'
     return f"{head}\n<style>{STYLE}\n</style>\n{body}\n</svg>\n"
 
