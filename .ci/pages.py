@@ -10,7 +10,7 @@ Above each fenced block stands a line that says what the block is:
 
 A block without such a line is refused, so nothing that a page quotes goes uncompared. The Rust in the package's README is the front page of its
 docs, and `cargo test` runs it. Two tables of docs/FORMATS.md are compared too: the steps of its first schedule with what the program prints, and
-the refusals of scripts, script by script. Links and paths lead to what is there.
+the refusals of scripts, script by script. Links and paths lead to what is there. Words that only the sources use occur in code alone.
 """
 
 import pathlib
@@ -22,6 +22,9 @@ PROGRAM = "crates/spawnrun/out/spawnrun"
 FRONT_PAGE = pathlib.Path("rust/forgeni/README.md")
 FORMATS = pathlib.Path("docs/FORMATS.md")
 MARK = re.compile(r"<!-- (from|prints|ran by the gate|picture)(?: (.*))? -->$")
+
+# Words of the sources for which the pages have one that readers know.
+INTERNAL = re.compile(r"\b(seats?|badges?|aside|settled?|at home|ungone|credits?|kit)\b", re.IGNORECASE)
 
 
 def runs_of(lines):
@@ -112,9 +115,10 @@ def faults_of_refusals():
             yield f"{FORMATS}: {script} isn't refused with {line}"
 
 
-def faults_of_paths(page):
-    """Each link of a page leads to a file, and so does each path of a folder that is at the top or beside the page."""
+def faults_of_text(page):
+    """Each link of a page leads to a file, and so does each path of a folder that is at the top or beside the page. No word is internal."""
     text = re.sub(r"```.*?```|<!--.*?-->", "", page.read_text(), flags=re.S)
+    yield from (f"{page}: the word {it}" for it in INTERNAL.findall(re.sub(r"`[^`]*`", "", text)))
     for path in re.findall(r"`([\w.]+/[\w./-]*\w)`", text):
         near = [it / path for it in (page.parent, pathlib.Path()) if (it / path.split("/")[0]).is_dir()]
         if near and "NAME" not in path and not any(it.exists() or it.with_suffix(".antt").exists() for it in near):
@@ -128,7 +132,7 @@ def main():
     pages += sorted(pathlib.Path("crates").glob("*/README.md"))
     pages += sorted(pathlib.Path("rust").glob("*/README.md"))
     for page in pages:
-        faults += faults_of_paths(page)
+        faults += faults_of_text(page)
         for at, mark, block in blocks_of(page):
             count += 1
             fault = fault_of(mark, block)
