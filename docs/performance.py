@@ -95,25 +95,26 @@ BESIDE_PLAIN = {
 
 
 def groups_of(lines):
-    """The groups by name. A row of the works belongs to the part that begins with it or before it."""
+    """The groups by name. A row of the works belongs to the part that begins with it or before it, and ends with our time in nanoseconds."""
     groups, part = {}, ""
-    for work, _, _, plain, by_place, _, slots in rows_with(lines, "Work", "Here"):
+    for work, ours, _, plain, by_place, _, slots in rows_with(lines, "Work", "Here"):
         part = next((it for begin, it in PARTS.items() if work.startswith(begin)), part)
         ratios = [numbers_of(plain)[0], numbers_of(slots)[0], None]
-        groups.setdefault(part, []).append((work.replace("`", ""), ratios, numbers_of(by_place)[:2]))
+        groups.setdefault(part, []).append((work.replace("`", ""), ratios, numbers_of(by_place)[:2], ours))
     for columns, part in BESIDE_PLAIN.items():
-        for work, of, _, _, plain, by_place in rows_with(lines, *columns):
+        for work, of, ours, _, plain, by_place in rows_with(lines, *columns):
             label = f"{work.replace('`', '')}: {of}"
-            groups.setdefault(part, []).append((label, [numbers_of(plain)[0], None, None], numbers_of(by_place)[:2]))
-    for work, entities, _, _, plain, by_place, _, slots in rows_with(lines, "Work", "Entities"):
+            groups.setdefault(part, []).append((label, [numbers_of(plain)[0], None, None], numbers_of(by_place)[:2], ours))
+    for work, entities, ours, _, plain, by_place, _, slots in rows_with(lines, "Work", "Entities"):
         ratios = [numbers_of(plain)[0], numbers_of(slots)[0], None]
         label = f"{work.replace('`', '')}: {entities}"
-        groups.setdefault("Components, by number of entities", []).append((label, ratios, numbers_of(by_place)[:2]))
+        groups.setdefault("Components, by number of entities", []).append((label, ratios, numbers_of(by_place)[:2], ours))
     for column, how in (-2, "singly"), (-1, "64 at once"):
         for row in rows_with(lines, "Threads", "Singly"):
             ratios = [None, None, numbers_of(row[column])[0]]
             if any(ratios):
-                groups.setdefault("A phase of threads, and its flush", []).append((f"{how}, threads: {row[0]}", ratios, []))
+                part = "A phase of threads, and its flush"
+                groups.setdefault(part, []).append((f"{how}, threads: {row[0]}", ratios, [], row[column + 3]))
     return groups
 
 
@@ -131,8 +132,8 @@ FEW = {
 
 
 def few_of(groups):
-    """The one group of README's chart, in the order of FEW."""
-    rows = {label: (FEW[label], *others) for of in groups.values() for label, *others in of if label in FEW}
+    """The one group of README's chart, in the order of FEW, with our times in its labels."""
+    rows = {label: (f"{FEW[label]}: {ours} ns", *others, ours) for of in groups.values() for label, *others, ours in of if label in FEW}
     return {"": [rows[it] for it in FEW]}
 
 
@@ -224,7 +225,7 @@ def drawn(groups):
         if name:
             marks += [f'<rect class="paper" x="{left}" y="{y}" width="{PLOT}" height="{HEAD - 8}"/>', text(16, y + 18, name, "group")]
         y += heads
-        for label, ratios, span in rows:
+        for label, ratios, span, _ in rows:
             marks += row_of(label, ratios, span, left, y + 3)
             y += ROW
     body = "\n".join(marks)
