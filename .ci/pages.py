@@ -115,6 +115,21 @@ def faults_of_refusals():
             yield f"{FORMATS}: {script} isn't refused with {line}"
 
 
+def faults_of_touched():
+    """Each file of CONTRIBUTING's table of changes is there: `CRATE`: `FOLDER/` `NAME`, `NAME`; `FOLDER/NAME`."""
+    page = pathlib.Path("CONTRIBUTING.md")
+    for _, files in cells_of(page, "| You change | Files |"):
+        for crate, parts in re.findall(r"`(\w+)`: (.*?)(?=\. |\.$|$)", files):
+            folder = pathlib.Path("crates", crate)
+            for name in re.findall(r"`([\w/]+)`", parts) if folder.is_dir() else ():
+                if re.match(r"(src|specs|proofs|cases)/", name):
+                    folder = pathlib.Path("crates", crate)
+                path = folder / name
+                folder = path if name.endswith("/") else folder
+                if not any(path.with_suffix(it).exists() for it in ("", ".rt", ".antt", ".cases")):
+                    yield f"{page}: {path} isn't there"
+
+
 def faults_of_text(page):
     """Each link of a page leads to a file, and so does each path of a folder that is at the top or beside the page. No word is internal."""
     text = re.sub(r"```.*?```|<!--.*?-->", "", page.read_text(), flags=re.S)
@@ -138,7 +153,7 @@ def main():
             fault = fault_of(mark, block)
             if fault:
                 faults.append(f"{page}:{at}: the block {fault}")
-    faults += [*faults_of_schedule(), *faults_of_refusals()]
+    faults += [*faults_of_schedule(), *faults_of_refusals(), *faults_of_touched()]
     print(*faults, f"pages: {count} blocks compared, {len(faults)} faults", sep="\n")
     return 1 if faults else 0
 
