@@ -10,7 +10,8 @@ Above each fenced block stands a line that says what the block is:
 
 A block without such a line is refused, so nothing that a page quotes goes uncompared. The Rust in the package's README is the front page of its
 docs, and `cargo test` runs it. Two tables of docs/FORMATS.md are compared too: the steps of its first schedule with what the program prints, and
-the refusals of scripts, script by script. Links and paths lead to what is there. Words that only the sources use occur in code alone.
+the refusals of scripts, script by script. Links and paths lead to what is there, and so do the files that CONTRIBUTING lists for a change. Words
+that only the sources use occur in code alone.
 """
 
 import pathlib
