@@ -37,13 +37,12 @@ class Defined:
             self.pool.insert(0, (handle[0], handle[1] + 1))
 
     def blocks(self, sizes):
-        """Opening: a block for each size, and all slots that are dealt are made."""
+        """Opening: a block for each size. No slot is made."""
         blocks, before = [], 0
         for size in sizes:
             size = min(size, len(self.pool) - before)
             blocks.append([before, size, 0])
             before += size
-        self.made += max(0, before - len(self.old(self.pool)))
         return blocks
 
     def reply(self, block, count):
@@ -55,10 +54,13 @@ class Defined:
         return self.old(given)[::-1] + self.fresh(given)
 
     def close(self, blocks):
+        """The slots up to the last one that was used are made."""
         dealt = sum(size for _, size, _ in blocks)
         handles = [self.pool[before:before + size] for before, size, _ in blocks]
         used = [h for (_, _, n), hs in zip(blocks, handles) for h in hs[:n]]
         rests = [h for (_, _, n), hs in zip(blocks, handles) for h in hs[n:]]
+        reach = max([before + n for before, _, n in blocks if n > 0], default=0)
+        self.made += max(0, reach - len(self.old(self.pool)))
         self.taken, self.pool = used, rests + self.pool[dealt:]
 
     def flush(self):
@@ -77,7 +79,7 @@ class Slots:
         self.state, self.generation, self.stack = [], [], []
 
     def name(self, slot):
-        return (slot, self.generation[slot])
+        return (slot, self.generation[slot] if slot < len(self.generation) else 1)
 
     def make(self):
         self.state.append("waits")
@@ -104,23 +106,32 @@ class Slots:
             self.stack.append(slot)
 
     def deal(self, sizes):
-        """Each block is a list of slots, which are popped one after the other."""
-        dealt = []
+        """Each block is a list of slots: those that wait are popped one after the other, and after
+        them come the next ones, which are not made yet."""
+        dealt, fresh = [], len(self.state)
         for size in sizes:
             block = []
-            while len(block) < size and (self.stack or len(self.state) < self.limit):
-                block.append(self.stack.pop() if self.stack else self.make())
+            while len(block) < size and (self.stack or fresh < self.limit):
+                if self.stack:
+                    block.append(self.stack.pop())
+                else:
+                    block.append(fresh)
+                    fresh += 1
             dealt.append(block)
         return dealt
 
     def give_back(self, dealt, used):
-        """What was not used is pushed again, the last block first. What was used comes to life."""
+        """The slots up to the greatest one that was used are made. What was not used and is made is
+        pushed again, the last block first. What was used comes to life."""
+        taken = [slot for block, count in zip(dealt, used) for slot in block[:count]]
+        while len(self.state) <= max(taken, default=-1):
+            self.make()
         for block, count in reversed(list(zip(dealt, used))):
             for slot in reversed(block[count:]):
-                self.stack.append(slot)
-        for block, count in zip(dealt, used):
-            for slot in block[:count]:
-                self.state[slot] = "lives"
+                if slot < len(self.state):
+                    self.stack.append(slot)
+        for slot in taken:
+            self.state[slot] = "lives"
 
     def check(self, given):
         waits = [s for s, state in enumerate(self.state) if state == "waits"]

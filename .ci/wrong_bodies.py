@@ -122,9 +122,8 @@ class Prover:
         return [str(it) for it in [*words, *(word for it in functions for word in ("--only", it))]]
 
     def build_below(self, crate):
-        """Builds the libraries below a crate that aren't built yet: `rt` does so before each check."""
-        lacking = [it for it in self.below(crate) if not pathlib.Path(f"crates/{it}/out/rlib/{it}.rlib/format").is_file()]
-        if lacking:
+        """Builds the libraries below a crate that aren't built, or may be older than their sources: `rt` does so before each check."""
+        if any(is_older_than_its_sources(it) for it in self.below(crate)):
             said = subprocess.run(["rt", "check", "--only", ""], cwd=f"crates/{crate}", capture_output=True, text=True)
             if said.returncode:
                 sys.exit(f"the libraries below {crate} are not built: {said.stdout[-500:]}{said.stderr[-500:]}")
@@ -145,6 +144,13 @@ class Prover:
                 said = subprocess.run(self.words(crate, functions, kept), **how)
                 if not alone or not is_of_the_room(said.stdout, functions):
                     return 0 if lacks_only_holes(said.stdout) else said.returncode, with_functions(room, said.stdout)
+
+
+def is_older_than_its_sources(crate):
+    """Whether the library of a crate isn't built, or a file of the crate is newer."""
+    built = pathlib.Path(f"crates/{crate}/out/rlib/{crate}.rlib/format")
+    files = [it for part in PARTS for it in pathlib.Path(f"crates/{crate}/{part}").rglob("*") if it.is_file()]
+    return not built.is_file() or any(it.stat().st_mtime > built.stat().st_mtime for it in files)
 
 
 def is_of_the_room(said, functions):

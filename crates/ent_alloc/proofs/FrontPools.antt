@@ -1,19 +1,19 @@
 -- A pool whose front comes in another order: the allocator stays sound, and the roster stands for
 -- it.
-use Rattle.std.proofs.Common.{rules, ◌≡◌, ◌⊎◌, inl, inr, sym, ap, ◌∙◌, subst, refl, ℕ, ◌+◌, ◌-◌, ◌<◌, ◌≤◌}
+use Rattle.std.proofs.Common.{◌≡◌, ◌⊎◌, inl, inr, sym, ap, ◌∙◌, subst, ℕ, ◌+◌, ◌-◌, ◌<◌, ◌≤◌}
 use Rattle.std.proofs.Common.{List, [], ◌++◌, length, take, drop, reverse, All, AllPairs, arith}
 use Rattle.std.proofs.Common.{IsPermutation}
 use Rattle.std.proofs.lemmas.Bool.{cases_lt}
-use Rattle.std.proofs.lemmas.List.{length-append, length-reverse, length-drop, append_assoc}
+use Rattle.std.proofs.lemmas.List.{length-append, length-reverse, append_assoc}
 use Rattle.std.proofs.lemmas.List.{append-nil, take-append-drop, reverse-append, reverse-reverse}
-use Rattle.std.proofs.lemmas.List.{drop_all, take_all, length-take}
+use Rattle.std.proofs.lemmas.List.{take_all}
 use Rattle.std.proofs.lemmas.List.Elements.{All-append, All-weaker, All-take, All-drop}
 use Rattle.std.proofs.lemmas.List.Sorted.{All-permutation, IsPermutation-append_left}
 use Rattle.std.proofs.lemmas.List.Sorted.{IsPermutation-reverse, IsPermutation-trans}
 use Rattle.ent_handle.specs.Handle.{Handle}
 use Rattle.ent_alloc.specs.Roster.{Roster}
 use Rattle.ent_alloc.specs.Sequential.{Allocator, available, top, fresh}
-use Rattle.ent_alloc.specs.Sound.{IsSound, IsWithin, AreApart, IsLive}
+use Rattle.ent_alloc.specs.Sound.{IsSound, IsWithin, AreApart}
 use Rattle.ent_alloc.specs.Entities.{idle, allocator_of, AreReserved}
 use Rattle.ent_alloc.specs.declared.requests.Requests.{Requests}
 use Rattle.ent_alloc.specs.Front.{with_front}
@@ -21,7 +21,6 @@ use Rattle.ent_alloc.proofs.FreshHandles.{length-fresh, All-fresh, take_joined, 
 use Rattle.ent_alloc.proofs.FreshHandles.{fresh-none}
 use Rattle.ent_alloc.proofs.LaidOut.{old_ones, IsLaidOut, flushed-laid_out, laid_out-sound}
 use Rattle.ent_alloc.proofs.ListLaws.{All-left, AllPairs-left, AllPairs-IsPermutation}
-use Rattle.ent_alloc.proofs.ListLaws.{take-append, drop-append, take-nil, drop-nil}
 use Rattle.ent_alloc.proofs.Reversed.{drop-reverse, take-reverse}
 use Rattle.ent_alloc.proofs.Meaning.{top_is, top_view, length-idle, pending_below, rest_is, none_is}
 use Rattle.ent_alloc.proofs.Meaning.{StandFor, closed}

@@ -2,7 +2,7 @@
 -- handles in that order.
 use Rattle.std.proofs.Common.{rules, ◌≡◌, ◌≢◌, ◌⊎◌, inl, inr, ℕ, zero, suc, ◌+◌, ◌-◌, ◌<◌, ◌≤◌, refl, sym}
 use Rattle.std.proofs.Common.{ap, ◌∙◌, List, [], ◌∷◌, ◌++◌, length, get_or, set, take, drop, map, subst}
-use Rattle.std.proofs.Common.{reverse, All, AllPairs, Contains, IsPermutation, arith, false, None}
+use Rattle.std.proofs.Common.{reverse, All, AllPairs, IsPermutation, arith, false, None}
 use Rattle.std.proofs.lemmas.Grind.{common_steps}
 use Rattle.std.proofs.lemmas.Bool.{cases_lt, cases_eq}
 use Rattle.std.proofs.lemmas.List.{length-set, get_or-set_same, get_or-set_other, get_or-map}
@@ -22,7 +22,7 @@ use Rattle.ent_alloc.specs.declared.slot_record.Occupancy.TheVariants.{Pending}
 use Rattle.ent_alloc.specs.Slots.{is_alive, row_of, record_at, no_slot, handle_at, occupants}
 use Rattle.ent_alloc.specs.Slots.{rows_from, roster_of, AreLinked}
 use Rattle.ent_alloc.specs.Front.{waiting_at, placed, moved}
-use Rattle.ent_alloc.proofs.ListLaws.{AllPairs-head, AllPairs-tail, AllPairs-drop}
+use Rattle.ent_alloc.proofs.ListLaws.{AllPairs-head, AllPairs-tail}
 use Rattle.ent_alloc.proofs.ListLaws.{AllPairs-IsPermutation}
 use Rattle.ent_alloc.proofs.KeptRows.{rows_from-set}
 

@@ -37,6 +37,7 @@ pub mod RowsOfLiving
 pub mod ImageWords
 pub mod ImageSlots
 pub mod ImageLinked
+pub mod ImageRowless
 pub mod ImageRead
 pub mod ImageSound
 pub mod ImageRefused

@@ -17,6 +17,10 @@ pub record Entities : Type 0 where
 abbrev pub HasRowsOfLiving : Entities → Type 0
 HasRowsOfLiving e = (h : Handle) → ¬ (IsLive e.allocator h) → map.get e.rows h ≡ None
 
+-- the same entities, of which none has a row
+abbrev pub without_rows : Entities → Entities
+without_rows e = record { allocator = e.allocator; rows = map.empty }
+
 -- what there is to give if nothing is reserved: the pending handles from the last on, then the
 -- fresh ones
 abbrev pub idle : Roster → List Handle

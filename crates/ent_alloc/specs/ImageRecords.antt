@@ -25,6 +25,19 @@ kept s = record {
 abbrev pub record_bytes : SlotRecord → List ℕ
 record_bytes s = slot_bytes (kept s)
 
+-- a slot without the row of its occupant
+abbrev pub without_row_of : Occupancy → Occupancy
+without_row_of Retired = Retired
+without_row_of Alive = Alive
+without_row_of (AliveWithRow row) = Alive
+without_row_of (Pending position) = Pending position
+
+abbrev pub without_row : SlotRecord → SlotRecord
+without_row s = record { generation = s.generation; occupancy = without_row_of s.occupancy }
+
+abbrev pub rowless_bytes : SlotRecord → List ℕ
+rowless_bytes s = record_bytes (without_row s)
+
 -- a generation within the limits
 pub record IsGeneration (limits : Limits) (generation : ℕ) : Type 0 where
   pub least : 1 ≤ generation

@@ -8,6 +8,7 @@ pub mod Living
 pub mod Sound
 pub mod Reserved
 pub mod Entities
+pub mod Prepared
 pub mod Front
 pub mod Image
 pub mod ImageRecords

@@ -1,9 +1,10 @@
 //! Requests in one call each: it tests what the request needs, and lists what the request is given.
 ghost use Rattle.std.specs.Prelude.{◌≡◌, ◌+◌, ◌-◌, ◌^◌, ◌<◌, ◌≤◌, ◌↔◌, ◌⊎◌, [], ◌∷◌, ◌++◌};
-ghost use Rattle.std.specs.Prelude.{IfOk, IfErr, OnOk, OnErr, IsErrOf, Ok, Some, All};
+ghost use Rattle.std.specs.Prelude.{IfOk, IfErr, OnOk, OnErr, IsErrOf, IfSome, OnSome, IfNone, Ok};
+ghost use Rattle.std.specs.Prelude.{Some, All};
 ghost use Rattle.std.specs.Prelude.{length, take, slice_get, vec_len, vec_capacity};
 ghost use Rattle.ent_alloc.specs.Sequential.{after_take, reply_to, listed};
-ghost use Rattle.ent_alloc.specs.Sound.{IsWithin};
+ghost use Rattle.ent_alloc.specs.Sound.{IsSound, IsWithin};
 ghost use Rattle.ent_alloc.specs.Entities.{HasRowsOfLiving};
 ghost use Rattle.ent_alloc.specs.declared.refused.Refused.TheVariants as refused;
 ghost use Rattle.ent_alloc.specs.declared.reserve_error.ReserveError.TheVariants as failed;
@@ -40,7 +41,47 @@ impl Entities {
     ///   one is refused until the next flush.
     /// - [`Refused::Quota`] if 2^50 handles were requested since the last flush. Nothing has
     ///   changed.
+    // Not inlined, its result goes through memory.
+    #[inline(always)]
     pub fn request(&mut self) -> Result<Handle, Refused>
+        ensures front { IfOk result (λ h. slice_get self.old.allocator.pool 0 ≡ Some h) }
+        ensures reply { IfOk result (λ h. reply_to self.old.allocator 1 ≡ Ok (h ∷ [])) }
+        ensures within { IfOk result (IsWithin self.old.allocator.limits) }
+        ensures space { IsErrOf result (refused.Space 1 0)
+            ↔ ((self.old.allocator.asked < 2 ^ 50) × (self.old.allocator.pool ≡ [])) }
+        ensures quota { IsErrOf result (refused.Quota 0) ↔ (2 ^ 50 ≤ self.old.allocator.asked) }
+        ensures refused { IfErr result (λ why.
+            (why ≡ refused.Space 1 0) ⊎ (why ≡ refused.Quota 0)) }
+        ensures step { self.old.allocator.asked < 2 ^ 50
+            → self.new.allocator ≡ after_take self.old.allocator 1 }
+        ensures unchanged { 2 ^ 50 ≤ self.old.allocator.asked → self.new ≡ self.old }
+        ensures rows { self.new.rows ≡ self.old.rows }
+        ensures rows_of_living { HasRowsOfLiving self.new }
+    {
+        match self.request_old() {
+            Some(handle) => Ok(handle),
+            None => self.request_any(),
+        }
+    }
+
+    /// Requests a handle if an old slot waits for it, by a single comparison. `None` if none waits,
+    /// and nothing has changed then.
+    fn request_old(&mut self) -> Option<Handle>
+        ensures reply { IfSome result (λ h. reply_to self.old.allocator 1 ≡ Ok (h ∷ [])) }
+        ensures step { OnSome result (self.new.allocator ≡ after_take self.old.allocator 1) }
+        ensures few { OnSome result (self.old.allocator.asked < 2 ^ 50) }
+        ensures none { IfNone result (self.new ≡ self.old) }
+        ensures sound { IsSound self.old.allocator }
+        ensures rows { self.new.rows ≡ self.old.rows }
+        ensures rows_of_living { HasRowsOfLiving self.new }
+    {
+        let handle = self.slots.pending_before(self.requests.asked)?;
+        self.requests = self.requests.and_one();
+        Some(handle)
+    }
+
+    /// Requests a handle, of an old slot or a new one.
+    fn request_any(&mut self) -> Result<Handle, Refused>
         ensures front { IfOk result (λ h. slice_get self.old.allocator.pool 0 ≡ Some h) }
         ensures reply { IfOk result (λ h. reply_to self.old.allocator 1 ≡ Ok (h ∷ [])) }
         ensures within { IfOk result (IsWithin self.old.allocator.limits) }

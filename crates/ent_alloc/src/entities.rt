@@ -292,15 +292,8 @@ impl Entities {
         if self.needs_flush() {
             return Err(FreeFault::NeedsFlush);
         }
-        if !self.slots.is_alive(handle) {
-            return Err(FreeFault::NotAlive);
-        }
-        if self.slots.is_last(handle) {
-            self.slots.retire(handle);
-            return Ok(Freed { next: None });
-        }
-        let next = self.slots.release(handle)?;
-        Ok(Freed { next: Some(next) })
+        let next = self.slots.free(handle)?;
+        Ok(Freed { next })
     }
 
     /// Brings to life what is reserved, and appends it to `out`: first the handles of new slots, then

@@ -3,7 +3,7 @@ ghost use Rattle.std.specs.Prelude.{◌≡◌, ◌≢◌, ◌+◌, ◌-◌, ◌*
 ghost use Rattle.std.specs.Prelude.{IfOk, IfErr, IfSome, IfNone, OnOk, OnErr, Ok, Err, Some, None, ◌⊎◌};
 ghost use Rattle.std.specs.Prelude.{length, vec_len, vec_capacity};
 ghost use Rattle.ent_handle.specs.Handle.{Handle};
-ghost use Rattle.ent_alloc.specs.Entities.{Entities};
+ghost use Rattle.ent_alloc.specs.Entities.{Entities, without_rows};
 ghost use Rattle.ent_alloc.specs.Spent.{AreSpent};
 ghost use Rattle.ent_alloc.specs.Image.{long, header, numbers_bytes, header_bytes, image, HasImage};
 ghost use Rattle.ent_alloc.specs.ImageRecords.{AreNumbers, AreServed};
@@ -195,6 +195,19 @@ impl Entities {
         write_header(self.header(), out);
         self.slots.write_image(out);
         Ok(())
+    }
+
+    /// Appends the image that the allocator has if none of its entities has a row, for a caller whose
+    /// rows follow from what it writes beside it. There is room for it.
+    pub fn write_image_without_rows(&self, out: &mut Vec<u8>)
+        requires { vec_len out.old + (40 + 12 * self.now.allocator.made) ≤ vec_capacity out.old }
+        ensures written { out.new.items ≡ out.old.items ++ image (without_rows self.now) }
+        ensures has_image { HasImage (without_rows self.now) }
+        ensures len { vec_len out.new ≡ vec_len out.old + (40 + 12 * self.now.allocator.made) }
+        ensures capacity { vec_capacity out.old ≤ vec_capacity out.new }
+    {
+        write_header(self.header(), out);
+        self.slots.write_image_without_rows(out);
     }
 
     /// The allocator whose image these bytes are, all of them.

@@ -9,6 +9,7 @@ ghost use Rattle.std.specs.List.{flat_map};
 ghost use Rattle.ent_alloc.specs.Image.{word, kind_of, number_of, slot_bytes, slots_bytes, AreSlots};
 ghost use Rattle.ent_alloc.specs.ImageRecords.{kept, record_bytes, IsGeneration, IsWritten, CanWait};
 ghost use Rattle.ent_alloc.specs.ImageRecords.{with_waiting, vacant, AreRead};
+ghost use Rattle.ent_alloc.specs.ImageRecords.{without_row, rowless_bytes};
 ghost use Rattle.ent_alloc.specs.FirstFault.{first_failing, word_at, is_slot, slots_tests};
 ghost use Rattle.ent_alloc.specs.declared.slot_record.SlotRecord.{SlotRecord};
 
@@ -91,6 +92,34 @@ pub(crate) fn write_slots(records: &[PackedSlot], out: &mut Vec<u8>)
 {
     for record in records {
         write_slot(record.record(), out);
+    }
+}
+
+/// The same slot, whose occupant has no row.
+fn without_row(slot: SlotRecord) -> SlotRecord
+    ensures { result ≡ without_row slot }
+{
+    let occupancy = match slot.occupancy {
+        Occupancy::AliveWithRow { .. } => Occupancy::Alive,
+        other => other,
+    };
+    SlotRecord {
+        generation: slot.generation,
+        occupancy,
+    }
+}
+
+/// Appends the slots as if no occupant had a row, by rising index. There is room for them.
+pub(crate) fn write_rowless_slots(records: &[PackedSlot], out: &mut Vec<u8>)
+    requires { vec_len out.old + 12 * length records.now ≤ vec_capacity out.old }
+    ensures written { out.new.items ≡ out.old.items ++ flat_map rowless_bytes records.now }
+    ensures fits { (index : ℕ) → index < length records.now
+        → number_of (without_row (record_at records.now index)).occupancy < 2 ^ 32 }
+    ensures len { vec_len out.new ≡ vec_len out.old + 12 * length records.now }
+    ensures capacity { vec_capacity out.old ≤ vec_capacity out.new }
+{
+    for record in records {
+        write_slot(without_row(record.record()), out);
     }
 }
 

@@ -16,7 +16,7 @@ use Rattle.ent_alloc.specs.Sequential.{Allocator, top, after_take}
 use Rattle.ent_alloc.specs.Front.{with_front}
 use Rattle.ent_alloc.proofs.Taken.{after_take-served}
 use Rattle.ent_blocks.specs.Blocks.{Block, handles_of, used_of, rest_of, dealt, lesser, blocks_from}
-use Rattle.ent_blocks.specs.Blocks.{after_opening, after_blocks, unused, AreLaid}
+use Rattle.ent_blocks.specs.Blocks.{unused, AreLaid}
 
 -- ---- opening
 
@@ -120,6 +120,15 @@ used_and_rests pool (b ∷ blocks) =
     (subst (λ xs. IsPermutation xs ((u ++ us) ++ (r ++ rs))) (sym from)
     (subst (λ xs. IsPermutation (u ++ ((r ++ us) ++ rs)) xs) to second))
 
+-- after a phase in blocks whose slots are all made
+abbrev pub after_dealt : Allocator → List Block → Allocator
+after_dealt s blocks = record s {
+  taken = flat_map (used_of s.pool) blocks;
+  pool = flat_map (rest_of s.pool) blocks ++ drop (dealt blocks) s.pool;
+  made = s.made + (dealt blocks - top s);
+  asked = length (flat_map (used_of s.pool) blocks);
+}
+
 module _ (s : Allocator) (blocks : List Block) (laid : AreLaid 0 (map unused blocks))
     (within : dealt blocks ≤ length s.pool) where
   abbrev pub order : List Handle
@@ -141,17 +150,18 @@ module _ (s : Allocator) (blocks : List Block) (laid : AreLaid 0 (map unused blo
   order_same = subst (λ n. IsPermutation (take n s.pool) order) (sym order_long) moved
 
   -- a request for what was used, of the pool in this order
-  pub closed_is : s.taken ≡ [] → s.asked ≡ 0 → dealt blocks ≤ top s
+  pub closed_is : s.taken ≡ [] → s.asked ≡ 0
       → after_take (with_front s order) (length (flat_map (used_of s.pool) blocks))
-      ≡ after_blocks s blocks
-  closed_is none flushed waits =
+      ≡ after_dealt s blocks
+  closed_is none flushed =
       let us = flat_map (used_of s.pool) blocks in
       let rs = flat_map (rest_of s.pool) blocks in
       let after = drop (length order) s.pool in
       let whole : (us ++ rs) ++ after ≡ us ++ (rs ++ after) = append_assoc us rs after in
       let long = length-append us (rs ++ after) in
       let enough : length us ≤ length ((us ++ rs) ++ after) = omega (arith, ap length whole) in
-      let made : s.made + (length order - top s) ≡ s.made = omega (arith, order_long) in
+      let made : s.made + (length order - top s) ≡ s.made + (dealt blocks - top s) =
+      ap (λ n. s.made + (n - top s)) order_long in
       let taken : s.taken ++ take (length us) ((us ++ rs) ++ after) ≡ us =
       (λ i. none i ++ take (length us) (whole i)) ∙ take_at us (rs ++ after) (length us) refl in
       let pool : drop (length us) ((us ++ rs) ++ after) ≡ rs ++ drop (dealt blocks) s.pool =

@@ -1,5 +1,6 @@
 pub mod Dealing
 pub mod Positions
+pub mod Cutting
 pub mod Given
 pub mod Phases
 pub mod Openings

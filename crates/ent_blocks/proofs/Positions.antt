@@ -77,7 +77,7 @@ module _ (s : Allocator) (sound : IsSound s) (flushed : s.asked ≡ 0) (position
 
 -- ---- a block
 
-take_of_take : {X : Type 0} (n m : ℕ) (xs : List X) → n ≤ m → take n (take m xs) ≡ take n xs
+pub take_of_take : {X : Type 0} (n m : ℕ) (xs : List X) → n ≤ m → take n (take m xs) ≡ take n xs
 take_of_take zero m xs le = refl
 take_of_take (suc n) zero xs le = absurd (omega arith)
 take_of_take (suc n) (suc m) [] le = refl

@@ -1,7 +1,7 @@
 -- Handles in blocks: the front of the pool is dealt to callers, and each is given the handles of
 -- its own block, in the pool's order, whatever the others do.
-use Rattle.std.specs.Prelude.{◌≡◌, ℕ, ◌+◌, ◌-◌, ◌^◌, ◌<◌, ◌≤◌, nat_le, if◌then◌else◌, List, [], ◌∷◌, ◌++◌}
-use Rattle.std.specs.Prelude.{length, take, drop, map, refl}
+use Rattle.std.specs.Prelude.{◌≡◌, ℕ, ◌+◌, ◌-◌, ◌^◌, ◌<◌, ◌≤◌, nat_le, ◌==◌, ◌&&◌, if◌then◌else◌, max}
+use Rattle.std.specs.Prelude.{List, [], ◌∷◌, ◌++◌, length, take, drop, map, refl}
 use Rattle.std.specs.List.{flat_map, Contains}
 use Rattle.std.specs.Coded.{Coded, code_by, coded×, coded_ℕ, coded_list}
 use Rattle.std.specs.FinMap as maps
@@ -42,17 +42,22 @@ blocks_from before left (n ∷ sizes) =
     record { before = before; size = lesser n left; used = 0 }
     ∷ blocks_from (before + lesser n left) (left - lesser n left) sizes
 
--- All slots that are dealt are made: the fresh ones among them wait with generation 1. The pool is
--- the same.
-abbrev pub after_opening : Allocator → ℕ → Allocator
-after_opening s count = record s { made = s.made + (count - top s) }
+-- One past the last position of the pool that was used; 0 if none was.
+abbrev pub end_of : Block → ℕ
+end_of b = if b.used == 0 then 0 else b.before + b.used
+
+abbrev pub reach : List Block → ℕ
+reach [] = 0
+reach (b ∷ blocks) = max (end_of b) (reach blocks)
 
 -- Closing: what was used of the blocks is taken, in the order of the callers, and the pool is what
--- is left of them, and then what was not dealt.
+-- is left of them, and then what was not dealt: it keeps its own order. The slots up to the last one
+-- that was used are made, so a fresh one below it that nobody used waits, with generation 1.
 abbrev pub after_blocks : Allocator → List Block → Allocator
 after_blocks s blocks = record s {
   taken = flat_map (used_of s.pool) blocks;
   pool = flat_map (rest_of s.pool) blocks ++ drop (dealt blocks) s.pool;
+  made = s.made + (reach blocks - top s);
   asked = length (flat_map (used_of s.pool) blocks);
 }
 
@@ -87,15 +92,20 @@ AreLaid before [] = Unit {0}
 AreLaid before (b ∷ blocks) =
     (b.before ≡ before) × (b.used ≡ 0) × AreLaid (before + b.size) blocks
 
--- nothing is reserved, and all that is dealt waits
-pub record AreDealt (s : Allocator) (blocks : List Block) (capacity : ℕ) : Type 0 where
+-- nothing is reserved, and the pool has all that is dealt
+pub record AreDealt (s : Allocator) (blocks : List Block) : Type 0 where
   pub sound : IsSound s
   pub flushed : s.asked ≡ 0
   pub laid : AreLaid 0 blocks
-  pub waits : dealt blocks ≤ top s
   pub within : dealt blocks ≤ length s.pool
-  pub room : dealt blocks ≤ capacity
   pub few : dealt blocks < 2 ^ 32
+
+-- For private contracts: the part of a block that lies before a position of the pool.
+abbrev pub cut : ℕ → Block → Block
+cut end b = record b {
+  before = lesser b.before end;
+  size = lesser (b.before + b.size) end - lesser b.before end;
+}
 
 abbrev pub block_code : Coded Block
 block_code =

@@ -1,3 +1,4 @@
+use crate::opening::lesser;
 use std::marker::Model;
 
 /// The right of one caller to the handles of its block, and how many of them it has used.
@@ -25,8 +26,8 @@ impl Model for BlockReserver {
 }
 
 impl BlockReserver {
-    ghost use Rattle.std.specs.Prelude.{◌≡◌, ◌+◌, ◌-◌, ◌≤◌};
-    ghost use Rattle.ent_blocks.specs.Blocks.{after_use};
+    ghost use Rattle.std.specs.Prelude.{◌≡◌, ◌+◌, ◌-◌, ◌^◌, ◌<◌, ◌≤◌};
+    ghost use Rattle.ent_blocks.specs.Blocks.{after_use, cut, end_of};
 
     /// A block of `size` handles, of which none is used, after the first `before` of the pool.
     pub(crate) fn new(before: u32, size: u32) -> Self
@@ -79,5 +80,32 @@ impl BlockReserver {
         ensures { self.new ≡ after_use self.old n }
     {
         self.used += n;
+    }
+    /// One past the position of the last handle that was used; 0 if none was.
+    pub(crate) fn end(&self) -> u32
+        requires { self.now.before + self.now.size < 2 ^ 32 }
+        ensures value { result ≡ end_of self.now }
+        ensures within { result ≤ self.now.before + self.now.size }
+    {
+        if self.used == 0 {
+            0
+        } else {
+            self.before + self.used
+        }
+    }
+
+    /// The part of the block that lies before a position of the pool: none of it, if the block
+    /// begins there or after it.
+    pub(crate) fn cut(&self, end: u32) -> Self
+        requires few { self.now.before + self.now.size < 2 ^ 32 }
+        requires used { end_of self.now ≤ end }
+        ensures { result ≡ cut end self.now }
+    {
+        let before = lesser(self.before, end);
+        BlockReserver {
+            before,
+            size: lesser(self.before + self.size, end) - before,
+            used: self.used,
+        }
     }
 }

@@ -1,18 +1,17 @@
-ghost use Rattle.std.specs.Prelude.{◌≡◌, ◌≢◌, ◌+◌, ◌-◌, ◌<◌, ◌≤◌, ◌++◌, ◌^◌};
-ghost use Rattle.std.specs.Prelude.{IfOk, OnOk, OnErr, Some, length, take, drop, slice_get};
-ghost use Rattle.std.specs.Prelude.{vec_len, vec_capacity, map, All, AllPairs, Contains, ◌⊎◌, ◌↔◌};
+ghost use Rattle.std.specs.Prelude.{◌≡◌, ◌≢◌, ◌<◌, ◌⊎◌, ◌↔◌};
+ghost use Rattle.std.specs.Prelude.{IfOk, IfErr, OnOk, OnErr, All, AllPairs, Contains};
 ghost use Rattle.ent_handle.specs.Handle.{Handle as HandleValue};
 ghost use Rattle.ent_alloc.specs.Sequential.{after_flush};
 ghost use Rattle.ent_alloc.specs.Sound.{IsLive};
-ghost use Rattle.std.specs.List.{flat_map};
 ghost use Rattle.ent_alloc.specs.Sequential.{reply_from, listed_alone};
 ghost use Rattle.ent_alloc.specs.Entities.{HasRowsOfLiving};
-ghost use Rattle.ent_blocks.specs.Blocks.{AreLaid, dealt, unused};
-ghost use Rattle.ent_blocks.specs.Blocks.{used_of, rest_of};
+ghost use Rattle.ent_blocks.specs.Blocks.{reach, rest_of};
 
 use crate::block_reserver::BlockReserver;
+use crate::closing::{handle_at, take_used};
 use ent_alloc::{Entities, Reserved, Space, Span};
-use ent_handle::Handle;
+use ent_handle::{Handle, Memory};
+use std::alloc::Global;
 use std::marker::Model;
 
 /// An allocator whose pool's front is dealt in blocks, one to each [`BlockReserver`].
@@ -20,13 +19,12 @@ use std::marker::Model;
 /// Many threads may reserve from it at once: no call writes to it.
 #[derive(Drop)]
 pub struct Blocks {
+    alloc: Global,
     entities: Entities,
     blocks: Vec<BlockReserver>,
-    order: Vec<Handle>,
 }
 
 impl Model for Blocks {
-    ghost use Rattle.std.specs.Prelude.{vec_capacity};
     ghost use Rattle.ent_blocks.specs.Blocks.{Blocks, blocks_code, AreDealt};
 
     ghost Value = { Blocks };
@@ -39,15 +37,14 @@ impl Model for Blocks {
       blocks = b.blocks.items;
     } };
 
-    ghost invariant = { λ b.
-        AreDealt b.entities.allocator b.blocks.items (vec_capacity b.order) };
+    ghost invariant = { λ b. AreDealt b.entities.allocator b.blocks.items };
 }
 
 impl Blocks {
     ghost use Rattle.ent_blocks.specs.Blocks.{IsOf, AreOf, AreDealt, after_use, after_blocks};
 
-    pub(crate) fn new(entities: Entities, blocks: Vec<BlockReserver>, order: Vec<Handle>) -> Self
-        requires { AreDealt entities.allocator blocks.items (vec_capacity order) }
+    pub(crate) fn new(alloc: Global, entities: Entities, blocks: Vec<BlockReserver>) -> Self
+        requires { AreDealt entities.allocator blocks.items }
         ensures { result ≡ record {
           start = entities.allocator;
           rows = entities.rows;
@@ -55,9 +52,9 @@ impl Blocks {
         } }
     {
         Blocks {
+            alloc,
             entities,
             blocks,
-            order,
         }
     }
 
@@ -110,111 +107,49 @@ impl Blocks {
         self.entities.reply(span)
     }
 
-    /// Ends the phase with all its reservers, in the order in which they were made. It takes no
+    /// Ends the phase with all its reservers, in the order in which they were made. What was used is
+    /// reserved: a flush brings it to life. What is left of the blocks can be given again, and comes
+    /// before all that was not dealt.
+    ///
+    /// The slots up to the last one that was used are made. So a fresh one that nobody used is made
+    /// only if a later one was used, and waits with generation 1.
+    ///
+    /// # Errors
+    ///
+    /// [`Memory`], with the phase and the reservers as they were. If nothing was used, it takes no
     /// memory.
-    pub fn close(self, reservers: Vec<BlockReserver>) -> Entities
+    pub fn close(
+        self,
+        reservers: Vec<BlockReserver>,
+    ) -> Result<Entities, (Blocks, Vec<BlockReserver>, Memory)>
         requires { AreOf self reservers.items }
-        ensures after { result.allocator ≡ after_blocks self.start reservers.items }
-        ensures rows { result.rows ≡ self.rows }
-        ensures rows_of_living { HasRowsOfLiving result }
+        ensures after { IfOk result (λ entities. entities.allocator
+            ≡ after_blocks self.start reservers.items) }
+        ensures rows { IfOk result (λ entities. entities.rows ≡ self.rows) }
+        ensures rows_of_living { IfOk result HasRowsOfLiving }
 
         // No handle was given twice, and none was alive.
-        ensures distinct { AllPairs (λ g h. g ≢ h) result.allocator.taken }
-        ensures not_live { All (λ h. ¬ (IsLive self.start h)) result.allocator.taken }
+        ensures distinct { IfOk result (λ entities.
+            AllPairs (λ g h. g ≢ h) entities.allocator.taken) }
+        ensures not_live { IfOk result (λ entities.
+            All (λ h. ¬ (IsLive self.start h)) entities.allocator.taken) }
 
         // A flush brings to life exactly what was used.
-        ensures brings_to_life { (h : HandleValue) → IsLive (after_flush result.allocator) h
-            ↔ (IsLive self.start h ⊎ Contains result.allocator.taken h) }
+        ensures brings_to_life { IfOk result (λ entities. (h : HandleValue) →
+            IsLive (after_flush entities.allocator) h
+            ↔ (IsLive self.start h ⊎ Contains entities.allocator.taken h)) }
+        ensures phase { IfErr result (λ refused. refused.0 ≡ self) }
+        ensures reservers { IfErr result (λ refused. refused.1.items ≡ reservers.items) }
+        ensures memory { OnErr result (0 < reach reservers.items) }
     {
         let Blocks {
+            alloc,
             mut entities,
-            blocks: _blocks,
-            mut order,
+            blocks,
         } = self;
-        order.clear();
-        let used = list_used(&entities, &reservers, &mut order);
-        list_rests(&entities, &reservers, &mut order);
-        let Ok(()) = entities.set_front(&order) else {
-            unreachable!()
+        let Ok(()) = take_used(alloc, &mut entities, &reservers) else {
+            return Err((Blocks::new(alloc, entities, blocks), reservers, Memory));
         };
-        let _span = entities.lower(used);
-        entities
-    }
-}
-
-/// The handle at a position of the pool, from its front.
-pub(crate) fn handle_at(entities: &Entities, position: u32) -> Handle
-    requires flushed { entities.now.allocator.asked ≡ 0 }
-    requires within { position < length entities.now.allocator.pool }
-    ensures { slice_get entities.now.allocator.pool position ≡ Some result }
-{
-    let high = entities.cursor() - i64::from(position);
-    let Ok(handle) = entities.reply_one(high) else {
-        unreachable!()
-    };
-    handle
-}
-
-/// Appends `count` handles of the pool from a position on. There is room for them.
-pub(crate) fn list(entities: &Entities, order: &mut Vec<Handle>, from: u32, count: u32)
-    requires flushed { entities.now.allocator.asked ≡ 0 }
-    requires within { from + count ≤ length entities.now.allocator.pool }
-    requires few { from + count < 2 ^ 32 }
-    requires room { vec_len order.old + count ≤ vec_capacity order.old }
-    ensures items { order.new.items
-        ≡ order.old.items ++ take count (drop from entities.now.allocator.pool) }
-    ensures len { vec_len order.new ≡ vec_len order.old + count }
-    ensures capacity { vec_capacity order.new ≡ vec_capacity order.old }
-{
-    for more in 0..count {
-        order.push_reserved(handle_at(entities, from + more));
-    }
-}
-
-/// Appends what was used of each block, and returns how many handles that are.
-fn list_used(entities: &Entities, reservers: &[BlockReserver], order: &mut Vec<Handle>) -> u32
-    requires flushed { entities.now.allocator.asked ≡ 0 }
-    requires laid { AreLaid 0 (map unused reservers.now) }
-    requires within { dealt reservers.now ≤ length entities.now.allocator.pool }
-    requires few { dealt reservers.now < 2 ^ 32 }
-    requires room { vec_len order.old
-        + length (flat_map (used_of entities.now.allocator.pool) reservers.now)
-        ≤ vec_capacity order.old }
-    requires counts { length (flat_map (used_of entities.now.allocator.pool) reservers.now)
-        < 2 ^ 32 }
-    ensures items { order.new.items
-        ≡ order.old.items ++ flat_map (used_of entities.now.allocator.pool) reservers.now }
-    ensures capacity { vec_capacity order.new ≡ vec_capacity order.old }
-    ensures count { result
-        ≡ length (flat_map (used_of entities.now.allocator.pool) reservers.now) }
-{
-    let mut count = 0;
-    for reserver in reservers {
-        list(entities, order, reserver.before(), reserver.used());
-        count += reserver.used();
-    }
-    count
-}
-
-/// Appends what is left of each block.
-fn list_rests(entities: &Entities, reservers: &[BlockReserver], order: &mut Vec<Handle>)
-    requires flushed { entities.now.allocator.asked ≡ 0 }
-    requires laid { AreLaid 0 (map unused reservers.now) }
-    requires within { dealt reservers.now ≤ length entities.now.allocator.pool }
-    requires few { dealt reservers.now < 2 ^ 32 }
-    requires room { vec_len order.old
-        + length (flat_map (rest_of entities.now.allocator.pool) reservers.now)
-        ≤ vec_capacity order.old }
-    ensures items { order.new.items
-        ≡ order.old.items ++ flat_map (rest_of entities.now.allocator.pool) reservers.now }
-    ensures capacity { vec_capacity order.new ≡ vec_capacity order.old }
-{
-    for reserver in reservers {
-        list(
-            entities,
-            order,
-            reserver.before() + reserver.used(),
-            reserver.left(),
-        );
+        Ok(entities)
     }
 }

@@ -4,6 +4,7 @@
 
 mod block_reserver;
 mod blocks;
+mod closing;
 mod opening;
 
 pub use block_reserver::BlockReserver;

@@ -1,31 +1,29 @@
 ghost use Rattle.std.specs.Prelude.{◌≡◌, ◌+◌, ◌-◌, ◌^◌, ◌<◌, ◌≤◌};
-ghost use Rattle.std.specs.Prelude.{IfOk, IfErr, OnErr, length, take};
-ghost use Rattle.std.specs.Prelude.{vec_capacity};
-ghost use Rattle.ent_blocks.specs.Blocks.{blocks_from, dealt, after_opening, lesser};
+ghost use Rattle.std.specs.Prelude.{IfOk, IfErr, OnErr, length};
+ghost use Rattle.ent_blocks.specs.Blocks.{blocks_from, dealt, lesser};
 
 use crate::block_reserver::BlockReserver;
-use crate::blocks::{Blocks, list};
+use crate::blocks::Blocks;
 use ent_alloc::Entities;
-use ent_handle::{Handle, Memory};
+use ent_handle::Memory;
 use std::alloc::Global;
 
 /// Deals the pool's front in blocks of these sizes, one after the other: a block is smaller where
 /// the pool ends. Each caller takes one of the reservers, which are in the order of the sizes.
 ///
-/// The slots that are dealt are made: those among them that were never made wait from then on.
+/// The allocator is as it was: no slot is made, and no list of handles. It takes time and memory for
+/// each block, however large they are.
 ///
 /// # Errors
 ///
-/// [`Memory`], with the allocator as it was. All memory of the phase is asked for here. No sizes
-/// take no memory.
+/// [`Memory`], with the allocator as it was. No sizes take no memory.
 pub fn open_in_blocks(
     alloc: Global,
     entities: Entities,
     sizes: &[u32],
 ) -> Result<(Blocks, Vec<BlockReserver>), (Entities, Memory)>
     requires flushed { entities.allocator.asked ≡ 0 }
-    ensures start { IfOk result (λ made. made.0.start
-        ≡ after_opening entities.allocator (dealt made.0.blocks)) }
+    ensures start { IfOk result (λ made. made.0.start ≡ entities.allocator) }
     ensures blocks { IfOk result (λ made. made.0.blocks
         ≡ blocks_from 0 (length entities.allocator.pool) sizes.now) }
     ensures reservers { IfOk result (λ made. made.1.items ≡ made.0.blocks) }
@@ -33,34 +31,25 @@ pub fn open_in_blocks(
     ensures err { IfErr result (λ refused. refused.0 ≡ entities) }
     ensures memory { OnErr result (0 < length sizes.now) }
 {
-    let mut entities = entities;
-
     // Its contract says that the state is sound.
     let _top = entities.cursor();
-    let Ok((blocks, reservers, order)) = deal(alloc, &entities, sizes) else {
+    let Ok((blocks, reservers)) = deal(alloc, &entities, sizes) else {
         return Err((entities, Memory));
     };
-    let Ok(()) = entities.set_front(&order) else {
-        return Err((entities, Memory));
-    };
-    Ok((Blocks::new(entities, blocks, order), reservers))
+    Ok((Blocks::new(alloc, entities, blocks), reservers))
 }
 
-/// Blocks of these sizes, twice, and all handles that they have.
+/// Blocks of these sizes, twice.
 fn deal(
     alloc: Global,
     entities: &Entities,
     sizes: &[u32],
-) -> Result<(Vec<BlockReserver>, Vec<BlockReserver>, Vec<Handle>), Memory>
+) -> Result<(Vec<BlockReserver>, Vec<BlockReserver>), Memory>
     requires flushed { entities.now.allocator.asked ≡ 0 }
     ensures blocks { IfOk result (λ d. d.0.items
         ≡ blocks_from 0 (length entities.now.allocator.pool) sizes.now) }
     ensures reservers { IfOk result (λ d. d.1.items ≡ d.0.items) }
-    ensures within { IfOk result (λ d. dealt d.0.items ≤ length entities.now.allocator.pool) }
     ensures few { IfOk result (λ d. dealt d.0.items < 2 ^ 32) }
-    ensures order { IfOk result (λ d. d.2.items
-        ≡ take (dealt d.0.items) entities.now.allocator.pool) }
-    ensures room { IfOk result (λ d. dealt d.0.items ≤ vec_capacity d.2) }
     ensures memory { OnErr result (0 < length sizes.now) }
 {
     let mut blocks = Vec::with_capacity(alloc, sizes.len())?;
@@ -74,12 +63,10 @@ fn deal(
         before += given;
         left -= given;
     }
-    let mut order = Vec::with_capacity(alloc, before as usize)?;
-    list(entities, &mut order, 0, before);
-    Ok((blocks, reservers, order))
+    Ok((blocks, reservers))
 }
 
-fn lesser(n: u32, left: u32) -> u32
+pub(crate) fn lesser(n: u32, left: u32) -> u32
     ensures value { result ≡ lesser n left }
     ensures within { result ≤ left }
 {

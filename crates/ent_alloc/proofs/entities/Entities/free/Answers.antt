@@ -1,5 +1,6 @@
-use Rattle.std.proofs.Common.{arith, rules, ◌≡◌, ◌≢◌, true}
+use Rattle.std.proofs.Common.{arith, rules, ◌≡◌, ◌≢◌, true, inl, inr}
 use Rattle.std.proofs.lemmas.Grind.{common_steps}
+use Rattle.std.proofs.lemmas.Bool.{cases_eq}
 use Rattle.std.specs.FinSet as sets
 use Rattle.std.specs.FinMap as maps
 use Rattle.ent_alloc.specs.Sequential.{after_free}
@@ -9,8 +10,7 @@ use Rattle.ent_alloc.proofs.Meaning.{allocator_is, IsAtRest, at_rest, closed, St
 use Rattle.ent_alloc.proofs.MeaningOfAlloc.{freed_roster, retired_roster}
 use Rattle.ent_alloc.proofs.RowsOfLiving.{AreOf, rows-removed}
 use Rattle.ent_alloc.specs.Roster.{Roster}
-use Rattle.ent_alloc.proofs.entities.Entities.free.Goals.{Else-needs_flush, Else-not-is_alive}
-use Rattle.ent_alloc.proofs.entities.Entities.free.Goals.{Else-is_last}
+use Rattle.ent_alloc.proofs.entities.Entities.free.Goals.{Else-needs_flush, In_ok-next}
 use Rattle.ent_alloc.proofs.entities.Entities.free.Goals as goal
 
 -- nothing is reserved
@@ -18,23 +18,21 @@ rest : (c : Else-needs_flush) → IsAtRest c.self.inside.slots c.self.inside.req
     c.args.self.now.allocator
 rest c = search (rules, at_rest, allocator_is)
 
+-- the slot of the last generation is retired, and any other one waits
 retired_is : (c : Else-needs_flush) → c.args.handle.generation
     ≡ c.self.inside.slots.limits.generations
     → allocator_of (retired_roster c.self.inside.slots c.args.handle) 0 0
     ≡ after_free c.args.self.now.allocator c.args.handle
 retired_is c last = grind (arith, common_steps)
 
--- it is not of the last generation
-not_last : (c : Else-is_last) → c.args.handle.generation
+freed_is : (c : Else-needs_flush) → c.args.handle.generation
     ≢ c.self.inside.slots.limits.generations
-not_last c last = search (rules)
-
-freed_is : (c : Else-is_last) → allocator_of (freed_roster c.self.inside.slots c.args.handle) 0 0
+    → allocator_of (freed_roster c.self.inside.slots c.args.handle) 0 0
     ≡ after_free c.args.self.now.allocator c.args.handle
-freed_is c = let before = not_last c in grind (arith, common_steps, before)
+freed_is c before = grind (arith, common_steps, before)
 
--- the handle lives
-lives : (c : Else-not-is_alive) → sets.contains c.args.self.now.allocator.live c.args.handle ≡ true
+-- the handle lived
+lives : (c : In_ok-next) → sets.contains c.args.self.now.allocator.live c.args.handle ≡ true
 lives c = grind (arith, common_steps)
 
 -- the row goes with it
@@ -43,25 +41,45 @@ removed : (c : Else-needs_flush) → AreOf (sets.remove c.self.inside.slots.live
 removed c = search (rules, rows-removed)
 
 -- the roster that this leaves stands for what is freed
-left : (c : Else-not-is_alive) (new after : Roster)
+left : (c : In_ok-next) (new after : Roster)
     → IsAtRest c.self.inside.slots c.self.inside.requests c.args.self.now.allocator → new ≡ after
     → allocator_of after 0 0 ≡ after_free c.args.self.now.allocator c.args.handle
     → HasRowsOfLiving (entities_of after 0 0)
     → StandFor new c.self.inside.requests (after_free c.args.self.now.allocator c.args.handle)
 left c new after rest same is rows = search (rules, closed, after_free-sound, lives)
 
-pub invariant_of-self : goal.invariant_of-self
-invariant_of-self c = search (rules, left, rest, retired_is, removed)
-
 pub invariant_of-self-2 : goal.invariant_of-self-2
-invariant_of-self-2 c = search (rules, left, rest, freed_is, removed)
+invariant_of-self-2 c =
+    let gone = removed (goal.at.invariant_of-self-2 c).Else-needs_flush in
+    let at = goal.at.invariant_of-self-2 c in
+    let r = c.self.inside.slots in
+    let h = c.args.handle in
+    elim (cases_eq h.generation r.limits.generations) [
+      | inl last ↦ (left at.In_ok-next c.free.new.self (retired_roster r h)
+          (rest at.Else-needs_flush) (c.in_ok-next.ensures.retired last)
+          (retired_is at.Else-needs_flush last) (search (rules, gone))).reserved
+      | inr before ↦ (left at.In_ok-next c.free.new.self (freed_roster r h)
+          (rest at.Else-needs_flush) (c.in_ok-next.ensures.waits before)
+          (freed_is at.Else-needs_flush before) (search (rules, gone))).reserved
+    ]
 
 pub returns-clause-ok : goal.returns-clause-ok
-returns-clause-ok c = grind (arith, common_steps)
-
-pub returns-then-is_last-clause-rows_of_living :
-    goal.returns-then-is_last-clause-rows_of_living
-returns-then-is_last-clause-rows_of_living c = search (rules, AreOf, removed)
+returns-clause-ok c =
+    let at = goal.at.returns-clause-ok c in
+    elim (cases_eq c.args.handle.generation c.self.inside.slots.limits.generations) [
+      | inl last ↦ search (
+        rules,
+        c.in_ok-next.ensures.retired last,
+        retired_is at.Else-needs_flush last,
+        rest at.Else-needs_flush,
+      )
+      | inr before ↦ search (
+        rules,
+        c.in_ok-next.ensures.waits before,
+        freed_is at.Else-needs_flush before,
+        rest at.Else-needs_flush,
+      )
+    ]
 
 pub returns-clause-rows_of_living : goal.returns-clause-rows_of_living
-returns-clause-rows_of_living c = search (rules, AreOf, removed)
+returns-clause-rows_of_living c = (invariant_of-self-2 c).rows

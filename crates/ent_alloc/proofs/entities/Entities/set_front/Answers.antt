@@ -1,9 +1,7 @@
-use Rattle.std.proofs.Common.{rules, ◌≡◌, ◌+◌, ◌-◌, ap, ◌∙◌, subst, arith, length}
-use Rattle.ent_alloc.specs.Sequential.{top}
+use Rattle.std.proofs.Common.{◌≡◌, ◌-◌, ap, ◌∙◌, arith, length}
 use Rattle.ent_alloc.specs.Front.{with_front}
 use Rattle.ent_alloc.proofs.Meaning.{allocator_is, StandFor}
 use Rattle.ent_alloc.proofs.FrontPools.{few_in, room_in, enough_in, waits_in, front_stands, grown}
-use Rattle.ent_alloc.proofs.FrontPools.{top_in}
 use Rattle.ent_alloc.proofs.entities.Entities.set_front.Goals.{After-wait_last-arg-1}
 use Rattle.ent_alloc.proofs.entities.Entities.set_front.Goals.{After-wait_last}
 use Rattle.ent_alloc.proofs.entities.Entities.set_front.Goals as goal

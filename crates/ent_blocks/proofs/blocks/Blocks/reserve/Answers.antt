@@ -8,14 +8,14 @@ use Rattle.ent_blocks.proofs.blocks.Blocks.reserve.Goals as goal
 pub overflow_add-before : goal.overflow_add-before
 overflow_add-before c =
     let e = c.self.inside in
-    let lies = lies_in c.args.self.now e.entities.allocator e.blocks.items _ c.args.reserver.now
+    let lies = lies_in c.args.self.now e.entities.allocator e.blocks.items c.args.reserver.now
     c.self.invariant (ap (λ (p : Blocks). p.blocks) c.self.view_is) c.requires in
     omega (arith, lies.few, c.before-2.ensures, c.used.ensures.value, c.used.ensures.within)
 
 pub handle_at-handle-requires-clause-within : goal.handle_at-handle-requires-clause-within
 handle_at-handle-requires-clause-within c =
     let e = c.self.inside in
-    let lies = lies_in c.args.self.now e.entities.allocator e.blocks.items _ c.args.reserver.now
+    let lies = lies_in c.args.self.now e.entities.allocator e.blocks.items c.args.reserver.now
     c.self.invariant (ap (λ (p : Blocks). p.blocks) c.self.view_is) c.requires in
     omega (
       arith,
@@ -32,7 +32,7 @@ returns-clause-reply c =
     let e = c.self.inside in
     let r = c.args.reserver.now in
     let h = c.handle_at-handle.result in
-    let lies = lies_in c.args.self.now e.entities.allocator e.blocks.items _ r
+    let lies = lies_in c.args.self.now e.entities.allocator e.blocks.items r
     c.self.invariant (ap (λ (p : Blocks). p.blocks) c.self.view_is) c.requires in
     let next : r.before + r.used ≡ c.before-2.result + c.used.result =
     omega (arith, c.before-2.ensures, c.used.ensures.value) in

@@ -13,7 +13,7 @@ pub returns-then-n-left-clause-reply : goal.returns-then-n-left-clause-reply
 returns-then-n-left-clause-reply c =
     let e = c.self.inside in
     let r = c.args.reserver.now in
-    let lies = lies_in c.args.self.now e.entities.allocator e.blocks.items _ r
+    let lies = lies_in c.args.self.now e.entities.allocator e.blocks.items r
     c.self.invariant (ap (λ (p : Blocks). p.blocks) c.self.view_is) c.requires in
     subst (λ (s : Allocator). Err (record { wanted = c.args.n; left = c.left-left.result })
     ≡ reply_from s.made (rest_of s.pool r) c.args.n)
@@ -26,22 +26,22 @@ returns-then-n-left-clause-reply c =
 pub overflow_add-next : goal.overflow_add-next
 overflow_add-next c =
     let e = c.self.inside in
-    let lies = lies_in c.args.self.now e.entities.allocator e.blocks.items _ c.args.reserver.now
+    let lies = lies_in c.args.self.now e.entities.allocator e.blocks.items c.args.reserver.now
     c.self.invariant (ap (λ (p : Blocks). p.blocks) c.self.view_is) c.requires in
     omega (arith, lies.few, c.before-2.ensures, c.used.ensures.value, c.used.ensures.within)
 
 pub reply-requires : goal.reply-requires
 reply-requires c =
     let e = c.self.inside in
-    let lies = lies_in c.args.self.now e.entities.allocator e.blocks.items _ c.args.reserver.now
+    let lies = lies_in c.args.self.now e.entities.allocator e.blocks.items c.args.reserver.now
     c.self.invariant (ap (λ (p : Blocks). p.blocks) c.self.view_is) c.requires in
-    c.new-span.ensures.valid e.entities.allocator (omega (arith, ints, lies.few, lies.waits))
+    c.new-span.ensures.valid e.entities.allocator (omega (arith, ints, lies.few))
 
 pub returns-clause-reply : goal.returns-clause-reply
 returns-clause-reply c =
     let s = c.self.inside.entities.allocator in
     let r = c.args.reserver.now in
-    let lies = lies_in c.args.self.now s c.self.inside.blocks.items _ r
+    let lies = lies_in c.args.self.now s c.self.inside.blocks.items r
     c.self.invariant (ap (λ (p : Blocks). p.blocks) c.self.view_is) c.requires in
     subst (λ (s : Allocator). c.reply.result ≡ reply_from s.made (rest_of s.pool r) c.args.n)
     (ap (λ (p : Blocks). p.start) c.self.view_is)
@@ -50,7 +50,7 @@ returns-clause-reply c =
     ∙ ap (λ pool. reply_from s.made pool c.args.n)
     (pool_there s c.self.invariant.sound c.self.invariant.flushed (r.before + r.used)
     c.new-span.result.high (ap (λ (s : Span). s.high) c.new-span.ensures.value
-    ∙ (omega (arith, ints, lies.few, lies.waits, c.self.invariant.flushed)))))
+    ∙ (omega (arith, ints, lies.few, c.self.invariant.flushed)))))
     ∙ served_many s.made c.args.n s.pool r
     (omega (arith, c.left-left.ensures.value, c.left-left.ensures.within, c.if-n-left.false))
     lies.within)
@@ -59,7 +59,7 @@ pub returns-clause-err : goal.returns-clause-err
 returns-clause-err c =
     let s = c.self.inside.entities.allocator in
     let r = c.args.reserver.now in
-    let lies = lies_in c.args.self.now s c.self.inside.blocks.items _ r
+    let lies = lies_in c.args.self.now s c.self.inside.blocks.items r
     c.self.invariant (ap (λ (p : Blocks). p.blocks) c.self.view_is) c.requires in
     let there = drop (r.before + r.used) s.pool in
     let is = (c.reply.ensures c.args.n (ap (λ (s : Span). s.low) c.new-span.ensures.value
@@ -67,7 +67,7 @@ returns-clause-err c =
     ∙ ap (λ pool. reply_from s.made pool c.args.n)
     (pool_there s c.self.invariant.sound c.self.invariant.flushed (r.before + r.used)
     c.new-span.result.high (ap (λ (s : Span). s.high) c.new-span.ensures.value
-    ∙ (omega (arith, ints, lies.few, lies.waits, c.self.invariant.flushed)))))
+    ∙ (omega (arith, ints, lies.few, c.self.invariant.flushed)))))
     ∙ served s.made c.args.n there (omega (
       arith,
       lies.within,

@@ -2,7 +2,7 @@ use Rattle.std.proofs.Common.{◌≡◌, ◌+◌, ◌≤◌, ◌++◌, length, d
 use Rattle.std.specs.Prelude.{vec_capacity}
 use Rattle.std.specs.List.{flat_map}
 use Rattle.ent_blocks.specs.Blocks.{rest_of}
-use Rattle.ent_blocks.proofs.blocks.list_rests.Given as goal
+use Rattle.ent_blocks.proofs.closing.list_rests.Given as goal
 
 -- what is still to come does the rest
 abbrev pub invariant-loop-reserver : goal.invariant-loop-reserver

@@ -2,8 +2,8 @@ use Rattle.std.proofs.Common.{◌≡◌, ◌<◌, ◌∙◌, ap, sym, arith, ◌
 use Rattle.std.proofs.lemmas.Int.{ints}
 use Rattle.ent_alloc.specs.Sequential.{listed_alone, reply_to}
 use Rattle.ent_alloc.proofs.Asked.{told_one, IsFront, of_front, of_refused, none_left, space_is}
-use Rattle.ent_alloc.proofs.entities.Entities.request.Goals.{After-reply_one, In_ok-reply_one}
-use Rattle.ent_alloc.proofs.entities.Entities.request.Goals as goal
+use Rattle.ent_alloc.proofs.entities.Entities.request_any.Goals.{After-reply_one, In_ok-reply_one}
+use Rattle.ent_alloc.proofs.entities.Entities.request_any.Goals as goal
 
 -- the reply that is looked up is that to the request
 replied : (c : After-reply_one)

@@ -5,7 +5,7 @@ use Rattle.std.proofs.lemmas.List.{length-append}
 use Rattle.ent_blocks.specs.Blocks.{Block, used_of, dealt}
 use Rattle.ent_blocks.proofs.Dealing.{in_dealt, rest_more}
 use Rattle.ent_blocks.proofs.Positions.{length-used}
-use Rattle.ent_blocks.proofs.blocks.list_used.Goals as goal
+use Rattle.ent_blocks.proofs.closing.list_used.Goals as goal
 
 pub list-requires-clause-within : goal.list-requires-clause-within
 list-requires-clause-within c =

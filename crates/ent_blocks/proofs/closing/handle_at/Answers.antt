@@ -1,7 +1,7 @@
 use Rattle.std.proofs.Common.{rules, arith}
 use Rattle.std.proofs.lemmas.Int.{ints}
 use Rattle.ent_blocks.proofs.Positions.{one_there}
-use Rattle.ent_blocks.proofs.blocks.handle_at.Goals as goal
+use Rattle.ent_blocks.proofs.closing.handle_at.Goals as goal
 
 pub returns : goal.returns
 returns c =

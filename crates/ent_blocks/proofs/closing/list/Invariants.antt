@@ -1,6 +1,6 @@
 use Rattle.std.proofs.Common.{◌≡◌, ◌+◌, ◌++◌, take, drop, vec_len}
 use Rattle.std.specs.Prelude.{vec_capacity}
-use Rattle.ent_blocks.proofs.blocks.list.Given as goal
+use Rattle.ent_blocks.proofs.closing.list.Given as goal
 
 abbrev pub invariant-loop-more : goal.invariant-loop-more
 invariant-loop-more l = record {

@@ -5,7 +5,7 @@ use Rattle.std.proofs.lemmas.List.{length-append}
 use Rattle.ent_blocks.specs.Blocks.{Block, rest_of, dealt}
 use Rattle.ent_blocks.proofs.Dealing.{in_dealt, rest_more}
 use Rattle.ent_blocks.proofs.Positions.{rest_is, length-rest}
-use Rattle.ent_blocks.proofs.blocks.list_rests.Goals as goal
+use Rattle.ent_blocks.proofs.closing.list_rests.Goals as goal
 
 pub overflow_add-before : goal.overflow_add-before
 overflow_add-before c =

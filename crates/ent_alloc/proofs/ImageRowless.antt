@@ -1,0 +1,150 @@
+-- Records without the rows of their occupants: they point at the pending indexes as before, and stand
+-- for the same slots without rows.
+use Rattle.std.proofs.Common.{◌≡◌, ◌≢◌, refl, sym, ap, ◌∙◌, subst, ℕ, zero, suc, ◌+◌, ◌^◌, ◌<◌, ◌≤◌}
+use Rattle.std.proofs.Common.{List, [], ◌∷◌, length, map, get_or, Option, None, Some, arith, true, cond}
+use Rattle.std.specs.List.{flat_map}
+use Rattle.std.specs.FinMap as maps
+use Rattle.std.specs.FinSet as sets
+use Rattle.std.proofs.lemmas.Grind.{common_steps}
+use Rattle.std.proofs.lemmas.List.{length-map}
+use Rattle.std.proofs.lemmas.List.Folds.{flat_map-map}
+use Rattle.std.proofs.Math.ListN.{get_or-map as get_or_mapped}
+use Rattle.ent_handle.specs.Handle.{Handle, handle_cmp}
+use Rattle.ent_alloc.specs.Limits.{Limits}
+use Rattle.ent_alloc.specs.Roster.{Roster}
+use Rattle.ent_alloc.specs.Slots.{is_alive, row_of, record_at, no_slot, handle_at, occupants}
+use Rattle.ent_alloc.specs.Slots.{rows_from, with_row, roster_of, AreLinked}
+use Rattle.ent_alloc.specs.Image.{number_of, slots_bytes, AreSlots}
+use Rattle.ent_alloc.specs.ImageRecords.{without_row, without_row_of, record_bytes, rowless_bytes}
+use Rattle.ent_alloc.specs.declared.slot_record.SlotRecord.{SlotRecord}
+use Rattle.ent_alloc.specs.declared.slot_record.Occupancy.{Occupancy}
+use Rattle.ent_alloc.specs.declared.slot_record.Occupancy.TheVariants.{Alive, AliveWithRow, Pending}
+use Rattle.ent_alloc.specs.declared.slot_record.Occupancy.TheVariants.{Retired}
+use Rattle.ent_alloc.proofs.ImageLinked.{AreTied, are_slots, slots_bytes_are}
+
+-- ---- one record
+
+alive_as : (t : Occupancy) → is_alive (without_row_of t) ≡ is_alive t
+alive_as Alive = refl
+alive_as (AliveWithRow row) = refl
+alive_as (Pending position) = refl
+alive_as Retired = refl
+
+no_row : (t : Occupancy) → row_of (without_row_of t) ≡ None
+no_row Alive = refl
+no_row (AliveWithRow row) = refl
+no_row (Pending position) = refl
+no_row Retired = refl
+
+pending_as : (t : Occupancy) (position : ℕ) → without_row_of t ≡ Pending position
+    → t ≡ Pending position
+pending_as Alive position is = absurd (grind (arith, common_steps))
+pending_as (AliveWithRow row) position is = absurd (grind (arith, common_steps))
+pending_as (Pending other) position is = is
+pending_as Retired position is = absurd (grind (arith, common_steps))
+
+never_with_row : (t : Occupancy) (row : ℕ) → without_row_of t ≢ AliveWithRow row
+never_with_row Alive row is = grind (arith, common_steps)
+never_with_row (AliveWithRow other) row is = grind (arith, common_steps)
+never_with_row (Pending position) row is = grind (arith, common_steps)
+never_with_row Retired row is = grind (arith, common_steps)
+
+-- ---- all of them
+
+at : (records : List SlotRecord) (index : ℕ)
+    → record_at (map without_row records) index ≡ without_row (record_at records index)
+at records index = get_or_mapped without_row records index no_slot
+
+occupancy_at : (records : List SlotRecord) (index : ℕ)
+    → (record_at (map without_row records) index).occupancy
+    ≡ without_row_of (record_at records index).occupancy
+occupancy_at records index = ap (λ (r : SlotRecord). r.occupancy) (at records index)
+
+generation_at : (records : List SlotRecord) (index : ℕ)
+    → (record_at (map without_row records) index).generation
+    ≡ (record_at records index).generation
+generation_at records index = ap (λ (r : SlotRecord). r.generation) (at records index)
+
+occupants_as : (index : ℕ) (records : List SlotRecord)
+    → occupants index (map without_row records) ≡ occupants index records
+occupants_as index [] = refl
+occupants_as index (r ∷ records) =
+    let rest = occupants_as (index + 1) records in
+    let h : Handle = record { index = index; generation = r.generation } in
+    λ i. cond (alive_as r.occupancy i) (h ∷ rest i) (rest i)
+
+no_rows : (index : ℕ) (records : List SlotRecord) → rows_from index (map without_row records) ≡ []
+no_rows index [] = refl
+no_rows index (r ∷ records) =
+    let h : Handle = record { index = index; generation = r.generation } in
+    λ i. with_row h (no_row r.occupancy i) (no_rows (index + 1) records i)
+
+handle_as : (records : List SlotRecord) (index : ℕ)
+    → handle_at (map without_row records) index ≡ handle_at records index
+handle_as records index = λ i. record { index = index; generation = generation_at records index i }
+
+handles_as : (records : List SlotRecord) (pending : List ℕ)
+    → map (handle_at (map without_row records)) pending ≡ map (handle_at records) pending
+handles_as records [] = refl
+handles_as records (index ∷ pending) =
+    λ i. handle_as records index i ∷ handles_as records pending i
+
+-- the same slots, without rows
+pub rowless_is : (limits : Limits) (records : List SlotRecord) (pending : List ℕ)
+    → roster_of limits (map without_row records) pending
+    ≡ record (roster_of limits records pending) { rows = maps.empty }
+rowless_is limits records pending =
+    let live = occupants_as 0 records in
+    let rows = no_rows 0 records in
+    let waiting = handles_as records pending in
+    let made = length-map records without_row in
+    λ i. record {
+      limits = limits;
+      live = sets.from_list (live i);
+      rows = maps.from_entries (rows i);
+      pending = waiting i;
+      made = made i;
+    }
+
+rowless_tied : (limits : Limits) (records : List SlotRecord) (pending : List ℕ) (live : ℕ)
+    → AreLinked limits records pending live → AreTied limits (map without_row records) pending
+rowless_tied limits records pending live linked =
+    let long : length (map without_row records) ≡ length records = length-map records without_row in
+    record {
+      limited = linked.limited;
+      few = omega (arith, linked.few, long);
+      least = λ index lt. rw (generation_at records index)
+          (linked.least index (omega (arith, long)));
+      greatest = λ index lt. rw (generation_at records index)
+          (linked.greatest index (omega (arith, long)));
+      made = λ position lt. let made = linked.made position lt in omega (arith, long, made);
+      forward = λ position lt. occupancy_at records (get_or pending position 0)
+          ∙ ap without_row_of (linked.forward position lt);
+      listed = λ index position lt is. linked.listed index position (omega (arith, long))
+          (pending_as (record_at records index).occupancy position
+          (sym (occupancy_at records index) ∙ is));
+      back = λ index position lt is. linked.back index position (omega (arith, long))
+          (pending_as (record_at records index).occupancy position
+          (sym (occupancy_at records index) ∙ is));
+      rows = λ index row lt is. absurd (never_with_row (record_at records index).occupancy row
+          (sym (occupancy_at records index) ∙ is));
+    }
+
+pub rowless_slots : (limits : Limits) (records : List SlotRecord) (pending : List ℕ) (live : ℕ)
+    → AreLinked limits records pending live
+    → AreSlots (record (roster_of limits records pending) { rows = maps.empty })
+rowless_slots limits records pending live linked =
+    subst AreSlots (rowless_is limits records pending)
+    (are_slots limits (map without_row records) pending
+    (rowless_tied limits records pending live linked))
+
+-- what is written of them
+pub rowless_bytes_are : (limits : Limits) (records : List SlotRecord) (pending : List ℕ) (live : ℕ)
+    → AreLinked limits records pending live
+    → flat_map rowless_bytes records
+    ≡ slots_bytes (record (roster_of limits records pending) { rows = maps.empty })
+rowless_bytes_are limits records pending live linked =
+    sym (flat_map-map record_bytes without_row records)
+    ∙ sym (slots_bytes_are limits (map without_row records) pending
+    (rowless_tied limits records pending live linked))
+    ∙ ap slots_bytes (rowless_is limits records pending)

@@ -1,0 +1,18 @@
+use Rattle.std.proofs.Common.{◌≡◌, ℕ, ◌^◌, ◌<◌, ◌+◌, ◌-◌, ◌*◌, ◌≤◌, ◌++◌, length, take, vec_len, vec_capacity}
+use Rattle.std.specs.List.{flat_map}
+use Rattle.ent_alloc.specs.Slots.{record_at}
+use Rattle.ent_alloc.specs.Image.{number_of}
+use Rattle.ent_alloc.specs.ImageRecords.{rowless_bytes, without_row}
+use Rattle.ent_alloc.proofs.image_slots.write_rowless_slots.Given as goal
+
+-- those before the index are written, and there is room for the rest
+abbrev pub invariant-loop-record : goal.invariant-loop-record
+invariant-loop-record l = record {
+  written : l.out.items ≡ l.fn.out.items
+      ++ flat_map rowless_bytes (take l.record-index l.records);
+  fits : (index : ℕ) → index < l.record-index
+      → number_of (without_row (record_at l.records index)).occupancy < 2 ^ 32;
+  room : vec_len l.out + 12 * (length l.records - l.record-index) ≤ vec_capacity l.out;
+  len : vec_len l.out ≡ vec_len l.fn.out + 12 * l.record-index;
+  capacity : vec_capacity l.fn.out ≤ vec_capacity l.out;
+}
