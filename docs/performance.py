@@ -4,16 +4,17 @@
     docs/performance.py measure [PART..]   runs the scripts that the page names (or those with a PART in their names), puts
                                            their tables into the page, and draws the charts
     docs/performance.py draw               draws the charts of the tables in the page: docs/performance.svg has all rows, and
-                                           docs/benchmarks.svg those of README
-    docs/performance.py check              ends with status 1 if a chart is another one, or a table is missing
+                                           docs/benchmarks.svg those of README; and writes the page's table of limits
+    docs/performance.py check              ends with status 1 if a chart or the limits are others, or a table is missing
 
 The figures stand in the page alone. A line above a table says what prints it, and the tables below it up to the next such line:
 
     <!-- measured by COMMAND -->
 
-The command prints one table or several. A table of the page is the printed one whose head begins with the same two columns. A line that begins with a dash and
-the command says when and on what machine they were measured. `measure` needs what the scripts need: `cargo` and `rt` on the path, and the
-two peers that docs/PERFORMANCE.md names. A script builds what it measures, which takes a few minutes more where it has not been built.
+The command prints one table or several. A table of the page is the printed one whose head begins with the same two columns. A line that
+begins with a dash and the command says when and on what machine they were measured. `measure` needs what the scripts need: `cargo` and `rt`
+on the path, and the two peers that docs/PERFORMANCE.md names. A script builds what it measures, which takes a few minutes more where it has
+not been built.
 """
 
 import datetime
@@ -21,6 +22,7 @@ import math
 import os
 import pathlib
 import re
+import statistics
 import subprocess
 import sys
 import time
@@ -240,7 +242,59 @@ def charts_of(lines):
     return {CHART: drawn(groups), FEW_CHART: drawn(few_of(groups))}
 
 
+# The table of limits: a work, the head of its table, how its rows begin, and the limits of the median of their ratios.
+
+LIMITS_HEAD = "| Work | Limit | Ratio to plain Rust | Limit | Ratio to slotmap |"
+LIMITS = [
+    ("`alloc`, then `free`", ("Work", "Here"), ["`alloc`, then"], 0.95, None),
+    ("`state`, `contains`, `is_alive`", ("Work", "Here"), ["`state`", "`contains`", "`is_alive`"], 1.0, 1.1),
+    ("A phase to `flush` to `free`, singly", ("Work", "Here"), ["A phase"], 1.05, None),
+    ("The same, 64 at once", ("Work", "Here"), ["The same"], 1.2, None),
+    ("`request` to `flush` to `free`", ("Work", "Here"), ["`request`"], 0.5, None),
+    ("Spawn, 4 times `get`, despawn, rising", ("Work", "Entities"), ["Spawn, 4 times `get`, despawn, rising"], 1.1, 1.05),
+    ("The same, scattered", ("Work", "Entities"), ["Spawn, 4 times `get`, despawn, scattered"], 1.1, 1.15),
+    ("`iter` over a map", ("Work", "Entities"), ["`iter`"], 1.05, 0.9),
+    ("A command of `apply`, of each kind", ("Command of `apply`", "Order"), [""], 1.0, None),
+    ("A `Storage`, and `born`", ("Work of a `Storage`", "Entities"), [""], 1.2, None),
+    ("A frame of 64 systems that compute, 4 workers", ("Systems", "Workers"), ["compute | 4"], 1.1, None),
+    ("`Entities::try_clone_from`; plain: a copy", ("Slots", "`try_clone_from`"), [""], 1.3, 1.2),
+    ("`HandleMap::clone_from`; plain: `Vec<Option<T>>`", ("Slots", "`HandleMap<i64>::clone_from`"), [""], 1.3, None),
+]
+
+
+def medians_of(lines, columns, begins):
+    """The medians of the columns `Ratio` of a table, over its rows that begin so."""
+    for _, begin, end in measured_tables(lines):
+        head = cells_of(lines[begin])
+        if head[:2] == [*columns]:
+            rows = [cells_of(it) for it in lines[begin + 2 : end]]
+            rows = [it for it in rows if " | ".join(it).startswith(tuple(begins))]
+            for at in [at for at, name in enumerate(head) if name == "Ratio"]:
+                ratios = [float(it[at]) for it in rows if it[at]]
+                yield statistics.median(ratios) if ratios else None
+
+
+def beside_limit(limit, ratio):
+    """The two cells of a limit and of what was measured."""
+    if limit is None or ratio is None:
+        return "|"
+    return f"{limit:.2f} | " + (f"{ratio:.2f}" if round(ratio, 2) <= limit else f"**{ratio:.2f}**")
+
+
+def with_limits(lines):
+    """These lines, with the table of limits that follows from the other tables."""
+    rows = []
+    for name, columns, begins, plain, slots in LIMITS:
+        beside_plain, beside_slots, *_ = [*medians_of(lines, columns, begins), None, None]
+        rows.append(f"| {name} | {beside_limit(plain, beside_plain)} | {beside_limit(slots, beside_slots)} |")
+    at = lines.index(LIMITS_HEAD)
+    end = next(end for begin, end in tables_of(lines) if begin == at)
+    return [*lines[: at + 2], *rows, *lines[end:]]
+
+
 def draw(lines):
+    """Writes the table of limits, and draws the charts."""
+    PAGE.write_text("\n".join(with_limits(lines)) + "\n")
     for file, chart in charts_of(lines).items():
         file.write_text(chart)
 
@@ -317,6 +371,8 @@ def faults_of(lines):
             yield f"docs/PERFORMANCE.md: there is no {command.split()[0]}"
         if not any(it.startswith(day_of(command)) for it in lines):
             yield f"docs/PERFORMANCE.md: no line says when {command} was measured"
+    if with_limits(lines) != lines:
+        yield "the table of limits isn't what `docs/performance.py draw` writes of the page's tables"
     for file, chart in charts_of(lines).items():
         if not file.exists() or file.read_text() != chart:
             yield f"docs/{file.name} isn't what `docs/performance.py draw` draws of the page's tables"

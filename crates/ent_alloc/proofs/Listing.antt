@@ -1,13 +1,16 @@
 -- What a reply that borrows the slots lists, one handle after the other.
 use Rattle.std.proofs.Common.{rules, ◌≡◌, ℕ, ◌+◌, ◌-◌, ◌<◌, ◌≤◌, List, [], ◌∷◌, ◌++◌, length, drop}
-use Rattle.std.proofs.Common.{replicate, slice_get, Some, refl, arith, suc, zero, add-zero}
+use Rattle.std.proofs.Common.{replicate, slice_get, Some, refl, arith, suc, zero, add-zero, subst}
 use Rattle.std.proofs.lemmas.Grind.{common_steps}
-use Rattle.std.proofs.lemmas.List.{length-append, length-take-le, length-drop, drop_more}
+use Rattle.std.proofs.lemmas.List.{length-append, length-take-le, length-drop, drop_more, length-map}
+use Rattle.std.proofs.lemmas.List.Elements.{All-tail}
 use Rattle.std.proofs.lemmas.Option.{get_or_from_slice_get}
-use Rattle.ent_handle.specs.Handle.{Handle}
+use Rattle.ent_handle.specs.Handle.{Handle, IsHandle}
+use Rattle.ent_alloc.specs.Slots.{handle_at}
 use Rattle.ent_alloc.specs.Roster.{Roster}
 use Rattle.ent_alloc.specs.Sequential.{fresh}
-use Rattle.ent_alloc.specs.Reserved.{reserved_handles, IsInRange}
+use Rattle.ent_alloc.specs.Reserved.{reserved_handles, IsInRange, handles_of, AreToList}
+use Rattle.ent_alloc.specs.declared.slot_record.SlotRecord.{SlotRecord}
 use Rattle.ent_alloc.proofs.FreshHandles.{length-fresh, fresh-next, fresh-none}
 
 pub length-reserved_handles : (r : Roster) (position end index index_end left : ℕ)
@@ -40,6 +43,43 @@ reserved_handles-fresh r position end index index_end past below =
 pub reserved_handles-none : (r : Roster) (position end index index_end : ℕ) → end ≤ position
     → index_end ≤ index → reserved_handles r position end index index_end ≡ []
 reserved_handles-none r position end index index_end past passed = search (rules, fresh-none)
+
+-- ---- the same of slices of records and slots
+
+pub length-handles_of : (records : List SlotRecord) (waiting : List ℕ) (index index_end left : ℕ)
+    → AreToList records waiting index index_end left
+    → length (handles_of records waiting index index_end) ≡ left
+length-handles_of records waiting index index_end left range =
+    search (rules, length-append, length-map, length-fresh)
+
+-- where no slot waits, the first fresh one comes first
+pub handles_of-fresh : (records : List SlotRecord) (waiting : List ℕ) (index index_end : ℕ)
+    → length waiting ≡ 0 → index < index_end → handles_of records waiting index index_end
+    ≡ record { index = index; generation = 1 } ∷ handles_of records waiting (index + 1) index_end
+handles_of-fresh records [] index index_end none below =
+    grind (arith, common_steps, fresh-next index (index_end - (index + 1)))
+handles_of-fresh records (at ∷ waiting) index index_end none below = absurd (omega arith)
+
+-- else none
+pub handles_of-none : (records : List SlotRecord) (waiting : List ℕ) (index index_end : ℕ)
+    → length waiting ≡ 0 → index_end ≤ index → handles_of records waiting index index_end ≡ []
+handles_of-none records [] index index_end none passed = search (rules, fresh-none)
+handles_of-none records (at ∷ waiting) index index_end none passed = absurd (omega arith)
+
+-- what is left after the first
+pub rest_to_list : (records : List SlotRecord) (waiting : List ℕ) (index index_end left : ℕ)
+    → AreToList records waiting index index_end left → (at : ℕ) (rest : List ℕ)
+    → waiting ≡ at ∷ rest → AreToList records rest index index_end (left - 1)
+rest_to_list records waiting index index_end left range at rest is =
+    let all : AreToList records (at ∷ rest) index index_end left =
+    subst (λ ws. AreToList records ws index index_end left) is range in
+    record {
+      made = All-tail (λ x. x < length records) at rest all.made;
+      handles = All-tail (λ x. IsHandle (handle_at records x)) at rest all.handles;
+      indexes = all.indexes;
+      last = all.last;
+      count = let count = all.count in omega arith;
+    }
 
 -- ---- listing one after the other
 

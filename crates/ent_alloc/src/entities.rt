@@ -366,15 +366,17 @@ impl Entities {
     pub fn state(&self, handle: Handle) -> State
         ensures { result ≡ state_of self.now.allocator handle }
     {
-        let waiting = self.slots.waiting();
         let reserved = match self.slots.occupancy_of(handle) {
             Some(Occupancy::Alive | Occupancy::AliveWithRow { .. }) => return State::Alive,
             Some(Occupancy::Pending { position }) => {
-                self.requests.kept(waiting) <= position as usize
+                self.requests.kept(self.slots.waiting()) <= position as usize
             }
             Some(Occupancy::Retired) => false,
             None if self.slots.is_made(handle) => false,
-            None => self.slots.is_next(handle, self.requests.fresh(waiting)),
+            None => {
+                let fresh = self.requests.fresh(self.slots.waiting());
+                self.slots.is_next(handle, fresh)
+            }
         };
         if reserved {
             State::Reserved

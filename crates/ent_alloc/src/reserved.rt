@@ -2,6 +2,7 @@ ghost use Rattle.std.specs.Prelude.{◌≡◌, IfSome, length};
 ghost use Rattle.std.specs.Iterator.{YieldsFirst, UpTo, item_count};
 ghost use Rattle.std.specs.Iterator.SizeHint.{IsWithinCount};
 
+use crate::packed_slot::PackedSlot;
 use crate::slot_record::first_occupant;
 use crate::slots::Slots;
 use ent_handle::Handle;
@@ -14,9 +15,8 @@ use std::marker::Model;
 /// constant time.
 #[derive(Drop)]
 pub struct Reserved<'a> {
-    slots: &'a Slots,
-    position: usize,
-    end: usize,
+    records: &'a [PackedSlot],
+    waiting: &'a [u32],
     index: u32,
     index_end: u32,
     left: usize,
@@ -31,12 +31,11 @@ impl<'a> Model for Reserved<'a> {
 
     ghost coded = { coded_list handle_code };
 
-    ghost use Rattle.ent_alloc.specs.Reserved.{reserved_handles, IsInRange};
+    ghost use Rattle.ent_alloc.specs.Reserved.{handles_of, AreToList};
 
-    ghost view = { λ r. reserved_handles r.slots.now r.position r.end r.index r.index_end };
+    ghost view = { λ r. handles_of r.records.now r.waiting.now r.index r.index_end };
 
-    ghost invariant = { λ r.
-        IsInRange r.slots.now r.position r.end r.index r.index_end r.left };
+    ghost invariant = { λ r. AreToList r.records.now r.waiting.now r.index r.index_end r.left };
 }
 
 impl<'a> Reserved<'a> {
@@ -57,9 +56,8 @@ impl<'a> Reserved<'a> {
         ensures { result ≡ reserved_handles slots.now position end index index_end }
     {
         Reserved {
-            slots,
-            position,
-            end,
+            records: &slots.records,
+            waiting: &slots.pending[position..end],
             index,
             index_end,
             left,
@@ -75,9 +73,9 @@ impl Iterator for Reserved<'_> {
     ghost remaining = { item_count (λ handles. handles) };
 
     fn next(&mut self) -> Option<Handle> {
-        if self.position < self.end {
-            let handle = self.slots.pending_at(self.position);
-            self.position += 1;
+        if let Some((index, rest)) = self.waiting.split_first() {
+            let handle = Handle::from_parts(*index, self.records[*index as usize].generation());
+            self.waiting = rest;
             self.left -= 1;
             return Some(handle);
         }

@@ -2,5 +2,6 @@ pub mod Dealing
 pub mod Positions
 pub mod Cutting
 pub mod Given
+pub mod Accounts
 pub mod Phases
 pub mod Openings

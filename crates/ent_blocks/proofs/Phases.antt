@@ -2,17 +2,20 @@
 use Rattle.std.proofs.Common.{rules, ◌≡◌, sym, ap, ◌∙◌, subst, ℕ, ◌+◌, ◌^◌, ◌<◌, ◌≤◌}
 use Rattle.std.proofs.Common.{List, length, map, arith, Contains}
 use Rattle.ent_alloc.specs.Sequential.{Allocator}
-use Rattle.ent_blocks.specs.Blocks.{Block, Blocks, dealt, unused, IsOf, AreOf, AreLaid, AreDealt}
+use Rattle.ent_blocks.specs.Blocks.{Block, Blocks, dealt, unused, IsOf, AreLaid, AreDealt, accounted}
 use Rattle.ent_blocks.proofs.Dealing.{of_phase, dealt-unused}
+use Rattle.ent_blocks.proofs.Accounts.{unused_accounted}
 
 pub record LiesIn (s : Allocator) (b : Block) : Type 0 where
   pub within : b.before + b.size ≤ length s.pool
   pub few : b.before + b.size < 2 ^ 32
 
-pub lies_in : (p : Blocks) (s : Allocator) (blocks : List Block) (b : Block) → AreDealt s blocks
-    → blocks ≡ p.blocks → IsOf p b → LiesIn s b
-lies_in p s blocks b are same is =
-    let lt = of_phase blocks b are.laid (subst (λ bs. Contains bs (unused b)) (sym same) is) in
+-- a reserver's block, if its number stands for the phase
+pub lies_in : (of : ℕ → Blocks) (n number : ℕ) (p : Blocks) (b : Block) → AreDealt p.start p.blocks
+    → of number ≡ p → n ≡ number → IsOf (of n) b → LiesIn p.start b
+lies_in of n number p b are is same has =
+    let here : IsOf p b = subst (λ (p : Blocks). IsOf p b) (ap of same ∙ is) has in
+    let lt = of_phase p.blocks b are.laid here in
     record { within = omega (arith, lt, are.within); few = omega (arith, lt, are.few) }
 
 pub record Closing (s : Allocator) (blocks : List Block) : Type 0 where
@@ -20,13 +23,14 @@ pub record Closing (s : Allocator) (blocks : List Block) : Type 0 where
   pub within : dealt blocks ≤ length s.pool
   pub few : dealt blocks < 2 ^ 32
 
-pub closing : (p : Blocks) (s : Allocator) (blocks : List Block) (reservers : List Block)
-    → AreDealt s blocks → blocks ≡ p.blocks → AreOf p reservers → Closing s reservers
-closing p s blocks reservers are same of =
-    let long : dealt reservers ≡ dealt blocks =
-    sym (dealt-unused reservers) ∙ ap dealt (of ∙ sym same) in
+pub closing : (s : Allocator) (blocks reservers : List Block) → AreDealt s blocks
+    → Closing s (accounted blocks reservers)
+closing s blocks reservers are =
+    let same = unused_accounted 0 blocks reservers are.laid in
+    let long : dealt (accounted blocks reservers) ≡ dealt blocks =
+    sym (dealt-unused (accounted blocks reservers)) ∙ ap dealt same in
     record {
-      laid = subst (AreLaid 0) (same ∙ sym of) are.laid;
+      laid = subst (AreLaid 0) (sym same) are.laid;
       within = omega (arith, long, are.within);
       few = omega (arith, long, are.few);
     }

@@ -7,6 +7,7 @@ use Rattle.std.proofs.lemmas.Bool.{le-leb, lt-leb}
 use Rattle.std.proofs.lemmas.Int.{ints}
 use Rattle.std.proofs.lemmas.List.{get_or-drop, length-drop, take_more, drop_more, drop-take}
 use Rattle.std.proofs.lemmas.List.{length-take-le, drop-drop}
+use Rattle.std.proofs.lemmas.List.Sorted.{length_permutation}
 use Rattle.std.proofs.lemmas.Option.{get_or_from_slice_get, slice_get_read, slice_get-get_or}
 use Rattle.ent_handle.specs.Handle.{Handle}
 use Rattle.ent_alloc.specs.declared.space.Space.{Space}
@@ -15,6 +16,7 @@ use Rattle.ent_alloc.specs.Sequential.{reply_from, listed, listed_alone}
 use Rattle.ent_alloc.specs.Sound.{IsSound}
 use Rattle.ent_alloc.proofs.Meaning.{asked_at-is}
 use Rattle.ent_alloc.proofs.LaidOut.{flushed-laid_out}
+use Rattle.ent_alloc.proofs.Replies.{listed-IsPermutation}
 use Rattle.ent_blocks.specs.Blocks.{Block, used_of, rest_of, handles_of}
 
 -- one more of what begins at a position
@@ -148,3 +150,8 @@ served_many made n pool b few within =
     ∙ take_of_take n (b.size - b.used) there (omega arith) in
     served made n there (omega (arith, length-drop (b.before + b.used) pool))
     ∙ ap (λ hs. Ok (listed made hs)) (sym front) ∙ sym (served made n rest (omega arith))
+
+-- as many are listed as are given
+pub length-listed : (made : ℕ) (given : List Handle) → length (listed made given) ≡ length given
+length-listed made given =
+    length_permutation given (listed made given) (listed-IsPermutation made given)

@@ -1,7 +1,7 @@
 -- Handles in blocks: the front of the pool is dealt to callers, and each is given the handles of
 -- its own block, in the pool's order, whatever the others do.
 use Rattle.std.specs.Prelude.{◌≡◌, ℕ, ◌+◌, ◌-◌, ◌^◌, ◌<◌, ◌≤◌, nat_le, ◌==◌, ◌&&◌, if◌then◌else◌, max}
-use Rattle.std.specs.Prelude.{List, [], ◌∷◌, ◌++◌, length, take, drop, map, refl}
+use Rattle.std.specs.Prelude.{Bool, true, false, List, [], ◌∷◌, ◌++◌, length, take, drop, map, refl}
 use Rattle.std.specs.List.{flat_map, Contains}
 use Rattle.std.specs.Coded.{Coded, code_by, coded×, coded_ℕ, coded_list}
 use Rattle.std.specs.FinMap as maps
@@ -78,13 +78,44 @@ pub record Blocks : Type 0 where
   pub rows : maps.FinMap handle_cmp ℕ
   pub blocks : List Block
 
--- the reserver's block is one of those of this phase
+-- the block is one of those of this phase
 abbrev pub IsOf : Blocks → Block → Type 0
 IsOf phase b = Contains phase.blocks (unused b)
 
--- the reservers are all of this phase, in the order of the blocks
-abbrev pub AreOf : Blocks → List Block → Type 0
-AreOf phase reservers = map unused reservers ≡ phase.blocks
+-- the number by which phases are told apart, and the phase
+pub record Phase : Type 0 where
+  pub number : ℕ
+  pub phase : Blocks
+
+-- the number of its phase, and its block
+pub record Reserver : Type 0 where
+  pub number : ℕ
+  pub block : Block
+
+abbrev pub blocks_of : List Reserver → List Block
+blocks_of reservers = map (λ (r : Reserver). r.block) reservers
+
+-- the two are one block, however many of its handles are used
+abbrev pub is_same : Block → Block → Bool
+is_same a b = (a.before == b.before) && (a.size == b.size)
+
+-- The second ones are some of the first, in their order.
+abbrev pub are_among : List Block → List Block → Bool
+are_among [] [] = true
+are_among [] (r ∷ reservers) = false
+are_among (b ∷ blocks) [] = are_among blocks []
+are_among (b ∷ blocks) (r ∷ reservers) =
+    if is_same b r then are_among blocks reservers else are_among blocks (r ∷ reservers)
+
+-- What was used of all blocks, if these reservers are here. What a lost one may have used counts as
+-- used.
+abbrev pub accounted : List Block → List Block → List Block
+accounted [] reservers = []
+accounted (b ∷ blocks) [] = record b { used = b.size } ∷ accounted blocks []
+accounted (b ∷ blocks) (r ∷ reservers) =
+    if is_same b r
+    then record b { used = r.used } ∷ accounted blocks reservers
+    else record b { used = b.size } ∷ accounted blocks (r ∷ reservers)
 
 -- For proofs: the blocks stand one after the other, and none of them was used.
 abbrev pub AreLaid : ℕ → List Block → Type 0
@@ -119,3 +150,13 @@ blocks_code =
     (coded× allocator_code (coded× (maps.code handle_code coded_ℕ) (coded_list block_code)))
     (λ b. (b.start, (b.rows, b.blocks)))
     (λ p. record { start = p.0; rows = p.1.0; blocks = p.1.1 }) (λ _. refl)
+
+abbrev pub phase_code : Coded Phase
+phase_code =
+    code_by (ℕ × Blocks) (coded× coded_ℕ blocks_code) (λ p. (p.number, p.phase))
+    (λ p. record { number = p.0; phase = p.1 }) (λ _. refl)
+
+abbrev pub reserver_code : Coded Reserver
+reserver_code =
+    code_by (ℕ × Block) (coded× coded_ℕ block_code) (λ r. (r.number, r.block))
+    (λ p. record { number = p.0; block = p.1 }) (λ _. refl)

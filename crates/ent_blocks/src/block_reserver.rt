@@ -1,111 +1,76 @@
-use crate::opening::lesser;
-use std::marker::Model;
+use crate::blocks::Blocks;
+use crate::numbering::BlockNumbering;
+use crate::part::Part;
+use std::marker::{Model, PhantomData};
 
-/// The right of one caller to the handles of its block, and how many of them it has used.
+/// The right of one caller to the handles of its block.
 ///
-/// [`open_in_blocks`](crate::open_in_blocks) makes them, and [`Blocks::close`](crate::Blocks::close)
-/// takes them back. It is three numbers: it takes no memory, and may go to any thread.
+/// [`Entities::open_in_blocks`](forgeni::Entities::open_in_blocks) makes them, and
+/// [`Blocks::close`](Blocks::close) takes them back. It is a few numbers: it has no list of
+/// handles, and may go to any thread.
+///
+/// ```
+/// use forgeni::Entities;
+///
+/// let (blocks, mut reservers) = Entities::new().open_in_blocks(&[10, 20])?;
+/// blocks.reserve(&mut reservers[1])?;
+/// assert_eq!((reservers[1].size(), reservers[1].used(), reservers[1].left()), (20, 1, 19));
+/// # Ok::<(), Box<dyn std::error::Error + Send + Sync>>(())
+/// ```
 #[derive(Drop)]
-pub struct BlockReserver {
-    before: u32,
-    size: u32,
-    used: u32,
+pub struct BlockReserver<J: BlockNumbering> {
+    pub(crate) part: Part,
+    pub(crate) number: u64,
+    pub(crate) of: PhantomData<J>,
 }
 
-impl Model for BlockReserver {
-    ghost use Rattle.std.specs.Prelude.{◌≤◌};
-    ghost use Rattle.ent_blocks.specs.Blocks.{Block, block_code};
+impl<J: BlockNumbering> Model for BlockReserver<J> {
+    ghost use Rattle.ent_blocks.specs.Blocks.{Reserver, reserver_code, IsOf};
 
-    ghost Value = { Block };
+    ghost Value = { Reserver };
 
-    ghost coded = { block_code };
+    ghost coded = { reserver_code };
 
-    ghost view = { λ r. record { before = r.before; size = r.size; used = r.used } };
+    ghost view = { λ r. record { number = r.number; block = r.part } };
 
-    ghost invariant = { λ r. r.used ≤ r.size };
+    // Its block is one of those of the phase.
+    ghost invariant = { λ r. IsOf (J.blocks_of r.number) r.part };
 }
 
-impl BlockReserver {
-    ghost use Rattle.std.specs.Prelude.{◌≡◌, ◌+◌, ◌-◌, ◌^◌, ◌<◌, ◌≤◌};
-    ghost use Rattle.ent_blocks.specs.Blocks.{after_use, cut, end_of};
+impl<J: BlockNumbering> BlockReserver<J> {
+    ghost use Rattle.std.specs.Prelude.{◌≡◌, ◌↔◌, ◌-◌, ◌≤◌, IsTrue};
 
-    /// A block of `size` handles, of which none is used, after the first `before` of the pool.
-    pub(crate) fn new(before: u32, size: u32) -> Self
-        ensures { result ≡ record { before = before; size = size; used = 0 } }
-    {
-        BlockReserver {
-            before,
-            size,
-            used: 0,
-        }
-    }
-
-    /// How many handles of the pool stand before the block.
-    #[must_use]
-    pub fn before(&self) -> u32
-        ensures { result ≡ self.now.before }
-    {
-        self.before
-    }
-
-    /// How many handles the block has.
+    /// How many handles the block has. It is less than what was wanted if the pool ended.
     #[must_use]
     pub fn size(&self) -> u32
-        ensures { result ≡ self.now.size }
+        ensures { result ≡ self.now.block.size }
     {
-        self.size
+        self.part.size()
     }
 
     /// How many of them are used.
     #[must_use]
     pub fn used(&self) -> u32
-        ensures value { result ≡ self.now.used }
-        ensures within { result ≤ self.now.size }
+        ensures value { result ≡ self.now.block.used }
+        ensures within { result ≤ self.now.block.size }
     {
-        self.used
+        self.part.used()
     }
 
     /// How many handles of the block are left.
     #[must_use]
     pub fn left(&self) -> u32
-        ensures value { result ≡ self.now.size - self.now.used }
-        ensures within { self.now.used ≤ self.now.size }
+        ensures value { result ≡ self.now.block.size - self.now.block.used }
+        ensures within { self.now.block.used ≤ self.now.block.size }
     {
-        self.size - self.used
+        self.part.left()
     }
 
-    /// Uses the next `n` handles of the block.
-    pub(crate) fn advance(&mut self, n: u32)
-        requires { self.old.used + n ≤ self.old.size }
-        ensures { self.new ≡ after_use self.old n }
+    /// Whether it is of this phase.
+    #[must_use]
+    pub fn is_of(&self, blocks: &Blocks<J>) -> bool
+        ensures { IsTrue result ↔ (self.now.number ≡ blocks.now.number) }
     {
-        self.used += n;
-    }
-    /// One past the position of the last handle that was used; 0 if none was.
-    pub(crate) fn end(&self) -> u32
-        requires { self.now.before + self.now.size < 2 ^ 32 }
-        ensures value { result ≡ end_of self.now }
-        ensures within { result ≤ self.now.before + self.now.size }
-    {
-        if self.used == 0 {
-            0
-        } else {
-            self.before + self.used
-        }
-    }
-
-    /// The part of the block that lies before a position of the pool: none of it, if the block
-    /// begins there or after it.
-    pub(crate) fn cut(&self, end: u32) -> Self
-        requires few { self.now.before + self.now.size < 2 ^ 32 }
-        requires used { end_of self.now ≤ end }
-        ensures { result ≡ cut end self.now }
-    {
-        let before = lesser(self.before, end);
-        BlockReserver {
-            before,
-            size: lesser(self.before + self.size, end) - before,
-            used: self.used,
-        }
+        self.number == blocks.number()
     }
 }

@@ -1,155 +1,452 @@
-ghost use Rattle.std.specs.Prelude.{◌≡◌, ◌≢◌, ◌<◌, ◌⊎◌, ◌↔◌};
-ghost use Rattle.std.specs.Prelude.{IfOk, IfErr, OnOk, OnErr, All, AllPairs, Contains};
+ghost use Rattle.std.specs.Prelude.{◌≡◌, ◌≢◌, ℕ, ◌+◌, ◌-◌, ◌<◌, ◌≤◌, ◌⊎◌, ◌↔◌, ◌++◌, ◌∷◌, [], length, take, map};
+ghost use Rattle.std.specs.Prelude.{IfOk, IfErr, OnOk, OnErr, IsErrOf, IsTrue, All, AllPairs, Contains};
+ghost use Rattle.std.specs.Prelude.{Ok, vec_len, vec_capacity, true, OnSome};
+ghost use Rattle.std.specs.FinSet as set;
+ghost use Rattle.std.specs.FinMap as maps;
 ghost use Rattle.ent_handle.specs.Handle.{Handle as HandleValue};
-ghost use Rattle.ent_alloc.specs.Sequential.{after_flush};
+ghost use Rattle.ent_alloc.specs.Sequential.{after_flush, reply_from, listed, listed_alone};
 ghost use Rattle.ent_alloc.specs.Sound.{IsLive};
-ghost use Rattle.ent_alloc.specs.Sequential.{reply_from, listed_alone};
 ghost use Rattle.ent_alloc.specs.Entities.{HasRowsOfLiving};
-ghost use Rattle.ent_blocks.specs.Blocks.{reach, rest_of};
+ghost use Rattle.ent_blocks.specs.Blocks.{rest_of, unused, blocks_of, are_among, accounted};
+ghost use Rattle.ent_blocks.specs.Faults.{IsErrWith, IsMissing};
+ghost use Rattle.ent_blocks.specs.declared.block_error.BlockError.TheVariants as refused;
+ghost use Rattle.ent_blocks.specs.declared.unended.EndError.TheVariants as failed;
 
+use crate::accounting::{account, are_of, missing};
+use crate::block_error::BlockError;
 use crate::block_reserver::BlockReserver;
-use crate::closing::{handle_at, take_used};
-use ent_alloc::{Entities, Reserved, Space, Span};
-use ent_handle::{Handle, Memory};
+use crate::closing::take_used;
+use crate::numbering::BlockNumbering;
+use crate::part::Part;
+use crate::taking::{append, take_many, take_one};
+use crate::unended::{EndError, Unended};
+use ent_alloc::Entities;
+use ent_handle::Handle;
 use std::alloc::Global;
-use std::marker::Model;
+use std::marker::{Model, PhantomData};
 
 /// An allocator whose pool's front is dealt in blocks, one to each [`BlockReserver`].
+/// [`Entities::open_in_blocks`](forgeni::Entities::open_in_blocks) makes it.
 ///
-/// Many threads may reserve from it at once: no call writes to it.
+/// Which handles a reserver gets depends on the allocator, on the sizes, and on what it has reserved
+/// before: on no other reserver, and on no thread. Many threads may reserve at once: no reservation
+/// writes to what they share.
+#[must_use]
 #[derive(Drop)]
-pub struct Blocks {
+pub struct Blocks<J: BlockNumbering> {
     alloc: Global,
     entities: Entities,
-    blocks: Vec<BlockReserver>,
+    parts: Vec<Part>,
+    number: u64,
+    of: PhantomData<J>,
 }
 
-impl Model for Blocks {
-    ghost use Rattle.ent_blocks.specs.Blocks.{Blocks, blocks_code, AreDealt};
+impl<J: BlockNumbering> Model for Blocks<J> {
+    ghost use Rattle.std.specs.Prelude.{◌≡◌};
+    ghost use Rattle.ent_blocks.specs.Blocks.{Phase, phase_code, AreDealt};
 
-    ghost Value = { Blocks };
+    ghost Value = { Phase };
 
-    ghost coded = { blocks_code };
+    ghost coded = { phase_code };
 
     ghost view = { λ b. record {
-      start = b.entities.allocator;
-      rows = b.entities.rows;
-      blocks = b.blocks.items;
+      number = b.number;
+      phase = record {
+        start = b.entities.allocator;
+        rows = b.entities.rows;
+        blocks = b.parts.items;
+      };
     } };
 
-    ghost invariant = { λ b. AreDealt b.entities.allocator b.blocks.items };
+    // The number stands for this phase.
+    ghost invariant = { λ b. AreDealt b.entities.allocator b.parts.items
+        × (J.blocks_of b.number ≡ record {
+          start = b.entities.allocator;
+          rows = b.entities.rows;
+          blocks = b.parts.items;
+        }) };
 }
 
-impl Blocks {
-    ghost use Rattle.ent_blocks.specs.Blocks.{IsOf, AreOf, AreDealt, after_use, after_blocks};
+impl<J: BlockNumbering> Blocks<J> {
+    ghost use Rattle.ent_blocks.specs.Blocks.{AreDealt, after_use, after_blocks};
 
-    pub(crate) fn new(alloc: Global, entities: Entities, blocks: Vec<BlockReserver>) -> Self
-        requires { AreDealt entities.allocator blocks.items }
-        ensures { result ≡ record {
+    pub(crate) fn new(alloc: Global, entities: Entities, parts: Vec<Part>, number: u64) -> Self
+        requires dealt { AreDealt entities.allocator parts.items }
+        requires stands_for { J.blocks_of number ≡ record {
           start = entities.allocator;
           rows = entities.rows;
-          blocks = blocks.items;
+          blocks = parts.items;
+        } }
+        ensures { result ≡ record {
+          number = number;
+          phase = record {
+            start = entities.allocator;
+            rows = entities.rows;
+            blocks = parts.items;
+          };
         } }
     {
         Blocks {
             alloc,
             entities,
-            blocks,
+            parts,
+            number,
+            of: PhantomData,
         }
+    }
+
+    pub(crate) fn number(&self) -> u64
+        ensures { result ≡ self.now.number }
+    {
+        self.number
+    }
+
+    /// How many blocks it has.
+    #[must_use]
+    pub fn count(&self) -> usize
+        ensures { result ≡ length self.now.phase.blocks }
+    {
+        self.parts.len()
+    }
+
+    /// Whether the entity was alive when the phase was opened. It stays so until the close. Any
+    /// thread may ask, and it takes constant time.
+    #[must_use]
+    pub fn is_alive(&self, handle: Handle) -> bool
+        ensures { result ≡ set.contains self.now.phase.start.live handle }
+    {
+        self.entities.is_alive(handle)
+    }
+
+    /// The row that was set with the entity when the phase was opened. `None` if the entity was not
+    /// alive then, or had no row. It takes constant time.
+    #[must_use]
+    pub fn row(&self, handle: Handle) -> Option<u32>
+        ensures value { result ≡ maps.get self.now.phase.rows handle }
+        ensures alive { OnSome result (set.contains self.now.phase.start.live handle ≡ true) }
+    {
+        self.entities.row(handle)
     }
 
     /// Reserves the next handle of the reserver's block. It makes no atomic step, takes no memory
-    /// and waits for nobody.
+    /// and waits for nobody. The handle comes to life after the phase, by the next flush.
+    ///
+    /// ```
+    /// use forgeni::Entities;
+    ///
+    /// let (blocks, mut reservers) = Entities::new().open_in_blocks(&[10, 10])?;
+    /// let second = blocks.reserve(&mut reservers[1])?;
+    /// let first = blocks.reserve(&mut reservers[0])?;
+    /// assert_eq!((first.index(), second.index()), (0, 10));
+    /// # Ok::<(), Box<dyn std::error::Error + Send + Sync>>(())
+    /// ```
     ///
     /// # Errors
     ///
-    /// [`Space`], with 1 wanted and 0 left, if the block is used up. Nothing has changed.
-    pub fn reserve(&self, reserver: &mut BlockReserver) -> Result<Handle, Space>
-        requires { IsOf self.now reserver.old }
-        ensures reply { listed_alone result
-            ≡ reply_from self.now.start.made (rest_of self.now.start.pool reserver.old) 1 }
-        ensures ok { OnOk result (reserver.new ≡ after_use reserver.old 1) }
-        ensures err { OnErr result (reserver.new ≡ reserver.old) }
-        ensures stays { IsOf self.now reserver.new }
+    /// Nothing has changed then. [`BlockError::OtherPhase`] if the reserver is of another phase.
+    /// [`BlockError::Space`], with 1 wanted and 0 left, if the block is used up.
+    #[inline]
+    pub fn reserve(&self, reserver: &mut BlockReserver<J>) -> Result<Handle, BlockError>
+        ensures reply { IfOk result (λ handle. reply_from self.now.phase.start.made
+            (rest_of self.now.phase.start.pool reserver.old.block) 1 ≡ Ok (handle ∷ [])) }
+        ensures ok { OnOk result (reserver.new ≡ record reserver.old {
+          block = after_use reserver.old.block 1;
+        }) }
+        ensures other_phase { IsErrOf result refused.OtherPhase
+            ↔ (reserver.old.number ≢ self.now.number) }
+        ensures err { IfErr result (λ error. (error ≡ refused.OtherPhase)
+            ⊎ ((error ≡ refused.Space 1 0) × (reserver.old.block.used ≡ reserver.old.block.size))) }
+        ensures unchanged { OnErr result (reserver.new ≡ reserver.old) }
     {
-        if reserver.left() == 0 {
-            return Err(Space { wanted: 1, left: 0 });
+        if reserver.number != self.number {
+            return Err(BlockError::OtherPhase);
         }
-        let handle = handle_at(&self.entities, reserver.before() + reserver.used());
-        reserver.advance(1);
-        Ok(handle)
+        Ok(take_one(&self.entities, &mut reserver.part)?)
     }
 
-    /// Reserves the next `n` handles of the reserver's block, all of them or none. It makes no atomic
-    /// step, takes no memory and waits for nobody. They are listed as [`Entities::reply`] lists
-    /// them: the last of the pool first.
+    /// Reserves the next `n` handles of the reserver's block, all of them or none. They are listed as
+    /// [`Reserver::reserve_many`](forgeni::Reserver::reserve_many) lists them: those of old slots
+    /// first, the last of the pool before the others, then those of new slots. A request of 0 is
+    /// always served.
+    ///
+    /// ```
+    /// use forgeni::{BlockError, Entities};
+    ///
+    /// let (blocks, mut reservers) = Entities::new().open_in_blocks(&[10, 10])?;
+    /// let seven = blocks.reserve_many(&mut reservers[1], 7)?;
+    /// assert_eq!((seven[0].index(), seven[6].index()), (10, 16));
+    /// let refused = blocks.reserve_many(&mut reservers[1], 4);
+    /// assert_eq!(refused, Err(BlockError::Space { wanted: 4, left: 3 }));
+    /// assert_eq!(blocks.reserve_many(&mut reservers[1], 3)?.len(), 3);
+    /// # Ok::<(), Box<dyn std::error::Error + Send + Sync>>(())
+    /// ```
     ///
     /// # Errors
     ///
-    /// [`Space`], with what was wanted and what is left of the block, if that is less than `n`.
-    /// Nothing has changed.
-    pub fn reserve_many(&self, reserver: &mut BlockReserver, n: u32) -> Result<Reserved<'_>, Space>
-        requires { IsOf self.now reserver.old }
-        ensures reply { result
-            ≡ reply_from self.now.start.made (rest_of self.now.start.pool reserver.old) n }
-        ensures ok { OnOk result (reserver.new ≡ after_use reserver.old n) }
-        ensures err { OnErr result (reserver.new ≡ reserver.old) }
-        ensures stays { IsOf self.now reserver.new }
+    /// Nothing has changed then. The error is the first of these that holds:
+    /// [`BlockError::OtherPhase`] if the reserver is of another phase; [`BlockError::Space`] if the
+    /// block has fewer than `n` handles left; [`BlockError::Memory`] if there is no memory for the
+    /// list.
+    pub fn reserve_many(
+        &self,
+        reserver: &mut BlockReserver<J>,
+        n: u32,
+    ) -> Result<Vec<Handle>, BlockError>
+        ensures given { IfOk result (λ handles. handles.items ≡ listed self.now.phase.start.made
+            (take n (rest_of self.now.phase.start.pool reserver.old.block))) }
+        ensures ok { OnOk result (reserver.new ≡ record reserver.old {
+          block = after_use reserver.old.block n;
+        }) }
+        ensures other_phase { IsErrOf result refused.OtherPhase
+            ↔ (reserver.old.number ≢ self.now.number) }
+        ensures space { let left = reserver.old.block.size - reserver.old.block.used in
+            IsErrOf result (refused.Space n left)
+            ↔ ((reserver.old.number ≡ self.now.number) × (left < n)) }
+        ensures err { let left = reserver.old.block.size - reserver.old.block.used in
+            IfErr result (λ error. (error ≡ refused.OtherPhase)
+            ⊎ ((error ≡ refused.Space n left) ⊎ ((error ≡ refused.Memory) × (0 < n)))) }
+        ensures unchanged { OnErr result (reserver.new ≡ reserver.old) }
     {
-        let top = i64::from(self.entities.top());
-        let left = reserver.left();
-        if n > left {
-            return Err(Space { wanted: n, left });
+        let mut handles = Vec::new(self.alloc);
+        self.reserve_into(reserver, &mut handles, n)?;
+        Ok(handles)
+    }
+
+    /// [`reserve_many`](Self::reserve_many), which appends the handles to a list. It takes no memory
+    /// if the list has room for them, or if they are refused.
+    ///
+    /// ```
+    /// use forgeni::Entities;
+    ///
+    /// let (blocks, mut reservers) = Entities::new().open_in_blocks(&[100])?;
+    /// let mut handles = Vec::with_capacity(100);
+    /// for _ in 0..10 {
+    ///     blocks.reserve_into(&mut reservers[0], &mut handles, 10)?;
+    /// }
+    /// assert_eq!(handles.len(), 100);
+    /// # Ok::<(), Box<dyn std::error::Error + Send + Sync>>(())
+    /// ```
+    ///
+    /// # Errors
+    ///
+    /// As [`reserve_many`](Self::reserve_many), and then the list has the same handles as before.
+    pub fn reserve_into(
+        &self,
+        reserver: &mut BlockReserver<J>,
+        handles: &mut Vec<Handle>,
+        n: u32,
+    ) -> Result<(), BlockError>
+        ensures given { OnOk result (handles.new.items ≡ handles.old.items
+            ++ listed self.now.phase.start.made
+            (take n (rest_of self.now.phase.start.pool reserver.old.block))) }
+        ensures ok { OnOk result (reserver.new ≡ record reserver.old {
+          block = after_use reserver.old.block n;
+        }) }
+        ensures other_phase { IsErrOf result refused.OtherPhase
+            ↔ (reserver.old.number ≢ self.now.number) }
+        ensures space { let left = reserver.old.block.size - reserver.old.block.used in
+            IsErrOf result (refused.Space n left)
+            ↔ ((reserver.old.number ≡ self.now.number) × (left < n)) }
+        ensures err { let left = reserver.old.block.size - reserver.old.block.used in
+            IfErr result (λ error. (error ≡ refused.OtherPhase)
+            ⊎ ((error ≡ refused.Space n left) ⊎ ((error ≡ refused.Memory)
+            × (vec_capacity handles.old < vec_len handles.old + n)))) }
+        ensures unchanged { OnErr result (reserver.new ≡ reserver.old) }
+        ensures kept { OnErr result (handles.new.items ≡ handles.old.items) }
+    {
+        if reserver.number != self.number {
+            return Err(BlockError::OtherPhase);
         }
-        let next = reserver.before() + reserver.used();
-        let span = Span::new(top - i64::from(next), n);
-        reserver.advance(n);
-        self.entities.reply(span)
+        let left = reserver.part.left();
+        if n > left {
+            return Err(BlockError::Space { wanted: n, left });
+        }
+        handles.reserve(n as usize)?;
+        let given = take_many(&self.entities, &mut reserver.part, n);
+        append(handles, given);
+        Ok(())
     }
 
     /// Ends the phase with all its reservers, in the order in which they were made. What was used is
     /// reserved: a flush brings it to life. What is left of the blocks can be given again, and comes
     /// before all that was not dealt.
     ///
-    /// The slots up to the last one that was used are made. So a fresh one that nobody used is made
+    /// The slots up to the last one that was used are made. So a new one that nobody used is made
     /// only if a later one was used, and waits with generation 1.
+    ///
+    /// ```
+    /// use forgeni::Entities;
+    ///
+    /// let (blocks, mut reservers) = Entities::new().open_in_blocks(&[2, 2])?;
+    /// let used = blocks.reserve(&mut reservers[1])?;
+    /// let mut entities = blocks.close(reservers)?;
+    /// let mut born = Vec::new();
+    /// entities.flush(&mut born)?;
+    /// assert_eq!((born, entities.total()), (vec![used], 3));
+    /// assert_eq!(entities.alloc()?.index(), 0);
+    /// # Ok::<(), Box<dyn std::error::Error + Send + Sync>>(())
+    /// ```
     ///
     /// # Errors
     ///
-    /// [`Memory`], with the phase and the reservers as they were. If nothing was used, it takes no
-    /// memory.
-    pub fn close(
-        self,
-        reservers: Vec<BlockReserver>,
-    ) -> Result<Entities, (Blocks, Vec<BlockReserver>, Memory)>
-        requires { AreOf self reservers.items }
+    /// [`Unended`] has the error, the phase and the reservers as they were. The error is the first of
+    /// these that holds: [`EndError::OtherPhase`], [`EndError::Order`], [`EndError::Missing`],
+    /// [`EndError::Memory`].
+    pub fn close(self, reservers: Vec<BlockReserver<J>>) -> Result<Entities, Unended<J>>
         ensures after { IfOk result (λ entities. entities.allocator
-            ≡ after_blocks self.start reservers.items) }
-        ensures rows { IfOk result (λ entities. entities.rows ≡ self.rows) }
+            ≡ after_blocks self.phase.start (blocks_of reservers.items)) }
+        ensures rows { IfOk result (λ entities. entities.rows ≡ self.phase.rows) }
         ensures rows_of_living { IfOk result HasRowsOfLiving }
 
         // No handle was given twice, and none was alive.
         ensures distinct { IfOk result (λ entities.
             AllPairs (λ g h. g ≢ h) entities.allocator.taken) }
         ensures not_live { IfOk result (λ entities.
-            All (λ h. ¬ (IsLive self.start h)) entities.allocator.taken) }
+            All (λ h. ¬ (IsLive self.phase.start h)) entities.allocator.taken) }
 
         // A flush brings to life exactly what was used.
         ensures brings_to_life { IfOk result (λ entities. (h : HandleValue) →
             IsLive (after_flush entities.allocator) h
-            ↔ (IsLive self.start h ⊎ Contains entities.allocator.taken h)) }
-        ensures phase { IfErr result (λ refused. refused.0 ≡ self) }
-        ensures reservers { IfErr result (λ refused. refused.1.items ≡ reservers.items) }
-        ensures memory { OnErr result (0 < reach reservers.items) }
+            ↔ (IsLive self.phase.start h ⊎ Contains entities.allocator.taken h)) }
+
+        // When it succeeds, when it is refused, and what stands then.
+        ensures of { OnOk result (All (λ r. r.number ≡ self.number) reservers.items) }
+        ensures all { OnOk result (map unused (blocks_of reservers.items) ≡ self.phase.blocks) }
+        ensures other_phase { IsErrWith result (λ u. u.error ≡ failed.OtherPhase)
+            ↔ ¬ (All (λ r. r.number ≡ self.number) reservers.items) }
+        ensures order { IsErrWith result (λ u. u.error ≡ failed.Order)
+            ↔ (All (λ r. r.number ≡ self.number) reservers.items
+            × ¬ (IsTrue (are_among self.phase.blocks (blocks_of reservers.items)))) }
+        ensures missing { IsErrWith result (λ u.
+            IsMissing (length self.phase.blocks - length reservers.items) u.error)
+            ↔ (All (λ r. r.number ≡ self.number) reservers.items
+            × (IsTrue (are_among self.phase.blocks (blocks_of reservers.items))
+            × (length reservers.items < length self.phase.blocks))) }
+        ensures memory { IsErrWith result (λ u. u.error ≡ failed.Memory)
+            → 0 < length self.phase.blocks }
+        ensures handed_back { IfErr result (λ u. (u.blocks ≡ self)
+            × (u.reservers.items ≡ reservers.items)) }
+    {
+        if !are_of(self.number, &reservers) {
+            return Err(self.unended(reservers, EndError::OtherPhase));
+        }
+        match missing(&self.parts, &reservers) {
+            None => Err(self.unended(reservers, EndError::Order)),
+            Some(0) => self.end_with(reservers),
+            Some(count) => Err(self.unended(reservers, EndError::Missing { count })),
+        }
+    }
+
+    /// Ends the phase although some reservers are lost: they were dropped, as by a thread that
+    /// panicked. The others are in the order in which they were made. What is left of a lost one's
+    /// block counts as used, so [`flush`](Entities::flush) brings all handles of that block to life.
+    ///
+    /// ```
+    /// use forgeni::{EndError, Entities};
+    ///
+    /// let (blocks, mut reservers) = Entities::new().open_in_blocks(&[3, 4])?;
+    /// let used = blocks.reserve(&mut reservers[1])?;
+    /// drop(reservers.remove(0));
+    /// let (blocks, reservers, error) = blocks.close(reservers).unwrap_err().into_parts();
+    /// assert_eq!(error, EndError::Missing { count: 1 });
+    /// let mut entities = blocks.close_lost(reservers)?;
+    /// let mut born = Vec::new();
+    /// entities.flush(&mut born)?;
+    /// assert!(born.len() == 4 && born.contains(&used));
+    /// # Ok::<(), Box<dyn std::error::Error + Send + Sync>>(())
+    /// ```
+    ///
+    /// # Errors
+    ///
+    /// [`Unended`] has the error, the phase and the reservers as they were. The error is the first of
+    /// these that holds: [`EndError::OtherPhase`], [`EndError::Order`], [`EndError::Memory`].
+    pub fn close_lost(self, reservers: Vec<BlockReserver<J>>) -> Result<Entities, Unended<J>>
+        ensures after { IfOk result (λ entities. entities.allocator ≡ after_blocks
+            self.phase.start (accounted self.phase.blocks (blocks_of reservers.items))) }
+        ensures rows { IfOk result (λ entities. entities.rows ≡ self.phase.rows) }
+        ensures rows_of_living { IfOk result HasRowsOfLiving }
+
+        // No handle is taken twice, and none was alive. A flush brings to life exactly these.
+        ensures distinct { IfOk result (λ entities.
+            AllPairs (λ g h. g ≢ h) entities.allocator.taken) }
+        ensures not_live { IfOk result (λ entities.
+            All (λ h. ¬ (IsLive self.phase.start h)) entities.allocator.taken) }
+        ensures brings_to_life { IfOk result (λ entities. (h : HandleValue) →
+            IsLive (after_flush entities.allocator) h
+            ↔ (IsLive self.phase.start h ⊎ Contains entities.allocator.taken h)) }
+
+        // When it succeeds, when it is refused, and what stands then.
+        ensures of { OnOk result (All (λ r. r.number ≡ self.number) reservers.items) }
+        ensures among { OnOk result
+            (IsTrue (are_among self.phase.blocks (blocks_of reservers.items))) }
+        ensures other_phase { IsErrWith result (λ u. u.error ≡ failed.OtherPhase)
+            ↔ ¬ (All (λ r. r.number ≡ self.number) reservers.items) }
+        ensures order { IsErrWith result (λ u. u.error ≡ failed.Order)
+            ↔ (All (λ r. r.number ≡ self.number) reservers.items
+            × ¬ (IsTrue (are_among self.phase.blocks (blocks_of reservers.items)))) }
+        ensures no_missing { IfErr result (λ u. (n : ℕ) → ¬ (IsMissing n u.error)) }
+        ensures memory { IsErrWith result (λ u. u.error ≡ failed.Memory)
+            → 0 < length self.phase.blocks }
+        ensures handed_back { IfErr result (λ u. (u.blocks ≡ self)
+            × (u.reservers.items ≡ reservers.items)) }
+    {
+        if !are_of(self.number, &reservers) {
+            return Err(self.unended(reservers, EndError::OtherPhase));
+        }
+        if missing(&self.parts, &reservers).is_none() {
+            return Err(self.unended(reservers, EndError::Order));
+        }
+        self.end_with(reservers)
+    }
+
+    /// Ends the phase with these reservers, of some of its blocks.
+    fn end_with(self, reservers: Vec<BlockReserver<J>>) -> Result<Entities, Unended<J>>
+        ensures after { IfOk result (λ entities. entities.allocator ≡ after_blocks
+            self.phase.start (accounted self.phase.blocks (blocks_of reservers.items))) }
+        ensures rows { IfOk result (λ entities. entities.rows ≡ self.phase.rows) }
+        ensures rows_of_living { IfOk result HasRowsOfLiving }
+        ensures distinct { IfOk result (λ entities.
+            AllPairs (λ g h. g ≢ h) entities.allocator.taken) }
+        ensures not_live { IfOk result (λ entities.
+            All (λ h. ¬ (IsLive self.phase.start h)) entities.allocator.taken) }
+        ensures brings_to_life { IfOk result (λ entities. (h : HandleValue) →
+            IsLive (after_flush entities.allocator) h
+            ↔ (IsLive self.phase.start h ⊎ Contains entities.allocator.taken h)) }
+        ensures error { IfErr result (λ u. u.error ≡ failed.Memory) }
+        ensures memory { OnErr result (0 < length self.phase.blocks) }
+        ensures handed_back { IfErr result (λ u. (u.blocks ≡ self)
+            × (u.reservers.items ≡ reservers.items)) }
+        ensures unused { map unused
+            (accounted self.phase.blocks (blocks_of reservers.items)) ≡ self.phase.blocks }
     {
         let Blocks {
             alloc,
             mut entities,
-            blocks,
+            parts,
+            number,
+            of: _,
         } = self;
-        let Ok(()) = take_used(alloc, &mut entities, &reservers) else {
-            return Err((Blocks::new(alloc, entities, blocks), reservers, Memory));
+        let Ok(all) = account(alloc, &parts, &reservers) else {
+            let blocks = Blocks::new(alloc, entities, parts, number);
+            return Err(blocks.unended(reservers, EndError::Memory));
+        };
+        let Ok(()) = take_used(alloc, &mut entities, &all) else {
+            let blocks = Blocks::new(alloc, entities, parts, number);
+            return Err(blocks.unended(reservers, EndError::Memory));
         };
         Ok(entities)
+    }
+
+    /// The phase goes on, and hands these back.
+    fn unended(self, reservers: Vec<BlockReserver<J>>, error: EndError) -> Unended<J>
+        ensures blocks { result.blocks ≡ self }
+        ensures reservers { result.reservers.items ≡ reservers.items }
+        ensures error { result.error ≡ error }
+    {
+        Unended {
+            blocks: self,
+            reservers,
+            error,
+        }
     }
 }

@@ -6,7 +6,7 @@ ghost use Rattle.ent_alloc.specs.Entities.{HasRowsOfLiving};
 ghost use Rattle.ent_blocks.specs.Blocks.{AreLaid, dealt, unused, used_of, rest_of};
 ghost use Rattle.ent_blocks.specs.Blocks.{cut, reach, after_blocks};
 
-use crate::block_reserver::BlockReserver;
+use crate::part::Part;
 use ent_alloc::Entities;
 use ent_handle::{Handle, Memory};
 use std::alloc::Global;
@@ -16,7 +16,7 @@ use std::alloc::Global;
 pub(crate) fn take_used(
     alloc: Global,
     entities: &mut Entities,
-    reservers: &[BlockReserver],
+    reservers: &[Part],
 ) -> Result<(), Memory>
     requires flushed { entities.old.allocator.asked ≡ 0 }
     requires laid { AreLaid 0 (map unused reservers.now) }
@@ -46,7 +46,7 @@ pub(crate) fn take_used(
 }
 
 /// One past the last position that was used; 0 if none was.
-fn reach(reservers: &[BlockReserver]) -> u32
+fn reach(reservers: &[Part]) -> u32
     requires laid { AreLaid 0 (map unused reservers.now) }
     requires few { dealt reservers.now < 2 ^ 32 }
     ensures value { result ≡ reach reservers.now }
@@ -54,7 +54,7 @@ fn reach(reservers: &[BlockReserver]) -> u32
 {
     let mut end = 0;
     for reserver in reservers {
-        end = greater(end, reserver.end());
+        end = greater(end, reserver.used_end());
     }
     end
 }
@@ -66,11 +66,7 @@ fn greater(m: u32, n: u32) -> u32
 }
 
 /// The parts of the blocks that lie before a position.
-fn cut_all(
-    alloc: Global,
-    reservers: &[BlockReserver],
-    end: u32,
-) -> Result<Vec<BlockReserver>, Memory>
+fn cut_all(alloc: Global, reservers: &[Part], end: u32) -> Result<Vec<Part>, Memory>
     requires laid { AreLaid 0 (map unused reservers.now) }
     requires few { dealt reservers.now < 2 ^ 32 }
     requires used { reach reservers.now ≤ end }
@@ -113,7 +109,7 @@ pub(crate) fn list(entities: &Entities, order: &mut Vec<Handle>, from: u32, coun
 }
 
 /// Appends what was used of each block, and returns how many handles that are.
-fn list_used(entities: &Entities, reservers: &[BlockReserver], order: &mut Vec<Handle>) -> u32
+fn list_used(entities: &Entities, reservers: &[Part], order: &mut Vec<Handle>) -> u32
     requires flushed { entities.now.allocator.asked ≡ 0 }
     requires laid { AreLaid 0 (map unused reservers.now) }
     requires within { dealt reservers.now ≤ length entities.now.allocator.pool }
@@ -138,7 +134,7 @@ fn list_used(entities: &Entities, reservers: &[BlockReserver], order: &mut Vec<H
 }
 
 /// Appends what is left of each block.
-fn list_rests(entities: &Entities, reservers: &[BlockReserver], order: &mut Vec<Handle>)
+fn list_rests(entities: &Entities, reservers: &[Part], order: &mut Vec<Handle>)
     requires flushed { entities.now.allocator.asked ≡ 0 }
     requires laid { AreLaid 0 (map unused reservers.now) }
     requires within { dealt reservers.now ≤ length entities.now.allocator.pool }

@@ -2,11 +2,22 @@
 //! handle each is given depends on no other, and on no thread.
 #![tactic(auto)]
 
+mod accounting;
+mod block_error;
 mod block_reserver;
 mod blocks;
 mod closing;
+mod numbering;
 mod opening;
+mod part;
+mod taking;
+mod undealt;
+mod unended;
 
+pub use block_error::BlockError;
 pub use block_reserver::BlockReserver;
 pub use blocks::Blocks;
-pub use opening::open_in_blocks;
+pub use numbering::BlockNumbering;
+pub use opening::{Deal, open_in_blocks};
+pub use undealt::{DealError, Undealt};
+pub use unended::{EndError, Unended};

@@ -115,6 +115,15 @@ pub room_inside : (columns : List Column) (n place : ℕ) → HasRoomAt (column_
 room_inside columns n place room = search
     (rules, cases_lt n (length columns), column_past, map.get-empty)
 
+-- so is one with a value
+pub value_inside : (columns : List Column) (place : ℕ) (id : ComponentId) (v : ℤ)
+    → value_at columns place id ≡ Some v → id.0 < length columns
+value_inside columns place id v at = elim (cases_lt id.0 (length columns)) [
+  | inl lt ↦ lt
+  | inr past ↦ absurd (none-some v (sym (ap (λ (c : Column). map.get c.values place)
+      (column_past columns id.0 past) ∙ map.get-empty nat_cmp place) ∙ at))
+]
+
 same_id : (a b : ComponentId) → a.0 ≡ b.0 → a ≡ b
 same_id a b e = λ i. record { 0 = e i }
 

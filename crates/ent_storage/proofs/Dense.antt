@@ -27,11 +27,11 @@ module _ (D : List (ℕ × ℤ)) (S : List ℕ) (dense : IsDense D S) where
       → map.get (map.from_entries {R = nat_cmp} D) p ≡ Some v
   has k p v e =
       map.get-from_entries total D p
-      ∙ find_at D k p v e (λ j w l at. let j_is : j ≡ k = once j k p w v at e in omega arith)
+      ∙ find_at total same D k p v e (λ j w l at. let j_is : j ≡ k = once j k p w v at e in omega arith)
 
   pub at : (p : ℕ) (v : ℤ) → map.get (map.from_entries {R = nat_cmp} D) p ≡ Some v → (k : ℕ)
       × (slice_get D k ≡ Some (p, v))
-  at p v e = search (rules, map.get-from_entries, find_gives)
+  at p v e = find_gives total same D p v (sym (map.get-from_entries total D p) ∙ e)
 
   -- a place of which the sparse vector has no entry that counts has no value
   pub missing : (p : ℕ) → ((k : ℕ) (v : ℤ) → slice_get S p ≡ Some k → slice_get D k ≢ Some (p, v))

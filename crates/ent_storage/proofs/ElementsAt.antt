@@ -1,13 +1,11 @@
 -- The elements of a list by their positions, after each change, and the first pair of a key.
-use Rattle.std.proofs.Common.{rules, ◌≡◌, ◌≢◌, ℕ, ℤ, zero, suc, ◌<◌, ◌≤◌, cond, ◌⊎◌, inl, inr, List}
+use Rattle.std.proofs.Common.{rules, ◌≡◌, ◌≢◌, ℕ, Ordering, zero, suc, ◌<◌, ◌≤◌, cond, ◌⊎◌, inl, inr, List}
 use Rattle.std.proofs.Common.{[], ◌∷◌, ◌++◌, length, set, Option, Some, None, slice_get, refl, sym}
 use Rattle.std.proofs.Common.{ap, ◌∙◌, arith}
-use Rattle.std.proofs.lemmas.Grind.{common_steps}
 use Rattle.std.proofs.lemmas.Option.{same_Some, none-some, slice_get-get_or, slice_get_past}
-use Rattle.std.specs.Ordering.{nat_cmp}
-use Rattle.std.specs.Cmp.{nat_cmp_total as total}
-use Rattle.std.specs.FinMap.{find, nat_cmp-IsAntisymmetric as same}
-use Rattle.ent_storage.proofs.Keys.{apart, same_or_apart}
+use Rattle.std.specs.Cmp.{IsTotalOrder}
+use Rattle.std.specs.FinMap.{find, IsAntisymmetric}
+use Rattle.ent_storage.proofs.Keys.{apart, same_or_apart, tied}
 use Rattle.std.proofs.lemmas.Bool.{cases_lt}
 use Rattle.std.proofs.lemmas.List.{get_or-set_same, get_or-set_other, length-set}
 use Rattle.std.proofs.lemmas.List.{get_or_append_left, get_or_push, length_push}
@@ -54,26 +52,34 @@ same_option (Some x) (Some y) f g = g y refl
 
 -- ---- a scan from the front
 
-pub find_at : (D : List (ℕ × ℤ)) (k p : ℕ) (v : ℤ) → slice_get D k ≡ Some (p, v)
-    → ((j : ℕ) (w : ℤ) → j < k → slice_get D j ≢ Some (p, w)) → find nat_cmp p D ≡ Some v
-find_at [] k p v e first = absurd (none-some (p, v) e)
-find_at (x ∷ D) zero p v e first = grind (arith, common_steps)
-find_at (x ∷ D) (suc k) p v e first =
-    ap (λ t. cond t (Some x.1) (find nat_cmp p D))
-    (apart total same p x.0
-    (λ q. first 0 x.1 (omega arith) (ap (λ (n : ℕ). Some (n, x.1)) (sym q))))
-    ∙ find_at D k p v e (λ j w l. first (suc j) w (omega arith))
+module _ {K X : Type 0} {R : K → K → Ordering} (total : IsTotalOrder R) (same : IsAntisymmetric R) where
+  pub find_at : (D : List (K × X)) (k : ℕ) (p : K) (v : X) → slice_get D k ≡ Some (p, v)
+      → ((j : ℕ) (w : X) → j < k → slice_get D j ≢ Some (p, w)) → find R p D ≡ Some v
+  find_at [] k p v e first = absurd (none-some (p, v) e)
+  find_at (x ∷ D) zero p v e first =
+      let is : x ≡ (p, v) = same_Some _ _ e in
+      ap (λ t. cond t (Some x.1) (find R p D)) (tied total same p x.0 (sym (ap (λ (y : K × X). y.0) is)))
+      ∙ ap (λ (y : K × X). Some y.1) is
+  find_at (x ∷ D) (suc k) p v e first =
+      ap (λ t. cond t (Some x.1) (find R p D))
+      (apart total same p x.0
+      (λ q. first 0 x.1 (omega arith) (ap (λ (n : K). Some (n, x.1)) (sym q))))
+      ∙ find_at D k p v e (λ j w l. first (suc j) w (omega arith))
 
-find_gives_first : (x : ℕ × ℤ) (D : List (ℕ × ℤ)) (p : ℕ) (v : ℤ)
-    → (find nat_cmp p D ≡ Some v → (k : ℕ) × (slice_get D k ≡ Some (p, v))) → (p ≡ x.0) ⊎ (p ≢ x.0)
-    → find nat_cmp p (x ∷ D) ≡ Some v → (k : ℕ) × (slice_get (x ∷ D) k ≡ Some (p, v))
-find_gives_first x D p v rest (inl q) e = grind (arith, common_steps)
-find_gives_first x D p v rest (inr n) e =
-    let later = rest
-    (sym (ap (λ t. cond t (Some x.1) (find nat_cmp p D)) (apart total same p x.0 n)) ∙ e) in
-    (suc later.0, later.1)
+  find_gives_first : (x : K × X) (D : List (K × X)) (p : K) (v : X)
+      → (find R p D ≡ Some v → (k : ℕ) × (slice_get D k ≡ Some (p, v))) → (p ≡ x.0) ⊎ (p ≢ x.0)
+      → find R p (x ∷ D) ≡ Some v → (k : ℕ) × (slice_get (x ∷ D) k ≡ Some (p, v))
+  find_gives_first x D p v rest (inl q) e =
+      let is : x.1 ≡ v = same_Some _ _
+      (sym (ap (λ t. cond t (Some x.1) (find R p D)) (tied total same p x.0 q)) ∙ e) in
+      (0, λ i. Some (sym q i, is i))
+  find_gives_first x D p v rest (inr n) e =
+      let later = rest
+      (sym (ap (λ t. cond t (Some x.1) (find R p D)) (apart total same p x.0 n)) ∙ e) in
+      (suc later.0, later.1)
 
-pub find_gives : (D : List (ℕ × ℤ)) (p : ℕ) (v : ℤ) → find nat_cmp p D ≡ Some v → (k : ℕ)
-    × (slice_get D k ≡ Some (p, v))
-find_gives [] p v e = absurd (none-some v e)
-find_gives (x ∷ D) p v e = search (rules, find_gives_first, same_or_apart, find_gives D p v)
+  pub find_gives : (D : List (K × X)) (p : K) (v : X) → find R p D ≡ Some v → (k : ℕ)
+      × (slice_get D k ≡ Some (p, v))
+  find_gives [] p v e = absurd (none-some v e)
+  find_gives (x ∷ D) p v e =
+      find_gives_first x D p v (find_gives D p v) (same_or_apart total same p x.0) e

@@ -41,7 +41,7 @@ ties_here : (a b : Handle) → a.index ≡ b.index → eq_by_cmp handle_cmp a b
 ties_here a b e = search (rules, ties a b, eq-eqb)
 
 -- of two
-ties_apart : (a b : Handle) → a.index ≢ b.index → eq_by_cmp handle_cmp a b ≡ false
+pub ties_apart : (a b : Handle) → a.index ≢ b.index → eq_by_cmp handle_cmp a b ≡ false
 ties_apart a b ne = grind (arith, common_steps)
 
 eqb_sym : (a b : ℕ) → eqb a b ≡ eqb b a
@@ -152,7 +152,7 @@ module _ {X : Type 0} where
       ≡ cond (eq_by_cmp handle_cmp q h) (Some value) None
   here_alone h q value e = search (rules, eqb_sym, ties_here)
 
-  get-without : (m : HandleValues X) (h q : Handle) → map.get (without_slot m h.index) q
+  pub get-without : (m : HandleValues X) (h q : Handle) → map.get (without_slot m h.index) q
       ≡ cond (not (eqb q.index h.index)) (map.get m q) None
   get-without m h q = map.get-retain_keys m (λ x. not (eqb x.index h.index)) q (alike h q)
 

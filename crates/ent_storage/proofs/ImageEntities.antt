@@ -202,7 +202,7 @@ by_last m hs n k false is rest least below = elim (cases_eq k n) [
   | inr other ↦ rest least (omega arith)
 ]
 
-not_held : (m : EntityMap) (hs : List Handle) (n k : ℕ) → width_below m hs n ≤ k → k < n
+pub not_held : (m : EntityMap) (hs : List Handle) (n k : ℕ) → width_below m hs n ≤ k → k < n
     → is_held m hs k ≡ false
 not_held m hs zero k least below = absurd (omega arith)
 not_held m hs (suc n) k least below =

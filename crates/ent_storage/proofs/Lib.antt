@@ -36,5 +36,7 @@ pub mod ImageBytes
 pub mod ImageEntities
 pub mod ImageGiven
 pub mod ImageHeld
+pub mod ImageWidth
 pub mod ImageRead
 pub mod ImageValues
+pub mod Sparse

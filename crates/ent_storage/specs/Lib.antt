@@ -16,3 +16,5 @@ pub mod Lends
 pub mod Retained
 pub mod Copies
 pub mod Image
+pub mod SparseMap
+pub mod SparseLends

@@ -10,22 +10,23 @@ ghost use Rattle.ent_storage.specs.HandleMap.{no_limit, IsBeyond, without_slot, 
 ghost use Rattle.ent_storage.specs.Retained.{Retains};
 ghost use Rattle.ent_storage.specs.Slots.{generation_of, slot_at, value_in};
 
+mod emptying;
 mod error;
 mod generation;
 mod iter;
 mod keys;
-mod limit;
 mod retaining;
 mod slot;
 mod values;
 
+use crate::handle_map::emptying::move_values;
 pub use crate::handle_map::error::{InsertError, Uninserted};
 pub use crate::handle_map::iter::Iter;
 pub use crate::handle_map::keys::Keys;
-use crate::handle_map::limit::Limit;
 use crate::handle_map::retaining::retain_slots;
 use crate::handle_map::slot::{Slot, append_clones, make_slot};
 pub use crate::handle_map::values::Values;
+use crate::limit::Limit;
 use ent_handle::{Handle, Memory};
 use std::alloc::Global;
 use std::marker::Model;
@@ -480,6 +481,29 @@ impl<T: Drop> HandleMap<T> {
         retain_slots(&mut self.slots, &mut self.len, keep);
     }
 
+    /// The handles and their values, by rising slot.
+    ///
+    /// ```
+    /// use forgeni::{Handle, HandleMap};
+    ///
+    /// let handle = |index| Handle::new(index, 1).unwrap();
+    /// let names: HandleMap<&str> = [(handle(8), "Bob"), (handle(3), "Ada")].into_iter().collect();
+    /// assert_eq!(names.into_entries()?, [(handle(3), "Ada"), (handle(8), "Bob")]);
+    /// # Ok::<(), forgeni::OutOfMemory>(())
+    /// ```
+    ///
+    /// # Errors
+    ///
+    /// Out of memory. The values are dropped.
+    pub fn into_entries(self, alloc: Global) -> Result<Vec<(Handle, T)>, Memory>
+        ensures entries { IfOk result (λ all. all.items ≡ map.entries self.values) }
+        ensures memory { OnErr result (0 < map.len self.values) }
+    {
+        let mut all = Vec::with_capacity(alloc, self.len)?;
+        move_values(self.slots, self.len, &mut all);
+        Ok(all)
+    }
+
     /// Drops all values. The room stays.
     pub fn clear(&mut self)
         ensures { self.new ≡ record self.old { values = map.empty; slots = 0 } }
@@ -603,7 +627,7 @@ fn generation_in<T>(slots: &[Slot<T>], index: usize) -> u32
 }
 
 /// Which slot a handle is of. It says too that there is such a slot.
-fn index_of(handle: Handle) -> usize
+pub(crate) fn index_of(handle: Handle) -> usize
     ensures value { result ≡ handle.index }
     ensures in_range { result < 2 ^ 32 - 1 }
 {

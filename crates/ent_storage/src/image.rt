@@ -208,7 +208,11 @@ impl Storage {
     pub fn width(&self) -> u32
         ensures value { result ≡ width self.now.entities self.now.places }
         ensures most { result ≤ 256 }
+        ensures within { (h : HandleValue) (id : Component) (v : ℤ)
+            → value_of self.now.entities h id ≡ Some v → id.0 < result }
     {
+        // Each component has a column, and there are no more than 256.
+        prove_eq!(self.living.beyond(), 0);
         let mut width = 0;
         for number in 0..256 {
             if self.is_held(ComponentId(number as u8)) {
@@ -229,6 +233,7 @@ impl Storage {
         ensures birth { IsSomeAnd (birth_of self.now.entities handle) IsBirth }
         ensures values { (id : Component) → id.0 < width
             → IfSome (value_of self.now.entities handle id) (FitsSigned w64) }
+        ensures len { vec_len out.new ≤ vec_len out.old + (16 + 9 * width) }
         ensures capacity { vec_capacity out.old ≤ vec_capacity out.new }
     {
         write_birth(out, self.birth_at(place, handle));
@@ -244,6 +249,7 @@ impl Storage {
             ≡ out.old.items ++ values_bytes (value_of self.now.entities handle) width }
         ensures values { (id : Component) → id.0 < width
             → IfSome (value_of self.now.entities handle id) (FitsSigned w64) }
+        ensures len { vec_len out.new ≤ vec_len out.old + 9 * width }
         ensures capacity { vec_capacity out.old ≤ vec_capacity out.new }
     {
         for number in 0..width {

@@ -4,6 +4,7 @@ ghost use Rattle.std.specs.Prelude.{IsOk, IfOk, OnOk, OnErr, IsTrue, None, Some,
 ghost use Rattle.std.specs.Prelude.{slice_get};
 ghost use Rattle.std.specs.List.{All, HoldsAt, AllPairs};
 ghost use Rattle.std.specs.FinMap as finite;
+ghost use Rattle.ent_handle.specs.declared.component.ComponentId.{ComponentId as Component};
 ghost use Rattle.ent_storage.specs.Components.{with_items, missing};
 ghost use Rattle.ent_storage.specs.Living.{born_at, change_at, with_birth_at, IsMovedInto};
 ghost use Rattle.ent_storage.specs.Living.{IsValueAt};
@@ -170,6 +171,16 @@ impl Living {
         ensures room { self.new.room ≡ self.old.room }
     {
         self.residents[place].birth = birth;
+    }
+
+    /// How many columns there are beyond those of the 256 components: none. Each component that an
+    /// entity has is one of these.
+    pub fn beyond(&self) -> usize
+        ensures none { result ≡ 0 }
+        ensures within { All (λ entity. (id : Component) (v : ℤ)
+            → finite.get entity.components id ≡ Some v → id.0 < 256) self.now.entities }
+    {
+        self.columns.len().saturating_sub(256)
     }
 
     /// The value of a component of the entity at the place, if it has the component.

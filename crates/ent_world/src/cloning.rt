@@ -1,12 +1,15 @@
 //! Clones of a world, as snapshots that a program goes back to.
-ghost use Rattle.std.specs.Prelude.{◌≡◌, ◌≢◌, ◌<◌, ◌≤◌, ◌⊎◌, IfOk, OnOk, OnErr};
+ghost use Rattle.std.specs.Prelude.{◌≡◌, ◌≢◌, ◌+◌, ◌<◌, ◌≤◌, ◌⊎◌, IfOk, OnOk, OnErr, length};
 ghost use Rattle.std.specs.FinMap as map;
+ghost use Rattle.ent_alloc.specs.Sequential.{top};
 ghost use Rattle.ent_world.specs.World.{IsWorld};
 
 use crate::world::World;
+use ent_alloc::{Entities, Limits, Prepared};
 use ent_handle::Memory;
 use ent_storage::Storage;
 use std::alloc::Global;
+use std::mem;
 
 impl World {
     /// Another world in the same state: the same entities live, with the same births and components,
@@ -32,9 +35,13 @@ impl World {
     /// Takes over the state of another world, as [`try_clone`](World::try_clone) copies it. What this
     /// one had before is gone.
     ///
+    /// It uses the room that this one has, and never gives it back. So a world that another one is
+    /// cloned into again and again takes memory only as that one grows.
+    ///
     /// # Errors
     ///
-    /// `Memory`, with the world as it was. It never comes if the source has no slots and no entities.
+    /// `Memory`, with the world as it was: all memory is taken before anything changes. It never
+    /// comes if the source has no slots and no entities.
     pub fn try_clone_from(&mut self, source: &World) -> Result<(), Memory>
         ensures ok { OnOk result (self.new ≡ source.now) }
         ensures err { OnErr result (self.new ≡ self.old) }
@@ -42,12 +49,53 @@ impl World {
         ensures memory { OnErr result
             ((0 < source.now.allocator.made) ⊎ (source.now.entities ≢ map.empty)) }
     {
-        let storage = copied(self.alloc, &source.storage, source.entities.total())?;
-        self.entities.try_clone_from(&source.entities)?;
-        self.storage = storage;
-        self.phase = source.phase;
-        Ok(())
+        let empty = Entities::new(self.alloc, Limits::GREATEST);
+        let mut prepared = Prepared::of(mem::replace(&mut self.entities, empty));
+        match prepare(
+            self.alloc,
+            &mut prepared,
+            &mut self.storage,
+            &source.entities,
+            &source.storage,
+        ) {
+            Ok(()) => {
+                self.entities = prepared.take_over(&source.entities);
+                self.phase = source.phase;
+                Ok(())
+            }
+            Err(memory) => {
+                self.entities = prepared.into_entities();
+                Err(memory)
+            }
+        }
     }
+}
+
+/// Takes over a storage, and makes room for the allocator beside it. All memory is taken before
+/// anything changes.
+fn prepare(
+    alloc: Global,
+    prepared: &mut Prepared,
+    storage: &mut Storage,
+    entities: &Entities,
+    source: &Storage,
+) -> Result<(), Memory>
+    ensures allocator { prepared.new.entities ≡ prepared.old.entities }
+    ensures slots { OnOk result (entities.now.allocator.made ≤ prepared.new.slots) }
+    ensures waiting { OnOk result (top entities.now.allocator ≤ prepared.new.waiting) }
+    ensures entities { OnOk result (storage.new.entities ≡ source.now.entities) }
+    ensures places { OnOk result (storage.new.places ≡ source.now.places) }
+    ensures spare { OnOk result (0 < entities.now.allocator.made
+        → source.now.spare ≤ storage.new.spare) }
+    ensures memory { OnErr result
+        ((prepared.old.entities.allocator.made < entities.now.allocator.made)
+        ⊎ ((top prepared.old.entities.allocator < top entities.now.allocator)
+        ⊎ ((0 < entities.now.allocator.made) ⊎ (source.now.entities ≢ map.empty)))) }
+    ensures kept { OnErr result (storage.new ≡ record storage.old { spare = storage.new.spare }) }
+    ensures room { OnErr result (storage.old.spare ≤ storage.new.spare) }
+{
+    prepared.reserve_for(entities)?;
+    copy_into(alloc, storage, source, entities.total())
 }
 
 /// A storage of the same entities, with as much room. Without slots and entities it has none.
@@ -62,4 +110,27 @@ fn copied(alloc: Global, storage: &Storage, slots: u32) -> Result<Storage, Memor
         return Ok(Storage::new(alloc));
     }
     storage.try_clone()
+}
+
+/// Lets a storage take over the entities of another one, with as much room. Without slots and
+/// entities it takes no memory.
+fn copy_into(
+    alloc: Global,
+    storage: &mut Storage,
+    source: &Storage,
+    slots: u32,
+) -> Result<(), Memory>
+    ensures entities { OnOk result (storage.new.entities ≡ source.now.entities) }
+    ensures places { OnOk result (storage.new.places ≡ source.now.places) }
+    ensures spare { OnOk result (0 < slots → source.now.spare ≤ storage.new.spare) }
+    ensures memory { OnErr result ((0 < slots) ⊎ (source.now.entities ≢ map.empty)) }
+    ensures kept { OnErr result (storage.new ≡ record storage.old { spare = storage.new.spare }) }
+    ensures room { OnErr result (storage.old.spare ≤ storage.new.spare) }
+{
+    let entities = source.len();
+    if slots == 0 && entities == 0 {
+        storage.try_clone_from(&Storage::new(alloc))
+    } else {
+        storage.try_clone_from(source)
+    }
 }

@@ -235,6 +235,7 @@ pub const LIST_CALLS: &[ListCall] = &[
     list_call("push", 1, "push_fallibly"),
     list_call("push_reserved", 1, "push_reserved"),
     list_call("reserve", 1, "reserve_fallibly"),
+    list_call("reserve_exact", 1, "reserve_exact_fallibly"),
     list_call("resize", 2, "resize_fallibly"),
     list_call("sort", 0, "sort_fallibly"),
     list_call("sort_by_cached_key", 1, "sort_by_cached_key_fallibly"),
@@ -260,7 +261,7 @@ pub const RECEIVERS: &[(&str, bool)] = &[
 ];
 
 /// Methods that only look at a value, so that nothing changes if they aren't called.
-pub const LOOKING: &[&str] = &["cursor"];
+pub const LOOKING: &[&str] = &["beyond", "cursor"];
 
 /// The names of Rust's prelude. No source may give one of them another meaning.
 pub const PRELUDE: &[&str] = &[
@@ -432,6 +433,11 @@ pub const LAYOUTS: &[Layout] = &[
         attribute: "#[repr(transparent)]",
     },
     // A reservation writes the reserver, so two of them in a list share no line of a processor's cache.
+    Layout {
+        krate: "ent_blocks",
+        name: "BlockReserver",
+        attribute: "#[repr(align(128))]",
+    },
     Layout {
         krate: "ent_total",
         name: "Reserver",
@@ -808,6 +814,7 @@ const METHODS: &[&str] = &[
     "push_reserved",
     "remove",
     "reserve",
+    "reserve_exact",
     "resize",
     "retain",
     "rev",

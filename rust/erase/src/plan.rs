@@ -14,7 +14,13 @@ use std::path::{Path, PathBuf};
 use std::{fs, io};
 
 /// The crates that the package's face calls. They are erased with all that they stand on.
-const TOPS: &[&str] = &["ent_log", "ent_replay", "ent_runner", "ent_total"];
+const TOPS: &[&str] = &[
+    "ent_blocks",
+    "ent_log",
+    "ent_replay",
+    "ent_runner",
+    "ent_total",
+];
 
 /// The programs, with their crates. The package has them behind its feature of this name.
 const PROGRAM_CRATES: &[&str] = &[

@@ -13,6 +13,7 @@ extern crate alloc;
 #[cfg(any(feature = "std", test))]
 extern crate std;
 
+mod blocks;
 mod cloning;
 mod component;
 #[cfg(feature = "programs")]
@@ -49,6 +50,7 @@ mod room;
 mod serde_impls;
 mod sharing;
 mod shown;
+pub mod sparse_map;
 mod storage;
 mod sync;
 #[cfg(feature = "std")]
@@ -59,6 +61,7 @@ mod waiting;
 mod world;
 mod world_phase;
 
+pub use blocks::{BlockError, BlockReserver, Blocks, DealError, EndError, Undealt, Unended};
 pub use component::{Birth, ComponentId};
 pub use entities::{Entities, Freed, Living, State};
 pub use errors::{Absent, AllocError, FreeError, ImageFault, OutOfMemory, Refused, ReserveError};
@@ -74,6 +77,7 @@ pub use proved::ent_alloc::Limits;
 #[cfg(feature = "std")]
 pub use reservers::{Lends, Reservers, Unpooled};
 pub use sharing::{CloseError, OtherPhase, Reserver, ShareError, Shared, Unclosed, Unshared};
+pub use sparse_map::SparseMap;
 pub use storage::{Bundle, Items, Storage, StorageError};
 pub use sync::{Fault, FaultKind, GoOnError, Queues, Report, Stop, Stopped, SyncError};
 #[cfg(feature = "std")]

@@ -5,6 +5,7 @@
 mod common;
 mod worlds;
 
+mod blocks;
 mod clones;
 mod errors;
 #[cfg(feature = "std")]
@@ -25,6 +26,7 @@ mod phases;
 mod recording;
 mod reserving;
 mod sharing;
+mod sparse_map;
 mod storage_model;
 mod texts;
 mod threads;

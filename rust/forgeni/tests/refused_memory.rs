@@ -11,10 +11,10 @@ use forgeni::trace::{Call, CheckError, Checker, FreeReply, Log, Reservation};
 use forgeni::{
     AllocError, BeginError, Birth, CommandQueue, Commands, ComponentId, Entities, Entry, Fault,
     FreeError, GoOnError, Handle, HandleMap, ImageFault, InsertError, Limits, OpenWorld,
-    OutOfMemory, Queues, Report, ReserveError, ShareError, State, Stop, Storage, StorageError,
-    SyncError, SyncPoint, World,
+    OutOfMemory, Queues, Report, ReserveError, ShareError, SparseMap, State, Stop, Storage,
+    StorageError, SyncError, SyncPoint, World,
 };
-use refusing::{refusing, Refusal};
+use refusing::{held, refusing, Refusal};
 use std::rc::Rc;
 
 const HP: ComponentId = ComponentId(0);
@@ -1546,5 +1546,72 @@ fn one_request_ends_the_process() {
             aborted
         };
         assert_eq!((0..12).filter(ends).count(), 1, "{call}");
+    }
+}
+
+/// A value that a sparse map was refused memory for comes back, and a clone that is refused changes neither map.
+#[test]
+fn calls_of_a_sparse_map() {
+    let none = Refusal::All { after: 0 };
+    for index in [100, 70_001] {
+        each_in_turn(|refusal| {
+            let mut map = SparseMap::new();
+            let one = handle(index, 2);
+            let (inserted, refused) = refusing(refusal, || map.insert(one, 7));
+            if let Err(back) = inserted {
+                assert!(refused > 0);
+                assert_eq!(back.into_parts(), (7, InsertError::Memory));
+                assert_eq!((map.len(), map.get(one)), (0, None));
+                assert!(map.insert(one, 7).expect("memory").is_none());
+            }
+            assert_eq!((map.len(), map.get(one)), (1, Some(&7)));
+
+            // What has its slot takes no more.
+            let (done, unasked) = refusing(none, || {
+                let before = map.insert(one, 8).map_err(InsertError::from);
+                let below = map.insert(handle(99, 1), 9).map_err(InsertError::from);
+                let removed = map.remove(one);
+                (before, below, removed)
+            });
+            assert_eq!((done, unasked), ((Ok(Some(7)), Ok(None), Some(8)), 0));
+
+            let (clone, more) = insist(refusal, OutOfMemory, || map.try_clone());
+            assert_eq!((clone.len(), clone.get(handle(99, 1))), (1, Some(&9)));
+            let mut target: SparseMap<i32> = SparseMap::with_limit(7);
+            target.insert(handle(6, 1), 5).expect("memory");
+            let (cloned, again) = refusing(refusal, || target.try_clone_from(&map));
+            if cloned.is_err() {
+                assert!(again > 0);
+                assert_eq!((target.len(), target.limit()), (1, 7));
+                target.try_clone_from(&map).expect("memory");
+            }
+            assert!(target == map);
+            target.clear();
+            let (cloned, unasked) = refusing(none, || target.try_clone_from(&map));
+            assert_eq!((cloned, unasked), (Ok(()), 0));
+            assert!(target == clone);
+            refused + more + again
+        });
+    }
+}
+
+/// Ten strings among a million slots take at most 5 MB, in whatever order they come.
+#[test]
+fn ten_among_a_million() {
+    let slots: Vec<u32> = (0..10).map(|number| 999_999 - number * 99_999).collect();
+    let scattered: Vec<u32> = (0..10).map(|at| slots[at * 7 % 10]).collect();
+    for order in [
+        slots.clone(),
+        slots.iter().rev().copied().collect(),
+        scattered,
+    ] {
+        let (map, bytes) = held(|| {
+            let values = order
+                .iter()
+                .map(|index| (handle(*index, 1), index.to_string()));
+            values.collect::<SparseMap<String>>()
+        });
+        assert!(map.slots() >= 1_000_000 && bytes <= 5_000_000, "{bytes}");
+        assert_eq!((map.iter().count(), map.entries().len()), (10, 10));
     }
 }

@@ -123,9 +123,9 @@ impl Walked for Plain {
 
 /// The works of a side.
 pub struct Components {
-    lives: [Places; 2],
-    reads: [Places; 2],
-    walk: Places,
+    pub lives: [Places; 2],
+    pub reads: [Places; 2],
+    pub walk: Places,
     bytes: fn() -> isize,
 }
 

@@ -14,6 +14,7 @@ mod counted;
 mod entities;
 mod frames;
 mod images;
+mod layouts;
 mod logs;
 mod peers;
 #[path = "../plain/mod.rs"]
@@ -97,6 +98,10 @@ fn main() {
     }
     if wanted("components") {
         components::tables();
+        println!();
+    }
+    if wanted("layouts") {
+        layouts::table();
         println!();
     }
     if wanted("logs") {

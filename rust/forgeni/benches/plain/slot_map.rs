@@ -139,3 +139,43 @@ impl<T> SecondaryMap<T> {
         })
     }
 }
+
+/// A secondary map of two vectors: one of the versions, 0 where there is none, and one of the values.
+#[derive(Default)]
+pub struct ApartMap<T> {
+    versions: Vec<u32>,
+    values: Vec<T>,
+}
+
+impl<T: Copy + Default> ApartMap<T> {
+    pub fn insert(&mut self, key: Key, value: T) {
+        let index = key.index as usize;
+        if index >= self.versions.len() {
+            self.versions.resize(index + 1, 0);
+            self.values.resize(index + 1, T::default());
+        }
+        self.versions[index] = key.version.get();
+        self.values[index] = value;
+    }
+
+    pub fn get(&self, key: Key) -> Option<&T> {
+        match self.versions.get(key.index as usize) {
+            Some(version) if *version == key.version.get() => self.values.get(key.index as usize),
+            _ => None,
+        }
+    }
+
+    pub fn remove(&mut self, key: Key) -> Option<T> {
+        let version = self.versions.get_mut(key.index as usize)?;
+        if *version != key.version.get() {
+            return None;
+        }
+        *version = 0;
+        self.values.get(key.index as usize).copied()
+    }
+
+    pub fn iter(&self) -> impl Iterator<Item = &T> {
+        let places = self.versions.iter().zip(&self.values);
+        places.filter_map(|(version, value)| (*version > 0).then_some(value))
+    }
+}

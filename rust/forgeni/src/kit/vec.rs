@@ -32,6 +32,9 @@ pub trait FallibleVec<T>: Sized {
     /// The contract: after an `Ok` there is room for that many more.
     fn reserve_fallibly(&mut self, additional: usize) -> Result<(), AllocError>;
 
+    /// The contract: after an `Ok` there is room for that many more, and for no more than that or what there was.
+    fn reserve_exact_fallibly(&mut self, additional: usize) -> Result<(), AllocError>;
+
     /// The contract: the value stands at the end, or comes back.
     fn push_fallibly(&mut self, value: T) -> Result<(), AllocFailed<T>>;
 
@@ -105,6 +108,15 @@ impl<T> FallibleVec<T> for Vec<T> {
             return Ok(());
         }
         grow(self, additional)
+    }
+
+    fn reserve_exact_fallibly(&mut self, additional: usize) -> Result<(), AllocError> {
+        let () = Self::HAVE_A_SIZE;
+        if additional > self.capacity() - self.len() {
+            allow_growth()?;
+            self.try_reserve_exact(additional)?;
+        }
+        Ok(())
     }
 
     #[inline]
@@ -256,7 +268,11 @@ mod tests {
         let mut three = list(&[1, 2, 3]);
         let capacity = three.capacity();
         assert_eq!(three.reserve_fallibly(usize::MAX), Err(AllocError));
+        assert_eq!(three.reserve_exact_fallibly(usize::MAX), Err(AllocError));
         assert_eq!((&three[..], three.capacity()), (&[1, 2, 3][..], capacity));
+        assert_eq!(three.reserve_exact_fallibly(100), Ok(()));
+        assert_eq!((&three[..], three.capacity()), (&[1, 2, 3][..], 103));
+        refuse(|| three.reserve_exact_fallibly(100)).expect("there is room");
     }
 
     #[test]

@@ -13,6 +13,7 @@
 #[cfg(feature = "programs")]
 pub mod devices;
 pub mod ent_alloc;
+pub mod ent_blocks;
 pub mod ent_handle;
 pub mod ent_log;
 pub mod ent_queue;

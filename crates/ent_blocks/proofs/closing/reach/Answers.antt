@@ -6,8 +6,8 @@ use Rattle.ent_blocks.proofs.Dealing.{in_dealt}
 use Rattle.ent_blocks.proofs.Cutting.{max-joined, max-within}
 use Rattle.ent_blocks.proofs.closing.reach.Goals as goal
 
-pub end-requires : goal.end-requires
-end-requires c =
+pub used_end-requires : goal.used_end-requires
+used_end-requires c =
     let b = c.reserver-item.result in
     let inside : b.before + b.size ≤ dealt c.args.reservers.now =
     subst (λ (b : Block). b.before + b.size ≤ dealt c.args.reservers.now) (sym c.reserver-item.is)
@@ -28,11 +28,11 @@ loop-reserver-preserved c =
     ∙ ap (λ (x : Block). x ∷ drop (k + 1) rs) (sym c.reserver-item.is) in
     record {
       value = ap (λ n. max n (reach (drop (k + 1) rs)))
-          (c.greater-end.ensures ∙ ap (max c.loop-reserver.end) c.end.ensures.value)
+          (c.greater-end.ensures ∙ ap (max c.loop-reserver.end) c.used_end.ensures.value)
           ∙ max-joined c.loop-reserver.end (end_of b) (reach (drop (k + 1) rs))
           ∙ ap (λ bs. max c.loop-reserver.end (reach bs)) (sym more)
           ∙ c.loop-reserver.invariant.value;
       within = subst (λ n. n ≤ dealt rs) (sym c.greater-end.ensures)
-          (max-within c.loop-reserver.end c.end.result (dealt rs)
-          c.loop-reserver.invariant.within (omega (arith, inside, c.end.ensures.within)));
+          (max-within c.loop-reserver.end c.used_end.result (dealt rs)
+          c.loop-reserver.invariant.within (omega (arith, inside, c.used_end.ensures.within)));
     }

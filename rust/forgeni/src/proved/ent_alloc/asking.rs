@@ -35,30 +35,63 @@ impl Entities {
     ///   one is refused until the next flush.
     /// - [`Refused::Quota`] if 2^50 handles were requested since the last flush. Nothing has
     ///   changed.
-    ///
-    /// <details><summary>Contract</summary>
-    ///
-    /// In the words of the folder `specs/` of crate `ent_alloc`:
-    ///
-    /// ```text
-    /// ensures front { IfOk result (λ h. slice_get self.old.allocator.pool 0 ≡ Some h) }
-    /// ensures reply { IfOk result (λ h. reply_to self.old.allocator 1 ≡ Ok (h ∷ [])) }
-    /// ensures within { IfOk result (IsWithin self.old.allocator.limits) }
-    /// ensures space { IsErrOf result (refused.Space 1 0)
-    ///     ↔ ((self.old.allocator.asked < 2 ^ 50) × (self.old.allocator.pool ≡ [])) }
-    /// ensures quota { IsErrOf result (refused.Quota 0) ↔ (2 ^ 50 ≤ self.old.allocator.asked) }
-    /// ensures refused { IfErr result (λ why.
-    ///     (why ≡ refused.Space 1 0) ⊎ (why ≡ refused.Quota 0)) }
-    /// ensures step { self.old.allocator.asked < 2 ^ 50
-    ///     → self.new.allocator ≡ after_take self.old.allocator 1 }
-    /// ensures unchanged { 2 ^ 50 ≤ self.old.allocator.asked → self.new ≡ self.old }
-    /// ensures rows { self.new.rows ≡ self.old.rows }
-    /// ensures rows_of_living { HasRowsOfLiving self.new }
-    /// ```
-    ///
-    /// </details>
+    // Not inlined, its result goes through memory.
+    #[inline(always)]
+    pub fn request(&mut self) -> Result<Handle, Refused>
+        // ensures front { IfOk result (λ h. slice_get self.old.allocator.pool 0 ≡ Some h) }
+        // ensures reply { IfOk result (λ h. reply_to self.old.allocator 1 ≡ Ok (h ∷ [])) }
+        // ensures within { IfOk result (IsWithin self.old.allocator.limits) }
+        // ensures space { IsErrOf result (refused.Space 1 0)
+        //     ↔ ((self.old.allocator.asked < 2 ^ 50) × (self.old.allocator.pool ≡ [])) }
+        // ensures quota { IsErrOf result (refused.Quota 0) ↔ (2 ^ 50 ≤ self.old.allocator.asked) }
+        // ensures refused { IfErr result (λ why.
+        //     (why ≡ refused.Space 1 0) ⊎ (why ≡ refused.Quota 0)) }
+        // ensures step { self.old.allocator.asked < 2 ^ 50
+        //     → self.new.allocator ≡ after_take self.old.allocator 1 }
+        // ensures unchanged { 2 ^ 50 ≤ self.old.allocator.asked → self.new ≡ self.old }
+        // ensures rows { self.new.rows ≡ self.old.rows }
+        // ensures rows_of_living { HasRowsOfLiving self.new }
+    {
+        match self.request_old() {
+            Some(handle) => Ok(handle),
+            None => self.request_any(),
+        }
+    }
+
+    /// Requests a handle if an old slot waits for it, by a single comparison. `None` if none waits,
+    /// and nothing has changed then.
     #[inline]
-    pub fn request(&mut self) -> Result<Handle, Refused> {
+    fn request_old(&mut self) -> Option<Handle>
+        // ensures reply { IfSome result (λ h. reply_to self.old.allocator 1 ≡ Ok (h ∷ [])) }
+        // ensures step { OnSome result (self.new.allocator ≡ after_take self.old.allocator 1) }
+        // ensures few { OnSome result (self.old.allocator.asked < 2 ^ 50) }
+        // ensures none { IfNone result (self.new ≡ self.old) }
+        // ensures sound { IsSound self.old.allocator }
+        // ensures rows { self.new.rows ≡ self.old.rows }
+        // ensures rows_of_living { HasRowsOfLiving self.new }
+    {
+        let handle = self.slots.pending_before(self.requests.asked)?;
+        self.requests = self.requests.and_one();
+        Some(handle)
+    }
+
+    /// Requests a handle, of an old slot or a new one.
+    #[inline]
+    fn request_any(&mut self) -> Result<Handle, Refused>
+        // ensures front { IfOk result (λ h. slice_get self.old.allocator.pool 0 ≡ Some h) }
+        // ensures reply { IfOk result (λ h. reply_to self.old.allocator 1 ≡ Ok (h ∷ [])) }
+        // ensures within { IfOk result (IsWithin self.old.allocator.limits) }
+        // ensures space { IsErrOf result (refused.Space 1 0)
+        //     ↔ ((self.old.allocator.asked < 2 ^ 50) × (self.old.allocator.pool ≡ [])) }
+        // ensures quota { IsErrOf result (refused.Quota 0) ↔ (2 ^ 50 ≤ self.old.allocator.asked) }
+        // ensures refused { IfErr result (λ why.
+        //     (why ≡ refused.Space 1 0) ⊎ (why ≡ refused.Quota 0)) }
+        // ensures step { self.old.allocator.asked < 2 ^ 50
+        //     → self.new.allocator ≡ after_take self.old.allocator 1 }
+        // ensures unchanged { 2 ^ 50 ≤ self.old.allocator.asked → self.new ≡ self.old }
+        // ensures rows { self.new.rows ≡ self.old.rows }
+        // ensures rows_of_living { HasRowsOfLiving self.new }
+    {
         let high = self.cursor();
         let left = MOST - self.asked();
         if left == 0 {

@@ -372,15 +372,8 @@ impl Entities {
         if self.needs_flush() {
             return Err(FreeFault::NeedsFlush);
         }
-        if !self.slots.is_alive(handle) {
-            return Err(FreeFault::NotAlive);
-        }
-        if self.slots.is_last(handle) {
-            self.slots.retire(handle);
-            return Ok(Freed { next: None });
-        }
-        let next = self.slots.release(handle)?;
-        Ok(Freed { next: Some(next) })
+        let next = self.slots.free(handle)?;
+        Ok(Freed { next })
     }
 
     /// Brings to life what is reserved, and appends it to `out`: first the handles of new slots, then
@@ -471,15 +464,17 @@ impl Entities {
     #[must_use]
     #[inline]
     pub fn state(&self, handle: Handle) -> State {
-        let waiting = self.slots.waiting();
         let reserved = match self.slots.occupancy_of(handle) {
             Some(Occupancy::Alive | Occupancy::AliveWithRow { .. }) => return State::Alive,
             Some(Occupancy::Pending { position }) => {
-                self.requests.kept(waiting) <= position as usize
+                self.requests.kept(self.slots.waiting()) <= position as usize
             }
             Some(Occupancy::Retired) => false,
             None if self.slots.is_made(handle) => false,
-            None => self.slots.is_next(handle, self.requests.fresh(waiting)),
+            None => {
+                let fresh = self.requests.fresh(self.slots.waiting());
+                self.slots.is_next(handle, fresh)
+            }
         };
         if reserved {
             State::Reserved

@@ -39,6 +39,19 @@ impl Requests {
         Requests { asked, served }
     }
 
+    /// These and one more, which is served as all before it.
+    #[inline]
+    pub(super) fn and_one(self) -> Self
+        // requires { self.asked + 1 < 2 ^ 32 }
+        // ensures { result ≡ record { asked = self.asked + 1; served = self.asked + 1 } }
+    {
+        let asked = self.asked + 1;
+        Requests {
+            asked,
+            served: asked as u32,
+        }
+    }
+
     /// How many of the slots that wait are not reserved.
     #[inline]
     pub(super) fn kept(self, waiting: u32) -> usize

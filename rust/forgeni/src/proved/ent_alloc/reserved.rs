@@ -1,5 +1,6 @@
 // Made of crates/ent_alloc/src/reserved.rt by rust/erase. It isn't edited by hand.
 
+use crate::proved::ent_alloc::packed_slot::PackedSlot;
 use crate::proved::ent_alloc::slot_record::first_occupant;
 use crate::proved::ent_alloc::slots::Slots;
 use crate::proved::ent_handle::Handle;
@@ -10,9 +11,8 @@ use crate::proved::ent_handle::Handle;
 /// It borrows the allocator and copies nothing. Each handle is looked up when it is yielded, in
 /// constant time.
 pub struct Reserved<'a> {
-    slots: &'a Slots,
-    position: usize,
-    end: usize,
+    records: &'a [PackedSlot],
+    waiting: &'a [u32],
     index: u32,
     index_end: u32,
     left: usize,
@@ -35,9 +35,8 @@ impl<'a> Reserved<'a> {
         // ensures { result ≡ reserved_handles slots.now position end index index_end }
     {
         Reserved {
-            slots,
-            position,
-            end,
+            records: &slots.records,
+            waiting: &slots.pending[position..end],
             index,
             index_end,
             left,
@@ -50,9 +49,9 @@ impl Iterator for Reserved<'_> {
 
     #[inline]
     fn next(&mut self) -> Option<Handle> {
-        if self.position < self.end {
-            let handle = self.slots.pending_at(self.position);
-            self.position += 1;
+        if let Some((index, rest)) = self.waiting.split_first() {
+            let handle = Handle::from_parts(*index, self.records[*index as usize].generation());
+            self.waiting = rest;
             self.left -= 1;
             return Some(handle);
         }

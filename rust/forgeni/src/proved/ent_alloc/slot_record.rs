@@ -104,8 +104,27 @@ pub(super) fn reuse_all(records: &mut [PackedSlot], indices: &[u32], out: &mut V
     // ensures records { records.new ≡ reused records.old indices.now }
     // ensures listed { out.new.items ≡ out.old.items ++ map (handle_at records.old) indices.now }
 {
-    for index in indices {
-        let generation = records[*index as usize].reuse();
-        out.push_reserved(Handle::from_parts(*index, generation));
+    let start = out.len();
+    // The list grows at once, so that no handle takes a test for room.
+    out.resize_fallibly(start + indices.len(), first_occupant(0))
+        .unwrap();
+    reuse_each(records, indices, &mut out[start..]);
+}
+
+/// Gives each of these slots its next occupant, and writes the occupants to places, one for each.
+#[inline]
+fn reuse_each(records: &mut [PackedSlot], indices: &[u32], places: &mut [Handle])
+    // requires made { All (λ index. index < length records.old) indices.now }
+    // requires handles { All (λ index. IsHandle (handle_at records.old index)) indices.now }
+    // requires places { length places.old ≡ length indices.now }
+    // ensures records { records.new ≡ reused records.old indices.now }
+    // ensures listed { places.new ≡ map (handle_at records.old) indices.now }
+{
+    // The compiler sees that both slices are as long.
+    let places = &mut places[..indices.len()];
+    for position in 0..indices.len() {
+        let index = indices[position];
+        let generation = records[index as usize].reuse();
+        places[position] = Handle::from_parts(index, generation);
     }
 }

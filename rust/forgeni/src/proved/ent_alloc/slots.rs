@@ -3,6 +3,7 @@
 use alloc::vec::Vec;
 use crate::kit::vec::FallibleVec;
 use crate::proved::ent_alloc::cloning::{overwrite, reserve_for};
+use crate::proved::ent_alloc::fault::FreeFault;
 use crate::proved::ent_alloc::image_fault::ImageFault;
 use crate::proved::ent_alloc::image_slots::{SlotLists, read_slots, write_slots};
 use crate::proved::ent_alloc::limits::Limits;
@@ -145,14 +146,6 @@ impl Slots {
         handle.generation() == 1 && handle.index() - self.made() < count
     }
 
-    /// Whether this occupant is of the last generation, so that nobody comes after it.
-    #[inline]
-    pub(super) fn is_last(&self, handle: Handle) -> bool
-        // ensures { IsTrue result ↔ (handle.generation ≡ self.now.limits.generations) }
-    {
-        handle.generation() == self.limits.generations()
-    }
-
     /// Keeps a row with an occupant.
     #[inline]
     pub(super) fn set_row(&mut self, handle: Handle, row: u32)
@@ -170,6 +163,23 @@ impl Slots {
     {
         let index = self.pending[position];
         Handle::from_parts(index, self.records[index as usize].generation())
+    }
+
+    /// The handle that waits with so many after it. `None` if no more than these wait.
+    #[inline]
+    pub(super) fn pending_before(&self, after: u64) -> Option<Handle>
+        // ensures some { IfSome result (λ h. slice_get self.now.pending
+        //     (length self.now.pending - 1 - after) ≡ Some h) }
+        // ensures enough { OnSome result (after < length self.now.pending) }
+        // ensures none { IfNone result (length self.now.pending ≤ after) }
+        // ensures few { length self.now.pending < 2 ^ 32 }
+    {
+        let waiting = self.pending.len();
+        if after < waiting as u64 {
+            Some(self.pending_at(waiting - 1 - after as usize))
+        } else {
+            None
+        }
     }
 
     /// Gives the slot that waits last its next occupant. `None` if no slot waits, and nothing
@@ -245,39 +255,51 @@ impl Slots {
         Ok(())
     }
 
-    /// Takes an occupant out of its slot, which then waits after all others for the next one.
+    /// Takes the handle's entity out of its slot, which then waits after all others for the next
+    /// one, or is retired after the last one. The slot is looked up once.
     #[inline]
-    pub(super) fn release(&mut self, handle: Handle) -> Result<Handle, Memory>
-        // requires lives { set.contains self.old.live handle ≡ true }
-        // requires not_last { handle.generation ≢ self.old.limits.generations }
-        // ensures ok { OnOk result (self.new ≡ record self.old {
-        //   live = set.remove self.old.live handle;
-        //   rows = maps.remove self.old.rows handle;
-        //   pending = self.old.pending ++ following handle ∷ [];
-        // }) }
-        // ensures next { IfOk result (λ h. h ≡ following handle) }
+    pub(super) fn free(&mut self, handle: Handle) -> Result<Option<Handle>, FreeFault>
+        // ensures waits { OnOk result (handle.generation ≢ self.old.limits.generations
+        //     → self.new ≡ record self.old {
+        //       live = set.remove self.old.live handle;
+        //       rows = maps.remove self.old.rows handle;
+        //       pending = self.old.pending ++ following handle ∷ [];
+        //     }) }
+        // ensures retired { OnOk result (handle.generation ≡ self.old.limits.generations
+        //     → self.new ≡ record self.old {
+        //       live = set.remove self.old.live handle;
+        //       rows = maps.remove self.old.rows handle;
+        //     }) }
+        // ensures next { IfOk result (λ following. following ≡ next self.old.limits handle) }
+        // ensures lived { OnOk result (set.contains self.old.live handle ≡ true) }
+        // ensures not_alive { IsErrOf result FreeFault.NotAlive
+        //     ↔ (set.contains self.old.live handle ≡ false) }
+        // ensures needs_flush { result ≢ Err FreeFault.NeedsFlush }
+        // ensures memory { IsErrOf result FreeFault.Memory
+        //     → handle.generation ≢ self.old.limits.generations }
         // ensures err { OnErr result (self.new ≡ self.old) }
     {
         let index = handle.index();
-        let generation = handle.generation() + 1;
+        // The generation, by the call whose contract says that it is in range.
+        let generation = (handle.to_bits() >> 32) as u32;
+        let Some(slot) = self.records.get_mut(index as usize) else {
+            return Err(FreeFault::NotAlive);
+        };
+        if !slot.is_occupied_by(generation) {
+            return Err(FreeFault::NotAlive);
+        }
+        if generation == self.limits.generations() {
+            *slot = PackedSlot::retired(generation);
+            self.live -= 1;
+            return Ok(None);
+        }
         let position = self.pending.len() as u32;
-        self.pending.push_fallibly(index)?;
-        self.records[index as usize] = PackedSlot::pending(generation, position);
+        if self.pending.push_fallibly(index).is_err() {
+            return Err(FreeFault::Memory);
+        }
+        *slot = PackedSlot::pending(generation + 1, position);
         self.live -= 1;
-        Ok(Handle::from_parts(index, generation))
-    }
-
-    /// Takes an occupant out of its slot, which is not given again.
-    #[inline]
-    pub(super) fn retire(&mut self, handle: Handle)
-        // requires { set.contains self.old.live handle ≡ true }
-        // ensures { self.new ≡ record self.old {
-        //   live = set.remove self.old.live handle;
-        //   rows = maps.remove self.old.rows handle;
-        // } }
-    {
-        self.records[handle.index() as usize] = PackedSlot::retired(handle.generation());
-        self.live -= 1;
+        Ok(Some(Handle::from_parts(index, generation + 1)))
     }
 
     /// The same slots once more.

@@ -2,24 +2,25 @@
 
 //! A map from handles to values of any type, at most one for each slot.
 
+mod emptying;
 mod error;
 mod generation;
 mod iter;
 mod keys;
-mod limit;
 mod retaining;
 mod slot;
 mod values;
 
 use alloc::vec::Vec;
 use crate::kit::vec::FallibleVec;
+use crate::proved::ent_storage::handle_map::emptying::move_values;
 pub use crate::proved::ent_storage::handle_map::error::{InsertError, Uninserted};
 pub use crate::proved::ent_storage::handle_map::iter::Iter;
 pub use crate::proved::ent_storage::handle_map::keys::Keys;
-use crate::proved::ent_storage::handle_map::limit::Limit;
 use crate::proved::ent_storage::handle_map::retaining::retain_slots;
 use crate::proved::ent_storage::handle_map::slot::{Slot, append_clones, make_slot};
 pub use crate::proved::ent_storage::handle_map::values::Values;
+use crate::proved::ent_storage::limit::Limit;
 use crate::proved::ent_handle::{Handle, Memory};
 use core::mem;
 
@@ -621,6 +622,38 @@ impl<T> HandleMap<T> {
         retain_slots(&mut self.slots, &mut self.len, keep);
     }
 
+    /// The handles and their values, by rising slot.
+    ///
+    /// ```
+    /// use forgeni::{Handle, HandleMap};
+    ///
+    /// let handle = |index| Handle::new(index, 1).unwrap();
+    /// let names: HandleMap<&str> = [(handle(8), "Bob"), (handle(3), "Ada")].into_iter().collect();
+    /// assert_eq!(names.into_entries()?, [(handle(3), "Ada"), (handle(8), "Bob")]);
+    /// # Ok::<(), forgeni::OutOfMemory>(())
+    /// ```
+    ///
+    /// # Errors
+    ///
+    /// Out of memory. The values are dropped.
+    ///
+    /// <details><summary>Contract</summary>
+    ///
+    /// In the words of the folder `specs/` of crate `ent_storage`:
+    ///
+    /// ```text
+    /// ensures entries { IfOk result (λ all. all.items ≡ map.entries self.values) }
+    /// ensures memory { OnErr result (0 < map.len self.values) }
+    /// ```
+    ///
+    /// </details>
+    #[inline]
+    pub fn into_entries(self) -> Result<Vec<(Handle, T)>, Memory> {
+        let mut all = Vec::with_capacity_fallibly(self.len)?;
+        move_values(self.slots, self.len, &mut all);
+        Ok(all)
+    }
+
     /// Drops all values. The room stays.
     ///
     /// <details><summary>Contract</summary>
@@ -773,7 +806,7 @@ fn generation_in<T>(slots: &[Slot<T>], index: usize) -> u32
 
 /// Which slot a handle is of. It says too that there is such a slot.
 #[inline]
-fn index_of(handle: Handle) -> usize
+pub(super) fn index_of(handle: Handle) -> usize
     // ensures value { result ≡ handle.index }
     // ensures in_range { result < 2 ^ 32 - 1 }
 {

@@ -9,7 +9,8 @@
 //! [`Bundle`] has components and their values by themselves, as commands carry them. And [`search`]
 //! finds the position of a key among pairs of a key and a value, by strictly rising key.
 //!
-//! `handle_map` has a map from handles to values of any type, at most one for each slot.
+//! `handle_map` has a map from handles to values of any type, at most one for each slot, and
+//! `sparse_map` one for values that few handles have.
 
 mod bundle;
 mod columns;
@@ -20,6 +21,7 @@ mod image_fault;
 mod index;
 mod items;
 mod key;
+mod limit;
 mod lists;
 mod living;
 mod looking;
@@ -27,6 +29,7 @@ mod order;
 mod pairs;
 mod places;
 mod slot;
+pub mod sparse_map;
 mod sparse_set;
 mod storage;
 

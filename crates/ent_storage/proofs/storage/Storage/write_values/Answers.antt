@@ -29,5 +29,6 @@ loop-number-preserved c =
         c.write_value.ensures.capacity,
         c.loop-number-test.true,
       );
+      len = omega (arith, loop.len, c.write_value.ensures.len);
       capacity = omega (arith, loop.capacity, c.write_value.ensures.capacity);
     }

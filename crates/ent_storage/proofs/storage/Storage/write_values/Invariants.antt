@@ -13,5 +13,6 @@ invariant-loop-number l = record {
   values : (id : ComponentId) → id.0 < l.number
       → IfSome (value_of l.self.entities l.handle id) (FitsSigned w64);
   room : vec_len l.out + 9 * (l.width - l.number) ≤ vec_capacity l.out;
+  len : vec_len l.out ≤ vec_len l.fn.out + 9 * l.number;
   capacity : vec_capacity l.fn.out ≤ vec_capacity l.out;
 }

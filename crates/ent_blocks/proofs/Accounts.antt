@@ -1,0 +1,180 @@
+-- Reservers of some blocks, in their order, and what was used of all.
+use Rattle.std.proofs.Common.{rules, ◌≡◌, refl, sym, ap, ◌∙◌, subst, ℕ, zero, suc, ◌+◌, ◌<◌, ◌≤◌, List}
+use Rattle.std.specs.Prelude.{if◌then◌else◌}
+use Rattle.std.proofs.Common.{[], ◌∷◌, length, map, drop, get_or, arith, Bool, true, false, ◌==◌, ◌&&◌, IsTrue}
+use Rattle.std.proofs.lemmas.Grind.{common_steps}
+use Rattle.std.proofs.lemmas.List.{drop_more, get_or-map, length-map, length-drop}
+use Rattle.ent_blocks.specs.Blocks.{Block, Reserver, unused, is_same, are_among, accounted, blocks_of}
+use Rattle.ent_blocks.specs.Blocks.{AreLaid}
+
+same_size : (b r : Block) → is_same b r ≡ true → b.size ≡ r.size
+same_size b r same = grind (arith, common_steps)
+
+same_before : (b r : Block) → is_same b r ≡ true → b.before ≡ r.before
+same_before b r same = grind (arith, common_steps)
+
+-- no more than there are blocks
+pub few_among : (blocks reservers : List Block) → are_among blocks reservers ≡ true
+    → length reservers ≤ length blocks
+few_among [] [] among = omega arith
+few_among [] (r ∷ reservers) among = absurd cc
+few_among (b ∷ blocks) [] among = omega arith
+few_among (b ∷ blocks) (r ∷ reservers) among =
+    by_same (is_same b r) refl (few_among blocks reservers) (few_among blocks (r ∷ reservers))
+  where
+    by_same : (x : Bool) → is_same b r ≡ x
+        → (are_among blocks reservers ≡ true → length reservers ≤ length blocks)
+        → (are_among blocks (r ∷ reservers) ≡ true → length (r ∷ reservers) ≤ length blocks)
+        → length (r ∷ reservers) ≤ length (b ∷ blocks)
+    by_same true is first second =
+        let rest : are_among blocks reservers ≡ true = grind (arith, common_steps) in
+        omega (arith, first rest)
+    by_same false is first second =
+        let rest : are_among blocks (r ∷ reservers) ≡ true = grind (arith, common_steps) in
+        omega (arith, second rest)
+
+-- the blocks are those that were dealt
+pub unused_accounted : (before : ℕ) (blocks reservers : List Block) → AreLaid before blocks
+    → map unused (accounted blocks reservers) ≡ blocks
+unused_accounted before [] reservers laid = refl
+unused_accounted before (b ∷ blocks) [] laid =
+    let first : unused b ≡ b = λ i. record b { used = sym laid.1 i } in
+    let rest = unused_accounted (before + b.size) blocks [] laid.2 in
+    λ i. first i ∷ rest i
+unused_accounted before (b ∷ blocks) (r ∷ reservers) laid =
+    by_same (is_same b r) refl (unused_accounted (before + b.size) blocks reservers laid.2)
+    (unused_accounted (before + b.size) blocks (r ∷ reservers) laid.2)
+  where
+    first : unused b ≡ b
+    first = λ i. record b { used = sym laid.1 i }
+
+    by_same : (x : Bool) → is_same b r ≡ x → map unused (accounted blocks reservers) ≡ blocks
+        → map unused (accounted blocks (r ∷ reservers)) ≡ blocks
+        → map unused (accounted (b ∷ blocks) (r ∷ reservers)) ≡ b ∷ blocks
+    by_same true is rest second =
+        let here : accounted (b ∷ blocks) (r ∷ reservers)
+        ≡ record b { used = r.used } ∷ accounted blocks reservers = grind (arith, common_steps) in
+        ap (map unused) here ∙ (λ i. first i ∷ rest i)
+    by_same false is second rest =
+        let here : accounted (b ∷ blocks) (r ∷ reservers)
+        ≡ record b { used = b.size } ∷ accounted blocks (r ∷ reservers) =
+        grind (arith, common_steps) in
+        ap (map unused) here ∙ (λ i. first i ∷ rest i)
+
+-- if all are here, it is what they say
+pub all_accounted : (blocks reservers : List Block) → are_among blocks reservers ≡ true
+    → length reservers ≡ length blocks → accounted blocks reservers ≡ reservers
+all_accounted [] [] among all = refl
+all_accounted [] (r ∷ reservers) among all = absurd (omega arith)
+all_accounted (b ∷ blocks) [] among all = absurd (omega arith)
+all_accounted (b ∷ blocks) (r ∷ reservers) among all =
+    by_same (is_same b r) refl (λ rest. all_accounted blocks reservers rest (omega arith))
+  where
+    by_same : (x : Bool) → is_same b r ≡ x
+        → (are_among blocks reservers ≡ true → accounted blocks reservers ≡ reservers)
+        → accounted (b ∷ blocks) (r ∷ reservers) ≡ r ∷ reservers
+    by_same true is others =
+        let rest : are_among blocks reservers ≡ true = grind (arith, common_steps) in
+        let here : accounted (b ∷ blocks) (r ∷ reservers)
+        ≡ record b { used = r.used } ∷ accounted blocks reservers = grind (arith, common_steps) in
+        let first : record b { used = r.used } ≡ r =
+        λ i. record { before = same_before b r is i; size = same_size b r is i; used = r.used } in
+        here ∙ (λ i. first i ∷ others rest i)
+    by_same false is others =
+        let rest : are_among blocks (r ∷ reservers) ≡ true = grind (arith, common_steps) in
+        absurd (omega (arith, few_among blocks (r ∷ reservers) rest))
+
+-- ---- one more block
+
+drop_all : {X : Type 0} (n : ℕ) (xs : List X) → length xs ≤ n → drop n xs ≡ []
+drop_all zero [] le = refl
+drop_all zero (x ∷ xs) le = absurd (omega arith)
+drop_all (suc n) [] le = refl
+drop_all (suc n) (x ∷ xs) le = drop_all n xs (omega arith)
+
+module _ (bs : List Block) (rs : List Reserver) (i k : ℕ) (b : Block) (here : i < length bs)
+    (b_is : b ≡ get_or bs i b) where
+  more : drop i bs ≡ b ∷ drop (i + 1) bs
+  more = drop_more bs i b here ∙ ap (λ (x : Block). x ∷ drop (i + 1) bs) (sym b_is)
+
+  module _ (r : Reserver) (lt : k < length rs) (r_is : r ≡ get_or rs k r) where
+    next : drop k (blocks_of rs) ≡ r.block ∷ drop (k + 1) (blocks_of rs)
+    next =
+        let at : get_or (blocks_of rs) k r.block ≡ r.block =
+        get_or-map (λ (r : Reserver). r.block) rs k r r.block lt
+        ∙ ap (λ (r : Reserver). r.block) (sym r_is) in
+        drop_more (blocks_of rs) k r.block
+        (omega (arith, length-map rs (λ (r : Reserver). r.block)))
+        ∙ ap (λ (x : Block). x ∷ drop (k + 1) (blocks_of rs)) at
+
+    pub among_same : is_same b r.block ≡ true → are_among (drop i bs) (drop k (blocks_of rs))
+        ≡ are_among (drop (i + 1) bs) (drop (k + 1) (blocks_of rs))
+    among_same same =
+        (λ i'. are_among (more i') (next i'))
+        ∙ (λ i'. if same i' then are_among (drop (i + 1) bs) (drop (k + 1) (blocks_of rs))
+        else are_among (drop (i + 1) bs) (r.block ∷ drop (k + 1) (blocks_of rs)))
+
+    pub among_other : is_same b r.block ≡ false → are_among (drop i bs) (drop k (blocks_of rs))
+        ≡ are_among (drop (i + 1) bs) (drop k (blocks_of rs))
+    among_other other =
+        (λ i'. are_among (more i') (next i'))
+        ∙ (λ i'. if other i' then are_among (drop (i + 1) bs) (drop (k + 1) (blocks_of rs))
+        else are_among (drop (i + 1) bs) (r.block ∷ drop (k + 1) (blocks_of rs)))
+        ∙ ap (are_among (drop (i + 1) bs)) (sym next)
+
+    pub accounted_same : is_same b r.block ≡ true → accounted (drop i bs) (drop k (blocks_of rs))
+        ≡ record b { used = r.block.used }
+        ∷ accounted (drop (i + 1) bs) (drop (k + 1) (blocks_of rs))
+    accounted_same same =
+        (λ i'. accounted (more i') (next i'))
+        ∙ (λ i'. if same i'
+        then record b { used = r.block.used }
+        ∷ accounted (drop (i + 1) bs) (drop (k + 1) (blocks_of rs))
+        else record b { used = b.size }
+        ∷ accounted (drop (i + 1) bs) (r.block ∷ drop (k + 1) (blocks_of rs)))
+
+    pub accounted_other : is_same b r.block ≡ false
+        → accounted (drop i bs) (drop k (blocks_of rs))
+        ≡ record b { used = b.size } ∷ accounted (drop (i + 1) bs) (drop k (blocks_of rs))
+    accounted_other other =
+        (λ i'. accounted (more i') (next i'))
+        ∙ (λ i'. if other i'
+        then record b { used = r.block.used }
+        ∷ accounted (drop (i + 1) bs) (drop (k + 1) (blocks_of rs))
+        else record b { used = b.size }
+        ∷ accounted (drop (i + 1) bs) (r.block ∷ drop (k + 1) (blocks_of rs)))
+        ∙ ap (λ xs. record b { used = b.size } ∷ accounted (drop (i + 1) bs) xs) (sym next)
+
+    pub used_within : is_same b r.block ≡ true → r.block.used ≤ r.block.size
+        → r.block.used ≤ b.size
+    used_within same le = omega (arith, same_size b r.block same)
+
+  module _ (past : length rs ≤ k) where
+    none : drop k (blocks_of rs) ≡ []
+    none = drop_all k (blocks_of rs) (omega (arith, length-map rs (λ (r : Reserver). r.block)))
+
+    pub among_none : are_among (drop i bs) (drop k (blocks_of rs))
+        ≡ are_among (drop (i + 1) bs) (drop k (blocks_of rs))
+    among_none = (λ i'. are_among (more i') (none i'))
+        ∙ ap (are_among (drop (i + 1) bs)) (sym none)
+
+    pub accounted_none : accounted (drop i bs) (drop k (blocks_of rs))
+        ≡ record b { used = b.size } ∷ accounted (drop (i + 1) bs) (drop k (blocks_of rs))
+    accounted_none = (λ i'. accounted (more i') (none i'))
+        ∙ ap (λ xs. record b { used = b.size } ∷ accounted (drop (i + 1) bs) xs) (sym none)
+
+-- one is left when there is no more block
+pub one_left : (bs : List Block) (rs : List Reserver) (i k : ℕ) → length bs ≤ i → k < length rs
+    → are_among (drop i bs) (drop k (blocks_of rs)) ≡ false
+one_left bs rs i k past lt =
+    let none : drop i bs ≡ [] = drop_all i bs past in
+    let some : 0 < length (drop k (blocks_of rs)) = omega (
+      arith,
+      length-drop k (blocks_of rs),
+      length-map rs (λ (r : Reserver). r.block),
+    ) in
+    ap (λ xs. are_among xs (drop k (blocks_of rs))) none ∙ by_list (drop k (blocks_of rs)) some
+  where
+    by_list : (xs : List Block) → 0 < length xs → are_among [] xs ≡ false
+    by_list [] lt = absurd (omega arith)
+    by_list (x ∷ xs) lt = refl

@@ -1,0 +1,17 @@
+use Rattle.std.proofs.Common.{rules, arith, refl, ◌≡◌, All}
+use Rattle.std.proofs.lemmas.List.{take_all}
+use Rattle.std.proofs.lemmas.List.Elements.{All-more}
+use Rattle.ent_blocks.specs.Blocks.{Reserver}
+use Rattle.ent_blocks.proofs.accounting.are_of.Goals as goal
+
+pub loop-reserver-preserved : goal.loop-reserver-preserved
+loop-reserver-preserved g c =
+    All-more (λ (d : Reserver). d.number ≡ c.args.number) c.args.reservers.now
+    c.loop-reserver.reserver-index c.reserver-item.result c.loop-reserver-test.true c.loop-reserver.invariant
+    (search rules)
+
+pub returns : goal.returns
+returns g c =
+    let all : All (λ (r : Reserver). r.number ≡ c.args.number) c.args.reservers.now =
+    rw (take_all c.loop-reserver.reserver-index c.args.reservers.now (omega arith)) at c.loop-reserver.invariant in
+    (λ _. all, λ _. refl)

@@ -1,0 +1,119 @@
+use Rattle.std.proofs.Common.{rules, ◌≡◌, ◌≢◌, ◌⊎◌, ◌↔◌, sym, ap, ◌∙◌, subst, ◌<◌, ◌≤◌, arith, List}
+use Rattle.std.proofs.Common.{map, All, AllPairs, Contains}
+use Rattle.ent_handle.specs.Handle.{Handle}
+use Rattle.ent_alloc.specs.Sequential.{Allocator, after_flush}
+use Rattle.ent_alloc.specs.Sound.{IsLive}
+use Rattle.ent_blocks.specs.Blocks.{Block, Blocks, Phase, dealt, unused, AreLaid, reach, after_blocks}
+use Rattle.ent_blocks.specs.Blocks.{accounted, blocks_of}
+use Rattle.ent_blocks.proofs.Accounts.{unused_accounted}
+use Rattle.ent_blocks.proofs.Phases.{closing}
+use Rattle.ent_blocks.proofs.Given.{used-distinct, used-not_live, used-live}
+use Rattle.ent_blocks.proofs.blocks.Blocks.end_with.Goals as goal
+
+pub returns-in_default-clause-unused : goal.returns-in_default-clause-unused
+returns-in_default-clause-unused g c =
+    subst (λ (bs : List Block). map unused (accounted bs (blocks_of c.args.reservers.items)) ≡ bs)
+    (ap (λ (p : Phase). p.phase.blocks) c.self.view_is)
+    (unused_accounted 0 c.self.inside.parts.items (blocks_of c.args.reservers.items)
+    c.self.invariant.0.laid)
+
+pub returns-in_default-take_used-clause-unused : goal.returns-in_default-take_used-clause-unused
+returns-in_default-take_used-clause-unused g c =
+    subst (λ (bs : List Block). map unused (accounted bs (blocks_of c.args.reservers.items)) ≡ bs)
+    (ap (λ (p : Phase). p.phase.blocks) c.self.view_is)
+    (unused_accounted 0 c.self.inside.parts.items (blocks_of c.args.reservers.items)
+    c.self.invariant.0.laid)
+
+pub returns-clause-unused : goal.returns-clause-unused
+returns-clause-unused g c =
+    subst (λ (bs : List Block). map unused (accounted bs (blocks_of c.args.reservers.items)) ≡ bs)
+    (ap (λ (p : Phase). p.phase.blocks) c.self.view_is)
+    (unused_accounted 0 c.self.inside.parts.items (blocks_of c.args.reservers.items)
+    c.self.invariant.0.laid)
+
+pub take_used-requires-clause-laid : goal.take_used-requires-clause-laid
+take_used-requires-clause-laid g c =
+    let s = c.self.inside.entities.allocator in
+    let all = accounted c.self.inside.parts.items (blocks_of c.args.reservers.items) in
+    let closes = closing s c.self.inside.parts.items (blocks_of c.args.reservers.items)
+    c.self.invariant.0 in
+    let is : c.deref-3.result.now ≡ all = c.deref-3.ensures.value ∙ c.in-Ok.ensures.ok
+    ∙ (λ i. accounted (c.deref.ensures.value i) (blocks_of (c.deref-2.ensures.value i))) in
+    subst (λ (bs : List Block). AreLaid 0 (map unused bs)) (sym is) closes.laid
+
+pub take_used-requires-clause-within : goal.take_used-requires-clause-within
+take_used-requires-clause-within g c =
+    let s = c.self.inside.entities.allocator in
+    let all = accounted c.self.inside.parts.items (blocks_of c.args.reservers.items) in
+    let closes = closing s c.self.inside.parts.items (blocks_of c.args.reservers.items)
+    c.self.invariant.0 in
+    let is : c.deref-3.result.now ≡ all = c.deref-3.ensures.value ∙ c.in-Ok.ensures.ok
+    ∙ (λ i. accounted (c.deref.ensures.value i) (blocks_of (c.deref-2.ensures.value i))) in
+    omega (arith, ap dealt is, closes.within)
+
+pub take_used-requires-clause-few : goal.take_used-requires-clause-few
+take_used-requires-clause-few g c =
+    let s = c.self.inside.entities.allocator in
+    let all = accounted c.self.inside.parts.items (blocks_of c.args.reservers.items) in
+    let closes = closing s c.self.inside.parts.items (blocks_of c.args.reservers.items)
+    c.self.invariant.0 in
+    let is : c.deref-3.result.now ≡ all = c.deref-3.ensures.value ∙ c.in-Ok.ensures.ok
+    ∙ (λ i. accounted (c.deref.ensures.value i) (blocks_of (c.deref-2.ensures.value i))) in
+    omega (arith, ap dealt is, closes.few)
+
+pub returns-clause-distinct : goal.returns-clause-distinct
+returns-clause-distinct g c =
+    let s = c.self.inside.entities.allocator in
+    let all = accounted c.self.inside.parts.items (blocks_of c.args.reservers.items) in
+    let closes = closing s c.self.inside.parts.items (blocks_of c.args.reservers.items)
+    c.self.invariant.0 in
+    let is : c.deref-3.result.now ≡ all = c.deref-3.ensures.value ∙ c.in-Ok.ensures.ok
+    ∙ (λ i. accounted (c.deref.ensures.value i) (blocks_of (c.deref-2.ensures.value i))) in
+    let inv = c.self.invariant.0 in
+    let reached : reach all ≤ dealt all =
+    subst (λ (bs : List Block). reach bs ≤ dealt bs) is c.take_used.ensures.reached in
+    let after : c.take_used.new.entities.allocator ≡ after_blocks s all =
+    c.in-Ok-take_used.ensures.ok ∙ ap (after_blocks s) is in
+    let start : s ≡ c.args.self.phase.start = ap (λ (p : Phase). p.phase.start) c.self.view_is in
+    subst (λ (t : Allocator). AllPairs (λ g h. g ≢ h) t.taken) (sym after)
+    (used-distinct s all inv.sound inv.flushed closes.laid closes.within reached)
+
+pub returns-clause-not_live : goal.returns-clause-not_live
+returns-clause-not_live g c =
+    let s = c.self.inside.entities.allocator in
+    let all = accounted c.self.inside.parts.items (blocks_of c.args.reservers.items) in
+    let closes = closing s c.self.inside.parts.items (blocks_of c.args.reservers.items)
+    c.self.invariant.0 in
+    let is : c.deref-3.result.now ≡ all = c.deref-3.ensures.value ∙ c.in-Ok.ensures.ok
+    ∙ (λ i. accounted (c.deref.ensures.value i) (blocks_of (c.deref-2.ensures.value i))) in
+    let inv = c.self.invariant.0 in
+    let reached : reach all ≤ dealt all =
+    subst (λ (bs : List Block). reach bs ≤ dealt bs) is c.take_used.ensures.reached in
+    let after : c.take_used.new.entities.allocator ≡ after_blocks s all =
+    c.in-Ok-take_used.ensures.ok ∙ ap (after_blocks s) is in
+    let start : s ≡ c.args.self.phase.start = ap (λ (p : Phase). p.phase.start) c.self.view_is in
+    subst (λ (u : Allocator). All (λ h. ¬ (IsLive u h)) c.take_used.new.entities.allocator.taken)
+    start
+    (subst (λ (t : Allocator). All (λ h. ¬ (IsLive s h)) t.taken) (sym after)
+    (used-not_live s all inv.sound inv.flushed closes.laid closes.within reached))
+
+pub returns-clause-brings_to_life : goal.returns-clause-brings_to_life
+returns-clause-brings_to_life g c =
+    let s = c.self.inside.entities.allocator in
+    let all = accounted c.self.inside.parts.items (blocks_of c.args.reservers.items) in
+    let closes = closing s c.self.inside.parts.items (blocks_of c.args.reservers.items)
+    c.self.invariant.0 in
+    let is : c.deref-3.result.now ≡ all = c.deref-3.ensures.value ∙ c.in-Ok.ensures.ok
+    ∙ (λ i. accounted (c.deref.ensures.value i) (blocks_of (c.deref-2.ensures.value i))) in
+    let inv = c.self.invariant.0 in
+    let reached : reach all ≤ dealt all =
+    subst (λ (bs : List Block). reach bs ≤ dealt bs) is c.take_used.ensures.reached in
+    let after : c.take_used.new.entities.allocator ≡ after_blocks s all =
+    c.in-Ok-take_used.ensures.ok ∙ ap (after_blocks s) is in
+    let start : s ≡ c.args.self.phase.start = ap (λ (p : Phase). p.phase.start) c.self.view_is in
+    subst (λ (u : Allocator). (h : Handle)
+    → IsLive (after_flush c.take_used.new.entities.allocator) h
+    ↔ (IsLive u h ⊎ Contains c.take_used.new.entities.allocator.taken h)) start
+    (subst (λ (t : Allocator). (h : Handle) → IsLive (after_flush t) h
+    ↔ (IsLive s h ⊎ Contains t.taken h)) (sym after)
+    (used-live s all inv.sound inv.flushed closes.laid closes.within reached))

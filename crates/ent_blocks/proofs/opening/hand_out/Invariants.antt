@@ -1,0 +1,12 @@
+use Rattle.std.proofs.Common.{◌≡◌, ◌≤◌, ◌++◌, take, length, vec_len, All}
+use Rattle.std.specs.Prelude.{vec_capacity}
+use Rattle.ent_blocks.specs.Blocks.{Reserver, blocks_of}
+use Rattle.ent_blocks.proofs.opening.hand_out.Given as goal
+
+abbrev pub invariant-loop-part : goal.invariant-loop-part
+invariant-loop-part g l = record {
+  reservers : blocks_of l.reservers.items ≡ take l.part-index l.parts;
+  of : All (λ (r : Reserver). r.number ≡ l.number) l.reservers.items;
+  len : vec_len l.reservers ≡ l.part-index;
+  room : length l.parts ≤ vec_capacity l.reservers;
+}

@@ -1,0 +1,123 @@
+use crate::opening::lesser;
+use std::marker::Model;
+
+/// The block of one caller, and how many of its handles are used.
+#[derive(Drop)]
+pub(crate) struct Part {
+    before: u32,
+    size: u32,
+    used: u32,
+}
+
+impl Model for Part {
+    ghost use Rattle.std.specs.Prelude.{◌≤◌};
+    ghost use Rattle.ent_blocks.specs.Blocks.{Block, block_code};
+
+    ghost Value = { Block };
+
+    ghost coded = { block_code };
+
+    ghost view = { λ r. record { before = r.before; size = r.size; used = r.used } };
+
+    ghost invariant = { λ r. r.used ≤ r.size };
+}
+
+impl Part {
+    ghost use Rattle.std.specs.Prelude.{◌≡◌, ◌+◌, ◌-◌, ◌^◌, ◌<◌, ◌≤◌};
+    ghost use Rattle.ent_blocks.specs.Blocks.{after_use, cut, end_of, is_same};
+
+    /// A block of `size` handles, of which none is used, after the first `before` of the pool.
+    pub(crate) fn new(before: u32, size: u32) -> Self
+        ensures { result ≡ record { before = before; size = size; used = 0 } }
+    {
+        Part {
+            before,
+            size,
+            used: 0,
+        }
+    }
+
+    /// How many handles of the pool stand before the block.
+    pub(crate) fn before(&self) -> u32
+        ensures { result ≡ self.now.before }
+    {
+        self.before
+    }
+
+    /// How many handles the block has.
+    pub(crate) fn size(&self) -> u32
+        ensures { result ≡ self.now.size }
+    {
+        self.size
+    }
+
+    /// How many of them are used.
+    pub(crate) fn used(&self) -> u32
+        ensures value { result ≡ self.now.used }
+        ensures within { result ≤ self.now.size }
+    {
+        self.used
+    }
+
+    /// How many handles of the block are left.
+    pub(crate) fn left(&self) -> u32
+        ensures value { result ≡ self.now.size - self.now.used }
+        ensures within { self.now.used ≤ self.now.size }
+    {
+        self.size - self.used
+    }
+
+    /// Uses the next `n` handles of the block.
+    pub(crate) fn advance(&mut self, n: u32)
+        requires { self.old.used + n ≤ self.old.size }
+        ensures { self.new ≡ after_use self.old n }
+    {
+        self.used += n;
+    }
+    /// One past the position of the last handle that was used; 0 if none was.
+    pub(crate) fn used_end(&self) -> u32
+        requires { self.now.before + self.now.size < 2 ^ 32 }
+        ensures value { result ≡ end_of self.now }
+        ensures within { result ≤ self.now.before + self.now.size }
+    {
+        if self.used == 0 {
+            0
+        } else {
+            self.before + self.used
+        }
+    }
+
+    /// The part of the block that lies before a position of the pool: none of it, if the block
+    /// begins there or after it.
+    pub(crate) fn cut(&self, end: u32) -> Self
+        requires few { self.now.before + self.now.size < 2 ^ 32 }
+        requires used { end_of self.now ≤ end }
+        ensures { result ≡ cut end self.now }
+    {
+        let before = lesser(self.before, end);
+        Part {
+            before,
+            size: lesser(self.before + self.size, end) - before,
+            used: self.used,
+        }
+    }
+
+    /// Whether it is the same block, however many of its handles are used.
+    pub(crate) fn is_same(&self, other: &Part) -> bool
+        ensures { result ≡ is_same self.now other.now }
+    {
+        self.before == other.before && self.size == other.size
+    }
+
+    /// The same block, with this many handles used.
+    pub(crate) fn with_used(&self, used: u32) -> Self
+        requires { used ≤ self.now.size }
+        ensures { result ≡ record self.now { used = used } }
+    {
+        Part {
+            before: self.before,
+            size: self.size,
+            used,
+        }
+    }
+}

@@ -1,0 +1,53 @@
+use Rattle.std.proofs.Common.{rules, ◌≡◌, ◌≢◌, refl, sym, ap, ◌∙◌, ℕ, ◌+◌, ◌<◌, ◌⊎◌, inl, inr, arith}
+use Rattle.std.proofs.Common.{Result, Ok, Err, OnErr, length, [], Some}
+use Rattle.std.proofs.lemmas.List.{nil_from_length}
+use Rattle.std.proofs.lemmas.Option.{none-some}
+use Rattle.std.specs.FinMap as map
+use Rattle.ent_handle.specs.Handle.{handle_cmp}
+use Rattle.ent_storage.specs.EntityMap.{Entity, EntityMap, AreBare}
+use Rattle.ent_world.proofs.cloning.copy_into.Goals.{else-slots-eq0-via-else-slots-eq0}
+use Rattle.ent_world.proofs.cloning.copy_into.Goals.{else-slots-eq0-via-then-slots-eq0+else-entities-eq0}
+use Rattle.ent_world.proofs.cloning.copy_into.Goals as goal
+
+-- what is so anyhow is so after a refusal
+anyhow : {T E : Type 0} (r : Result T E) (P : Type 0) → P → OnErr r P
+anyhow (Ok x) P so = tt
+anyhow (Err e) P so = so
+
+-- of nobody no copy takes memory
+never : {T E : Type 0} (r : Result T E) (P Q : Type 0) → OnErr r P → (P → ⊥) → OnErr r Q
+never (Ok x) P Q so not = tt
+never (Err e) P Q so not = absurd (not so)
+
+no_entities_bare : (m : EntityMap) → m ≡ map.empty → AreBare m
+no_entities_bare m empty h e at =
+    absurd (none-some e (sym (ap (λ n. map.get n h) empty ∙ map.get-empty handle_cmp h) ∙ at))
+
+some_entity : (m : EntityMap) (len : ℕ) → len ≡ map.len m → len ≢ 0 → m ≢ map.empty
+some_entity m len is some none = some (is ∙ ap map.len none ∙ map.len-empty handle_cmp Entity)
+
+pub returns-then-entities-eq0-clause-entities : goal.returns-then-entities-eq0-clause-entities
+returns-then-entities-eq0-clause-entities c =
+    search (rules, map.empty_of_len, c.new.ensures, c.try_clone_from-then-entities-eq0.ensures)
+
+pub returns-then-entities-eq0-clause-memory : goal.returns-then-entities-eq0-clause-memory
+returns-then-entities-eq0-clause-memory c =
+    never c.try_clone_from-then-entities-eq0.result _
+    ((0 < c.args.slots) ⊎ (c.args.source.now.entities ≢ map.empty))
+    c.try_clone_from-then-entities-eq0.ensures.memory (λ why. elim why [
+      | inl room ↦ (
+          let places = ap length c.new.ensures.places in
+          let spare = c.new.ensures.spare in
+          omega (arith, places, spare, room))
+      | inr some ↦ some (no_entities_bare _ c.new.ensures.entities)
+    ])
+
+pub returns-else-slots-eq0-clause-memory : goal.returns-else-slots-eq0-clause-memory
+returns-else-slots-eq0-clause-memory c =
+    let m = c.args.source.now.entities in
+    anyhow c.try_clone_from-else-slots-eq0.result ((0 < c.args.slots) ⊎ (m ≢ map.empty))
+    (elim c.else-slots-eq0.branch [
+      | else-slots-eq0-via-then-slots-eq0+else-entities-eq0 w ↦
+          inr (some_entity m c.len-entities.result c.len-entities.ensures.value w.if-entities-eq0.false)
+      | else-slots-eq0-via-else-slots-eq0 w ↦ inl (omega (arith, w.if-slots-eq0.false))
+    ])

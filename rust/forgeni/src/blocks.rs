@@ -1,0 +1,96 @@
+//! An allocator whose pool is dealt to callers in blocks, so that their handles don't depend on threads.
+
+use crate::numbers::next_number;
+use crate::proved::ent_blocks::open_in_blocks;
+use crate::shown::shows;
+use crate::Entities;
+use alloc::vec::Vec;
+use core::error::Error;
+use core::fmt;
+
+pub use crate::proved::ent_blocks::{BlockError, BlockReserver, Blocks};
+pub use crate::proved::ent_blocks::{DealError, EndError, Undealt, Unended};
+
+impl Entities {
+    /// Deals the handles that would be given next to callers, in blocks of these sizes: each caller gets
+    /// a reserver of its own block. A block is smaller where the allocator has no more handles.
+    ///
+    /// [`share`](Self::share) gives each request the next handle, so which thread gets which depends on
+    /// who was first. In blocks it doesn't: the handles of a caller depend on the allocator, on the
+    /// sizes, and on what this caller reserved before. So a simulation is the same on every number of
+    /// threads, if its callers are its systems. A reservation makes no atomic step.
+    ///
+    /// Opening takes time and memory for each block, however large they are. [`Blocks::close`] gives the
+    /// allocator back, and a [`flush`](Self::flush) brings to life what was used.
+    ///
+    /// ```
+    /// use forgeni::Entities;
+    ///
+    /// let (blocks, mut reservers) = Entities::new().open_in_blocks(&[64, 64])?;
+    /// std::thread::scope(|scope| {
+    ///     for (number, reserver) in reservers.iter_mut().enumerate() {
+    ///         let blocks = &blocks;
+    ///         scope.spawn(move || {
+    ///             let one = blocks.reserve(reserver).expect("a handle");
+    ///             assert_eq!(one.index() as usize, 64 * number);
+    ///         });
+    ///     }
+    /// });
+    /// let mut entities = blocks.close(reservers)?;
+    /// let mut born = Vec::new();
+    /// entities.flush(&mut born)?;
+    /// assert_eq!(born.len(), 2);
+    ///
+    /// // What was left of the blocks is given next, in the same order.
+    /// assert_eq!(entities.alloc()?.index(), 1);
+    /// # Ok::<(), Box<dyn std::error::Error + Send + Sync>>(())
+    /// ```
+    ///
+    /// # Errors
+    ///
+    /// [`Undealt`] has the error, and the allocator as it was: [`DealError::NeedsFlush`], or
+    /// [`DealError::Memory`].
+    pub fn open_in_blocks(self, sizes: &[u32]) -> Result<(Blocks, Vec<BlockReserver>), Undealt> {
+        Ok(open_in_blocks(self, sizes)?.numbered(next_number()))
+    }
+}
+
+shows! {
+    Blocks: count;
+    BlockReserver: size used;
+}
+
+impl fmt::Debug for Undealt {
+    fn fmt(&self, out: &mut fmt::Formatter<'_>) -> fmt::Result {
+        out.debug_struct("Undealt")
+            .field("entities", &self.entities)
+            .field("error", &self.error)
+            .finish()
+    }
+}
+
+impl fmt::Display for Undealt {
+    fn fmt(&self, out: &mut fmt::Formatter<'_>) -> fmt::Result {
+        self.error.fmt(out)
+    }
+}
+
+impl Error for Undealt {}
+
+impl fmt::Debug for Unended {
+    fn fmt(&self, out: &mut fmt::Formatter<'_>) -> fmt::Result {
+        out.debug_struct("Unended")
+            .field("blocks", &self.blocks)
+            .field("reservers", &self.reservers)
+            .field("error", &self.error)
+            .finish()
+    }
+}
+
+impl fmt::Display for Unended {
+    fn fmt(&self, out: &mut fmt::Formatter<'_>) -> fmt::Result {
+        self.error.fmt(out)
+    }
+}
+
+impl Error for Unended {}

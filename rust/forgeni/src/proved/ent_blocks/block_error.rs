@@ -1,0 +1,56 @@
+// Made of crates/ent_blocks/src/block_error.rt by rust/erase. It isn't edited by hand.
+
+use crate::proved::ent_alloc::Space;
+use crate::proved::ent_handle::Memory;
+use crate::kit::alloc::AllocError;
+
+/// Why no handle of a block was reserved. Nothing has changed then.
+#[derive(Clone, Copy, Debug, PartialEq, Eq, Hash)]
+#[non_exhaustive]
+pub enum BlockError {
+    /// Fewer handles are left of the block than were wanted. A later request for fewer is served.
+    Space {
+        /// How many handles were wanted.
+        wanted: u32,
+        /// How many are left of the block.
+        left: u32,
+    },
+    /// The reserver is of another phase.
+    OtherPhase,
+    /// Out of memory.
+    Memory,
+}
+
+impl core::fmt::Display for BlockError {
+    fn fmt(&self, f: &mut core::fmt::Formatter<'_>) -> core::fmt::Result {
+        match self {
+            BlockError::Space { wanted, left } => write!(f, "{wanted} wanted and {left} left of the block"),
+            BlockError::OtherPhase => write!(f, "the reserver is of another phase"),
+            BlockError::Memory => write!(f, "out of memory"),
+        }
+    }
+}
+
+impl core::error::Error for BlockError {}
+
+impl From<AllocError> for BlockError {
+    #[inline]
+    fn from(_refused: AllocError) -> Self {
+        BlockError::Memory
+    }
+}
+
+impl From<Memory> for BlockError {
+    #[inline]
+    fn from(_refused: Memory) -> Self {
+        BlockError::Memory
+    }
+}
+
+impl From<Space> for BlockError {
+    #[inline]
+    fn from(space: Space) -> Self {
+        let Space { wanted, left } = space;
+        BlockError::Space { wanted, left }
+    }
+}

@@ -1,0 +1,96 @@
+// Made of crates/ent_blocks/src/block_reserver.rt by rust/erase. It isn't edited by hand.
+
+use crate::proved::ent_blocks::blocks::Blocks;
+use crate::proved::ent_blocks::part::Part;
+
+/// The right of one caller to the handles of its block.
+///
+/// [`Entities::open_in_blocks`](crate::Entities::open_in_blocks) makes them, and
+/// [`Blocks::close`](Blocks::close) takes them back. It is a few numbers: it has no list of
+/// handles, and may go to any thread.
+///
+/// ```
+/// use forgeni::Entities;
+///
+/// let (blocks, mut reservers) = Entities::new().open_in_blocks(&[10, 20])?;
+/// blocks.reserve(&mut reservers[1])?;
+/// assert_eq!((reservers[1].size(), reservers[1].used(), reservers[1].left()), (20, 1, 19));
+/// # Ok::<(), Box<dyn std::error::Error + Send + Sync>>(())
+/// ```
+#[repr(align(128))]
+pub struct BlockReserver {
+    pub(super) part: Part,
+    pub(super) number: u64,
+}
+
+impl BlockReserver {
+    /// How many handles the block has. It is less than what was wanted if the pool ended.
+    ///
+    /// <details><summary>Contract</summary>
+    ///
+    /// In the words of the folder `specs/` of crate `ent_blocks`:
+    ///
+    /// ```text
+    /// ensures { result ≡ self.now.block.size }
+    /// ```
+    ///
+    /// </details>
+    #[must_use]
+    #[inline]
+    pub fn size(&self) -> u32 {
+        self.part.size()
+    }
+
+    /// How many of them are used.
+    ///
+    /// <details><summary>Contract</summary>
+    ///
+    /// In the words of the folder `specs/` of crate `ent_blocks`:
+    ///
+    /// ```text
+    /// ensures value { result ≡ self.now.block.used }
+    /// ensures within { result ≤ self.now.block.size }
+    /// ```
+    ///
+    /// </details>
+    #[must_use]
+    #[inline]
+    pub fn used(&self) -> u32 {
+        self.part.used()
+    }
+
+    /// How many handles of the block are left.
+    ///
+    /// <details><summary>Contract</summary>
+    ///
+    /// In the words of the folder `specs/` of crate `ent_blocks`:
+    ///
+    /// ```text
+    /// ensures value { result ≡ self.now.block.size - self.now.block.used }
+    /// ensures within { self.now.block.used ≤ self.now.block.size }
+    /// ```
+    ///
+    /// </details>
+    #[must_use]
+    #[inline]
+    pub fn left(&self) -> u32 {
+        self.part.left()
+    }
+
+    /// Whether it is of this phase.
+    ///
+    /// <details><summary>Contract</summary>
+    ///
+    /// In the words of the folder `specs/` of crate `ent_blocks`:
+    ///
+    /// ```text
+    /// ensures { IsTrue result ↔ (self.now.number ≡ blocks.now.number) }
+    /// ```
+    ///
+    /// </details>
+    #[must_use]
+    #[inline]
+    pub fn is_of(&self, blocks: &Blocks) -> bool {
+        self.number == blocks.number()
+    }
+}

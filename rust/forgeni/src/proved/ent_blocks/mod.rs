@@ -1,0 +1,22 @@
+// Made of crates/ent_blocks/src/lib.rt by rust/erase. It isn't edited by hand.
+
+//! Reservation in blocks: the front of the pool is dealt to callers before they run, so which
+//! handle each is given depends on no other, and on no thread.
+
+mod accounting;
+mod block_error;
+mod block_reserver;
+mod blocks;
+mod closing;
+mod opening;
+mod part;
+mod taking;
+mod undealt;
+mod unended;
+
+pub use block_error::BlockError;
+pub use block_reserver::BlockReserver;
+pub use blocks::Blocks;
+pub use opening::{Deal, open_in_blocks};
+pub use undealt::{DealError, Undealt};
+pub use unended::{EndError, Unended};

@@ -1,0 +1,685 @@
+// Made of crates/ent_storage/src/sparse_map.rt by rust/erase. It isn't edited by hand.
+
+//! A map from handles to values of any type, of which few handles have one.
+
+mod iter;
+mod positions;
+
+use alloc::vec::Vec;
+use crate::kit::vec::FallibleVec;
+use crate::proved::ent_storage::handle_map::{InsertError, Uninserted, index_of};
+use crate::proved::ent_storage::limit::Limit;
+use crate::proved::ent_storage::lists::overwrite;
+pub use crate::proved::ent_storage::sparse_map::iter::Iter;
+use crate::proved::ent_storage::sparse_map::positions::{make_position, position_of};
+use crate::proved::ent_handle::{Handle, Memory};
+use crate::kit::alloc::AllocError;
+use core::mem;
+
+/// A value of any type for each of few handles: a rare component. At most one handle of a slot has
+/// a value.
+///
+/// It takes and refuses what a [`HandleMap`](crate::proved::ent_storage::handle_map::HandleMap) does. The values lie
+/// side by side, and each slot takes only four bytes, for the position of its value. So ten values
+/// among a million slots take 4.5 MB with values of any size, and are walked in the time of the
+/// ten. A look-up is two accesses to vectors, where a `HandleMap` makes one.
+///
+/// It does not know which handles an allocator has given or freed. A value that nobody removes
+/// stays until a later occupant of its slot gets one, and can't be found by that one's handle.
+///
+/// ```
+/// use forgeni::{Entities, SparseMap};
+///
+/// let mut entities = Entities::new();
+/// let mut names = SparseMap::new();
+/// let all = entities.alloc_many(1000)?;
+/// names.insert(all[7], "Ada".to_string())?;
+/// names.insert(all[900], "Bob".to_string())?;
+/// assert_eq!(names[all[7]], "Ada");
+/// assert_eq!(names.entries().len(), 2);
+///
+/// entities.free(all[7])?;
+/// assert_eq!(names.remove(all[7]).as_deref(), Some("Ada"));
+/// assert!(!names.contains(all[7]));
+/// # Ok::<(), Box<dyn std::error::Error + Send + Sync>>(())
+/// ```
+///
+/// **A handle from a save or a network may make the map take much memory**, four bytes for each
+/// slot up to its own. So give a map for such handles a [limit](Self::with_limit).
+///
+/// Contracts see a finite map from handles to values (`values`), for how many values there is room
+/// (`room`), for how many slots (`slots`), and for how many slots there may be values (`limit`).
+pub struct SparseMap<T> {
+    entries: Vec<(Handle, T)>,
+    /// At a slot the position of its entry. It counts only if that entry is of the slot, so nothing
+    /// is cleared when an entry goes.
+    positions: Vec<u32>,
+    limit: Limit,
+}
+
+impl<T> SparseMap<T> {
+    /// A map without values, and without a limit. It takes no memory.
+    ///
+    /// <details><summary>Contract</summary>
+    ///
+    /// In the words of the folder `specs/` of crate `ent_storage`:
+    ///
+    /// ```text
+    /// ensures { result ≡ record { values = map.empty; room = 0; slots = 0; limit = no_limit } }
+    /// ```
+    ///
+    /// </details>
+    #[must_use]
+    #[inline]
+    pub fn new() -> Self {
+        SparseMap::with_limit(u32::MAX)
+    }
+
+    /// A map without values, which refuses each handle whose slot is at or above this limit. It
+    /// takes no memory.
+    ///
+    /// [`Entities::total`](crate::Entities::total) is a limit that fits an allocator as long as
+    /// it makes no new slots. [`set_limit`](Self::set_limit) changes the limit.
+    ///
+    /// <details><summary>Contract</summary>
+    ///
+    /// In the words of the folder `specs/` of crate `ent_storage`:
+    ///
+    /// ```text
+    /// ensures { result ≡ record { values = map.empty; room = 0; slots = 0; limit = limit } }
+    /// ```
+    ///
+    /// </details>
+    #[must_use]
+    #[inline]
+    pub fn with_limit(limit: u32) -> Self {
+        SparseMap {
+            entries: Vec::new(),
+            positions: Vec::new(),
+            limit: Limit::of(limit),
+        }
+    }
+
+    /// For how many slots the map may have values, from slot 0 on: 4,294,967,295, which is no
+    /// limit, or the limit that was set.
+    ///
+    /// <details><summary>Contract</summary>
+    ///
+    /// In the words of the folder `specs/` of crate `ent_storage`:
+    ///
+    /// ```text
+    /// ensures { result ≡ self.now.limit }
+    /// ```
+    ///
+    /// </details>
+    #[must_use]
+    #[inline]
+    pub fn limit(&self) -> u32 {
+        self.limit.slots()
+    }
+
+    /// Sets the limit. The map keeps the values that it has, even those of slots at or above the
+    /// limit.
+    ///
+    /// <details><summary>Contract</summary>
+    ///
+    /// In the words of the folder `specs/` of crate `ent_storage`:
+    ///
+    /// ```text
+    /// ensures { self.new ≡ record self.old { limit = limit } }
+    /// ```
+    ///
+    /// </details>
+    #[inline]
+    pub fn set_limit(&mut self, limit: u32) {
+        self.limit = Limit::of(limit);
+    }
+
+    /// How many values there are. It takes constant time.
+    ///
+    /// <details><summary>Contract</summary>
+    ///
+    /// In the words of the folder `specs/` of crate `ent_storage`:
+    ///
+    /// ```text
+    /// ensures { result ≡ map.len self.now.values }
+    /// ```
+    ///
+    /// </details>
+    #[must_use]
+    #[inline]
+    pub fn len(&self) -> usize {
+        self.entries.len()
+    }
+
+    /// Whether there is no value.
+    ///
+    /// <details><summary>Contract</summary>
+    ///
+    /// In the words of the folder `specs/` of crate `ent_storage`:
+    ///
+    /// ```text
+    /// ensures { IsTrue result ↔ (map.len self.now.values ≡ 0) }
+    /// ```
+    ///
+    /// </details>
+    #[must_use]
+    #[inline]
+    pub fn is_empty(&self) -> bool {
+        self.len() == 0
+    }
+
+    /// How many values there is room for.
+    ///
+    /// <details><summary>Contract</summary>
+    ///
+    /// In the words of the folder `specs/` of crate `ent_storage`:
+    ///
+    /// ```text
+    /// ensures { result ≡ self.now.room }
+    /// ```
+    ///
+    /// </details>
+    #[must_use]
+    #[inline]
+    pub fn capacity(&self) -> usize {
+        self.entries.sized_capacity()
+    }
+
+    /// How many slots there is room for, from slot 0 on. Each takes four bytes.
+    ///
+    /// <details><summary>Contract</summary>
+    ///
+    /// In the words of the folder `specs/` of crate `ent_storage`:
+    ///
+    /// ```text
+    /// ensures value { result ≡ self.now.slots }
+    /// ensures values { (handle : Handle) → IsSome (map.get self.now.values handle)
+    ///     → handle.index < self.now.slots }
+    /// ```
+    ///
+    /// </details>
+    #[must_use]
+    #[inline]
+    pub fn slots(&self) -> usize {
+        self.positions.len()
+    }
+
+    /// Whether the handle has a value. It takes constant time.
+    ///
+    /// <details><summary>Contract</summary>
+    ///
+    /// In the words of the folder `specs/` of crate `ent_storage`:
+    ///
+    /// ```text
+    /// ensures { result ≡ map.contains_key self.now.values handle }
+    /// ```
+    ///
+    /// </details>
+    #[must_use]
+    #[inline]
+    pub fn contains(&self, handle: Handle) -> bool {
+        self.get(handle).is_some()
+    }
+
+    /// The value of the handle, if it has one. It takes constant time.
+    ///
+    /// ```
+    /// use forgeni::{Entities, SparseMap};
+    ///
+    /// let mut entities = Entities::new();
+    /// let mut names = SparseMap::new();
+    /// let player = entities.alloc()?;
+    /// names.insert(player, "Ada")?;
+    /// assert_eq!(names.get(player), Some(&"Ada"));
+    ///
+    /// let next = entities.free(player)?.next.unwrap();
+    /// assert_eq!(names.get(next), None);
+    /// # Ok::<(), Box<dyn std::error::Error + Send + Sync>>(())
+    /// ```
+    ///
+    /// <details><summary>Contract</summary>
+    ///
+    /// In the words of the folder `specs/` of crate `ent_storage`:
+    ///
+    /// ```text
+    /// ensures { option_copied result ≡ map.get self.now.values handle }
+    /// ```
+    ///
+    /// </details>
+    #[must_use]
+    #[inline]
+    pub fn get(&self, handle: Handle) -> Option<&T> {
+        find(&self.entries, &self.positions, handle)
+    }
+
+    /// The value of the handle, if it has one, to be changed. It takes constant time.
+    ///
+    /// <details><summary>Contract</summary>
+    ///
+    /// In the words of the folder `specs/` of crate `ent_storage`:
+    ///
+    /// ```text
+    /// ensures* writes_back { sem 𝓛 (lends_get T.row self.entry handle result) }
+    /// ensures value { option_copied_mut result ≡ map.get self.old.values handle }
+    /// ```
+    ///
+    /// </details>
+    #[must_use]
+    #[inline]
+    pub fn get_mut(&mut self, handle: Handle) -> Option<&mut T> {
+        if self.contains(handle) {
+            Some(self.value_mut(handle))
+        } else {
+            None
+        }
+    }
+
+    /// The value of a handle that has one.
+    #[inline]
+    fn value_mut(&mut self, handle: Handle) -> &mut T
+        // requires { IsSome (map.get self.old.values handle) }
+        // ensures* writes_back { sem 𝓛 (lends_value T.row self.entry handle result) }
+        // ensures value { map.get self.old.values handle ≡ Some result.now }
+    {
+        let position = self.positions[handle.index() as usize] as usize;
+        &mut self.entries[position].1
+    }
+
+    /// The handles and their values, in no order. The same calls leave them in the same order.
+    ///
+    /// ```
+    /// use forgeni::{Entities, SparseMap};
+    ///
+    /// let mut entities = Entities::new();
+    /// let mut health = SparseMap::new();
+    /// let all = entities.alloc_many(2)?;
+    /// health.insert(all[1], 20)?;
+    /// health.insert(all[0], 10)?;
+    /// let least = health.entries().iter().min_by_key(|(_, health)| health);
+    /// assert_eq!(least, Some(&(all[0], 10)));
+    /// # Ok::<(), Box<dyn std::error::Error + Send + Sync>>(())
+    /// ```
+    ///
+    /// <details><summary>Contract</summary>
+    ///
+    /// In the words of the folder `specs/` of crate `ent_storage`:
+    ///
+    /// ```text
+    /// ensures { AreEntries self.now.values result.now }
+    /// ```
+    ///
+    /// </details>
+    #[must_use]
+    #[inline]
+    pub fn entries(&self) -> &[(Handle, T)] {
+        &self.entries
+    }
+
+    /// The handles and their values, in the order of [`entries`](Self::entries).
+    ///
+    /// <details><summary>Contract</summary>
+    ///
+    /// In the words of the folder `specs/` of crate `ent_storage`:
+    ///
+    /// ```text
+    /// ensures { AreEntries self.now.values result }
+    /// ```
+    ///
+    /// </details>
+    #[inline]
+    pub fn iter(&self) -> Iter<'_, T> {
+        Iter::new(&self.entries)
+    }
+
+    /// The handles and their values, in the order of [`entries`](Self::entries). It takes no
+    /// memory.
+    ///
+    /// <details><summary>Contract</summary>
+    ///
+    /// In the words of the folder `specs/` of crate `ent_storage`:
+    ///
+    /// ```text
+    /// ensures { AreEntries self.values result.items }
+    /// ```
+    ///
+    /// </details>
+    #[must_use]
+    #[inline]
+    pub fn into_entries(self) -> Vec<(Handle, T)> {
+        self.entries
+    }
+}
+
+impl<T> SparseMap<T> {
+    /// Gives the handle a value, and returns the one that it had. If an earlier occupant of the
+    /// slot has one, that is dropped.
+    ///
+    /// If there is room for the slot ([`slots`](Self::slots)) and for one value more
+    /// ([`capacity`](Self::capacity)), or the slot has a value, it takes no memory, and constant
+    /// time.
+    ///
+    /// ```
+    /// use forgeni::{Handle, InsertError, SparseMap};
+    ///
+    /// let [first, second] = [Handle::new(7, 1).unwrap(), Handle::new(7, 2).unwrap()];
+    /// let mut map = SparseMap::new();
+    /// assert_eq!(map.insert(first, "a")?, None);
+    /// assert_eq!(map.insert(first, "b")?, Some("a"));
+    /// assert_eq!(map.insert(second, "c")?, None);
+    /// assert_eq!((map.get(first), map.get(second)), (None, Some(&"c")));
+    ///
+    /// let refused = map.insert(first, "d").unwrap_err();
+    /// assert_eq!(refused.into_parts(), ("d", InsertError::Later));
+    /// # Ok::<(), Box<dyn std::error::Error + Send + Sync>>(())
+    /// ```
+    ///
+    /// # Errors
+    ///
+    /// [`Uninserted`] has the value, and no value of the map has changed. The first that holds is
+    /// the reason:
+    ///
+    /// - `Limit`: the handle's slot is at or above the [`limit`](Self::limit), or the handle is
+    ///   [`Handle::PLACEHOLDER`], which no map takes.
+    /// - `Later`: a later occupant of the slot has a value.
+    /// - `Memory`: memory ran out. There may be more room than before.
+    ///
+    /// <details><summary>Contract</summary>
+    ///
+    /// In the words of the folder `specs/` of crate `ent_storage`:
+    ///
+    /// ```text
+    /// ensures ok { OnOk result (self.new.values
+    ///     ≡ map.insert (without_slot self.old.values handle.index) handle value) }
+    /// ensures before { IfOk result (λ before. before ≡ map.get self.old.values handle) }
+    /// ensures slots { self.old.slots ≤ self.new.slots }
+    /// ensures room { self.old.room ≤ self.new.room }
+    /// ensures kept { self.new.limit ≡ self.old.limit }
+    ///
+    /// ensures limit { (error_of result ≡ Some InsertError.Limit)
+    ///     ↔ IsBeyond self.old.limit handle }
+    /// ensures later { (error_of result ≡ Some InsertError.Later)
+    ///     ↔ (¬ (IsBeyond self.old.limit handle) × HasLater self.old.values handle) }
+    /// ensures memory { error_of result ≡ Some InsertError.Memory
+    ///     → IsFullFor self.old handle.index }
+    /// ensures back { IfErr result (λ refused. refused.value ≡ value) }
+    /// ensures err { OnErr result (self.new.values ≡ self.old.values) }
+    /// ```
+    ///
+    /// </details>
+    #[inline]
+    pub fn insert(&mut self, handle: Handle, value: T) -> Result<Option<T>, Uninserted<T>> {
+        if self.limit.refuses(handle) {
+            return Err(Uninserted {
+                value,
+                error: InsertError::Limit,
+            });
+        }
+        put(&mut self.entries, &mut self.positions, handle, value)
+    }
+
+    /// Removes the value of the handle, and returns it if it had one. It takes constant time and no
+    /// memory.
+    ///
+    /// ```
+    /// use forgeni::{Handle, SparseMap};
+    ///
+    /// let crate_of_gold = Handle::new(0, 1).unwrap();
+    /// let mut weight = SparseMap::new();
+    /// weight.insert(crate_of_gold, 900)?;
+    /// assert_eq!(weight.remove(crate_of_gold), Some(900));
+    /// assert_eq!(weight.remove(crate_of_gold), None);
+    /// # Ok::<(), Box<dyn std::error::Error + Send + Sync>>(())
+    /// ```
+    ///
+    /// <details><summary>Contract</summary>
+    ///
+    /// In the words of the folder `specs/` of crate `ent_storage`:
+    ///
+    /// ```text
+    /// ensures value { result ≡ map.get self.old.values handle }
+    /// ensures map { self.new
+    ///     ≡ record self.old { values = map.remove self.old.values handle } }
+    /// ```
+    ///
+    /// </details>
+    #[inline]
+    pub fn remove(&mut self, handle: Handle) -> Option<T> {
+        if !self.contains(handle) {
+            return None;
+        }
+        Some(take(&mut self.entries, &mut self.positions, handle))
+    }
+
+    /// Drops all values. The room stays.
+    ///
+    /// <details><summary>Contract</summary>
+    ///
+    /// In the words of the folder `specs/` of crate `ent_storage`:
+    ///
+    /// ```text
+    /// ensures { self.new ≡ record self.old { values = map.empty } }
+    /// ```
+    ///
+    /// </details>
+    #[inline]
+    pub fn clear(&mut self) {
+        self.entries.clear();
+    }
+}
+
+impl<T: Clone> SparseMap<T> {
+    /// A map with a clone of each value, with room for the same slots, and with the same limit.
+    /// Without room for slots it takes no memory.
+    ///
+    /// # Errors
+    ///
+    /// Out of memory.
+    ///
+    /// <details><summary>Contract</summary>
+    ///
+    /// In the words of the folder `specs/` of crate `ent_storage`:
+    ///
+    /// ```text
+    /// ensures clones { IfOk result (λ m. AreCloned T.is_clone self.now.values m.values) }
+    /// ensures slots { IfOk result (λ m. m.slots ≡ self.now.slots) }
+    /// ensures limit { IfOk result (λ m. m.limit ≡ self.now.limit) }
+    /// ensures memory { OnErr result (0 < self.now.slots) }
+    /// ```
+    ///
+    /// </details>
+    #[inline]
+    pub fn try_clone(&self) -> Result<Self, Memory> {
+        let mut positions = Vec::with_capacity_fallibly(self.positions.len())?;
+        positions.extend_from_slice_fallibly(&self.positions)?;
+        let mut entries = Vec::with_capacity_fallibly(self.entries.len())?;
+        append_entries(&mut entries, &self.entries)?;
+        Ok(SparseMap {
+            entries,
+            positions,
+            limit: Limit::of(self.limit()),
+        })
+    }
+
+    /// Drops all values, and gives this map a clone of each value of the source, room for the slots
+    /// of the source, and its limit.
+    ///
+    /// If there is room for as many slots and values as the source has, it takes no memory but for
+    /// the clones.
+    ///
+    /// # Errors
+    ///
+    /// Out of memory. Nothing has changed if there wasn't room for the source. If there was, no
+    /// values are left.
+    ///
+    /// # Panics
+    ///
+    /// A panic of a clone is handed on. Nothing has changed, or no values are left, as after an
+    /// error.
+    ///
+    /// <details><summary>Contract</summary>
+    ///
+    /// In the words of the folder `specs/` of crate `ent_storage`:
+    ///
+    /// ```text
+    /// ensures clones { OnOk result (AreCloned T.is_clone source.now.values self.new.values) }
+    /// ensures slots { OnOk result (self.new.slots ≡ source.now.slots) }
+    /// ensures limit { OnOk result (self.new.limit ≡ source.now.limit) }
+    /// ensures memory { OnErr result (0 < source.now.slots) }
+    /// ensures refused { OnErr result (self.old.room < map.len source.now.values
+    ///     → self.new ≡ self.old) }
+    /// ensures left { OnErr result ((self.new ≡ self.old) ⊎ (self.new.values ≡ map.empty)) }
+    /// ```
+    ///
+    /// </details>
+    #[inline]
+    pub fn try_clone_from(&mut self, source: &Self) -> Result<(), Memory> {
+        let values = source.entries.len();
+        let slots = source.positions.len();
+        if self.entries.sized_capacity() < values || self.positions.sized_capacity() < slots {
+            *self = source.try_clone()?;
+            return Ok(());
+        }
+        // While the list is out of the map, a panic of a value's `drop` or `clone` leaves a map
+        // without values.
+        let mut entries = mem::replace(&mut self.entries, Vec::new());
+        entries.clear();
+        overwrite(&mut self.positions, &source.positions);
+        let cloned = append_entries(&mut entries, &source.entries);
+        self.entries = entries;
+        cloned?;
+        self.limit = Limit::of(source.limit());
+        Ok(())
+    }
+}
+
+/// The value of a handle, if it has one.
+#[inline]
+fn find<'a, T>(entries: &'a [(Handle, T)], positions: &[u32], handle: Handle) -> Option<&'a T>
+    // requires { IsPositioned entries.now positions.now }
+    // ensures { option_copied result ≡ map.get (values_of entries.now) handle }
+{
+    let position = *positions.get(handle.index() as usize)? as usize;
+    let entry = entries.get(position)?;
+    if entry.0 == handle {
+        Some(&entry.1)
+    } else {
+        None
+    }
+}
+
+/// Gives the handle a value, as [`SparseMap::insert`] does below the limit.
+#[inline]
+fn put<T>(
+    entries: &mut Vec<(Handle, T)>,
+    positions: &mut Vec<u32>,
+    handle: Handle,
+    value: T,
+) -> Result<Option<T>, Uninserted<T>>
+    // requires positioned { IsPositioned entries.old.items positions.old.items }
+    // ensures positioned { IsPositioned entries.new.items positions.new.items }
+    // ensures ok { OnOk result (values_of entries.new.items
+    //     ≡ map.insert (without_slot (values_of entries.old.items) handle.index) handle value) }
+    // ensures before { IfOk result (λ before. before
+    //     ≡ map.get (values_of entries.old.items) handle) }
+    // ensures slots { length positions.old.items ≤ length positions.new.items }
+    // ensures room { vec_capacity entries.old ≤ vec_capacity entries.new }
+    // ensures limit { error_of result ≢ Some InsertError.Limit }
+    // ensures later { (error_of result ≡ Some InsertError.Later)
+    //     ↔ HasLater (values_of entries.old.items) handle }
+    // ensures memory { error_of result ≡ Some InsertError.Memory
+    //     → (length positions.old.items ≤ handle.index)
+    //     ⊎ (vec_capacity entries.old ≤ length entries.old.items) }
+    // ensures back { IfErr result (λ refused. refused.value ≡ value) }
+    // ensures err { OnErr result (entries.new.items ≡ entries.old.items) }
+{
+    let index = index_of(handle);
+    let Some(position) = position_of(entries, positions, index) else {
+        return add(entries, positions, handle, value);
+    };
+    if handle.generation() < entries[position].0.generation() {
+        return Err(Uninserted {
+            value,
+            error: InsertError::Later,
+        });
+    }
+    let (standing, before) = mem::replace(&mut entries[position], (handle, value));
+    if standing == handle {
+        Ok(Some(before))
+    } else {
+        Ok(None)
+    }
+}
+
+/// Adds a value to a slot that has none.
+#[inline]
+fn add<T>(
+    entries: &mut Vec<(Handle, T)>,
+    positions: &mut Vec<u32>,
+    handle: Handle,
+    value: T,
+) -> Result<Option<T>, Uninserted<T>>
+    // requires in_range { handle.index < 2 ^ 32 - 1 }
+    // requires positioned { IsPositioned entries.old.items positions.old.items }
+    // requires free { IsFree entries.old.items handle.index }
+    // ensures positioned { IsPositioned entries.new.items positions.new.items }
+    // ensures ok { OnOk result (values_of entries.new.items
+    //     ≡ map.insert (without_slot (values_of entries.old.items) handle.index) handle value) }
+    // ensures before { IfOk result (λ before. before ≡ None) }
+    // ensures slots { length positions.old.items ≤ length positions.new.items }
+    // ensures room { vec_capacity entries.old ≤ vec_capacity entries.new }
+    // ensures memory { IfErr result (λ refused. refused.error ≡ InsertError.Memory) }
+    // ensures full { OnErr result ((length positions.old.items ≤ handle.index)
+    //     ⊎ (vec_capacity entries.old ≤ length entries.old.items)) }
+    // ensures back { IfErr result (λ refused. refused.value ≡ value) }
+    // ensures err { OnErr result (entries.new.items ≡ entries.old.items) }
+{
+    let index = handle.index() as usize;
+    if make_position(positions, index).is_err() || entries.reserve_fallibly(1).is_err() {
+        return Err(Uninserted {
+            value,
+            error: InsertError::Memory,
+        });
+    }
+    positions[index] = entries.len() as u32;
+    entries.push_reserved((handle, value));
+    Ok(None)
+}
+
+/// Takes the value of a handle out. The last entry takes its position.
+#[inline]
+fn take<T>(entries: &mut Vec<(Handle, T)>, positions: &mut Vec<u32>, handle: Handle) -> T
+    // requires positioned { IsPositioned entries.old.items positions.old.items }
+    // requires has { IsSome (map.get (values_of entries.old.items) handle) }
+    // ensures positioned { IsPositioned entries.new.items positions.new.items }
+    // ensures value { map.get (values_of entries.old.items) handle ≡ Some result }
+    // ensures values { values_of entries.new.items
+    //     ≡ map.remove (values_of entries.old.items) handle }
+    // ensures slots { length positions.new.items ≡ length positions.old.items }
+    // ensures room { vec_capacity entries.new ≡ vec_capacity entries.old }
+{
+    let position = positions[handle.index() as usize];
+    let (_, value) = entries.swap_remove(position as usize);
+    if (position as usize) < entries.len() {
+        positions[entries[position as usize].0.index() as usize] = position;
+    }
+    value
+}
+
+/// Puts clones of these entries behind those that are there. It takes no memory for none.
+#[inline]
+fn append_entries<T: Clone>(
+    entries: &mut Vec<(Handle, T)>,
+    others: &[(Handle, T)],
+) -> Result<(), AllocError>
+    // ensures ok { OnOk result (AppendsClones (IsEntryClone T.is_clone)
+    //     entries.old.items entries.new.items others.now) }
+    // ensures err { OnErr result (entries.new.items ≡ entries.old.items) }
+    // ensures capacity { vec_capacity entries.old ≤ vec_capacity entries.new }
+    // ensures memory { OnErr result (0 < length others.now) }
+{
+    if others.is_empty() {
+        return Ok(());
+    }
+    entries.extend_from_slice_fallibly(others)
+}

@@ -1,0 +1,54 @@
+//! Values of any type, of which few handles have one. What is proved of them is in the contracts of
+//! [`SparseMap`]; here are traits of std, and `handle_map` has those that both kinds of maps have.
+
+use crate::handle::Handle;
+use alloc::vec;
+
+pub use crate::proved::ent_storage::sparse_map::{Iter, SparseMap};
+
+impl<T> SparseMap<T> {
+    /// Calls `keep` on each value once, from the last entry to the first, and drops the values of which it
+    /// returns `false`. It may change those that stay. The room stays.
+    ///
+    /// ```
+    /// use forgeni::{Entities, SparseMap};
+    ///
+    /// let mut entities = Entities::new();
+    /// let mut frames_left: SparseMap<u32> = SparseMap::new();
+    /// for (frames, one) in (1..).zip(entities.alloc_many(3)?) {
+    ///     frames_left.insert(one, frames)?;
+    /// }
+    /// frames_left.retain(|one, frames| {
+    ///     *frames -= 1;
+    ///     *frames > 0 || entities.free(one).is_err()
+    /// });
+    /// assert_eq!((frames_left.len(), entities.len()), (2, 2));
+    /// # Ok::<(), Box<dyn std::error::Error + Send + Sync>>(())
+    /// ```
+    ///
+    /// # Panics
+    ///
+    /// A panic of `keep` is handed on. The map then has the values that were kept, those that `keep`
+    /// wasn't called on, and the one on which it panicked, as far as `keep` had changed it.
+    #[inline]
+    pub fn retain(&mut self, mut keep: impl FnMut(Handle, &mut T) -> bool) {
+        // The last entry takes the place of one that goes. `keep` was called on it before.
+        for position in (0..self.len()).rev() {
+            let one = self.entries()[position].0;
+            if !keep(one, &mut self[one]) {
+                self.remove(one);
+            }
+        }
+    }
+}
+
+/// It takes no memory.
+impl<T> IntoIterator for SparseMap<T> {
+    type Item = (Handle, T);
+    type IntoIter = vec::IntoIter<(Handle, T)>;
+
+    #[inline]
+    fn into_iter(self) -> vec::IntoIter<(Handle, T)> {
+        self.into_entries().into_iter()
+    }
+}
