@@ -12,7 +12,7 @@ The figures stand in the page alone. A line above a table says what prints it, a
     <!-- measured by COMMAND -->
 
 The command prints one table or several. A table of the page is the printed one whose head begins with the same two columns. A line that
-begins with a dash and the command says when and on what machine they were measured. `measure` needs what the scripts need: `cargo` and `rt`
+begins with a dash says when and on what machine the commands that it names were measured. `measure` needs what the scripts need: `cargo` and `rt`
 on the path, and the two peers that docs/PERFORMANCE.md names. A script builds what it measures, which takes a few minutes more where it has
 not been built.
 """
@@ -25,6 +25,7 @@ import re
 import statistics
 import subprocess
 import sys
+import textwrap
 import time
 from html import escape
 
@@ -322,12 +323,24 @@ def machine(free):
     model = re.sub(r"\((R|TM)\)", "", found.group(1)) if found else "an unknown processor"
     rust = subprocess.run(["rustc", "--version"], text=True, capture_output=True).stdout.split()[1]
     model = " ".join(model.split())
-    return f"on {datetime.date.today()}, {os.cpu_count()} processors ({model}, idle for {100 * free:.0f} %), Rust {rust}."
+    return f"on {datetime.date.today()}, {os.cpu_count()} processors ({model}, idle for {100 * free:.0f} %), Rust {rust}"
 
 
-def day_of(command):
-    """How the line begins that says when the tables of a command were measured."""
-    return f"- `{command}`: "
+DAY = re.compile(r"^- (on \d[^:]*):\s+((?:`[^`]+`,?\s+)+)", re.MULTILINE)
+
+
+def days_of(lines):
+    """When each command was measured, and on what machine."""
+    return {command: it[1] for it in DAY.finditer("\n".join(lines)) for command in re.findall("`([^`]+)`", it[2])}
+
+
+def with_days(lines, days):
+    """These lines, with those days: an item of a list for each day and machine."""
+    text = "\n".join(lines)
+    items = [f"- {day}: {', '.join(f'`{it}`' for it in days if days[it] == day)}" for day in dict.fromkeys(days.values())]
+    said = "\n".join("\n".join(textwrap.wrap(it, 140, subsequent_indent="  ", break_on_hyphens=False)) for it in items)
+    at = DAY.search(text).start()
+    return f"{text[:at]}{said}\n\n{DAY.sub('', text[at:])}".splitlines()
 
 
 def with_tables(lines, command, printed):
@@ -356,7 +369,7 @@ def measure(parts):
             sys.exit(f"{command} ended with status {ran.returncode}:\n{ran.stdout[-2000:]}")
         print(f"{command}: {time.monotonic() - began:.0f} s", flush=True)
         lines = with_tables(lines, command, ran.stdout.splitlines())
-        lines = [day_of(command) + machine(free) if it.startswith(day_of(command)) else it for it in lines]
+        lines = with_days(lines, days_of(lines) | {command: machine(free)})
         PAGE.write_text("\n".join(lines) + "\n")
     draw(lines)
 
@@ -369,7 +382,7 @@ def faults_of(lines):
     for command in dict.fromkeys(command for command, _, _ in measured_tables(lines)):
         if not (TOP / command.split()[0]).exists():
             yield f"docs/PERFORMANCE.md: there is no {command.split()[0]}"
-        if not any(it.startswith(day_of(command)) for it in lines):
+        if command not in days_of(lines):
             yield f"docs/PERFORMANCE.md: no line says when {command} was measured"
     if with_limits(lines) != lines:
         yield "the table of limits isn't what `docs/performance.py draw` writes of the page's tables"
