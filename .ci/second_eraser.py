@@ -63,8 +63,9 @@ METHODS = set(
     "checked_mul checked_sub clear close_with cmp collect contains copied count enumerate extend_from_slice extend_with_clones "
     "fetch_add fetch_sub filter format free get get_mut insert into into_badge into_iter into_seat is_ascii_digit is_empty is_err is_none "
     "is_none_or is_ok is_some iter iter_mut join_seat len load_new_seat map map_err max min next next_back ok ok_or pop position push "
-    "push_reserved remove reserve reserve_exact resize retain reverse saturating_add saturating_mul saturating_sub size_hint "
-    "sort_by_cached_key sort_by_key sort_unstable split_at split_at_mut split_first split_first_chunk split_last split_seat swap_remove take then "
+    "push_reserved remove reserve reserve_exact resize retain reverse saturating_add saturating_mul saturating_sub "
+    "shrink_to_fit size_hint sort_by_cached_key sort_by_key sort_unstable split_at split_at_mut split_first split_first_chunk "
+    "split_last split_seat swap_remove take then "
     "to_le_bytes truncate unwrap unwrap_or word write_str write_u64".split()
 )
 # Methods of a trait of these crates that another type or trait has too. Each call can mean no other method: `run` is that of `System`,
@@ -91,7 +92,8 @@ EQUALITY = {"PartialEq": "#[inline]fneq(&self,other:&Self)->bool{self.bits==othe
 PADDED, RENAMED = "ent_handle/text", {"Entities::new": "with_exact_limits"}
 RENAMED |= {f"Vec::{it}": it + "_fallibly" for it in ("from_slice", "with_capacity")}
 # Calls of the kit's list that Rust's has otherwise, with the receivers that are no lists. A wrong one doesn't compile.
-LISTS = dict.fromkeys("extend_from_slice extend_with_clones push_reserved reserve_exact resize sort_by_cached_key sort_by_key".split(), "")
+LISTS = dict.fromkeys("extend_from_slice extend_with_clones push_reserved reserve_exact resize shrink_to_fit".split(), "")
+LISTS |= dict.fromkeys("sort_by_cached_key sort_by_key".split(), "")
 LIST_CALLS = {"capacity": "sized_capacity", "extend_with_clones": "extend_from_slice_fallibly", "push_reserved": "push_reserved"}
 LISTS |= {"capacity": "living", "push": "living", "reserve": "] index living self shared storage"}
 LISTS |= {"insert": "blocked calls commands items last latest living queue seen self spent values"}

@@ -2,7 +2,7 @@ ghost use Rattle.std.specs.Prelude.{Result};
 ghost use Rattle.ent_handle.specs.Handle.{Handle as HandleValue};
 ghost use Rattle.ent_alloc.specs.declared.refused.Refused.{Refused as Refusal};
 
-use ent_alloc::Refused;
+use ent_alloc::{Entities, Refused};
 use ent_handle::Handle;
 
 /// Who reserves handles for a [`Log`](crate::Log), one at a time.
@@ -17,4 +17,15 @@ pub trait Reserves {
     /// [`Refused`], if there is none.
     fn reserve_one(&mut self) -> Result<Handle, Refused>
         ensures { may_reserve self.old result self.new };
+}
+
+/// It [requests](Entities::request) the handle, so that one caller alone can fill a log too.
+impl Reserves for Entities {
+    ghost use Rattle.ent_log.specs.Spawning.{Requests};
+
+    ghost may_reserve = { λ before reply after. Requests before reply after };
+
+    fn reserve_one(&mut self) -> Result<Handle, Refused> {
+        self.request()
+    }
 }

@@ -1,184 +1,39 @@
--- What the workers have done together, once all of them are back.
+-- What the workers of a crew have done together, once all of them are back.
+use Rattle.std.proofs.Common.{rules, ◌≡◌, ℕ, ◌<◌, ◌≤◌, ◌+◌, List, [], ◌∷◌, ◌++◌, length, map, get_or, refl}
+use Rattle.std.proofs.Common.{ap, sym, ◌∙◌, arith, subst, Option, Some, None, true, false, Bool, take}
+use Rattle.std.proofs.Common.{drop, inl, inr, ⊎_elim, ◌⊎◌, Vec, Global, reverse}
 use Rattle.std.proofs.lemmas.Grind.{common_steps}
-use Rattle.std.proofs.Common.{rules, ◌≡◌, ℕ, zero, suc, ◌+◌, ◌<◌, List, [], ◌∷◌, ◌++◌, length, map}
-use Rattle.std.proofs.Common.{get_or, refl, ap, sym, ◌∙◌, arith, subst, Option, Some, None, true}
-use Rattle.std.proofs.Common.{Bool, false, take, drop, reverse, Vec, Global}
-use Rattle.std.specs.Prelude.{slice_get, replicate, IsSome, IfSome, IfNone, Any}
-use Rattle.std.specs.List.{All, flat_map, range_with_len}
+use Rattle.std.specs.Prelude.{slice_get, replicate, IsSome, IfSome, IfNone, Any, vec_capacity}
+use Rattle.std.specs.List.{All, AllPairs, flat_map, range_with_len}
 use Rattle.std.specs.List.Sorted.{IsPermutation}
-use Rattle.std.proofs.lemmas.Option.{slice_get_within, get_or_from_slice_get, slice_get-get_or}
-use Rattle.std.proofs.lemmas.Option.{none-some}
-use Rattle.std.proofs.lemmas.List.{length-map, length-append, get_or-map, take-append-le, take_all}
-use Rattle.std.proofs.lemmas.List.{length-replicate}
+use Rattle.std.proofs.lemmas.Bool.{cases_lt}
+use Rattle.std.proofs.lemmas.Option.{slice_get_within, get_or_from_slice_get, slice_get-get_or, none-some}
+use Rattle.std.proofs.lemmas.List.{length-map, length-append, take-append-le, take_all, get_or-map}
+use Rattle.std.proofs.lemmas.List.{length-replicate, map-append, length-reverse}
 use Rattle.std.proofs.lemmas.List.Folds.{flat_map-map}
-use Rattle.std.proofs.lemmas.List.Sorted.{All-permutation, IsPermutation-reverse}
-use Rattle.std.proofs.lemmas.List.Sorted.{length_permutation}
+use Rattle.std.proofs.lemmas.List.Sorted.{All-permutation, IsPermutation-reverse, length_permutation}
 use Rattle.std.proofs.lemmas.List.FromFn.{length-range_with_len}
 use Rattle.std.proofs.lemmas.List.Elements.{All-head, All-map}
-use Rattle.ent_alloc.specs.History.{IsLegal}
-use Rattle.ent_alloc.specs.Sequential.{Allocator}
+use Rattle.ent_alloc.proofs.ListLaws.{All-left}
 use Rattle.ent_shared.specs.declared.record.Record.{Record}
-use Rattle.ent_shared.specs.Record.{opened, opened_records}
 use Rattle.ent_shared.specs.Phase.{Shared, Reserver, IsOf, records_of}
-use Rattle.ent_shared.specs.Order.{reservations_of, history_of, Respects}
-use Rattle.ent_queue.specs.Command.{Command}
-use Rattle.ent_queue.specs.Reserving.{Gains}
-use Rattle.ent_world.specs.OpenWorld.{OpenWorld, View, world_at_start}
 use Rattle.ent_runner.specs.Claims.{Claims, Claimer, AreFirst, IsClaimerOf}
-use Rattle.ent_runner.specs.declared.worker.SystemQueue.{SystemQueue}
+use Rattle.ent_runner.specs.Collecting.{outputs_put}
+use Rattle.ent_runner.specs.Crew.{AreDone, AreBrokenOff, DidAll, DidUntil}
+use Rattle.ent_runner.specs.declared.worker.Done.{Done}
 use Rattle.ent_runner.specs.declared.worker.Worker.{Worker}
-use Rattle.ent_runner.specs.Frame.{IsFrame, IsBrokenOff, view_of}
-use Rattle.ent_runner.specs.Worker.{HasWorked, HaveWorked, HaveRunFirst, HasClaimed, IsUnused}
-use Rattle.ent_runner.specs.Worker.{IsRoomForOne, IsNewWorker, systems_of, commands_issued}
-use Rattle.ent_runner.specs.Worker.{all_records, IsLostFor}
-use Rattle.ent_runner.specs.Collecting.{queues_put}
-use Rattle.ent_runner.proofs.Lists.{of_mapped, each_of_all, mapped_at, same_flat, map_map_is}
-use Rattle.ent_runner.proofs.Lists.{get_mapped}
-use Rattle.std.proofs.lemmas.Bool.{cases_lt}
-use Rattle.std.proofs.Common.{inl, inr, ⊎_elim, ◌⊎◌, ◌≤◌}
-use Rattle.ent_runner.proofs.BySystem.{length_put}
-use Rattle.ent_runner.proofs.Framed.{Did, LastStopped, frame_is, broken_off, full, left_out}
+use Rattle.ent_runner.specs.Worker.{HasWorked, HaveAllWorked, HaveDoneFirst, HasClaimed, IsUnused}
+use Rattle.ent_runner.specs.Worker.{IsRoomForOne, IsNewWorker, IsLostFor, numbers_of, all_done}
+use Rattle.ent_runner.specs.Worker.{HasStoppedAt, IsRoom}
+use Rattle.ent_runner.proofs.Lists.{of_mapped, each_of_all, mapped_at, same_flat, get_mapped, map_flat}
+use Rattle.ent_runner.proofs.Lists.{at_within, all_flat, flat_all}
+use Rattle.ent_runner.proofs.ByNumber.{length_put}
+use Rattle.ent_runner.proofs.Outputs.{inside, full, left_out, long, outputs_at, unwrapped, kept_all}
 
 -- a slice of the same length that was written back
 pub written_back : {X : Type 0} (n : ℕ) (old new : List X) → n ≡ length old → length new
     ≡ length old → take n (new ++ drop (length new) old) ≡ new
 written_back n old new n_is same = search (rules, take-append-le, take_all)
-
-opened_at : (start : Allocator) (number count k : ℕ) (d : Record) → k < count
-    → get_or (opened_records start number count) k d ≡ opened start (number + k)
-unfolding opened_records
-opened_at start number zero k d less = absurd (omega arith)
-opened_at start number (suc count) zero d less = ap (opened start) (omega arith)
-opened_at start number (suc count) (suc k) d less = search (rules, opened_at start (number + 1) count k)
-
-abbrev issued_by : Worker → List SystemQueue
-issued_by w = w.issued.items
-
-pub records_are : (ws : List Worker) → records_of (map (λ (w : Worker). w.reserver) ws)
-    ≡ all_records ws
-records_are ws = search (rules, map_map_is)
-
--- what the worker of this number gained, and what holds of each queue that it kept
-record Gained (P : SystemQueue → Type 0) (world : OpenWorld) (k : ℕ) (w : Worker) : Type 0 where
-  pub gains : Gains (opened world.shared.start k) (commands_issued w.issued.items) w.reserver.own
-  pub each : All P w.issued.items
-  pub claims : systems_of w.issued.items ≡ w.claimer.own.claims
-
-module _ {S : Type 0} (may leave : S → View → List Command → Type 0) (systems : List S)
-    (world : OpenWorld) (claims : Claims) where
-  -- each began as it was opened
-  pub have_worked : (view : View) (old team : List Worker) → view ≡ view_of (world_at_start world)
-      → all_records old ≡ opened_records world.shared.start 0 world.shared.count → length old
-      ≡ world.shared.count → length team ≡ length old
-      → ((k : ℕ) (d : Worker) → k < length old → HasWorked may leave world.shared claims systems
-      view (get_or old k d).reserver.own (get_or team k d))
-      → HaveWorked may leave systems world claims team
-  have_worked view old team seen unused many back each = record {
-    count = back ∙ many;
-    each = λ k w at.
-        let within : k < length old = let l = slice_get_within team k w at in omega (arith, back) in
-        search (
-          rules,
-          get_or-map (λ (w : Worker). w.reserver.own) old k w w.reserver.own within,
-          unused,
-          opened_at,
-          each k w within,
-          get_or_from_slice_get team k w w at,
-        );
-  }
-
-  -- a worker that has stopped has run a system
-  pub some_systems : (team : List Worker) → HaveWorked may leave systems world claims team
-      → claims.numbers ≡ length systems → IsLostFor claims.numbers team → 0 < length systems
-  some_systems team done numbers (inr less) = omega (arith, numbers)
-  some_systems team done numbers (inl (k, w, within, at, stopped)) =
-      let has = done.each k w (slice_get-get_or team k w within ∙ ap Some at) in
-      let some = has.some stopped in
-      let first = has.inside 0 (record { system = 0; queue = [] }) some in
-      omega arith
-
-  module _ (team : List Worker) (done : HaveWorked may leave systems world claims team)
-      (numbers : claims.numbers ≡ length systems) where
-    pub all_claimed : All (HasClaimed world.shared claims) team
-    all_claimed k e within =
-        let d = done.each k (get_or team k e) (slice_get-get_or team k e within) in record {
-          reserver = d.reserver;
-          claimer = d.claimer;
-          inside = rw numbers d.inside;
-          ran = d.ran_some.claims;
-          ended = d.ended;
-          some = d.some;
-        }
-
-    module _ (P : SystemQueue → Type 0) (each : (k : ℕ) (w : Worker) → slice_get team k ≡ Some w
-        → Gained P world k w) where
-      did : (k : ℕ) (r : Record) (mine : List SystemQueue) → slice_get (all_records team) k ≡ Some r
-          → slice_get (map issued_by team) k ≡ Some mine → Did P (world_at_start world) k r mine
-      did k r mine at_r at_mine =
-          let two = mapped_at (λ (w : Worker). w.reserver.own) team k r at_r in
-          let three = mapped_at issued_by team k mine at_mine in
-          let is_mine : two.0.issued.items ≡ mine = cc (three.1, three.2, two.1) in
-          let d = done.each k two.0 two.1 in
-          let g = each k two.0 two.1 in
-          rw (sym two.2, sym is_mine)
-          (record { gains = g.gains; each = g.each; rising = rw g.claims d.claimer.rises })
-
-    mine_flat : flat_map (λ mine. mine) (map issued_by team) ≡ flat_map issued_by team
-    mine_flat = flat_map-map (λ mine. mine) issued_by team
-
-    systems_flat : flat_map systems_of (map issued_by team)
-        ≡ flat_map (λ (w : Worker). systems_of w.issued.items) team
-    systems_flat = flat_map-map systems_of issued_by team
-
-    module _ (legal : IsLegal world.shared.start (history_of (all_records team)))
-        (respects : All (Respects (reservations_of (all_records team))) (all_records team)) where
-      pub is_frame : All (λ (w : Worker). w.stopped ≡ false) team
-          → IsPermutation (flat_map (λ (w : Worker). systems_of w.issued.items) team)
-          (range_with_len 0 claims.numbers) → (queues : List (List Command)) → map Some queues
-          ≡ queues_put (flat_map (λ (w : Worker). w.issued.items) team)
-          (replicate claims.numbers None)
-          → IsFrame may systems world.shared.count (world_at_start world) queues
-          (history_of (all_records team))
-      is_frame going once queues by_system =
-          frame_is may systems (world_at_start world) _ (all_records team) (map issued_by team)
-          (length-map team _ ∙ done.count) (length-map team issued_by ∙ done.count) legal respects
-          queues
-          (did _ (λ k w at. let ran = (done.each k w at).ran
-          (each_of_all (λ (w : Worker). w.stopped ≡ false) team k w going at) in
-          record { gains = ran.gains; each = ran.each; claims = ran.claims }))
-          (rw systems_flat (rw numbers at once)) (rw mine_flat (rw numbers at by_system))
-
-      -- why there are no queues
-      why : (first : HaveRunFirst claims.numbers team) → IsLostFor claims.numbers team
-          → LastStopped leave systems (view_of (world_at_start world)) (map issued_by team)
-          ⊎ (first.count < length systems)
-      why first (inl (k, w, within, at, stopped)) =
-          let there = slice_get-get_or team k w within ∙ ap Some at in inl (
-            k,
-            w.issued.items,
-            get_mapped issued_by team k w there,
-            (done.each k w there).refused stopped,
-          )
-      why first (inr less) =
-          let whole = length_permutation _ _ first.once in
-          let long = length-range_with_len 0 first.count in
-          inr (omega (arith, whole, long, less, numbers))
-
-      pub is_broken_off : HaveRunFirst claims.numbers team → IsLostFor claims.numbers team
-          → IsBrokenOff may leave systems world.shared.count (world_at_start world)
-          (history_of (all_records team))
-      is_broken_off first lost =
-          broken_off may systems (world_at_start world) _ (all_records team) (map issued_by team)
-          (length-map team _ ∙ done.count) (length-map team issued_by ∙ done.count) legal respects
-          leave first.count (omega (arith, first.within)) (λ less. first.some (omega arith))
-          (why first lost)
-          (λ less. All-map (λ (mine : List SystemQueue). 0 < length mine) issued_by team
-          (first.busy (omega (arith, numbers))))
-          (did _ (λ k w at. let ran = (done.each k w at).ran_some in
-          record { gains = ran.gains; each = ran.each; claims = ran.claims }))
-          (λ k mine at. let there = mapped_at issued_by team k mine at in
-          rw there.2 at (done.each k there.0 there.1).ran_some.ended)
-          (rw systems_flat first.once)
 
 -- what holds, holds of what there is
 pub if_some : {X P : Type 0} (o : Option X) → P → IfSome o (λ _. P)
@@ -188,192 +43,421 @@ if_some it p = search rules
 pub none_weaker : {X P Q : Type 0} (o : Option X) → (P → Q) → IfNone o P → IfNone o Q
 none_weaker it follows p = search rules
 
--- What is known once all claims are closed.
-module _ (shared : Shared) (claims : Claims) (team : List Worker)
-    (each : All (HasClaimed shared claims) team) where
-  pub reservers_own : All (IsOf shared) (map (λ (w : Worker). w.reserver) team)
-  reservers_own = All-map (IsOf shared) (λ (w : Worker). w.reserver) team (search rules)
+pub some_weaker : {X : Type 0} {P Q : X → Type 0} (o : Option X) → ((x : X) → P x → Q x)
+    → IfSome o P → IfSome o Q
+some_weaker None follows p = tt
+some_weaker (Some x) follows p = follows x p
 
-  pub claimers_own : All (IsClaimerOf claims) (map (λ (w : Worker). w.claimer) team)
-  claimers_own = All-map (IsClaimerOf claims) (λ (w : Worker). w.claimer) team (search rules)
+module _ {O : Type 0} where
+  -- the workers are ready to begin
+  pub all_ready : (claims : Claims) (team : List (Worker O)) (fresh : List Claimer)
+      → map (λ (w : Worker O). w.claimer) team ≡ reverse fresh → All (IsClaimerOf claims) fresh
+      → All IsUnused fresh → All (λ (w : Worker O). IsRoomForOne w.done) team
+      → All (λ (w : Worker O). IsClaimerOf claims w.claimer × IsNewWorker w) team
+  all_ready claims team fresh claimers theirs unused empty =
+      let moved = IsPermutation-reverse fresh in
+      let one = of_mapped (IsClaimerOf claims) (λ (w : Worker O). w.claimer) team
+      (rw claimers (All-permutation (IsClaimerOf claims) fresh (reverse fresh) moved theirs)) in
+      let two = of_mapped IsUnused (λ (w : Worker O). w.claimer) team
+      (rw claimers (All-permutation IsUnused fresh (reverse fresh) moved unused)) in
+      λ k d within. (
+        one k d within,
+        record { unused = two k d within; room = empty k d within },
+      )
 
-  -- the systems that they ran are those that they claimed
-  pub ran_claims : flat_map (λ (w : Worker). systems_of w.issued.items) team
-      ≡ flat_map (λ (c : Claimer). c.own.claims) (map (λ (w : Worker). w.claimer) team)
-  ran_claims = search (rules, same_flat, flat_map-map)
+  -- A crew is made: its claims are open, its workers are ready, and there is room for all outputs.
+  pub room_of : (claims seen : Claims) (jobs workers : ℕ) (team : List (Worker O))
+      (fresh : List Claimer) (claimers : Vec Claimer Global) (by_number : List (Option O))
+      (outputs : Vec O Global) → claims ≡ seen → claims.numbers ≡ jobs → claims.workers ≡ workers
+      → 0 < workers → length fresh ≡ workers → All (IsClaimerOf claims) fresh → All IsUnused fresh
+      → map (λ (w : Worker O). w.claimer) team ≡ reverse fresh
+      → All (λ (w : Worker O). IsRoomForOne w.done) team → claimers.items ≡ []
+      → length fresh ≤ vec_capacity claimers → by_number ≡ replicate jobs None
+      → outputs.items ≡ [] → jobs ≤ vec_capacity outputs
+      → IsRoom seen team claimers by_number outputs
+  room_of claims seen jobs workers team fresh claimers by_number outputs same numbers many some count
+      own unused theirs empty none fits without outputs_none outputs_fit = rw (sym same) (record {
+        some = omega (arith, many, some);
+        count = omega (
+          arith,
+          length-map team (λ (w : Worker O). w.claimer),
+          ap length theirs,
+          length-reverse fresh,
+          count,
+          many,
+        );
+        each = all_ready claims team fresh theirs own unused empty;
+        claimers_empty = none;
+        claimers_fit = omega (arith, count, many, fits);
+        by_number_empty = without ∙ ap (λ n. replicate n None) (sym numbers);
+        outputs_empty = outputs_none;
+        outputs_fit = omega (arith, numbers, outputs_fit);
+      })
 
--- A worker ran a system, if some are left: else it had found none left.
-busy_one : (shared : Shared) (claims : Claims) (w : Worker) → HasClaimed shared claims w
-    → (claimers : List Claimer) (k : ℕ) → slice_get claimers k ≡ Some w.claimer
-    → (first : AreFirst claims.numbers claimers) → (stopped : Bool) → w.stopped ≡ stopped
-    → first.count < claims.numbers → 0 < length w.issued.items
-busy_one shared claims w has claimers k at first true is less = has.some is
-busy_one shared claims w has claimers k at first false is less = ⊎_elim
-    (λ (ended : w.claimer.own.ended ≡ true). let all = first.whole k w.claimer at ended in
-    absurd (omega (arith, all, less))) (λ some. some.0) (has.ended is)
+  abbrev claimers_of : List (Worker O) → List Claimer
+  claimers_of team = map (λ (w : Worker O). w.claimer) team
 
-busy_all : (shared : Shared) (claims : Claims) (team : List Worker) → All (HasClaimed shared claims)
-    team → (claimers : List Claimer) → claimers ≡ map (λ (w : Worker). w.claimer) team
-    → (first : AreFirst claims.numbers claimers) → first.count < claims.numbers
-    → All (λ (w : Worker). 0 < length w.issued.items) team
-busy_all shared claims team each claimers theirs first less k d within =
-    let w = get_or team k d in
-    let at = get_mapped (λ (w : Worker). w.claimer) team k w (slice_get-get_or team k d within) in
-    busy_one shared claims w (each k d within) claimers k (rw theirs at) first w.stopped refl less
+  -- What is known of workers that have claimed.
+  module _ (claims : Claims) (team : List (Worker O)) (each : All (HasClaimed claims) team) where
+    pub claimers_own : All (IsClaimerOf claims) (map (λ (w : Worker O). w.claimer) team)
+    claimers_own = All-map (IsClaimerOf claims) (λ (w : Worker O). w.claimer) team
+        (λ k d within. (each k d within).claimer)
 
--- So some ran, if there are any.
-some_by : (shared : Shared) (claims : Claims) (w : Worker) (team : List Worker) → HasClaimed shared
-    claims w → (claimers : List Claimer) → claimers ≡ map (λ (v : Worker). v.claimer) (w ∷ team)
-    → (first : AreFirst claims.numbers claimers) → 0 < length w.issued.items → 0 < first.count
-some_by shared claims w team has claimers theirs first some =
-    let whole = length_permutation _ _ first.once in
-    let long = length-range_with_len 0 first.count in
-    search (rules, length-map, length-append)
+    -- the jobs that they did are those that they claimed
+    pub did_claims : numbers_of (all_done team)
+        ≡ flat_map (λ (c : Claimer). c.own.claims) (claimers_of team)
+    did_claims = map_flat (λ (d : Done O). d.number) (λ (w : Worker O). w.done.items) team
+        ∙ (same_flat (λ (w : Worker O). numbers_of w.done.items)
+        (λ (w : Worker O). w.claimer.own.claims) team (λ k d within. (each k d within).claimed)
+        ∙ sym (flat_map-map (λ (c : Claimer). c.own.claims) (λ (w : Worker O). w.claimer) team))
 
-some_ran : (shared : Shared) (claims : Claims) (team : List Worker) → All (HasClaimed shared claims)
-    team → 0 < length team → (claimers : List Claimer) → claimers
-    ≡ map (λ (w : Worker). w.claimer) team → (first : AreFirst claims.numbers claimers)
-    → 0 < claims.numbers → 0 < first.count
-some_ran shared claims [] each many claimers theirs first less = absurd (omega arith)
-some_ran shared claims (w ∷ team) each many claimers theirs first less = ⊎_elim
-    (λ (left : first.count < claims.numbers). some_by shared claims w team
-    (All-head (HasClaimed shared claims) w team each) claimers theirs first
-    (All-head (λ (w : Worker). 0 < length w.issued.items) w team
-    (busy_all shared claims (w ∷ team) each claimers theirs first left)))
-    (λ (all : claims.numbers ≤ first.count). omega (arith, less)) (cases_lt first.count claims.numbers)
+    -- each job has a number that there is
+    pub numbers_below : All (λ (w : Worker O). All (λ (d : Done O). d.number < claims.numbers)
+        w.done.items) team
+    numbers_below k w within =
+        let has = each k w within in
+        of_mapped (λ n. n < claims.numbers) (λ (d : Done O). d.number) (get_or team k w).done.items
+        (rw has.claimed has.claimer.below)
 
-pub first_closed : (shared : Shared) (claims : Claims) (team : List Worker)
-    → All (HasClaimed shared claims) team → (claimers : List Claimer) → claimers
-    ≡ map (λ (w : Worker). w.claimer) team → 0 < length team → AreFirst claims.numbers claimers
-    → HaveRunFirst claims.numbers team
-first_closed shared claims team each claimers theirs many first = record {
-  count = first.count;
-  within = first.within;
-  some = some_ran shared claims team each many claimers theirs first;
-  once = rw (ran_claims shared claims team each, sym theirs) first.once;
-  busy = busy_all shared claims team each claimers theirs first;
-}
+  -- A worker did a job, if some are left: else it had found none left.
+  busy_one : (claims : Claims) (w : Worker O) → HasClaimed claims w
+      → (claimers : List Claimer) (k : ℕ) → slice_get claimers k ≡ Some w.claimer
+      → (first : AreFirst claims.numbers claimers) → (stopped : Bool) → w.stopped ≡ stopped
+      → first.count < claims.numbers → 0 < length w.done.items
+  busy_one claims w has claimers k at first true is less = has.some is
+  busy_one claims w has claimers k at first false is less = ⊎_elim
+      (λ (ended : w.claimer.own.ended ≡ true). let all = first.whole k w.claimer at ended in
+      absurd (omega (arith, all, less))) (λ some. some.0) (has.through is)
 
-abbrev no_queue : Option (List Command)
-no_queue = None
+  busy_all : (claims : Claims) (team : List (Worker O)) → All (HasClaimed claims) team
+      → (claimers : List Claimer) → claimers ≡ map (λ (w : Worker O). w.claimer) team
+      → (first : AreFirst claims.numbers claimers) → first.count < claims.numbers
+      → All (λ (w : Worker O). 0 < length w.done.items) team
+  busy_all claims team each claimers theirs first less k d within =
+      let w = get_or team k d in
+      let at = get_mapped (λ (w : Worker O). w.claimer) team k w (slice_get-get_or team k d within) in
+      busy_one claims w (each k d within) claimers k (rw theirs at) first w.stopped refl less
 
--- the queues of all workers, each at the number of its system
-abbrev by_system : ℕ → List Worker → List (Option (List Command))
-by_system numbers team = queues_put (flat_map (λ (w : Worker). w.issued.items) team)
-    (replicate numbers None)
-
--- each system has a queue
-all_full : (numbers : ℕ) (team : List Worker)
-    → IsPermutation (flat_map (λ (w : Worker). systems_of w.issued.items) team)
-    (range_with_len 0 numbers) → All IsSome (by_system numbers team)
-all_full numbers team once = subst (λ is. All IsSome (queues_put is (replicate numbers None)))
-    (flat_map-map (λ mine. mine) issued_by team) (search (rules, full, flat_map-map))
-
-module _ (numbers : ℕ) (team : List Worker) (first : HaveRunFirst numbers team) where
-  -- if each has one, all ran
-  all_ran : (queues : List (List Command)) → map Some queues ≡ by_system numbers team → first.count
-      ≡ numbers
-  all_ran queues each = ⊎_elim
-      (λ (less : first.count < numbers).
-      let once : IsPermutation (flat_map systems_of (map issued_by team))
-      (range_with_len 0 first.count) = rw (flat_map-map systems_of issued_by team) first.once in
-      let none = left_out first.count (map issued_by team) once numbers first.count (Some [])
-      (omega arith) less in
-      let lacks : get_or (by_system numbers team) first.count (Some []) ≡ no_queue =
-      subst (λ is. get_or (queues_put is (replicate numbers None)) first.count (Some []) ≡ no_queue)
-      (flat_map-map (λ mine. mine) issued_by team) none in
-      let long = length-map queues Some in
-      let put = length_put (flat_map (λ (w : Worker). w.issued.items) team)
-      (replicate numbers None) in
-      let many = length-replicate numbers no_queue in
-      let some = get_or-map Some queues first.count [] (Some [])
-      (omega (arith, long, put, many, ap length each, less)) in
-      absurd (none-some _ (sym lacks
-      ∙ (ap (λ all. get_or all first.count (Some [])) (sym each) ∙ some))))
-      (λ (all : numbers ≤ first.count). omega (arith, first.within))
-      (cases_lt first.count numbers)
-
-  once_each : (queues : List (List Command)) → map Some queues ≡ by_system numbers team
-      → IsPermutation (flat_map (λ (w : Worker). systems_of w.issued.items) team)
-      (range_with_len 0 numbers)
-  once_each queues each = rw (sym (all_ran queues each)) first.once
-
-  -- if one lacks it, some are left
-  some_left : Any (λ (queue : Option (List Command)). queue ≡ None) (by_system numbers team)
-      → length (flat_map (λ (w : Worker). systems_of w.issued.items) team) < numbers
-  some_left (k, queue, within, at, none) =
+  -- So some were done, if there are any.
+  some_by : (claims : Claims) (w : Worker O) (team : List (Worker O)) → HasClaimed claims w
+      → (claimers : List Claimer) → claimers ≡ map (λ (v : Worker O). v.claimer) (w ∷ team)
+      → (first : AreFirst claims.numbers claimers) → 0 < length w.done.items → 0 < first.count
+  some_by claims w team has claimers theirs first some =
       let whole = length_permutation _ _ first.once in
       let long = length-range_with_len 0 first.count in
-      ⊎_elim (λ (less : first.count < numbers). omega (arith, whole, long, less))
-      (λ (all : numbers ≤ first.count).
-      let same : first.count ≡ numbers = omega (arith, first.within) in
-      let has = all_full numbers team (rw same at first.once) k queue within in
-      let gone : IsSome no_queue = subst IsSome (at ∙ none) has in
-      absurd (cc)) (cases_lt first.count numbers)
+      let own = length-map w.done.items (λ (d : Done O). d.number) in
+      let same = ap length has.claimed in
+      let parts = length-append w.claimer.own.claims
+      (flat_map (λ (c : Claimer). c.own.claims) (map (λ (v : Worker O). v.claimer) team)) in
+      let all = ap (λ cs. length (flat_map (λ (c : Claimer). c.own.claims) cs)) theirs in
+      omega (arith, whole, long, own, same, parts, all, some)
 
--- what comes of these queues, by system, where they are collected
-module _ (numbers : ℕ) (team : List Worker) (first : HaveRunFirst numbers team)
-    (was : List (Option (List Command))) (same : was ≡ by_system numbers team) where
-  pub queues_of : (got : Option (Vec (List Command) Global))
-      → IfSome got (λ queues. map Some queues.items ≡ was)
-      → IfSome got (λ queues. map Some queues.items
-      ≡ queues_put (flat_map (λ (w : Worker). w.issued.items) team) (replicate numbers None))
-  queues_of None all = tt
-  queues_of (Some queues) all = all ∙ same
+  some_ran : (claims : Claims) (team : List (Worker O)) → All (HasClaimed claims) team
+      → 0 < length team → (claimers : List Claimer) → claimers
+      ≡ map (λ (w : Worker O). w.claimer) team → (first : AreFirst claims.numbers claimers)
+      → 0 < claims.numbers → 0 < first.count
+  some_ran claims [] each many claimers theirs first less = absurd (omega arith)
+  some_ran claims (w ∷ team) each many claimers theirs first less = ⊎_elim
+      (λ (left : first.count < claims.numbers). some_by claims w team
+      (All-head (HasClaimed claims) w team each) claimers theirs first
+      (All-head (λ (w : Worker O). 0 < length w.done.items) w team
+      (busy_all claims (w ∷ team) each claimers theirs first left)))
+      (λ (all : claims.numbers ≤ first.count). omega (arith, less))
+      (cases_lt first.count claims.numbers)
 
-  pub once_of : (got : Option (Vec (List Command) Global))
-      → IfSome got (λ queues. map Some queues.items ≡ was)
-      → IfSome got (λ _. IsPermutation (flat_map (λ (w : Worker). systems_of w.issued.items) team)
-      (range_with_len 0 numbers))
-  once_of None all = tt
-  once_of (Some queues) all = once_each numbers team first queues.items (all ∙ same)
+  pub first_closed : (claims : Claims) (team : List (Worker O)) → All (HasClaimed claims) team
+      → (claimers : List Claimer) → claimers ≡ map (λ (w : Worker O). w.claimer) team
+      → 0 < length team → AreFirst claims.numbers claimers → HaveDoneFirst claims.numbers team
+  first_closed claims team each claimers theirs many first = record {
+    count = first.count;
+    within = first.within;
+    some = some_ran claims team each many claimers theirs first;
+    once = rw (did_claims claims team each, sym theirs) first.once;
+    busy = busy_all claims team each claimers theirs first;
+  }
 
-  pub lost_of : (got : Option (Vec (List Command) Global))
-      → IfNone got (Any (λ (queue : Option (List Command)). queue ≡ None) was)
-      → IfNone got (IsLostFor numbers team)
-  lost_of None lacks = inr (some_left numbers team first (rw same at lacks))
-  lost_of (Some queues) lacks = tt
+  abbrev no_output : Option O
+  no_output = None
 
--- the queues by system after all were put in, as they are written back
-pub queues_back : (count n : ℕ) (issued : List SystemQueue)
-    (start new : List (Option (List Command))) → start ≡ replicate count None → n ≡ length start
-    → new ≡ queues_put issued start → take n (new ++ drop (length new) start)
-    ≡ queues_put issued (replicate count None)
-queues_back count n issued start new empty n_is put = search (rules, length_put, written_back)
+  abbrev by_number : ℕ → List (Worker O) → List (Option O)
+  by_number numbers team = outputs_put (all_done team) (replicate numbers None)
 
--- the workers are ready to begin
-pub all_ready : (shared : Shared) (claims : Claims) (old : List Worker) (given : List Reserver)
-    (fresh : List Claimer) → map (λ (w : Worker). w.reserver) old ≡ given → All (IsOf shared) given
-    → map (λ (w : Worker). w.claimer) old ≡ reverse fresh → All (IsClaimerOf claims) fresh
-    → All IsUnused fresh → All (λ (w : Worker). IsRoomForOne w.issued) old → All
-    (λ (w : Worker). IsOf shared w.reserver × IsClaimerOf claims w.claimer × IsNewWorker w) old
-all_ready shared claims old given fresh reservers own claimers theirs unused empty =
-    let moved = IsPermutation-reverse fresh in
-    let one = of_mapped (IsOf shared) (λ (w : Worker). w.reserver) old (rw reservers own) in
-    let two = of_mapped (IsClaimerOf claims) (λ (w : Worker). w.claimer) old
-    (rw claimers (All-permutation (IsClaimerOf claims) fresh (reverse fresh) moved theirs)) in
-    let three = of_mapped IsUnused (λ (w : Worker). w.claimer) old
-    (rw claimers (All-permutation IsUnused fresh (reverse fresh) moved unused)) in
-    grind (arith, common_steps)
+  module _ (numbers : ℕ) (team : List (Worker O)) (first : HaveDoneFirst numbers team) where
+    -- if each job has an output, all were done
+    pub all_ran : (outputs : List O) → map Some outputs ≡ by_number numbers team → first.count
+        ≡ numbers
+    all_ran outputs each = ⊎_elim
+        (λ (less : first.count < numbers).
+        let lacks : get_or (by_number numbers team) first.count no_output ≡ no_output =
+        left_out first.count (all_done team) first.once numbers first.count no_output
+        (omega arith) less in
+        let long = length-map outputs Some in
+        let put = length_put (all_done team) (replicate numbers None) in
+        let many = length-replicate numbers no_output in
+        let there = at_within outputs first.count
+        (omega (arith, long, put, many, ap length each, less)) in
+        let some = get_or_from_slice_get (map Some outputs) first.count (Some there.0) no_output
+        (get_mapped Some outputs first.count there.0 there.1) in
+        absurd (none-some there.0 (sym lacks
+        ∙ (ap (λ all. get_or all first.count no_output) (sym each) ∙ some))))
+        (λ (all : numbers ≤ first.count). omega (arith, first.within))
+        (cases_lt first.count numbers)
 
--- the queues, if there are any, are those of a frame
-pub framed : {S : Type 0} (may leave : S → View → List Command → Type 0) (systems : List S)
-    (world : OpenWorld) (claims : Claims) (team : List Worker) → HaveWorked may leave systems world
-    claims team → claims.numbers ≡ length systems → (queues : Option (Vec (List Command) Global))
-    → IsLegal world.shared.start (history_of (all_records team))
-    → All (Respects (reservations_of (all_records team))) (all_records team)
-    → IfSome queues (λ q. All (λ (w : Worker). w.stopped ≡ false) team)
-    → IfSome queues (λ q. IsPermutation (flat_map (λ (w : Worker). systems_of w.issued.items) team)
-    (range_with_len 0 claims.numbers))
-    → IfSome queues (λ q. map Some q.items
-    ≡ queues_put (flat_map (λ (w : Worker). w.issued.items) team) (replicate claims.numbers None))
-    → IfSome queues (λ q. IsFrame may systems world.shared.count (world_at_start world) q.items
-    (history_of (all_records team)))
-framed may leave systems world claims team done numbers None legal respects going once by_system =
-    tt
-framed may leave systems world claims team done numbers (Some q) legal respects going once
-    by_system = search (rules, is_frame)
+    -- if one lacks it, some are left
+    pub some_left : Any (λ (output : Option O). output ≡ None) (by_number numbers team)
+        → length (all_done team) < numbers
+    some_left (k, output, within, at, none) =
+        let whole = length_permutation _ _ first.once in
+        let long = length-range_with_len 0 first.count in
+        let own = length-map (all_done team) (λ (d : Done O). d.number) in
+        ⊎_elim (λ (less : first.count < numbers). omega (arith, whole, long, own, less))
+        (λ (all : numbers ≤ first.count).
+        let same : first.count ≡ numbers = omega (arith, first.within) in
+        let has : IsSome (get_or (by_number numbers team) k output) =
+        (rw same at (full first.count (all_done team) first.once)) k output within in
+        let gone : IsSome no_output = subst IsSome (at ∙ none) has in
+        absurd (cc)) (cases_lt first.count numbers)
 
-pub view_is : (world : OpenWorld) (view : View) → view.phase ≡ world.phase → view.entities
-    ≡ world.entities → view ≡ view_of (world_at_start world)
-view_is world view phase entities = (λ i. record { phase = phase i; entities = entities i })
+  pub claimers_are : (old new : List (Worker O)) → old ≡ new
+      → map (λ (w : Worker O). w.claimer) old ≡ map (λ (w : Worker O). w.claimer) new
+  claimers_are old new same = ap (map (λ (w : Worker O). w.claimer)) same
+
+  pub any_stopped : (old new : List (Worker O)) → old ≡ new
+      → Any (λ (w : Worker O). w.stopped ≡ true) old → Any (λ (w : Worker O). w.stopped ≡ true) new
+  any_stopped old new same any = subst (Any (λ (w : Worker O). w.stopped ≡ true)) same any
+
+  pub none_stopped : (old new : List (Worker O)) → old ≡ new
+      → All (λ (w : Worker O). w.stopped ≡ false) old
+      → All (λ (w : Worker O). w.stopped ≡ false) new
+  none_stopped old new same all = subst (All (λ (w : Worker O). w.stopped ≡ false)) same all
+
+  -- the outputs by number after all were put in, as they are written back
+  pub outputs_back : (count n : ℕ) (done : List (Done O)) (start new : List (Option O))
+      → start ≡ replicate count None → n ≡ length start → new ≡ outputs_put done start
+      → take n (new ++ drop (length new) start) ≡ outputs_put done (replicate count None)
+  outputs_back count n done start new empty n_is put = search (rules, length_put, written_back)
+
+  -- what all workers together have done
+  module _ (may leave : ℕ → Record → O → Record → Type 0) (shared : Shared) (claims : Claims)
+      (before after : List Reserver) (team : List (Worker O))
+      (worked : HaveAllWorked may leave shared claims before after team) where
+    worked_at : (k : ℕ) (w : Worker O) (a b : Reserver) → slice_get team k ≡ Some w
+        → slice_get before k ≡ Some a → slice_get after k ≡ Some b
+        → HasWorked may leave shared claims a b w
+    worked_at k w a b at_w at_a at_b =
+        rw (
+          sym (get_or_from_slice_get before k a a at_a),
+          sym (get_or_from_slice_get after k b b at_b),
+          sym (get_or_from_slice_get team k w w at_w),
+        )
+        (worked.each k a b w (slice_get_within before k a at_a))
+
+    pub stay : All (IsOf shared) after
+    stay k d within =
+        let less : k < length before = omega (arith, worked.reservers) in
+        let a = at_within before k less in
+        let w = at_within team k (omega (arith, worked.count)) in
+        (worked_at k w.0 a.0 (get_or after k d) w.1 a.1 (slice_get-get_or after k d within)).reserver
+
+    pub all_claimed : All (HasClaimed claims) team
+    all_claimed k d within =
+        let less : k < length before = omega (arith, worked.count) in
+        let a = at_within before k less in
+        let b = at_within after k (omega (arith, worked.reservers)) in
+        has_claimed (get_or team k d) a.0 b.0
+        (worked_at k (get_or team k d) a.0 b.0 (slice_get-get_or team k d within) a.1 b.1)
+      where
+        has_claimed : (w : Worker O) (a b : Reserver) → HasWorked may leave shared claims a b w
+            → HasClaimed claims w
+        has_claimed w a b has = record {
+          claimer = has.claimer;
+          claimed = has.claimed;
+          through = has.through;
+          some = λ stopped.
+              let s = has.stopped stopped in
+              omega (arith, ap length s.done_are, length-append s.earlier (s.last ∷ []));
+        }
+
+    abbrev ran : List (List ℕ)
+    ran = map (λ (w : Worker O). numbers_of w.done.items) team
+
+    ran_flat : flat_map (λ mine. mine) (map (λ (w : Worker O). numbers_of w.done.items) team)
+        ≡ numbers_of (all_done team)
+    ran_flat = flat_map-map (λ mine. mine) (λ (w : Worker O). numbers_of w.done.items) team
+        ∙ sym (map_flat (λ (d : Done O). d.number) (λ (w : Worker O). w.done.items) team)
+
+    rising : All (AllPairs (λ m n. m < n)) (map (λ (w : Worker O). numbers_of w.done.items) team)
+    rising = All-map (AllPairs (λ m n. m < n)) (λ (w : Worker O). numbers_of w.done.items) team
+        (λ k d within. let has = all_claimed k d within in rw has.claimed has.claimer.rises)
+
+    long_ran : length (map (λ (w : Worker O). numbers_of w.done.items) team)
+        ≡ length (records_of before)
+    long_ran = length-map team _ ∙ (worked.count ∙ sym (length-map before (λ (r : Reserver). r.own)))
+
+    module _ (outputs : List O) (at : All (λ (d : Done O). slice_get outputs d.number
+        ≡ Some d.output) (all_done team)) where
+      own_at : (k : ℕ) (w : Worker O) → slice_get team k ≡ Some w
+          → All (λ (d : Done O). slice_get outputs d.number ≡ Some d.output) w.done.items
+      own_at k w at_w = each_of_all (λ (w : Worker O). All (λ (d : Done O). slice_get outputs
+          d.number ≡ Some d.output) w.done.items) team k w (flat_all (λ (d : Done O).
+          slice_get outputs d.number ≡ Some d.output) (λ (w : Worker O). w.done.items) team at) at_w
+
+      -- a worker that has ended, and one whose last job stopped
+      until : (a b : Record) (w : Worker O) → All (λ (d : Done O). slice_get outputs d.number
+          ≡ Some d.output) w.done.items → HasStoppedAt may leave a w.done.items b
+          → DidUntil may leave outputs a (numbers_of w.done.items) b
+      until a b w own s =
+          let whole = rw s.done_are at own in
+          let last : slice_get outputs s.last.number ≡ Some s.last.output =
+          each_of_all (λ (d : Done O). slice_get outputs d.number ≡ Some d.output)
+          (s.earlier ++ s.last ∷ []) (length s.earlier) s.last whole (seam s.earlier s.last) in
+          record {
+            earlier = numbers_of s.earlier;
+            last = s.last.number;
+            numbers_are = ap numbers_of s.done_are
+                ∙ map-append (λ (d : Done O). d.number) s.earlier (s.last ∷ []);
+            between = s.between;
+            ended = kept_all may outputs a s.earlier s.between (front s.earlier s.last whole) s.ended;
+            stopped = (s.last.output, last, s.stopped);
+          }
+        where
+          seam : (xs : List (Done O)) (x : Done O) → slice_get (xs ++ x ∷ []) (length xs) ≡ Some x
+          seam [] x = refl
+          seam (y ∷ xs) x = seam xs x
+
+          front : (xs : List (Done O)) (x : Done O) → All (λ (d : Done O). slice_get outputs d.number
+              ≡ Some d.output) (xs ++ x ∷ []) → All (λ (d : Done O). slice_get outputs d.number
+              ≡ Some d.output) xs
+          front xs x all = All-left (λ (d : Done O). slice_get outputs d.number ≡ Some d.output) xs
+              (x ∷ []) all
+
+      ended_by : (k : ℕ) (w : Worker O) (a b : Reserver) → slice_get team k ≡ Some w
+          → slice_get before k ≡ Some a → slice_get after k ≡ Some b → w.stopped ≡ false
+          → DidAll may outputs a.own (numbers_of w.done.items) b.own
+      ended_by k w a b at_w at_a at_b going = kept_all may outputs a.own w.done.items b.own
+          (own_at k w at_w) ((worked_at k w a b at_w at_a at_b).ended going)
+
+      stopped_by : (k : ℕ) (w : Worker O) (a b : Reserver) → slice_get team k ≡ Some w
+          → slice_get before k ≡ Some a → slice_get after k ≡ Some b → w.stopped ≡ true
+          → DidUntil may leave outputs a.own (numbers_of w.done.items) b.own
+      stopped_by k w a b at_w at_a at_b stopped = until a.own b.own w (own_at k w at_w)
+          ((worked_at k w a b at_w at_a at_b).stopped stopped)
+
+      either_by : (k : ℕ) (w : Worker O) (a b : Reserver) → slice_get team k ≡ Some w
+          → slice_get before k ≡ Some a → slice_get after k ≡ Some b → (stopped : Bool)
+          → w.stopped ≡ stopped → DidAll may outputs a.own (numbers_of w.done.items) b.own
+          ⊎ DidUntil may leave outputs a.own (numbers_of w.done.items) b.own
+      either_by k w a b at_w at_a at_b false is = inl (ended_by k w a b at_w at_a at_b is)
+      either_by k w a b at_w at_a at_b true is = inr (stopped_by k w a b at_w at_a at_b is)
+
+    pub are_done : (first : HaveDoneFirst claims.numbers team)
+        → All (λ (w : Worker O). w.stopped ≡ false) team → (outputs : List O)
+        → map Some outputs ≡ by_number claims.numbers team
+        → AreDone may claims.numbers (records_of before) outputs (records_of after)
+    are_done first going outputs each =
+        let all = all_ran claims.numbers team first outputs each in
+        let once : IsPermutation (numbers_of (all_done team)) (range_with_len 0 claims.numbers) =
+        rw (sym all) first.once in
+        record {
+          ran = ran;
+          each_worker = long_ran;
+          once = rw ran_flat once;
+          rising = rising;
+          count = long claims.numbers (all_done team) once outputs each;
+          did = λ k mine a b at_mine at_a at_b.
+              let w = mapped_at (λ (w : Worker O). numbers_of w.done.items) team k mine at_mine in
+              let r = mapped_at (λ (r : Reserver). r.own) before k a at_a in
+              let s = mapped_at (λ (r : Reserver). r.own) after k b at_b in
+              rw (sym w.2, sym r.2, sym s.2) (ended_by outputs
+              (outputs_at claims.numbers (all_done team) once outputs each) k w.0 r.0 s.0 w.1 r.1
+              s.1 (each_of_all (λ (w : Worker O). w.stopped ≡ false) team k w.0 going w.1));
+        }
+
+    pub are_broken_off : HaveDoneFirst claims.numbers team → IsLostFor claims.numbers team
+        → AreBrokenOff may leave claims.numbers (records_of before) (records_of after)
+    are_broken_off first lost =
+        let there = unwrapped (by_number first.count team)
+        (full first.count (all_done team) first.once) in
+        let outputs : List O = there.0 in
+        let at = outputs_at first.count (all_done team) first.once outputs there.1 in
+        record {
+          ran = ran;
+          each_worker = long_ran;
+          count = first.count;
+          within = first.within;
+          some = first.some;
+          once = rw ran_flat first.once;
+          rising = rising;
+          outputs = outputs;
+          each_output = long first.count (all_done team) first.once outputs there.1;
+          did = λ k mine a b at_mine at_a at_b.
+              let w = mapped_at (λ (w : Worker O). numbers_of w.done.items) team k mine at_mine in
+              let r = mapped_at (λ (r : Reserver). r.own) before k a at_a in
+              let s = mapped_at (λ (r : Reserver). r.own) after k b at_b in
+              rw (sym w.2, sym r.2, sym s.2) (either_by outputs at k w.0 r.0 s.0 w.1 r.1 s.1
+              w.0.stopped refl);
+          why = why first outputs at lost;
+          busy = λ less. All-map (λ mine. 0 < length mine)
+              (λ (w : Worker O). numbers_of w.done.items) team
+              (λ k d within. let some = first.busy less k d within in
+              omega (arith, some, length-map (get_or team k d).done.items (λ (d : Done O). d.number)));
+        }
+      where
+        why : (first : HaveDoneFirst claims.numbers team) (outputs : List O)
+            → All (λ (d : Done O). slice_get outputs d.number ≡ Some d.output) (all_done team)
+            → IsLostFor claims.numbers team
+            → ((worker : ℕ) × (mine : List ℕ) × (a : Record) × (b : Record)
+            × (slice_get (map (λ (w : Worker O). numbers_of w.done.items) team) worker ≡ Some mine)
+            × (slice_get (records_of before) worker ≡ Some a)
+            × (slice_get (records_of after) worker ≡ Some b)
+            × DidUntil may leave outputs a mine b) ⊎ (first.count < claims.numbers)
+        why first outputs at (inl (k, w, within, at_k, stopped)) =
+            let at_w = slice_get-get_or team k w within ∙ ap Some at_k in
+            let less : k < length before = omega (arith, worked.count) in
+            let a = at_within before k less in
+            let b = at_within after k (omega (arith, worked.reservers)) in
+            inl (
+              k,
+              numbers_of w.done.items,
+              a.0.own,
+              b.0.own,
+              get_mapped (λ (w : Worker O). numbers_of w.done.items) team k w at_w,
+              get_mapped (λ (r : Reserver). r.own) before k a.0 a.1,
+              get_mapped (λ (r : Reserver). r.own) after k b.0 b.1,
+              stopped_by outputs at k w a.0 b.0 at_w a.1 b.1 stopped,
+            )
+        why first outputs at (inr less) =
+            let whole = length_permutation _ _ first.once in
+            let many = length-range_with_len 0 first.count in
+            let own = length-map (all_done team) (λ (d : Done O). d.number) in
+            inr (omega (arith, whole, many, own, less))
+
+    -- what comes of these outputs, by number, where they are collected
+    module _ (first : HaveDoneFirst claims.numbers team) (got : Option (Vec O Global))
+        (was : List (Option O)) (same : was ≡ by_number claims.numbers team) where
+      pub done_of : All (λ (w : Worker O). w.stopped ≡ false) team
+          → IfSome got (λ outputs. map Some outputs.items ≡ was)
+          → IfSome got (λ outputs. AreDone may claims.numbers (records_of before) outputs.items
+          (records_of after))
+      done_of going all = some_weaker got (λ outputs each. are_done first going outputs.items
+          (each ∙ same)) all
+
+      pub lost_of : IfNone got (Any (λ (output : Option O). output ≡ None) was)
+          → IfNone got (AreBrokenOff may leave claims.numbers (records_of before)
+          (records_of after))
+      lost_of lacks = none_weaker got (λ lacking. are_broken_off first
+          (inr (some_left claims.numbers team first (rw same at lacking)))) lacks
+
+    -- a worker that has stopped has done a job
+    pub some_jobs : IsLostFor claims.numbers team → 0 < claims.numbers
+    some_jobs (inr less) = omega arith
+    some_jobs (inl (k, w, within, at, stopped)) =
+        let there = slice_get-get_or team k w within ∙ ap Some at in
+        let has = each_of_all (HasClaimed claims) team k w all_claimed there in
+        let some = has.some stopped in
+        let below = each_of_all (λ (w : Worker O). All (λ (d : Done O). d.number < claims.numbers)
+        w.done.items) team k w (numbers_below claims team all_claimed) there in
+        let one = at_within w.done.items 0 some in
+        let less = each_of_all (λ (d : Done O). d.number < claims.numbers) w.done.items 0 one.0 below
+        one.1 in
+        omega (arith, less)

@@ -4,47 +4,44 @@ use Rattle.std.proofs.Common.{append_assoc, arith}
 use Rattle.std.specs.List.{All, flat_map}
 use Rattle.std.proofs.lemmas.List.{map-append}
 use Rattle.std.proofs.lemmas.List.Elements.{All-rest}
-use Rattle.ent_queue.specs.Command.{Command}
-use Rattle.ent_runner.specs.declared.worker.SystemQueue.{SystemQueue}
+use Rattle.ent_runner.specs.declared.worker.Done.{Done}
 use Rattle.ent_runner.specs.declared.worker.Worker.{Worker}
-use Rattle.ent_runner.specs.Collecting.{queues_put}
-use Rattle.ent_runner.proofs.BySystem.{put_both, length_put}
+use Rattle.ent_runner.specs.Collecting.{outputs_put}
+use Rattle.ent_runner.proofs.ByNumber.{put_both, length_put}
 
-abbrev all_of : List Worker → List SystemQueue
-all_of workers = flat_map (λ (w : Worker). w.issued.items) workers
+module _ {O : Type 0} where
+  abbrev Inside : List (Option O) → Worker O → Type 0
+  Inside by_number w = All (λ (d : Done O). d.number < length by_number) w.done.items
 
-abbrev Inside : List (Option (List Command)) → Worker → Type 0
-Inside by_system w = All (λ (i : SystemQueue). i.system < length by_system) w.issued.items
+  -- so many were taken apart, and one more
+  pub record Disbanded (workers yielded rest : List (Worker O)) (w : Worker O)
+      (by_number next : List (Option O)) : Type 0 where
+    pub all : (yielded ++ w ∷ []) ++ rest ≡ workers
+    pub outputs_are : (end : List (Option O))
+        → outputs_put (flat_map (λ (w : Worker O). w.done.items) (w ∷ rest)) by_number ≡ end
+        → outputs_put (flat_map (λ (w : Worker O). w.done.items) rest) next ≡ end
+    pub inside : All (λ (w : Worker O). All (λ (d : Done O). d.number < length next)
+        w.done.items) rest
 
--- so many were taken apart, and one more
-pub record Disbanded (workers yielded rest : List Worker) (w : Worker)
-    (by_system next : List (Option (List Command))) : Type 0 where
-  pub all : (yielded ++ w ∷ []) ++ rest ≡ workers
-  pub queues_are : (end : List (Option (List Command)))
-      → queues_put (flat_map (λ (w : Worker). w.issued.items) (w ∷ rest)) by_system ≡ end
-      → queues_put (flat_map (λ (w : Worker). w.issued.items) rest) next ≡ end
-  pub inside : All (λ (w : Worker). All (λ (i : SystemQueue). i.system < length next)
-      w.issued.items) rest
+  pub disbanded_on : (workers yielded old rest : List (Worker O)) (w : Worker O)
+      (by_number next : List (Option O)) → old ≡ w ∷ rest → yielded ++ old ≡ workers
+      → next ≡ outputs_put w.done.items by_number
+      → All (λ (w : Worker O). All (λ (d : Done O). d.number < length by_number) w.done.items)
+      old → Disbanded workers yielded rest w by_number next
+  disbanded_on workers yielded old rest w by_number next front all put inside = record {
+    all = search (rules, append_assoc);
+    outputs_are = search (rules, put_both);
+    inside = rw (put, length_put) (All-rest (Inside by_number) w rest old front inside);
+  }
 
-pub disbanded_on : (workers yielded old rest : List Worker) (w : Worker)
-    (by_system next : List (Option (List Command))) → old ≡ w ∷ rest → yielded ++ old ≡ workers
-    → next ≡ queues_put w.issued.items by_system
-    → All (λ (w : Worker). All (λ (i : SystemQueue). i.system < length by_system) w.issued.items)
-    old → Disbanded workers yielded rest w by_system next
-disbanded_on workers yielded old rest w by_system next front all put inside = record {
-  all = search (rules, append_assoc);
-  queues_are = search (rules, put_both);
-  inside = rw (put, length_put) (All-rest (Inside by_system) w rest old front inside);
-}
+  -- its outputs have numbers of jobs
+  pub inside_first : (old rest : List (Worker O)) (w : Worker O) (by_number : List (Option O))
+      → old ≡ w ∷ rest → All (λ (w : Worker O). All (λ (d : Done O). d.number < length by_number)
+      w.done.items) old → All (λ (d : Done O). d.number < length by_number) w.done.items
+  inside_first old rest w by_number front inside = (rw front at inside) 0 w (omega arith)
 
--- its queues have numbers of systems
-pub inside_first : (old rest : List Worker) (w : Worker) (by_system : List (Option (List Command)))
-    → old ≡ w ∷ rest → All (λ (w : Worker). All (λ (i : SystemQueue). i.system < length by_system)
-    w.issued.items) old → All (λ (i : SystemQueue). i.system < length by_system) w.issued.items
-inside_first old rest w by_system front inside = (rw front at inside) 0 w (omega arith)
-
--- what was moved out of the workers, and out of one more
-pub moved_on : {X : Type 0} (f : Worker → X) (yielded : List Worker) (w : Worker)
-    (before after : List X) → before ≡ map f yielded → after ≡ before ++ f w ∷ [] → after
-    ≡ map f (yielded ++ w ∷ [])
-moved_on f yielded w before after moved push = search (rules, map-append)
+  -- what was moved out of the workers, and out of one more
+  pub moved_on : {X : Type 0} (f : Worker O → X) (yielded : List (Worker O)) (w : Worker O)
+      (before after : List X) → before ≡ map f yielded → after ≡ before ++ f w ∷ [] → after
+      ≡ map f (yielded ++ w ∷ [])
+  moved_on f yielded w before after moved push = search (rules, map-append)

@@ -1,44 +1,84 @@
 -- Two parts of the workers have worked, so all of them have.
 use Rattle.std.proofs.lemmas.Grind.{common_steps}
-use Rattle.std.proofs.Common.{◌≡◌, ◌-◌, List, ◌++◌, length, arith, rules}
+use Rattle.std.proofs.Common.{◌≡◌, ◌-◌, ◌<◌, ◌≤◌, ◌+◌, ℕ, List, ◌++◌, length, arith, rules, inl, inr}
+use Rattle.std.proofs.Common.{⊎_elim, get_or, All, sym, refl}
 use Rattle.std.proofs.lemmas.Bool.{cases_lt}
 use Rattle.std.proofs.lemmas.List.{length-append, get_or_append_left, get_or-append_right}
-use Rattle.ent_shared.specs.Phase.{Shared}
-use Rattle.ent_queue.specs.Command.{Command}
-use Rattle.ent_world.specs.OpenWorld.{View}
-use Rattle.ent_runner.specs.Claims.{Claims}
+use Rattle.ent_alloc.proofs.ListLaws.{All-left, All-right}
+use Rattle.ent_shared.specs.declared.record.Record.{Record}
+use Rattle.ent_shared.specs.Phase.{Shared, Reserver, IsOf}
+use Rattle.ent_runner.specs.Claims.{Claims, IsClaimerOf}
 use Rattle.ent_runner.specs.declared.worker.Worker.{Worker}
-use Rattle.ent_runner.specs.Worker.{HasWorked, HaveAllWorked}
+use Rattle.ent_runner.specs.Worker.{HasWorked, HaveAllWorked, AreReady, IsNewWorker}
 
-module _ {S : Type 0} (may leave : S → View → List Command → Type 0) (shared : Shared)
-    (claims : Claims) (systems : List S) (view : View) where
-  abbrev Did : Worker → Worker → Type 0
-  Did before after = HasWorked may leave shared claims systems view before.reserver.own after
+module _ {O : Type 0} (may leave : ℕ → Record → O → Record → Type 0) (shared : Shared)
+    (claims : Claims) where
+  abbrev HaveDone : List Reserver → List Reserver → List (Worker O) → Type 0
+  HaveDone before after team = HaveAllWorked may leave shared claims before after team
 
-  abbrev HaveDone : List Worker → List Worker → Type 0
-  HaveDone before after = HaveAllWorked may leave shared claims systems view before after
-
-  joined : (front front' back back' : List Worker) → HaveDone front front' → HaveDone back back'
-      → HaveDone (front ++ back) (front' ++ back')
-  joined front front' back back' first second = record {
+  joined : (first first' second second' : List Reserver) (front back : List (Worker O))
+      → HaveDone first first' front → HaveDone second second' back
+      → HaveDone (first ++ second) (first' ++ second') (front ++ back)
+  joined first first' second second' front back one other = record {
     count = omega (
       arith,
       length-append front back,
-      length-append front' back',
-      first.count,
-      second.count,
+      length-append first second,
+      one.count,
+      other.count,
     );
-    each = λ k d less. search (
-      rules,
-      cases_lt k (length front),
-      get_or_append_left,
-      get_or-append_right,
-      first.each,
-      second.each,
-      length-append,
+    reservers = omega (
+      arith,
+      length-append first' second',
+      length-append first second,
+      one.reservers,
+      other.reservers,
     );
+    each = λ k d e f less. ⊎_elim
+        (λ (here : k < length first).
+        rw (
+          get_or_append_left first second d k here,
+          get_or_append_left first' second' e k (omega (arith, one.reservers)),
+          get_or_append_left front back f k (omega (arith, one.count)),
+        ) (one.each k d e f here))
+        (λ (there : length first ≤ k).
+        rw (
+          get_or-append_right first second (length first) k d refl there,
+          get_or-append_right first' second' (length first) k e one.reservers there,
+          get_or-append_right front back (length first) k f one.count there,
+        )
+        (other.each (k - length first) d e f (omega (arith, length-append first second))))
+        (cases_lt k (length first));
   }
 
-  pub both_worked : (front front' back back' all : List Worker) → front ++ back ≡ all
-      → HaveDone front front' → HaveDone back back' → HaveDone all (front' ++ back')
-  both_worked front front' back back' all parts first second = grind (arith, common_steps, joined)
+  pub both_worked : (first first' second second' before : List Reserver)
+      (front back : List (Worker O)) → first ++ second ≡ before
+      → HaveDone first first' front → HaveDone second second' back
+      → HaveDone before (first' ++ second') (front ++ back)
+  both_worked first first' second second' before front back parts one other =
+      rw (sym parts) (joined first first' second second' front back one other)
+
+  -- Each part of the workers is ready, if all are and neither part is empty.
+  pub front_ready : (first second reservers : List Reserver) (front back team : List (Worker O))
+      → first ++ second ≡ reservers → front ++ back ≡ team → 0 < length front
+      → length first ≡ length front → AreReady shared claims reservers team
+      → AreReady shared claims first front
+  front_ready first second reservers front back team reservers_are team_is some same ready = record {
+    some = some;
+    count = same;
+    own = All-left (IsOf shared) first second (rw reservers_are ready.own);
+    each = All-left (λ (w : Worker O). IsClaimerOf claims w.claimer × IsNewWorker w) front back
+        (rw team_is ready.each);
+  }
+
+  pub back_ready : (first second reservers : List Reserver) (front back team : List (Worker O))
+      → first ++ second ≡ reservers → front ++ back ≡ team → 0 < length back
+      → length second ≡ length back → AreReady shared claims reservers team
+      → AreReady shared claims second back
+  back_ready first second reservers front back team reservers_are team_is some same ready = record {
+    some = some;
+    count = same;
+    own = All-right (IsOf shared) first second (rw reservers_are ready.own);
+    each = All-right (λ (w : Worker O). IsClaimerOf claims w.claimer × IsNewWorker w) front back
+        (rw team_is ready.each);
+  }

@@ -3,8 +3,10 @@ pub mod Claiming
 pub mod Opening
 pub mod Counting
 pub mod Closing
-pub mod BySystem
+pub mod ByNumber
+pub mod Outputs
 pub mod Lists
+pub mod Issuing
 pub mod Framed
 pub mod Lost
 pub mod Alone
@@ -12,6 +14,6 @@ pub mod GoingOn
 pub mod ListedOnce
 pub mod ListedBirths
 pub mod Conducting
-pub mod Running
+pub mod Working
 pub mod Halves
 pub mod Disbanding

@@ -1,17 +1,24 @@
 -- What a frame leaves if no queue was applied.
-use Rattle.std.proofs.Common.{rules, ◌≡◌, ℕ, Option, Vec, Global, List, drop, ap, ◌∙◌, subst}
+use Rattle.std.proofs.Common.{rules, ◌≡◌, ℕ, Option, Vec, Global, List, drop, ap, ◌∙◌, subst, length}
+use Rattle.std.specs.List.{All}
 use Rattle.std.specs.Prelude.{IfSome, IfNone, None}
 use Rattle.std.proofs.Math.ListN.{drop_of_length-le}
 use Rattle.ent_alloc.specs.Sequential.{Allocator, available}
 use Rattle.ent_alloc.specs.Sound.{IsSound}
-use Rattle.ent_alloc.specs.History.{Call}
+use Rattle.ent_alloc.specs.History.{Call, IsLegal, after_history}
 use Rattle.ent_alloc.proofs.PoolLaw.{after_takes-sound, available-after_takes, limits-after_takes}
 use Rattle.ent_alloc.proofs.PoolLaw.{live-after_takes, made-after_takes, length-taken}
 use Rattle.ent_alloc.proofs.Histories.{after_history-takes}
+use Rattle.ent_shared.specs.declared.record.Record.{Record}
+use Rattle.ent_shared.specs.Record.{opened_records}
+use Rattle.ent_shared.specs.Order.{history_of, reservations_of, Respects}
 use Rattle.ent_queue.specs.Command.{Command}
 use Rattle.ent_world.specs.World.{World}
 use Rattle.ent_world.specs.OpenWorld.{OpenWorld, View, world_at_start}
-use Rattle.ent_runner.specs.Frame.{IsFrame, IsLost, IsBrokenOff, reserved_by}
+use Rattle.ent_runner.specs.Crew.{AreDone, AreBrokenOff}
+use Rattle.ent_runner.specs.Frame.{IsFrame, IsLost, IsBrokenOff, reserved_by, view_of}
+use Rattle.ent_runner.proofs.Conducting.{none_weaker, some_weaker}
+use Rattle.ent_runner.proofs.Framed.{Issues, frame_is, broken_off}
 
 -- a flushed allocator has all that there is to give in its pool
 flushed_pool : (s : Allocator) → IsSound s → s.asked ≡ 0 → s.pool ≡ available s
@@ -43,6 +50,34 @@ ClosedAgain may leave systems world after got =
     (world_at_start world) history) × (after ≡ reserved_by history (world_at_start world))
     × IfSome got (λ q. IsFrame may systems world.shared.count (world_at_start world) q.items
     history)
+
+pub view_is : (world : OpenWorld) (view : View) → view.phase ≡ world.phase → view.entities
+    ≡ world.entities → view ≡ view_of (world_at_start world)
+view_is world view phase entities = (λ i. record { phase = phase i; entities = entities i })
+
+-- The crew has worked, and the world was closed: so it is closed again.
+pub closed_again : {S : Type 0} (may leave : S → View → List Command → Type 0) (systems : List S)
+    (world : OpenWorld) (after : World) (got : Option (Vec (List Command) Global))
+    (opens records : List Record) (jobs : ℕ) (view : View) → jobs ≡ length systems
+    → view ≡ view_of (world_at_start world)
+    → opens ≡ opened_records world.shared.start 0 world.shared.count
+    → length opens ≡ world.shared.count → length records ≡ world.shared.count
+    → IfSome got (λ q. AreDone (Issues may systems view) jobs opens q.items records)
+    → IfNone got (AreBrokenOff (Issues may systems view) (Issues leave systems view) jobs opens
+    records) → after.phase ≡ world.phase → after.entities ≡ world.entities
+    → after.allocator ≡ after_history world.shared.start (history_of records)
+    → IsLegal world.shared.start (history_of records)
+    → All (Respects (reservations_of records)) records
+    → ClosedAgain may leave systems world after got
+closed_again may leave systems world after got opens records jobs view all seen opened many long done
+    lost phase entities allocator legal respects = (
+      history_of records,
+      none_weaker got (broken_off may systems (world_at_start world) world.shared.count opens records
+          opened many long legal respects leave) (rw (all, seen) at lost),
+      (λ i. record { allocator = allocator i; phase = phase i; entities = entities i }),
+      some_weaker got (λ q. frame_is may systems (world_at_start world) world.shared.count opens records
+          opened many long legal respects q.items) (rw (all, seen) at done),
+    )
 
 module _ {S : Type 0} (may leave : S → View → List Command → Type 0) (systems : List S)
     (before after : World) (world : OpenWorld) (got : Option (Vec (List Command) Global))

@@ -1,10 +1,8 @@
--- For private contracts and proofs: queues put at the numbers of their systems.
+-- For private contracts and proofs: outputs put at the numbers of their jobs.
 use Rattle.std.specs.Prelude.{List, [], ◌∷◌, Option, Some, slice_set}
-use Rattle.ent_queue.specs.Command.{Command}
-use Rattle.ent_runner.specs.declared.worker.SystemQueue.{SystemQueue}
+use Rattle.ent_runner.specs.declared.worker.Done.{Done}
 
--- the queues by system after these were put in, one by one
-abbrev pub queues_put : List SystemQueue → List (Option (List Command))
-    → List (Option (List Command))
-queues_put [] by_system = by_system
-queues_put (i ∷ issued) by_system = queues_put issued (slice_set by_system i.system (Some i.queue))
+-- the outputs by number after these were put in, one by one
+abbrev pub outputs_put : {O : Type 0} → List (Done O) → List (Option O) → List (Option O)
+outputs_put [] by_number = by_number
+outputs_put (d ∷ done) by_number = outputs_put done (slice_set by_number d.number (Some d.output))

@@ -1,43 +1,38 @@
-//! The queues that workers hand back are put at the numbers of their systems.
-ghost use Rattle.std.specs.Prelude.{◌≡◌, ◌<◌, ◌≤◌, length, map, All, Any, Some, None, List, Option};
+//! The outputs that workers hand back are put at the numbers of their jobs.
+ghost use Rattle.std.specs.Prelude.{◌≡◌, ◌<◌, ◌≤◌, length, map, All, Any, Some, None, Option};
 ghost use Rattle.std.specs.Prelude.{[], vec_capacity, slice_set, IfSome, IfNone};
-ghost use Rattle.ent_queue.specs.Command.{Command};
-ghost use Rattle.ent_runner.specs.Collecting.{queues_put};
+ghost use Rattle.ent_runner.specs.Collecting.{outputs_put};
 
-use crate::worker::SystemQueue;
-use ent_queue::CommandQueue;
+use crate::worker::Done;
 
-/// Puts each queue at the number of its system.
-pub(crate) fn put_all(issued: Vec<SystemQueue>, by_system: &mut [Option<CommandQueue>])
-    requires { All (λ i. i.system < length by_system.old) issued.items }
-    ensures { by_system.new ≡ queues_put issued.items by_system.old }
+/// Puts each output at the number of its job.
+pub(crate) fn put_all<O: Drop>(done: Vec<Done<O>>, by_number: &mut [Option<O>])
+    requires { All (λ d. d.number < length by_number.old) done.items }
+    ensures { by_number.new ≡ outputs_put done.items by_number.old }
 {
-    for one in issued {
-        put(one, by_system);
+    for one in done {
+        put(one, by_number);
     }
 }
 
-fn put(issued: SystemQueue, by_system: &mut [Option<CommandQueue>])
-    requires { issued.system < length by_system.old }
-    ensures { by_system.new ≡ slice_set by_system.old issued.system (Some issued.queue) }
+fn put<O: Drop>(done: Done<O>, by_number: &mut [Option<O>])
+    requires { done.number < length by_number.old }
+    ensures { by_number.new ≡ slice_set by_number.old done.number (Some done.output) }
 {
-    let SystemQueue { system, queue } = issued;
-    by_system[system] = Some(queue);
+    let Done { number, output } = done;
+    by_number[number] = Some(output);
 }
 
-/// Moves the queues into this list, which has room for them, in the order of the systems. Returns `None`
-/// if a system has no queue, since it didn't run.
-pub(crate) fn collect(
-    by_system: Vec<Option<CommandQueue>>,
-    mut queues: Vec<CommandQueue>,
-) -> Option<Vec<CommandQueue>>
-    requires empty { queues.items ≡ [] }
-    requires room { length by_system.items ≤ vec_capacity queues }
-    ensures all { IfSome result (λ queues. map Some queues.items ≡ by_system.items) }
-    ensures lacking { IfNone result (Any (λ queue. queue ≡ None) by_system.items) }
+/// Moves the outputs into this list, which has room for them, in the order of the jobs. Returns
+/// `None` if a job has no output, since it wasn't done.
+pub(crate) fn collect<O: Drop>(by_number: Vec<Option<O>>, mut outputs: Vec<O>) -> Option<Vec<O>>
+    requires empty { outputs.items ≡ [] }
+    requires room { length by_number.items ≤ vec_capacity outputs }
+    ensures all { IfSome result (λ outputs. map Some outputs.items ≡ by_number.items) }
+    ensures lacking { IfNone result (Any (λ output. output ≡ None) by_number.items) }
 {
-    for queue in by_system {
-        queues.push_reserved(queue?);
+    for output in by_number {
+        outputs.push_reserved(output?);
     }
-    Some(queues)
+    Some(outputs)
 }

@@ -2,7 +2,11 @@
 use Rattle.std.proofs.lemmas.Grind.{common_steps}
 use Rattle.std.proofs.Common.{◌≡◌, ℕ, List, [], ◌∷◌, Option, Some, String, Vec, BTreeMap, Global}
 use Rattle.std.proofs.Common.{string_bytes, string_cmp, refl, rules, zero, suc, ◌<◌, ◌-◌, length}
-use Rattle.std.proofs.Common.{arith}
+use Rattle.std.proofs.Common.{arith, Ordering, Less, Equal, Greater, Bor, nat_cmp, ◌∙◌}
+use Rattle.std.specs.Cmp.Lexicographic.{slice_cmp}
+use Rattle.std.specs.Ordering.{match_ordering}
+use Rattle.ent_script.specs.Part.{leaf_data, leaves_of}
+use Rattle.ent_script.specs.declared.leaf.Leaf.{Leaf}
 use Rattle.std.specs.BTreeMap.{insert_entry}
 use Rattle.json.specs.Token.{Token}
 use Rattle.json.specs.Json.{parse_map, value, items, members}
@@ -26,6 +30,21 @@ pub members_view-insert_entry : (es : List (String Global × Value)) (k : String
     (members_view es)
 members_view-insert_entry [] k v = refl
 members_view-insert_entry (e ∷ es) k v = search (rules, members_view-insert_entry es k v)
+
+leaves_of-match_ordering : (o : Ordering) (a b c : List (Bor (List ℕ) × Leaf))
+    → leaves_of (match_ordering o a b c)
+    ≡ match_ordering o (leaves_of a) (leaves_of b) (leaves_of c)
+leaves_of-match_ordering Less a b c = refl
+leaves_of-match_ordering Equal a b c = refl
+leaves_of-match_ordering Greater a b c = refl
+
+pub leaves_of-insert_entry : (es : List (Bor (List ℕ) × Leaf)) (k : Bor (List ℕ)) (leaf : Leaf)
+    → leaves_of (insert_entry (λ x y. slice_cmp nat_cmp x.now y.now) es k leaf)
+    ≡ put k.now (leaf_data leaf) (leaves_of es)
+leaves_of-insert_entry [] k leaf = refl
+leaves_of-insert_entry (e ∷ es) k leaf =
+    leaves_of-match_ordering (slice_cmp nat_cmp k.now e.0.now) _ _ _
+    ∙ rw (leaves_of-insert_entry es k leaf)
 
 pub cut_members-put : (levels : ℕ) (k : List ℕ) (d : Data) (ms : Members) → cut_members levels
     (put k d ms) ≡ put k (cut levels d) (cut_members levels ms)

@@ -1,6 +1,5 @@
 pub mod Values
 pub mod NamesLaws
-pub mod BoundLaws
 pub mod Bundles
 pub mod Faults
 pub mod Numbering

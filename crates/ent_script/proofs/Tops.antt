@@ -11,7 +11,7 @@ use Rattle.json.proofs.Grammar.{left_some}
 use Rattle.serde_json.specs.Data.{Data, null, object, Members, no_members, member, put}
 use Rattle.serde_json.specs.Find.{get, get_member, as_object}
 use Rattle.ent_script.specs.Cut.{cut}
-use Rattle.ent_script.specs.Json.{members, pairs_of, keys_among, whole_within}
+use Rattle.ent_script.specs.Json.{pairs_of, keys_among, whole_within}
 use Rattle.ent_script.specs.Reading.{heading_of, or_absent}
 use Rattle.ent_script.specs.Passing.{left}
 use Rattle.ent_script.specs.Top.{head, heads}

@@ -10,9 +10,14 @@ use Rattle.std.specs.List.{list_all, list_any}
 use Rattle.std.specs.Map.{keys_of}
 use Rattle.ent_script.specs.Reading.{only}
 use Rattle.ent_script.specs.Json.{list_of, pairs_of, keys_among}
+use Rattle.ent_script.specs.Part.{leaf_data, leaves_of}
+use Rattle.ent_script.specs.declared.leaf.Leaf.{Leaf}
 
 abbrev pub pair_view : String Global × Value → List ℕ × Data
 pair_view m = (string_bytes m.0, view m.1)
+
+abbrev pub leaf_view : Bor (List ℕ) × Leaf → List ℕ × Data
+leaf_view m = (m.0.now, leaf_data m.1)
 
 pub list_of-items_view : (vs : List Value) → list_of (items_view vs) ≡ map view vs
 list_of-items_view [] = refl
@@ -22,6 +27,11 @@ pub pairs_of-members_view : (ms : List (String Global × Value)) → pairs_of (m
     ≡ map pair_view ms
 pairs_of-members_view [] = refl
 pairs_of-members_view (m ∷ ms) = search (rules, pairs_of-members_view ms)
+
+pub pairs_of-leaves_of : (ms : List (Bor (List ℕ) × Leaf)) → pairs_of (leaves_of ms)
+    ≡ map leaf_view ms
+pairs_of-leaves_of [] = refl
+pairs_of-leaves_of (m ∷ ms) = search (rules, pairs_of-leaves_of ms)
 
 pub members_seen : (r : Option (Bor (BTreeMap (String Global) Value))) (o : Option Members)
     → option_map (λ m. members_view m.now.entries) r ≡ o
@@ -51,9 +61,15 @@ keys_lent [] allowed = refl
 keys_lent (m ∷ ms) allowed = rw (any_lent (string_bytes m.0) allowed, keys_lent ms allowed)
 
 -- the only member
-pub only_member : (ms : List (String Global × Value)) (k : String Global) (v : Value)
-    → length ms ≡ 1 → slice_get ms 0 ≡ Some (k, v) → Some (string_bytes k, view v)
-    ≡ only (map pair_view ms)
-only_member [] k v one e = absurd (omega (arith, one))
-only_member (m ∷ []) k v one e = sym (ap (option_map pair_view) e)
-only_member (m ∷ n ∷ ms) k v one e = absurd (omega (arith, one))
+pub only_member : (ms : List (Bor (List ℕ) × Leaf)) (k : Bor (List ℕ)) (leaf : Leaf)
+    → length ms ≡ 1 → slice_get ms 0 ≡ Some (k, leaf) → Some (k.now, leaf_data leaf)
+    ≡ only (pairs_of (leaves_of ms))
+only_member [] k leaf one e = absurd (omega (arith, one))
+only_member (m ∷ []) k leaf one e = sym (ap (option_map leaf_view) e)
+only_member (m ∷ n ∷ ms) k leaf one e = absurd (omega (arith, one))
+
+pub not_only : (ms : List (Bor (List ℕ) × Leaf)) → (length ms ≡ 1 → ⊥)
+    → only (pairs_of (leaves_of ms)) ≡ None
+not_only [] other = refl
+not_only (m ∷ []) other = absurd (other refl)
+not_only (m ∷ n ∷ ms) other = refl

@@ -1,5 +1,5 @@
 -- What a script says before its frames.
-use Rattle.std.specs.Prelude.{◌≡◌, ℕ, List, map, codes, Option, Some, option_map, option_and_then}
+use Rattle.std.specs.Prelude.{◌≡◌, ℕ, List, map, codes, Some, option_map, option_and_then}
 use Rattle.std.specs.Prelude.{Result, Ok, Err}
 use Rattle.serde_json.specs.Data.{Data}
 use Rattle.serde_json.specs.Find.{get}

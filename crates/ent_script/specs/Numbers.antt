@@ -1,6 +1,5 @@
--- What the maps of names say. Only the invariants of `Names` and `Bound`, which are private, and
--- proofs use this.
-use Rattle.std.specs.Prelude.{◌≡◌, ℕ, List, map, String, string_bytes}
+-- What the maps of names say. Only the invariant of `Names`, which is private, and proofs use this.
+use Rattle.std.specs.Prelude.{◌≡◌, ℕ, List, map}
 use Rattle.std.specs.Ordering.{nat_cmp}
 use Rattle.std.specs.BTreeMap.{BTreeMap, get_by}
 use Rattle.std.specs.Borrow.{Bor}
@@ -12,9 +11,3 @@ abbrev pub HaveNumbers : List (Bor (List ℕ)) → BTreeMap (Bor (List ℕ)) ℕ
 HaveNumbers names numbers = (text : List ℕ)
     → get_by (λ k. slice_cmp nat_cmp text k.now) numbers
     ≡ number_among text (map (λ name. name.now) names)
-
--- the same of names that are texts of their own
-abbrev pub HaveTextNumbers : {Y : Type 0} → List (String Y) → BTreeMap (String Y) ℕ → Type 0
-HaveTextNumbers names numbers = (text : List ℕ)
-    → get_by (λ k. slice_cmp nat_cmp text (string_bytes k)) numbers
-    ≡ number_among text (map (λ name. string_bytes name) names)

@@ -13,7 +13,6 @@ ghost use Rattle.ent_script.specs.declared.read_fault.ReadFault.TheVariants as f
 ghost use Rattle.ent_script.specs.Streaming.{Streams, StreamsList, frames_of};
 
 use crate::at::At;
-use crate::bound::Bound;
 use crate::cause::{Cause, ScriptCause};
 use crate::fields::{Fields, read_fields};
 use crate::format::Format;
@@ -34,7 +33,7 @@ use std::alloc::Global;
 fn operation_of_kind(
     alloc: Global,
     components: &Names<'_>,
-    bound: &Bound,
+    bound: &Names<'_>,
     before: Option<usize>,
     fields: &Fields<'_>,
     kind: Kind,
@@ -81,7 +80,7 @@ fn operation_of_kind(
 fn operation(
     alloc: Global,
     components: &Names<'_>,
-    bound: &Bound,
+    bound: &Names<'_>,
     before: Option<usize>,
     fields: &Fields<'_>,
 ) -> Result<Operation, PartFault>
@@ -94,7 +93,7 @@ fn operation(
 }
 
 /// Adds the name that an operation binds, if it binds one.
-fn bind(alloc: Global, bound: &mut Bound, fields: &Fields<'_>) -> Result<(), Memory>
+fn bind<'a>(bound: &mut Names<'a>, fields: &Fields<'a>) -> Result<(), Memory>
     ensures { OnOk result ((ms : Members) → AreFields fields.now ms
         → bound.new ≡ with_part bound.old (bound_name (object ms))) }
 {
@@ -104,7 +103,7 @@ fn bind(alloc: Global, bound: &mut Bound, fields: &Fields<'_>) -> Result<(), Mem
     let Some(name) = part.name() else {
         return Ok(());
     };
-    bound.add(alloc, name)
+    bound.add(name)
 }
 
 fn fault_at(at: At, cause: Cause) -> ReadFault
@@ -123,7 +122,7 @@ fn operation_at(
     alloc: Global,
     format: Format,
     components: &Names<'_>,
-    bound: &Bound,
+    bound: &Names<'_>,
     at: At,
     fields: &Fields<'_>,
 ) -> Result<Operation, ReadFault>
@@ -141,13 +140,13 @@ fn operation_at(
 }
 
 /// The operation that comes next. The name that it binds is added.
-fn next_operation(
+fn next_operation<'a>(
     alloc: Global,
     format: Format,
     components: &Names<'_>,
-    bound: &mut Bound,
+    bound: &mut Names<'a>,
     at: At,
-    reader: &mut Reader<'_>,
+    reader: &mut Reader<'a>,
     depth: usize,
 ) -> Result<Operation, ReadFault>
     requires { length components.now ≤ 256 }
@@ -166,7 +165,7 @@ fn next_operation(
     }
     let fields = read_fields(alloc, reader, depth - 1)?;
     let operation = operation_at(alloc, format, components, bound, at, &fields)?;
-    bind(alloc, bound, &fields)?;
+    bind(bound, &fields)?;
     Ok(operation)
 }
 
@@ -190,7 +189,7 @@ fn operations(
     ensures no_longer { length reader.new ≤ length reader.old }
 {
     let limit = ReadFault::System { frame, system };
-    let mut bound = Bound::new(alloc);
+    let mut bound = Names::new(alloc);
     let mut operations = Vec::new(alloc);
     let mut number = 0;
     'operations: while !reader.take_end_array() {

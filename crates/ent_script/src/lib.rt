@@ -3,7 +3,6 @@
 
 mod at;
 mod birth;
-mod bound;
 mod bundle;
 mod cause;
 mod cutting;
@@ -15,6 +14,7 @@ mod frames;
 mod front;
 mod heading;
 mod kind;
+mod leaf;
 mod names;
 mod number;
 mod object;

@@ -1,38 +1,34 @@
-ghost use Rattle.std.specs.Prelude.{◌≡◌, IfOk, IfErr, option_map, map, string_bytes};
+ghost use Rattle.std.specs.Prelude.{◌≡◌, IfOk, OnOk, option_map};
 ghost use Rattle.std.specs.Prelude.{ℕ, List};
 ghost use Rattle.serde_json.specs.Data.{Data, put};
-ghost use Rattle.serde_json.specs.View.{view, members_view};
 ghost use Rattle.ent_script.specs.Json.{pairs_of};
 ghost use Rattle.ent_script.specs.Reading.{only};
-ghost use Rattle.ent_script.specs.Part.{members_of};
-ghost use Rattle.ent_script.specs.declared.read_fault.ReadFault.TheVariants.{Memory};
+ghost use Rattle.ent_script.specs.Part.{leaf_data, leaves_of, members_of};
 
-use crate::read_fault::ReadFault;
-use serde_json::{Map, Value};
+use crate::leaf::Leaf;
+use ent_handle::Memory;
 use std::alloc::Global;
+use std::collections::BTreeMap;
 
 /// The members of an object, in the order of their keys. Most objects have one, which takes no
-/// map.
+/// memory.
 #[derive(Drop)]
 pub(crate) enum Object<'a> {
     Empty,
-    One(&'a str, Value),
-    Many(Map<String, Value>),
+    One(&'a str, Leaf<'a>),
+    Many(BTreeMap<&'a str, Leaf<'a>>),
 }
 
 /// Puts a member into a map.
-fn insert(
-    alloc: Global,
-    map: &mut Map<String, Value>,
-    key: &str,
-    value: Value,
-) -> Result<(), ReadFault>
-    ensures ok { IfOk result (λ _. members_view map.new.entries
-        ≡ put key.now (view value) (members_view map.old.entries)) }
-    ensures err { IfErr result (λ e. e ≡ Memory) }
+fn insert<'a>(
+    map: &mut BTreeMap<&'a str, Leaf<'a>>,
+    key: &'a str,
+    leaf: Leaf<'a>,
+) -> Result<(), Memory>
+    ensures ok { OnOk result (leaves_of map.new.entries
+        ≡ put key.now (leaf_data leaf.entry) (leaves_of map.old.entries)) }
 {
-    let key = String::from_str(alloc, key)?;
-    drop(map.insert(key, value)?);
+    map.insert(key, leaf)?;
     Ok(())
 }
 
@@ -42,48 +38,47 @@ impl<'a> Object<'a> {
         self,
         alloc: Global,
         key: &'a str,
-        value: Value,
-    ) -> Result<Object<'a>, ReadFault>
+        leaf: Leaf<'a>,
+    ) -> Result<Object<'a>, Memory>
         ensures ok { IfOk result (λ new. members_of new
-            ≡ put key.now (view value) (members_of self.entry)) }
-        ensures err { IfErr result (λ e. e ≡ Memory) }
+            ≡ put key.now (leaf_data leaf.entry) (members_of self.entry)) }
     {
         match self {
-            Object::Empty => Ok(Object::One(key, value)),
+            Object::Empty => Ok(Object::One(key, leaf)),
             Object::One(first, before) => {
-                let mut map = Map::new(alloc);
-                insert(alloc, &mut map, first, before)?;
-                insert(alloc, &mut map, key, value)?;
+                let mut map = BTreeMap::new(alloc);
+                insert(&mut map, first, before)?;
+                insert(&mut map, key, leaf)?;
                 Ok(Object::Many(map))
             }
             Object::Many(before) => {
                 let mut map = before;
-                insert(alloc, &mut map, key, value)?;
+                insert(&mut map, key, leaf)?;
                 Ok(Object::Many(map))
             }
         }
     }
 
     /// The only member.
-    pub(crate) fn only(&self) -> Option<(&str, &Value)>
-        ensures { option_map {U = List ℕ × Data} (λ m. (m.0.now, view m.1.now)) result
+    pub(crate) fn only(&self) -> Option<(&str, &Leaf<'a>)>
+        ensures { option_map {U = List ℕ × Data} (λ m. (m.0.now, leaf_data m.1.now)) result
             ≡ only (pairs_of (members_of self.now)) }
     {
         match self {
             Object::Empty => None,
-            Object::One(key, value) => Some((key, value)),
+            Object::One(key, leaf) => Some((key, leaf)),
             Object::Many(map) => only_of(map),
         }
     }
 }
 
-fn only_of(members: &Map<String, Value>) -> Option<(&str, &Value)>
-    ensures { option_map {U = List ℕ × Data} (λ m. (m.0.now, view m.1.now)) result
-        ≡ only (map (λ m. (string_bytes m.0, view m.1)) members.now.entries) }
+fn only_of<'a, 'b>(members: &'b BTreeMap<&'a str, Leaf<'a>>) -> Option<(&'b str, &'b Leaf<'a>)>
+    ensures { option_map {U = List ℕ × Data} (λ m. (m.0.now, leaf_data m.1.now)) result
+        ≡ only (pairs_of (leaves_of members.now.entries)) }
 {
     if members.len() != 1 {
         return None;
     }
-    let (key, value) = members.first_key_value()?;
-    Some((key.as_str(), value))
+    let (key, leaf) = members.first_key_value()?;
+    Some((key, leaf))
 }

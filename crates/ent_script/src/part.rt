@@ -10,7 +10,7 @@ ghost use Rattle.ent_script.specs.declared.read_fault.ReadFault.TheVariants.{Jso
 ghost use Rattle.ent_script.specs.Cut.{cut, cut_members};
 ghost use Rattle.ent_script.specs.Part.{data_of, members_of};
 
-use crate::cutting::read_cut;
+use crate::leaf::read_leaf;
 use crate::names::is_name;
 use crate::number::number;
 use crate::object::Object;
@@ -44,7 +44,7 @@ impl<'a> Part<'a> {
     }
 
     /// The text of a string.
-    pub(crate) fn text(&self) -> Option<&str>
+    pub(crate) fn text(&self) -> Option<&'a str>
         ensures { option_map (λ text. text.now) result ≡ as_str (data_of self.now) }
     {
         match self {
@@ -54,7 +54,7 @@ impl<'a> Part<'a> {
     }
 
     /// The name that it is.
-    pub(crate) fn name(&self) -> Option<&str>
+    pub(crate) fn name(&self) -> Option<&'a str>
         ensures { option_map (λ text. text.now) result ≡ as_name (data_of self.now) }
     {
         let text = self.text()?;
@@ -139,8 +139,8 @@ fn read_object<'a>(
 {
     let mut found = Object::Empty;
     'members: while let Some(name) = reader.next_key()? {
-        let member = read_cut(alloc, reader, depth, 0)?;
-        found = found.with(alloc, name, member)?;
+        let leaf = read_leaf(reader, depth)?;
+        found = found.with(alloc, name, leaf)?;
     }
     Ok(found)
 }

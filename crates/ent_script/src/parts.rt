@@ -1,24 +1,23 @@
-ghost use Rattle.std.specs.Prelude.{◌≡◌, ◌≤◌, [], ◌∷◌, length, map, option_map, string_bytes};
-ghost use Rattle.serde_json.specs.View.{view};
+ghost use Rattle.std.specs.Prelude.{◌≡◌, ◌≤◌, [], ◌∷◌, length, map, option_map};
 ghost use Rattle.ent_script.specs.Reading.{component_of, item_of, bundle_by, read_bundle, with_of};
 ghost use Rattle.ent_script.specs.Reading.{removed_of, target_birth, target_at, target_of};
 ghost use Rattle.ent_script.specs.Reading.{count_of};
 ghost use Rattle.ent_script.specs.Reading.{binding_of, ReadsPart};
 ghost use Rattle.ent_script.specs.Json.{pairs_of};
-ghost use Rattle.ent_script.specs.Part.{data_of, members_of};
+ghost use Rattle.ent_script.specs.Part.{data_of, leaf_data, members_of};
 
 use crate::birth::birth;
-use crate::bound::Bound;
 use crate::bundle::Bundle;
 use crate::cause::Cause;
+use crate::leaf::Leaf;
 use crate::names::Names;
 use crate::object::Object;
 use crate::part::Part;
 use crate::part_fault::PartFault;
 use crate::target::Target;
 use ent_handle::{ComponentId, Handle};
-use serde_json::{Map, Value};
 use std::alloc::Global;
+use std::collections::BTreeMap;
 
 /// The number of a component.
 pub(crate) fn component(components: &Names<'_>, name: &str) -> Option<ComponentId>
@@ -40,7 +39,7 @@ pub(crate) fn count(part: Option<&Part<'_>>) -> Result<u32, Cause>
 
 /// The number of the name that is bound: that of the name if it is bound, and else the next.
 #[tactic(auto, unfolding(crate::specs::Reading::binding_of))]
-pub(crate) fn binding(bound: &Bound, part: Option<&Part<'_>>) -> Result<Option<usize>, Cause>
+pub(crate) fn binding(bound: &Names<'_>, part: Option<&Part<'_>>) -> Result<Option<usize>, Cause>
     ensures { result ≡ binding_of bound.now (option_map (λ p. data_of p.now) part.entry) }
 {
     let Some(value) = part else {
@@ -72,7 +71,7 @@ fn target_birth(before: Option<usize>, text: &str) -> Result<Target, Cause>
 #[tactic(auto, unfolding(crate::specs::Reading::target_at))]
 fn target_at(
     components: &Names<'_>,
-    bound: &Bound,
+    bound: &Names<'_>,
     before: Option<usize>,
     key: &str,
     text: &str,
@@ -100,7 +99,7 @@ fn target_at(
 #[tactic(auto, unfolding(crate::specs::Reading::target_of))]
 pub(crate) fn target(
     components: &Names<'_>,
-    bound: &Bound,
+    bound: &Names<'_>,
     before: Option<usize>,
     part: Option<&Part<'_>>,
 ) -> Result<Target, Cause>
@@ -109,33 +108,33 @@ pub(crate) fn target(
         (option_map (λ p. data_of p.now) part.entry) }
 {
     let found = part.ok_or(Cause::Target)?.members().ok_or(Cause::Target)?;
-    let (key, value) = found.only().ok_or(Cause::Target)?;
-    let text = value.as_str().ok_or(Cause::Target)?;
+    let (key, leaf) = found.only().ok_or(Cause::Target)?;
+    let text = leaf.text().ok_or(Cause::Target)?;
     target_at(components, bound, before, key, text)
 }
 
 /// The component and the value of a bundle's member.
-fn item(components: &Names<'_>, key: &str, value: &Value) -> Result<(ComponentId, i64), Cause>
+fn item(components: &Names<'_>, key: &str, leaf: &Leaf<'_>) -> Result<(ComponentId, i64), Cause>
     requires { length components.now ≤ 256 }
-    ensures { result ≡ item_of components.now (key.now, view value.now) }
+    ensures { result ≡ item_of components.now (key.now, leaf_data leaf.now) }
 {
     let id = component(components, key).ok_or(Cause::Component)?;
-    let number = value.as_i64().ok_or(Cause::Value)?;
+    let number = leaf.whole().ok_or(Cause::Value)?;
     Ok((id, number))
 }
 
 fn items_of(
     alloc: Global,
     components: &Names<'_>,
-    members: &Map<String, Value>,
+    members: &BTreeMap<&str, Leaf<'_>>,
 ) -> Result<Bundle, PartFault>
     requires { length components.now ≤ 256 }
     ensures { ReadsPart result (bundle_by components.now
-        (map (λ m. (string_bytes m.0, view m.1)) members.now.entries)) }
+        (map (λ m. (m.0.now, leaf_data m.1)) members.now.entries)) }
 {
     let mut bundle = Bundle::with_capacity(alloc, members.len().min(components.len()))?;
-    for (key, value) in members {
-        let (id, number) = item(components, key.as_str(), value)?;
+    for (key, leaf) in members {
+        let (id, number) = item(components, key, leaf)?;
         bundle.put(id, number)?;
     }
     Ok(bundle)
@@ -145,12 +144,12 @@ fn one_item(
     alloc: Global,
     components: &Names<'_>,
     key: &str,
-    value: &Value,
+    leaf: &Leaf<'_>,
 ) -> Result<Bundle, PartFault>
     requires { length components.now ≤ 256 }
-    ensures { ReadsPart result (bundle_by components.now ((key.now, view value.now) ∷ [])) }
+    ensures { ReadsPart result (bundle_by components.now ((key.now, leaf_data leaf.now) ∷ [])) }
 {
-    let (id, number) = item(components, key, value)?;
+    let (id, number) = item(components, key, leaf)?;
     let mut bundle = Bundle::new(alloc);
     bundle.put(id, number)?;
     Ok(bundle)
@@ -162,7 +161,7 @@ fn items(alloc: Global, components: &Names<'_>, members: &Object<'_>) -> Result<
 {
     match members {
         Object::Empty => Ok(Bundle::new(alloc)),
-        Object::One(key, value) => one_item(alloc, components, key, value),
+        Object::One(key, leaf) => one_item(alloc, components, key, leaf),
         Object::Many(map) => items_of(alloc, components, map),
     }
 }

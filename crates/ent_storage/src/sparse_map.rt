@@ -217,6 +217,17 @@ impl<T> SparseMap<T> {
         &mut self.entries[position].1
     }
 
+    /// Gives back the room that no value needs, as `Vec::shrink_to_fit` does. If there is no memory to
+    /// move the values to, the room stays. That for slots stays too.
+    pub fn shrink_to_fit(&mut self)
+        ensures kept { self.new ≡ record self.old { room = self.new.room } }
+        ensures shrinks { self.new.room ≤ self.old.room }
+        ensures fits { map.len self.old.values ≤ self.new.room }
+        ensures frees { map.len self.old.values ≡ 0 → self.new.room ≡ 0 }
+    {
+        self.entries.shrink_to_fit();
+    }
+
     /// The handles and their values, in no order. The same calls leave them in the same order.
     ///
     /// ```

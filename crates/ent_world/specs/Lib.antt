@@ -1,4 +1,5 @@
 pub mod World
+pub mod Image
 pub mod OpenWorld
 pub mod Effects
 pub mod Sync

@@ -6,6 +6,8 @@ mod applying;
 mod births;
 mod cloning;
 mod fault;
+mod image;
+mod image_fault;
 mod open_world;
 mod rows;
 mod spawning;
@@ -15,6 +17,7 @@ mod view;
 mod world;
 
 pub use fault::{Fault, FaultKind, SyncFault, SyncReport};
+pub use image_fault::WorldImageFault;
 pub use open_world::OpenWorld;
 pub use view::View;
 pub use world::World;

@@ -5,7 +5,7 @@
 
 pub use ::alloc::collections::LinkedList;
 
-use super::alloc::AllocFailed;
+use super::alloc::{AllocError, AllocFailed};
 use super::vec::FallibleVec;
 use ::alloc::collections::btree_map::{Entry, Iter};
 use ::alloc::vec::Vec;
@@ -20,15 +20,28 @@ pub struct BTreeMap<K, V>(::alloc::collections::BTreeMap<K, V>);
 #[repr(C)]
 struct Node<K, V>([Option<(K, V)>; 11], [usize; 14]);
 
-/// How many nodes an insertion into a map of so many keys makes at most: one for each level, and one above.
+/// How many nodes the insertion of a new key into a map of so many makes at most: one for each level that is full, and one above.
 ///
 /// The first 11 keys are in one node. A node that isn't the top has at least 5 keys, so each level has at least six
 /// times as many nodes as the one above.
 fn nodes_for(keys: usize) -> usize {
     match keys {
-        0..=10 => 1,
+        0 => 1,
+        1..=10 => 0,
         _ => 2 + keys.ilog2() as usize / 2,
     }
+}
+
+/// Asks for so many nodes, and gives them back. Each is asked for by itself, as the map does, so the allocator has just what the map
+/// takes next.
+fn ask_for_nodes<K, V>(count: usize) -> Result<(), AllocError> {
+    let Some(others) = count.checked_sub(1) else {
+        return Ok(());
+    };
+    let node = Vec::<Node<K, V>>::with_capacity_fallibly(1)?;
+    let asked = ask_for_nodes::<K, V>(others);
+    drop(core::hint::black_box(node));
+    asked
 }
 
 impl<K: Ord, V> BTreeMap<K, V> {
@@ -47,13 +60,12 @@ impl<K: Ord, V> BTreeMap<K, V> {
         let nodes = nodes_for(self.0.len());
         match self.0.entry(key) {
             Entry::Occupied(mut entry) => Ok(Some(entry.insert(value))),
-            Entry::Vacant(entry) => match Vec::<Node<K, V>>::with_capacity_fallibly(nodes) {
-                Ok(room) => {
-                    drop(core::hint::black_box(room));
+            Entry::Vacant(entry) => match ask_for_nodes::<K, V>(nodes) {
+                Ok(()) => {
                     entry.insert(value);
                     Ok(None)
                 }
-                Err(_) => Err(AllocFailed {
+                Err(AllocError) => Err(AllocFailed {
                     value: (entry.into_key(), value),
                 }),
             },
@@ -112,7 +124,23 @@ mod tests {
         assert!(map.is_empty());
         map.insert(1, 2).expect("memory");
         assert_eq!(refuse(|| map.insert(1, 3)), Ok(Some(2)));
-        assert_eq!(refuse(|| map.insert(2, 3)), refused((2, 3)));
-        assert!(map.iter().eq([(&1, &3)]));
+        // The first 11 keys are in one node.
+        for key in 2..=11 {
+            assert_eq!(refuse(|| map.insert(key, 3)), Ok(None));
+        }
+        assert_eq!(refuse(|| map.insert(12, 3)), refused((12, 3)));
+        assert!(map.iter().eq((1..=11)
+            .map(|key| (key, 3))
+            .collect::<Vec<_>>()
+            .iter()
+            .map(|(key, value)| (key, value))));
+    }
+
+    #[test]
+    fn as_many_nodes_are_asked_for_as_an_insertion_makes() {
+        assert_eq!([0, 1, 10, 11, 12].map(nodes_for), [1, 0, 0, 3, 3]);
+        assert_eq!(refuse(|| ask_for_nodes::<u32, u64>(0)), Ok(()));
+        assert_eq!(refuse(|| ask_for_nodes::<u32, u64>(1)), Err(AllocError));
+        assert_eq!(ask_for_nodes::<u32, u64>(9), Ok(()));
     }
 }

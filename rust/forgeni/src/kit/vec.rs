@@ -35,6 +35,10 @@ pub trait FallibleVec<T>: Sized {
     /// The contract: after an `Ok` there is room for that many more, and for no more than that or what there was.
     fn reserve_exact_fallibly(&mut self, additional: usize) -> Result<(), AllocError>;
 
+    /// The contract: the room is no more than before, and none if there are no items. If there is no memory to move the
+    /// items to, the room stays. `shrink_to_fit` of Rust's ends the program instead.
+    fn shrink_to_fit_fallibly(&mut self);
+
     /// The contract: the value stands at the end, or comes back.
     fn push_fallibly(&mut self, value: T) -> Result<(), AllocFailed<T>>;
 
@@ -117,6 +121,16 @@ impl<T> FallibleVec<T> for Vec<T> {
             self.try_reserve_exact(additional)?;
         }
         Ok(())
+    }
+
+    fn shrink_to_fit_fallibly(&mut self) {
+        let () = Self::HAVE_A_SIZE;
+        if self.capacity() > self.len()
+            && let Ok(mut fitting) = Self::with_capacity_fallibly(self.len())
+        {
+            fitting.append(self);
+            *self = fitting;
+        }
     }
 
     #[inline]
@@ -273,6 +287,13 @@ mod tests {
         assert_eq!(three.reserve_exact_fallibly(100), Ok(()));
         assert_eq!((&three[..], three.capacity()), (&[1, 2, 3][..], 103));
         refuse(|| three.reserve_exact_fallibly(100)).expect("there is room");
+        refuse(|| three.shrink_to_fit_fallibly());
+        assert_eq!((&three[..], three.capacity()), (&[1, 2, 3][..], 103));
+        three.shrink_to_fit_fallibly();
+        assert_eq!((&three[..], three.capacity()), (&[1, 2, 3][..], 3));
+        three.clear();
+        refuse(|| three.shrink_to_fit_fallibly());
+        assert_eq!(three.capacity(), 0);
     }
 
     #[test]

@@ -1,19 +1,17 @@
 use Rattle.std.proofs.Common.{◌≡◌, ◌≤◌, ◌+◌, ◌++◌, length, map, reverse, vec_len}
 use Rattle.std.specs.Prelude.{All, vec_capacity}
-use Rattle.ent_runner.specs.declared.worker.Worker.{Worker}
 use Rattle.ent_runner.specs.Worker.{IsRoomForOne}
 use Rattle.ent_runner.proofs.crew.recruit.Given as goal
 
--- so far each reserver has a worker, and the claimers go from the last one on
-abbrev pub invariant-loop-reserver : goal.invariant-loop-reserver
-invariant-loop-reserver l = record {
-  all : map (λ (w : Worker). w.reserver) l.workers.items ++ l.reserver-iterator.rest.items
-      ≡ l.fn.reservers.items;
-  claimers : l.claimers.items ++ reverse (map (λ (w : Worker). w.claimer) l.workers.items)
-      ≡ l.fn.claimers.items;
-  same : length l.claimers.items ≡ length l.reserver-iterator.rest.items;
-  room : vec_len l.workers + length l.reserver-iterator.rest.items ≤ vec_capacity l.workers;
-  lists : length l.lists.items ≡ length l.reserver-iterator.rest.items;
-  each : All IsRoomForOne l.lists.items;
-  fresh : All (λ (w : Worker). IsRoomForOne w.issued) l.workers.items;
+-- so far each worker has a claimer, from the last one on
+abbrev pub invariant-loop-claimer : goal.invariant-loop-claimer
+invariant-loop-claimer g l = record {
+  claimers : l.claimers.items ++ reverse (map (λ w. w.claimer) l.team.items)
+      ≡ l.initial.claimers.items;
+  room : vec_len l.team + vec_len l.claimers ≤ vec_capacity l.team;
+  kept : vec_capacity l.claimers ≡ vec_capacity l.initial.claimers;
+  fresh : All (λ w. IsRoomForOne w.done) l.team.items;
 }
+
+abbrev pub decreases-loop-claimer : goal.decreases-loop-claimer
+decreases-loop-claimer g l = vec_len l.claimers

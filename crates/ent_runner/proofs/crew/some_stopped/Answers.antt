@@ -3,10 +3,10 @@ use Rattle.std.proofs.Common.{arith, sym}
 use Rattle.ent_runner.proofs.crew.some_stopped.Goals as goal
 
 pub loop-worker-preserved : goal.loop-worker-preserved
-loop-worker-preserved c = grind (arith, common_steps)
+loop-worker-preserved g c = grind (arith, common_steps)
 
 pub returns-then-worker-clause-some : goal.returns-then-worker-clause-some
-returns-then-worker-clause-some c = λ _. (
+returns-then-worker-clause-some g c = λ _. (
   c.loop-worker.worker-index,
   c.worker-item.result,
   omega arith,
@@ -15,4 +15,4 @@ returns-then-worker-clause-some c = λ _. (
 )
 
 pub returns-clause-going : goal.returns-clause-going
-returns-clause-going c = λ _ k d within. c.loop-worker.invariant k (omega arith) d
+returns-clause-going g c = λ _ k d within. c.loop-worker.invariant k (omega arith) d

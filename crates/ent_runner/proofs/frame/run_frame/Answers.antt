@@ -1,32 +1,103 @@
-use Rattle.std.proofs.Common.{rules, ◌≡◌}
+use Rattle.std.proofs.Common.{rules, ◌≡◌, ◌∙◌, ◌++◌, ap, length, take, drop, sym}
+use Rattle.std.proofs.lemmas.List.{length-map}
+use Rattle.ent_shared.specs.Phase.{Reserver, records_of}
+use Rattle.ent_shared.specs.Record.{opened_records}
 use Rattle.ent_world.specs.OpenWorld.{world_at_start}
 use Rattle.ent_runner.proofs.Alone.{ends_in_order, ends}
-use Rattle.ent_runner.proofs.Lost.{lost_again, broken_again}
+use Rattle.ent_runner.proofs.Conducting.{written_back}
+use Rattle.ent_runner.proofs.Lost.{ClosedAgain, closed_again, lost_again, broken_again, view_is}
 use Rattle.ent_runner.proofs.frame.run_frame.Given as given
-use Rattle.ent_runner.proofs.frame.run_frame.Goals.{In-Ok-open}
+use Rattle.ent_runner.proofs.frame.run_frame.Goals.{In-Ok-open, After-work-queues, After-close}
 use Rattle.ent_runner.proofs.frame.run_frame.Goals as goal
 
 -- the world that was opened is the one before
-same : (g : given.Over) (c : goal.In-Ok-open g) → world_at_start c.in-Ok-open.made.0
+same : (g : given.Over) (c : In-Ok-open g) → world_at_start c.in-Ok-open.made.0
     ≡ c.args.world.now
 same g c = search rules
+
+-- the reservers are written back
+back : (g : given.Over) (c : After-work-queues g) → take c.in-Ok-open.made.1.len
+    (c.work-queues.new.reservers ++ drop (length c.work-queues.new.reservers)
+    c.in-Ok-open.made.1.items) ≡ c.work-queues.new.reservers
+back g c = written_back c.in-Ok-open.made.1.len c.in-Ok-open.made.1.items
+    c.work-queues.new.reservers c.in-Ok-open.made.1.ok.0
+    (c.work-queues.ensures.count ∙ ap length c.deref_mut.ensures.value)
+
+back_end : (g : given.Over) (c : After-close g) → take c.in-Ok-open.made.1.len
+    (c.work-queues.new.reservers ++ drop (length c.work-queues.new.reservers)
+    c.in-Ok-open.made.1.items) ≡ c.work-queues.new.reservers
+back_end g c = written_back c.in-Ok-open.made.1.len c.in-Ok-open.made.1.items
+    c.work-queues.new.reservers c.in-Ok-open.made.1.ok.0
+    (c.work-queues.ensures.count ∙ ap length c.deref_mut.ensures.value)
+
+opened : (g : given.Over) (c : After-close g) → records_of c.deref_mut.result.now
+    ≡ opened_records c.in-Ok-open.made.0.shared.start 0 c.in-Ok-open.made.0.shared.count
+opened g c = rw c.deref_mut.ensures.value (search rules)
+
+-- so many reservers there are
+many : (g : given.Over) (c : After-close g) → length c.deref_mut.result.now
+    ≡ c.in-Ok-open.made.0.shared.count
+many g c = rw c.deref_mut.ensures.value (search rules)
+
+-- the crew has worked, and the world was closed
+closed : (g : given.Over) (c : After-close g) → ClosedAgain g.S.System.may_issue
+    g.S.System.may_leave c.args.systems.now c.in-Ok-open.made.0 c.close.result c.work-queues.result
+closed g c =
+    let e = c.close.ensures in
+    let w = c.work-queues.ensures in
+    let own = λ (r : Reserver). r.own in
+    closed_again g.S.System.may_issue g.S.System.may_leave c.args.systems.now
+    c.in-Ok-open.made.0 c.close.result c.work-queues.result (records_of c.deref_mut.result.now)
+    (records_of c.work-queues.new.reservers) _ c.view.result (search rules)
+    (view_is c.in-Ok-open.made.0 c.view.result c.view.ensures.phase c.view.ensures.entities)
+    (opened g c) (length-map c.deref_mut.result.now own ∙ many g c)
+    (length-map c.work-queues.new.reservers own ∙ (w.count ∙ many g c)) w.done w.broken_off e.phase
+    e.entities (rw (back_end g c) at e.after) (rw (back_end g c) at e.legal)
+    (rw (back_end g c) at e.respects)
+
+pub close-requires-clause-own : goal.close-requires-clause-own
+close-requires-clause-own g c =
+    rw (back g (goal.at.close-requires-clause-own g c).After-work-queues)
+    (rw c.shared.ensures at c.work-queues.ensures.own)
+
+pub returns-in-Ok-apply-clause-ok : goal.returns-in-Ok-apply-clause-ok
+returns-in-Ok-apply-clause-ok g c =
+    let a = c.in-Ok-apply.ensures in
+    ends g.S.System.may_issue g.S.System.may_leave c.args.systems.now c.args.workers
+    c.args.world.now c.in-Ok-open.made.0 c.close.result c.apply.new.self
+    c.work-queues.result c.in-Some.queues c.deref.result.now c.in-Ok-apply.sync.born.items
+    c.in-Ok-apply.sync.faults.items (closed g (goal.at.returns-in-Ok-apply-clause-ok g c).After-close)
+    c.in-Some.is (same g (goal.at.returns-in-Ok-apply-clause-ok g c).In-Ok-open)
+    c.in-Ok-open.ensures.shared.1 c.deref.ensures.value a.ok a.born a.faults
 
 pub returns-in-Ok-apply-clause-alone : goal.returns-in-Ok-apply-clause-alone
 returns-in-Ok-apply-clause-alone g c one =
     let a = c.in-Ok-apply.ensures in
     ends_in_order g.S.System.may_issue c.args.systems.now _ _ c.args.workers _ _ _ one
     (ends g.S.System.may_issue g.S.System.may_leave c.args.systems.now c.args.workers
-    c.args.world.now c.in-Ok-open.made.0 c.run_open-closed.result.0 c.apply.new.self
-    c.run_open-closed.result.1 c.in-Some.queues c.deref.result.now c.in-Ok-apply.sync.born.items
-    c.in-Ok-apply.sync.faults.items c.run_open-closed.ensures.closed c.in-Some.is
-    (same g (goal.at.returns-in-Ok-apply-clause-alone g c).In-Ok-open)
+    c.args.world.now c.in-Ok-open.made.0 c.close.result c.apply.new.self
+    c.work-queues.result c.in-Some.queues c.deref.result.now c.in-Ok-apply.sync.born.items
+    c.in-Ok-apply.sync.faults.items
+    (closed g (goal.at.returns-in-Ok-apply-clause-alone g c).After-close)
+    c.in-Some.is (same g (goal.at.returns-in-Ok-apply-clause-alone g c).In-Ok-open)
     c.in-Ok-open.ensures.shared.1 c.deref.ensures.value a.ok a.born a.faults)
+
+pub returns-in-Err-apply-clause-stopped : goal.returns-in-Err-apply-clause-stopped
+returns-in-Err-apply-clause-stopped g c =
+    let known = closed g (goal.at.returns-in-Err-apply-clause-stopped g c).After-close in
+    let opened_is = same g (goal.at.returns-in-Err-apply-clause-stopped g c).In-Ok-open in
+    search (rules, known, opened_is)
 
 pub returns-in_default-queues-clause-still : goal.returns-in_default-queues-clause-still
 returns-in_default-queues-clause-still g c lost =
     lost_again g.S.System.may_issue g.S.System.may_leave _ _ _ c.in-Ok-open.made.0 _
     (same g (goal.at.returns-in_default-queues-clause-still g c).In-Ok-open)
-    c.run_open-closed.ensures.closed c.in-Ok-open.ensures.sound c.requires.flushed
+    (closed g (goal.at.returns-in_default-queues-clause-still g c).After-close)
+    c.in-Ok-open.ensures.sound c.requires.flushed
 
 pub returns-in_default-queues-clause-lost : goal.returns-in_default-queues-clause-lost
-returns-in_default-queues-clause-lost g c lost = search (rules, broken_again, same)
+returns-in_default-queues-clause-lost g c lost =
+    broken_again g.S.System.may_issue g.S.System.may_leave _ _ _ c.in-Ok-open.made.0 _
+    (same g (goal.at.returns-in_default-queues-clause-lost g c).In-Ok-open)
+    (closed g (goal.at.returns-in_default-queues-clause-lost g c).After-close)
+    c.args.workers c.in-Ok-open.ensures.shared.1 (search rules)

@@ -8,8 +8,8 @@ decreases-run_all g l = 4 * length l.workers.now
 abbrev pub decreases-run_both : goal.decreases-run_both
 decreases-run_both g l = 4 * (length l.front.now + length l.back.now) - 1
 
-abbrev pub decreases-run_both-first : goal.decreases-run_both-first
-decreases-run_both-first g l = 4 * length l.front.now + 1
+abbrev pub decreases-run_both-one : goal.decreases-run_both-one
+decreases-run_both-one g l = 4 * length l.front.now + 1
 
-abbrev pub decreases-run_both-second : goal.decreases-run_both-second
-decreases-run_both-second g l = 4 * length l.back.now + 1
+abbrev pub decreases-run_both-other : goal.decreases-run_both-other
+decreases-run_both-other g l = 4 * length l.back.now + 1

@@ -17,15 +17,15 @@ members-init c = (
 pub returns-in_err-name-clause-json : goal.returns-in_err-name-clause-json
 returns-in_err-name-clause-json c refused = search (rules, key_refused)
 
-pub returns-in_err-member-clause-json :
-    goal.returns-in_err-member-clause-json
-returns-in_err-member-clause-json c refused = search (rules, member_refused)
+pub returns-in_err-leaf-clause-json :
+    goal.returns-in_err-leaf-clause-json
+returns-in_err-leaf-clause-json c refused = search (rules, member_refused)
 
 pub members-preserved : goal.members-preserved
 members-preserved c =
     let l = c.members in
     let k = c.in-Some.name.now in
-    let done = c.in_ok-member.ensures in
+    let done = c.in_ok-leaf.ensures in
     let named : read_key l.reader ≡ Some (Some k, c.next_key.new.self) = grind arith in
     let less = read_key-shorter l.reader (Some k) c.next_key.new.self named in
     let lesser = done.shorter in (
@@ -34,7 +34,7 @@ members-preserved c =
       (
         put k done.ok.0 l.invariant.2.0,
         l.invariant.2.1 ∙ member_read (value c.args.depth) l.invariant.2.0 l.invariant.0 k l.reader
-            c.next_key.new.self c.read_cut.new.reader done.ok.0 (omega (arith, l.invariant.1)) named
+            c.next_key.new.self c.read_leaf.new.reader done.ok.0 (omega (arith, l.invariant.1)) named
             done.ok.1,
         search (rules, cut_members-put),
       ),

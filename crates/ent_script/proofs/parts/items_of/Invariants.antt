@@ -1,13 +1,13 @@
 use Rattle.std.proofs.Common.{◌≡◌, map}
 use Rattle.ent_script.specs.Reading.{items_of, bundle_by}
 use Rattle.ent_script.proofs.Bundles.{onto}
-use Rattle.ent_script.proofs.Values.{pair_view}
+use Rattle.ent_script.proofs.Values.{leaf_view}
 use Rattle.ent_script.proofs.parts.items_of.Given as goal
 
 abbrev pub invariant-loop-key : goal.invariant-loop-key
 invariant-loop-key l = record {
   can : (goal.iterator-loop-key).can_next l.key-iterator;
   finite : (goal.iterator-loop-key).is_finite l.key-iterator;
-  rest : onto l.bundle (items_of l.components (map pair_view l.key-iterator))
-      ≡ bundle_by l.components (map pair_view l.members.entries);
+  rest : onto l.bundle (items_of l.components (map leaf_view l.key-iterator))
+      ≡ bundle_by l.components (map leaf_view l.members.entries);
 }

@@ -4,9 +4,9 @@
 
 /// The text of a number that the grammar of JSON (RFC 8259) has, without its sign.
 pub struct Numeral<'a> {
-    text: &'a str,
-    /// Whether it has neither a point nor an exponent.
-    is_whole: bool,
+    bytes: &'a [u8],
+    /// The number, if it has neither a point nor an exponent and is below 2^64.
+    whole: Option<u64>,
 }
 
 /// A type of floats.
@@ -19,16 +19,15 @@ impl<'a> Numeral<'a> {
     #[inline]
     pub fn scan(bytes: &'a [u8]) -> Self {
         Numeral {
-            text: core::str::from_utf8(bytes).unwrap_or("0"),
-            is_whole: bytes.iter().all(u8::is_ascii_digit),
+            bytes,
+            whole: whole(bytes),
         }
     }
 
     /// The contract: the number, if it has neither a point nor an exponent and is below 2^64.
     #[inline]
     pub fn to_u64(&self) -> Option<u64> {
-        let whole = self.is_whole.then_some(self.text)?;
-        whole.parse().ok()
+        self.whole
     }
 
     /// The contract: the number with its sign, if it has neither a point nor an exponent and is from -2^63 to 2^63 - 1.
@@ -45,13 +44,34 @@ impl<'a> Numeral<'a> {
     /// The contract: the float that is nearest to the number with its sign, of two the even one, and infinity for a
     /// number that rounds to more than the largest float. Rust's `parse` promises the same.
     pub fn to_float<F: Float>(&self, negative: bool) -> F {
-        let size: F = self.text.parse().unwrap_or_default();
+        let text = core::str::from_utf8(self.bytes).unwrap_or("0");
+        let size: F = text.parse().unwrap_or_default();
         if negative {
             -size
         } else {
             size
         }
     }
+}
+
+/// The number that the digits write, if all bytes are digits and it is below 2^64.
+#[inline]
+fn whole(bytes: &[u8]) -> Option<u64> {
+    // So many digits are no number of 2^64 or more.
+    const SURE: usize = 19;
+    let mut number = 0_u64;
+    for (at, byte) in bytes.iter().enumerate() {
+        let digit = u64::from(byte.wrapping_sub(b'0'));
+        if digit > 9 {
+            return None;
+        }
+        number = if at < SURE {
+            number * 10 + digit
+        } else {
+            number.checked_mul(10)?.checked_add(digit)?
+        };
+    }
+    Some(number)
 }
 
 #[cfg(test)]
@@ -67,6 +87,12 @@ mod tests {
         assert_eq!(numeral("0").to_u64(), Some(0));
         assert_eq!(numeral("18446744073709551615").to_u64(), Some(u64::MAX));
         assert_eq!(numeral("18446744073709551616").to_u64(), None);
+        assert_eq!(
+            numeral("9999999999999999999").to_u64(),
+            Some(9_999_999_999_999_999_999)
+        );
+        assert_eq!(numeral("99999999999999999999").to_u64(), None);
+        assert_eq!(numeral("184467440737095516150").to_u64(), None);
         assert_eq!(numeral("9223372036854775807").to_i64(false), Some(i64::MAX));
         assert_eq!(numeral("9223372036854775808").to_i64(false), None);
         assert_eq!(numeral("9223372036854775808").to_i64(true), Some(i64::MIN));

@@ -3,7 +3,6 @@
 use alloc::vec::Vec;
 use crate::kit::vec::FallibleVec;
 use crate::proved::ent_script::at::At;
-use crate::proved::ent_script::bound::Bound;
 use crate::proved::ent_script::cause::{Cause, ScriptCause};
 use crate::proved::ent_script::fields::{Fields, read_fields};
 use crate::proved::ent_script::format::Format;
@@ -21,7 +20,7 @@ use crate::kit::programs::json::Reader;
 #[inline]
 fn operation_of_kind(
     components: &Names<'_>,
-    bound: &Bound,
+    bound: &Names<'_>,
     before: Option<usize>,
     fields: &Fields<'_>,
     kind: Kind,
@@ -67,7 +66,7 @@ fn operation_of_kind(
 #[inline]
 fn operation(
     components: &Names<'_>,
-    bound: &Bound,
+    bound: &Names<'_>,
     before: Option<usize>,
     fields: &Fields<'_>,
 ) -> Result<Operation, PartFault>
@@ -81,7 +80,7 @@ fn operation(
 
 /// Adds the name that an operation binds, if it binds one.
 #[inline]
-fn bind(bound: &mut Bound, fields: &Fields<'_>) -> Result<(), Memory>
+fn bind<'a>(bound: &mut Names<'a>, fields: &Fields<'a>) -> Result<(), Memory>
     // ensures { OnOk result ((ms : Members) → AreFields fields.now ms
     //     → bound.new ≡ with_part bound.old (bound_name (object ms))) }
 {
@@ -111,7 +110,7 @@ fn fault_at(at: At, cause: Cause) -> ReadFault
 fn operation_at(
     format: Format,
     components: &Names<'_>,
-    bound: &Bound,
+    bound: &Names<'_>,
     at: At,
     fields: &Fields<'_>,
 ) -> Result<Operation, ReadFault>
@@ -130,12 +129,12 @@ fn operation_at(
 
 /// The operation that comes next. The name that it binds is added.
 #[inline]
-fn next_operation(
+fn next_operation<'a>(
     format: Format,
     components: &Names<'_>,
-    bound: &mut Bound,
+    bound: &mut Names<'a>,
     at: At,
-    reader: &mut Reader<'_>,
+    reader: &mut Reader<'a>,
     depth: usize,
 ) -> Result<Operation, ReadFault>
     // requires { length components.now ≤ 256 }
@@ -178,7 +177,7 @@ fn operations(
     // ensures no_longer { length reader.new ≤ length reader.old }
 {
     let limit = ReadFault::System { frame, system };
-    let mut bound = Bound::new();
+    let mut bound = Names::new();
     let mut operations = Vec::new();
     let mut number = 0;
     'operations: while !reader.take_end_array() {

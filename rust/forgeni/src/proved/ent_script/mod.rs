@@ -4,7 +4,6 @@
 
 mod at;
 mod birth;
-mod bound;
 mod bundle;
 mod cause;
 mod cutting;
@@ -16,6 +15,7 @@ mod frames;
 mod front;
 mod heading;
 mod kind;
+mod leaf;
 mod names;
 mod number;
 mod object;

@@ -1,30 +1,28 @@
 // Made of crates/ent_script/src/object.rt by rust/erase. It isn't edited by hand.
 
-use crate::kit::programs::string::String;
-use crate::proved::ent_script::read_fault::ReadFault;
-use crate::kit::programs::serde_json::{Map, Value};
+use crate::proved::ent_script::leaf::Leaf;
+use crate::proved::ent_handle::Memory;
+use crate::kit::collections::BTreeMap;
 
 /// The members of an object, in the order of their keys. Most objects have one, which takes no
-/// map.
+/// memory.
 pub(super) enum Object<'a> {
     Empty,
-    One(&'a str, Value),
-    Many(Map<String, Value>),
+    One(&'a str, Leaf<'a>),
+    Many(BTreeMap<&'a str, Leaf<'a>>),
 }
 
 /// Puts a member into a map.
 #[inline]
-fn insert(
-    map: &mut Map<String, Value>,
-    key: &str,
-    value: Value,
-) -> Result<(), ReadFault>
-    // ensures ok { IfOk result (λ _. members_view map.new.entries
-    //     ≡ put key.now (view value) (members_view map.old.entries)) }
-    // ensures err { IfErr result (λ e. e ≡ Memory) }
+fn insert<'a>(
+    map: &mut BTreeMap<&'a str, Leaf<'a>>,
+    key: &'a str,
+    leaf: Leaf<'a>,
+) -> Result<(), Memory>
+    // ensures ok { OnOk result (leaves_of map.new.entries
+    //     ≡ put key.now (leaf_data leaf.entry) (leaves_of map.old.entries)) }
 {
-    let key = String::from_str(key)?;
-    drop(map.insert(key, value)?);
+    map.insert(key, leaf)?;
     Ok(())
 }
 
@@ -34,23 +32,22 @@ impl<'a> Object<'a> {
     pub(super) fn with(
         self,
         key: &'a str,
-        value: Value,
-    ) -> Result<Object<'a>, ReadFault>
+        leaf: Leaf<'a>,
+    ) -> Result<Object<'a>, Memory>
         // ensures ok { IfOk result (λ new. members_of new
-        //     ≡ put key.now (view value) (members_of self.entry)) }
-        // ensures err { IfErr result (λ e. e ≡ Memory) }
+        //     ≡ put key.now (leaf_data leaf.entry) (members_of self.entry)) }
     {
         match self {
-            Object::Empty => Ok(Object::One(key, value)),
+            Object::Empty => Ok(Object::One(key, leaf)),
             Object::One(first, before) => {
-                let mut map = Map::new();
+                let mut map = BTreeMap::new();
                 insert(&mut map, first, before)?;
-                insert(&mut map, key, value)?;
+                insert(&mut map, key, leaf)?;
                 Ok(Object::Many(map))
             }
             Object::Many(before) => {
                 let mut map = before;
-                insert(&mut map, key, value)?;
+                insert(&mut map, key, leaf)?;
                 Ok(Object::Many(map))
             }
         }
@@ -58,26 +55,26 @@ impl<'a> Object<'a> {
 
     /// The only member.
     #[inline]
-    pub(super) fn only(&self) -> Option<(&str, &Value)>
-        // ensures { option_map {U = List ℕ × Data} (λ m. (m.0.now, view m.1.now)) result
+    pub(super) fn only(&self) -> Option<(&str, &Leaf<'a>)>
+        // ensures { option_map {U = List ℕ × Data} (λ m. (m.0.now, leaf_data m.1.now)) result
         //     ≡ only (pairs_of (members_of self.now)) }
     {
         match self {
             Object::Empty => None,
-            Object::One(key, value) => Some((key, value)),
+            Object::One(key, leaf) => Some((key, leaf)),
             Object::Many(map) => only_of(map),
         }
     }
 }
 
 #[inline]
-fn only_of(members: &Map<String, Value>) -> Option<(&str, &Value)>
-    // ensures { option_map {U = List ℕ × Data} (λ m. (m.0.now, view m.1.now)) result
-    //     ≡ only (map (λ m. (string_bytes m.0, view m.1)) members.now.entries) }
+fn only_of<'a, 'b>(members: &'b BTreeMap<&'a str, Leaf<'a>>) -> Option<(&'b str, &'b Leaf<'a>)>
+    // ensures { option_map {U = List ℕ × Data} (λ m. (m.0.now, leaf_data m.1.now)) result
+    //     ≡ only (pairs_of (leaves_of members.now.entries)) }
 {
     if members.len() != 1 {
         return None;
     }
-    let (key, value) = members.first_key_value()?;
-    Some((key.as_str(), value))
+    let (key, leaf) = members.first_key_value()?;
+    Some((key, leaf))
 }

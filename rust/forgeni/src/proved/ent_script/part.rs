@@ -1,6 +1,6 @@
 // Made of crates/ent_script/src/part.rt by rust/erase. It isn't edited by hand.
 
-use crate::proved::ent_script::cutting::read_cut;
+use crate::proved::ent_script::leaf::read_leaf;
 use crate::proved::ent_script::names::is_name;
 use crate::proved::ent_script::number::number;
 use crate::proved::ent_script::object::Object;
@@ -34,7 +34,7 @@ impl<'a> Part<'a> {
 
     /// The text of a string.
     #[inline]
-    pub(super) fn text(&self) -> Option<&str>
+    pub(super) fn text(&self) -> Option<&'a str>
         // ensures { option_map (λ text. text.now) result ≡ as_str (data_of self.now) }
     {
         match self {
@@ -45,7 +45,7 @@ impl<'a> Part<'a> {
 
     /// The name that it is.
     #[inline]
-    pub(super) fn name(&self) -> Option<&str>
+    pub(super) fn name(&self) -> Option<&'a str>
         // ensures { option_map (λ text. text.now) result ≡ as_name (data_of self.now) }
     {
         let text = self.text()?;
@@ -132,8 +132,8 @@ fn read_object<'a>(
 {
     let mut found = Object::Empty;
     'members: while let Some(name) = reader.next_key()? {
-        let member = read_cut(reader, depth, 0)?;
-        found = found.with(name, member)?;
+        let leaf = read_leaf(reader, depth)?;
+        found = found.with(name, leaf)?;
     }
     Ok(found)
 }

@@ -1,17 +1,16 @@
 // Made of crates/ent_script/src/parts.rt by rust/erase. It isn't edited by hand.
 
-use crate::kit::programs::string::String;
 use crate::proved::ent_script::birth::birth;
-use crate::proved::ent_script::bound::Bound;
 use crate::proved::ent_script::bundle::Bundle;
 use crate::proved::ent_script::cause::Cause;
+use crate::proved::ent_script::leaf::Leaf;
 use crate::proved::ent_script::names::Names;
 use crate::proved::ent_script::object::Object;
 use crate::proved::ent_script::part::Part;
 use crate::proved::ent_script::part_fault::PartFault;
 use crate::proved::ent_script::target::Target;
 use crate::proved::ent_handle::{ComponentId, Handle};
-use crate::kit::programs::serde_json::{Map, Value};
+use crate::kit::collections::BTreeMap;
 
 /// The number of a component.
 #[inline]
@@ -34,7 +33,7 @@ pub(super) fn count(part: Option<&Part<'_>>) -> Result<u32, Cause>
 
 /// The number of the name that is bound: that of the name if it is bound, and else the next.
 #[inline]
-pub(super) fn binding(bound: &Bound, part: Option<&Part<'_>>) -> Result<Option<usize>, Cause>
+pub(super) fn binding(bound: &Names<'_>, part: Option<&Part<'_>>) -> Result<Option<usize>, Cause>
     // ensures { result ≡ binding_of bound.now (option_map (λ p. data_of p.now) part.entry) }
 {
     let Some(value) = part else {
@@ -67,7 +66,7 @@ fn target_birth(before: Option<usize>, text: &str) -> Result<Target, Cause>
 #[inline]
 fn target_at(
     components: &Names<'_>,
-    bound: &Bound,
+    bound: &Names<'_>,
     before: Option<usize>,
     key: &str,
     text: &str,
@@ -95,7 +94,7 @@ fn target_at(
 #[inline]
 pub(super) fn target(
     components: &Names<'_>,
-    bound: &Bound,
+    bound: &Names<'_>,
     before: Option<usize>,
     part: Option<&Part<'_>>,
 ) -> Result<Target, Cause>
@@ -104,34 +103,34 @@ pub(super) fn target(
     //     (option_map (λ p. data_of p.now) part.entry) }
 {
     let found = part.ok_or(Cause::Target)?.members().ok_or(Cause::Target)?;
-    let (key, value) = found.only().ok_or(Cause::Target)?;
-    let text = value.as_str().ok_or(Cause::Target)?;
+    let (key, leaf) = found.only().ok_or(Cause::Target)?;
+    let text = leaf.text().ok_or(Cause::Target)?;
     target_at(components, bound, before, key, text)
 }
 
 /// The component and the value of a bundle's member.
 #[inline]
-fn item(components: &Names<'_>, key: &str, value: &Value) -> Result<(ComponentId, i64), Cause>
+fn item(components: &Names<'_>, key: &str, leaf: &Leaf<'_>) -> Result<(ComponentId, i64), Cause>
     // requires { length components.now ≤ 256 }
-    // ensures { result ≡ item_of components.now (key.now, view value.now) }
+    // ensures { result ≡ item_of components.now (key.now, leaf_data leaf.now) }
 {
     let id = component(components, key).ok_or(Cause::Component)?;
-    let number = value.as_i64().ok_or(Cause::Value)?;
+    let number = leaf.whole().ok_or(Cause::Value)?;
     Ok((id, number))
 }
 
 #[inline]
 fn items_of(
     components: &Names<'_>,
-    members: &Map<String, Value>,
+    members: &BTreeMap<&str, Leaf<'_>>,
 ) -> Result<Bundle, PartFault>
     // requires { length components.now ≤ 256 }
     // ensures { ReadsPart result (bundle_by components.now
-    //     (map (λ m. (string_bytes m.0, view m.1)) members.now.entries)) }
+    //     (map (λ m. (m.0.now, leaf_data m.1)) members.now.entries)) }
 {
     let mut bundle = Bundle::with_capacity(members.len().min(components.len()))?;
-    for (key, value) in members {
-        let (id, number) = item(components, key.as_str(), value)?;
+    for (key, leaf) in members {
+        let (id, number) = item(components, key, leaf)?;
         bundle.put(id, number)?;
     }
     Ok(bundle)
@@ -141,12 +140,12 @@ fn items_of(
 fn one_item(
     components: &Names<'_>,
     key: &str,
-    value: &Value,
+    leaf: &Leaf<'_>,
 ) -> Result<Bundle, PartFault>
     // requires { length components.now ≤ 256 }
-    // ensures { ReadsPart result (bundle_by components.now ((key.now, view value.now) ∷ [])) }
+    // ensures { ReadsPart result (bundle_by components.now ((key.now, leaf_data leaf.now) ∷ [])) }
 {
-    let (id, number) = item(components, key, value)?;
+    let (id, number) = item(components, key, leaf)?;
     let mut bundle = Bundle::new();
     bundle.put(id, number)?;
     Ok(bundle)
@@ -159,7 +158,7 @@ fn items(components: &Names<'_>, members: &Object<'_>) -> Result<Bundle, PartFau
 {
     match members {
         Object::Empty => Ok(Bundle::new()),
-        Object::One(key, value) => one_item(components, key, value),
+        Object::One(key, leaf) => one_item(components, key, leaf),
         Object::Many(map) => items_of(components, map),
     }
 }

@@ -402,6 +402,36 @@ impl<T> HandleMap<T> {
         Ok(())
     }
 
+    /// Gives back the room that no slot needs, as `Vec::shrink_to_fit` does. If there is no memory to
+    /// move the slots to, the room stays.
+    ///
+    /// ```
+    /// use forgeni::{Handle, HandleMap};
+    ///
+    /// let mut map = HandleMap::with_capacity(1000)?;
+    /// map.insert(Handle::new(9, 1).unwrap(), "last")?;
+    /// map.shrink_to_fit();
+    /// assert_eq!((map.slots(), map.capacity()), (10, 10));
+    /// # Ok::<(), Box<dyn std::error::Error + Send + Sync>>(())
+    /// ```
+    ///
+    /// <details><summary>Contract</summary>
+    ///
+    /// In the words of the folder `specs/` of crate `ent_storage`:
+    ///
+    /// ```text
+    /// ensures kept { self.new ≡ record self.old { room = self.new.room } }
+    /// ensures shrinks { self.new.room ≤ self.old.room }
+    /// ensures fits { self.old.slots ≤ self.new.room }
+    /// ensures frees { self.old.slots ≡ 0 → self.new.room ≡ 0 }
+    /// ```
+    ///
+    /// </details>
+    #[inline]
+    pub fn shrink_to_fit(&mut self) {
+        self.slots.shrink_to_fit_fallibly();
+    }
+
     /// The handles and their values, by rising slot. The time is that of a look at each slot.
     ///
     /// ```

@@ -1,23 +1,22 @@
 use Rattle.std.proofs.Common.{◌≡◌, ◌-◌, ◌<◌, length}
-use Rattle.std.specs.Prelude.{All, vec_len, vec_capacity}
+use Rattle.std.specs.Prelude.{vec_len, vec_capacity}
 use Rattle.ent_shared.specs.Phase.{IsOf}
 use Rattle.ent_runner.specs.Claims.{IsClaimerOf}
-use Rattle.ent_runner.specs.declared.worker.SystemQueue.{SystemQueue}
-use Rattle.ent_runner.specs.Worker.{HasRun}
+use Rattle.ent_runner.specs.Worker.{numbers_of, HaveEnded}
 use Rattle.ent_runner.proofs.worker.Worker.work.Given as goal
 
--- so far it has run what it claimed
-abbrev pub invariant-loop-system : goal.invariant-loop-system
-invariant-loop-system g l = record {
-  reserver : IsOf l.stage.shared.now l.self.reserver;
-  claimer : IsClaimerOf l.stage.claims.now l.self.claimer;
-  inside : All (λ (i : SystemQueue). i.system < length l.stage.systems.now) l.self.issued.items;
-  ran : HasRun g.S.System.may_issue l.stage.systems.now l.stage.view l.initial.self.reserver.own
-      l.self.reserver.own l.self.claimer.own.claims l.self.issued.items;
+-- so far it has done what it claimed
+abbrev pub invariant-loop-number : goal.invariant-loop-number
+invariant-loop-number g l = record {
+  reserver : IsOf l.site.shared.now l.reserver;
+  claimer : IsClaimerOf l.site.claims.now l.self.claimer;
+  claimed : numbers_of l.self.done.items ≡ l.self.claimer.own.claims;
+  ended : HaveEnded (g.J.Jobs.may_do l.site.jobs.now) l.initial.reserver.own l.self.done.items
+      l.reserver.own;
   stopped : l.self.stopped ≡ l.initial.self.stopped;
-  room : vec_len l.self.issued < vec_capacity l.self.issued;
+  room : vec_len l.self.done < vec_capacity l.self.done;
 }
 
 -- how many numbers it may still claim
-abbrev pub decreases-loop-system : goal.decreases-loop-system
-decreases-loop-system g l = l.stage.claims.now.numbers - length l.self.claimer.own.claims
+abbrev pub decreases-loop-number : goal.decreases-loop-number
+decreases-loop-number g l = l.site.claims.now.numbers - length l.self.claimer.own.claims

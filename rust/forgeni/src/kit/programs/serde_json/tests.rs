@@ -196,13 +196,14 @@ fn parts_are_found_by_their_keys_and_places() {
 
 #[test]
 fn refused_memory_is_said() {
-    for text in ["[1]", "{\"a\":1}", "\"a\"", "1"] {
+    for text in ["[1]", "{\"a\":1}", "\"a\"", "\"\\n\""] {
         let refused = refuse(|| Value::from_slice(text.as_bytes())).expect_err("no memory");
         assert_eq!(
             (refused.is_memory(), refused.to_string()),
             (true, "out of memory".to_string())
         );
     }
+    assert!(refuse(|| Value::from_slice(b"1")).is_ok());
     let value = Value::from_slice(b"[\"a\"]").expect("a value");
     assert!(refuse(|| value.to_string_in()).is_err());
     let invalid = Value::from_slice(b"[").expect_err("no value");

@@ -1,0 +1,59 @@
+-- A worker does one job after the other.
+use Rattle.std.proofs.lemmas.Grind.{common_steps}
+use Rattle.std.proofs.Common.{rules, ◌≡◌, ℕ, ◌<◌, List, [], ◌∷◌, ◌++◌, length, ap, ◌∙◌, subst, refl}
+use Rattle.std.proofs.Common.{arith, map, is_err, false, true≢false}
+use Rattle.std.specs.Prelude.{Result, Ok, Err, OnOk, OnErr}
+use Rattle.std.specs.List.{All}
+use Rattle.std.proofs.lemmas.Fn.{FoldsTo-push}
+use Rattle.std.proofs.lemmas.List.{map-append}
+use Rattle.ent_shared.specs.declared.record.Record.{Record}
+use Rattle.ent_runner.specs.declared.record.ClaimRecord.{ClaimRecord as Claimed}
+use Rattle.ent_runner.specs.declared.worker.Done.{Done}
+use Rattle.ent_runner.specs.Crew.{Does, HasGained}
+use Rattle.ent_runner.specs.Worker.{numbers_of, DoesKept, HaveEnded, HasStoppedAt}
+
+module _ {O : Type 0} where
+  pub numbers_more : (done next : List (Done O)) (d : Done O) (claims more : List ℕ) → next
+      ≡ done ++ d ∷ [] → numbers_of done ≡ claims → more ≡ claims ++ d.number ∷ []
+      → numbers_of next ≡ more
+  numbers_more done next d claims more pushed same claimed = search (rules, map-append)
+
+  module _ (may leave : ℕ → Record → O → Record → Type 0) where
+    -- one job more
+    pub ended_more : (a b c : Record) (done next : List (Done O)) (d : Done O)
+        → HaveEnded may a done b → HasGained b c → may d.number b d.output c
+        → next ≡ done ++ d ∷ [] → HaveEnded may a next c
+    ended_more a b c done next d ended gains may_it pushed =
+        rw pushed (FoldsTo-push (DoesKept may) a done b d c ended
+        (record { gains = gains; may_it = may_it }))
+
+    -- and one more, which stopped
+    pub stopped_at : (a b c : Record) (done next : List (Done O)) (d : Done O)
+        → HaveEnded may a done b → HasGained b c → leave d.number b d.output c
+        → next ≡ done ++ d ∷ [] → HasStoppedAt may leave a next c
+    stopped_at a b c done next d ended gains left pushed = record {
+      earlier = done;
+      last = d;
+      done_are = pushed;
+      between = b;
+      ended = ended;
+      stopped = record { gains = gains; may_it = left };
+    }
+
+pub of_ok : {A E : Type 0} (X : Type 0) (r : Result A E) (a : A) → r ≡ Ok a → OnOk r X → X
+of_ok X r a is on = subst (λ r. OnOk r X) is on
+
+pub of_err : {A E : Type 0} (X : Type 0) (r : Result A E) (e : E) → r ≡ Err e → OnErr r X → X
+of_err X r e is on = subst (λ r. OnErr r X) is on
+
+pub on_err : {A E : Type 0} {P : Type 0} (r : Result A E) → P → OnErr r P
+on_err it p = search rules
+
+-- what a test of a result tells
+pub on_ok : {X E : Type 0} {P : Type 0} (r : Result X E) → is_err r ≡ false → OnOk r P → P
+on_ok it test p = search (rules, true≢false)
+
+-- one number more was claimed
+pub claims_more : (old new : Claimed) (n : ℕ) → new ≡ record old { claims = old.claims ++ n ∷ [] }
+    → new.claims ≡ old.claims ++ n ∷ []
+claims_more old new n is = ap (λ (c : Claimed). c.claims) is

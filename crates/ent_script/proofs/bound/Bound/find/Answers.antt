@@ -1,8 +1,0 @@
-use Rattle.std.proofs.Common.{rules}
-use Rattle.ent_script.proofs.NamesLaws.{number_within}
-use Rattle.ent_script.proofs.bound.Bound.find.Goals as goal
-
-pub returns-clause-within : goal.returns-clause-within
-returns-clause-within c =
-    let found = number_within c.args.name.now in
-    search (rules, found, c.self.invariant c.args.name.now, c.self.view_is)

@@ -1,0 +1,52 @@
+use Rattle.json.proofs.Grammar.{value_is}
+use Rattle.std.proofs.Common.{refl, ap, arith, rules}
+use Rattle.json.specs.Token.{Token}
+use Rattle.json.specs.Reads.{token_of}
+use Rattle.serde_json.specs.Data.{null, boolean, number, string}
+use Rattle.serde_json.specs.View.{number_view}
+use Rattle.ent_script.proofs.Cuts.{opened_array, opened_object}
+use Rattle.ent_script.proofs.Openings.{passed_nested}
+use Rattle.ent_script.proofs.leaf.read_leaf.Goals as goal
+
+pub returns-in_err-token-clause-refused : goal.returns-in_err-token-clause-refused
+returns-in_err-token-clause-refused c = search (rules, value_is)
+
+pub returns-in-String-clause-ok : goal.returns-in-String-clause-ok
+returns-in-String-clause-ok c =
+    (string c.in-String.text.now, search (rules, value_is), refl)
+
+pub returns-in-Bool-clause-ok : goal.returns-in-Bool-clause-ok
+returns-in-Bool-clause-ok c =
+    (boolean c.in-Bool.b, search (rules, value_is), refl)
+
+pub returns-in-Null-clause-ok : goal.returns-in-Null-clause-ok
+returns-in-Null-clause-ok c =
+    (null, search (rules, value_is), refl)
+
+pub returns-in-Some-clause-ok : goal.returns-in-Some-clause-ok
+returns-in-Some-clause-ok c =
+    (number (number_view c.in-Some.number), search (rules, value_is), refl)
+
+pub returns-in-None-clause-refused : goal.returns-in-None-clause-refused
+returns-in-None-clause-refused c = search (rules, value_is)
+
+pub returns-in-EndObject-clause-refused : goal.returns-in-EndObject-clause-refused
+returns-in-EndObject-clause-refused c = search (rules, value_is)
+
+pub returns-in_ok-pass_rest-in-BeginArray-clause-ok :
+    goal.returns-in_ok-pass_rest-in-BeginArray-clause-ok
+returns-in_ok-pass_rest-in-BeginArray-clause-ok c =
+    let d = passed_nested c.args.depth (token_of c.in_ok-token.token) Token.begin_array
+    c.args.reader.now c.next.new.self c.pass_rest.new.reader (grind arith)
+    (ap token_of c.in-BeginArray.is) c.in_ok-pass_rest-in-BeginArray.ensures.value in
+    let ds = opened_array c.args.depth c.next.new.self c.pass_rest.new.reader d.0 d.2 in
+    (d.0, d.1, search (rules, ds))
+
+pub returns-in_ok-pass_rest-in-BeginObject-clause-ok :
+    goal.returns-in_ok-pass_rest-in-BeginObject-clause-ok
+returns-in_ok-pass_rest-in-BeginObject-clause-ok c =
+    let d = passed_nested c.args.depth (token_of c.in_ok-token.token) Token.begin_object
+    c.args.reader.now c.next.new.self c.pass_rest-in-BeginObject.new.reader (grind arith)
+    (ap token_of c.in-BeginObject.is) c.in_ok-pass_rest-in-BeginObject.ensures.value in
+    let ms = opened_object c.args.depth c.next.new.self c.pass_rest-in-BeginObject.new.reader d.0 d.2 in
+    (d.0, d.1, search (rules, ms))

@@ -1,6 +1,0 @@
-use Rattle.std.proofs.Common.{rules}
-use Rattle.ent_script.proofs.Values.{pairs_of-members_view}
-use Rattle.ent_script.proofs.object.Object.only.Goals as goal
-
-pub returns-in-Many : goal.returns-in-Many
-returns-in-Many c = search (rules, pairs_of-members_view)

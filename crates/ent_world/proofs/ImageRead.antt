@@ -1,0 +1,231 @@
+-- What the bytes of an image tell, and the world that is read of them.
+use Rattle.std.proofs.Common.{rules, ◌≡◌, ◌≢◌, refl, sym, ap, subst, ◌∙◌, ℕ, zero, suc, ◌+◌, ◌*◌, ◌^◌}
+use Rattle.std.proofs.Common.{◌<◌, ◌≤◌, Bool, true, false, List, [], ◌∷◌, ◌++◌, length, get_or, arith}
+use Rattle.std.proofs.Common.{Contains, Option, None, Some, is_some, IsTrue, AllPairs, All, Result, Ok}
+use Rattle.std.proofs.Common.{Err, IfErr, IsErrAnd, ◌⊎◌, inl, inr, slice_get}
+use Rattle.std.specs.List.{list_any}
+use Rattle.std.specs.Ordering.{eq_by_cmp}
+use Rattle.std.specs.FinMap as map
+use Rattle.std.specs.FinSet as set
+use Rattle.std.proofs.lemmas.Grind.{common_steps}
+use Rattle.std.proofs.lemmas.List.{length-append, get_or_default}
+use Rattle.std.proofs.lemmas.Option.{none-some}
+use Rattle.ent_handle.specs.Handle.{Handle, handle_cmp, handle_cmp_total as total}
+use Rattle.ent_handle.specs.Handle.{handle_cmp-IsAntisymmetric as same}
+use Rattle.ent_handle.specs.declared.birth.Birth.{Birth}
+use Rattle.ent_alloc.specs.Sequential.{stands_in}
+use Rattle.ent_alloc.specs.Entities.{Entities as Allocator}
+use Rattle.ent_alloc.specs.Image.{image as allocator_image, HasImage as HasAllocatorImage, header, roster}
+use Rattle.ent_alloc.specs.Image.{header_bytes, slots_bytes}
+use Rattle.ent_alloc.proofs.HandleSets.{Contains-from_stands_in, stands_in-from_Contains}
+use Rattle.ent_alloc.proofs.ImageHeader.{length-header_bytes}
+use Rattle.ent_alloc.proofs.ImageOf.{length-slots_bytes}
+use Rattle.ent_storage.specs.EntityMap.{Entity, EntityMap, newborn}
+use Rattle.ent_storage.specs.Image.{entities_bytes, AreStored, IsStored}
+use Rattle.ent_storage.proofs.ImageEntities.{never_stored}
+use Rattle.ent_storage.proofs.Keys.{apart}
+use Rattle.ent_world.specs.World.{World, IsWorld}
+use Rattle.ent_world.specs.Rows.{Rows, AreRows, with_rows}
+use Rattle.ent_world.specs.Entering.{AreNew}
+use Rattle.ent_world.specs.Image.{allocator_of, living, framed, image, HasImage}
+use Rattle.ent_world.specs.declared.image_fault.WorldImageFault.{WorldImageFault}
+use Rattle.ent_world.specs.declared.image_fault.WorldImageFault.TheVariants.{Magic, Version, Length}
+use Rattle.ent_world.specs.declared.image_fault.WorldImageFault.TheVariants.{Entities, Row, Storage}
+use Rattle.ent_world.specs.declared.image_fault.WorldImageFault.TheVariants.{Memory}
+use Rattle.ent_world.proofs.ImageHeader.{same_framed}
+use Rattle.ent_world.proofs.ImageKeys.{living_keys}
+use Rattle.ent_world.proofs.PlacedRows.{rows-empty, rows-born}
+use Rattle.ent_world.proofs.Room.{stands_at, place_of}
+
+-- ---- the allocator's part
+
+pub allocator_has : (w : World) → HasImage w → HasAllocatorImage (allocator_of w)
+allocator_has w has = record {
+  sound = has.world.sound;
+  rows_of_living = λ h dead. map.get-empty handle_cmp h;
+  rows = λ h row at. absurd (none-some row (sym (map.get-empty handle_cmp h) ∙ at));
+  asked = has.asked;
+}
+
+pub allocator_len : (e : Allocator) → length (allocator_image e) ≡ 40 + 12 * e.allocator.made
+allocator_len e =
+    let front = length-header_bytes (header e) in
+    let rest = length-slots_bytes (roster e) in
+    let all = length-append (header_bytes (header e)) (slots_bytes (roster e)) in
+    omega (arith, all, front, rest)
+
+pub allocator_short : (e : Allocator) → HasAllocatorImage e → length (allocator_image e) < 2 ^ 64
+allocator_short e has =
+    omega (arith, allocator_len e, has.sound.made, has.sound.limits.slots)
+
+-- ---- what the bytes tell of a world whose image they are
+
+pub record AreParts (w : World) (phase : ℕ) (part rest : List ℕ) : Type 0 where
+  pub phase_is : w.phase ≡ phase
+  pub part_is : allocator_image (allocator_of w) ≡ part
+  pub rest_is : entities_bytes w.entities (living w) ≡ rest
+
+pub told : (w : World) → HasImage w → (bytes : List ℕ) (phase : ℕ) (part rest : List ℕ)
+    → phase < 2 ^ 64 → length part < 2 ^ 64 → bytes ≡ framed phase part rest → image w ≡ bytes
+    → AreParts w phase part rest
+told w has bytes phase part rest fits_p fits found is =
+    let parts = same_framed w.phase phase (allocator_image (allocator_of w))
+    (entities_bytes w.entities (living w)) part rest has.phase fits_p
+    (allocator_short (allocator_of w) (allocator_has w has)) fits (is ∙ found) in
+    record { phase_is = parts.0; part_is = parts.1.0; rest_is = parts.1.1 }
+
+-- ---- results
+
+memory_or_not : (fault : WorldImageFault) → (fault ≡ Memory) ⊎ (fault ≢ Memory)
+memory_or_not Magic = inr (λ is. grind (arith, common_steps))
+memory_or_not (Version version) = inr (λ is. grind (arith, common_steps))
+memory_or_not Length = inr (λ is. grind (arith, common_steps))
+memory_or_not (Entities fault) = inr (λ is. grind (arith, common_steps))
+memory_or_not (Row index) = inr (λ is. grind (arith, common_steps))
+memory_or_not (Storage fault) = inr (λ is. grind (arith, common_steps))
+memory_or_not Memory = inl refl
+
+pub memory_from_not : (fault : WorldImageFault) → ((fault ≢ Memory) → ⊥) → fault ≡ Memory
+memory_from_not fault never = elim (memory_or_not fault) [
+  | inl is ↦ is
+  | inr other ↦ absurd (never other)
+]
+
+abbrev read : {T : Type 0} → T → Result T WorldImageFault
+read x = Ok x
+
+abbrev refused : {T : Type 0} → WorldImageFault → Result T WorldImageFault
+refused fault = Err fault
+
+pub read_is : {T : Type 0} (x e : T) → (read x ≡ Ok e) ⊎ (read x ≡ Err Memory) → x ≡ e
+read_is x e (inl is) = cc
+read_is x e (inr is) = absurd cc
+
+pub refused_is : {T : Type 0} (fault : WorldImageFault) (e : T)
+    → (refused {T = T} fault ≡ Ok e) ⊎ (refused {T = T} fault ≡ Err Memory) → fault ≡ Memory
+refused_is fault e (inl is) = absurd cc
+refused_is fault e (inr is) = cc
+
+-- a fault that is handed on
+pub handed : (result : Result World WorldImageFault) (fault : WorldImageFault)
+    → IsErrAnd result (λ y. y ≡ fault) → fault ≡ Memory → (w : World)
+    → (result ≡ Ok w) ⊎ (result ≡ Err Memory)
+handed (Ok x) fault is memory w = absurd is
+handed (Err y) fault is memory w = inr (ap Err (is ∙ memory))
+
+-- what is exact refuses no image
+pub refused_from_exact : (bytes : List ℕ) (result : Result World WorldImageFault)
+    → ((w : World) → HasImage w → image w ≡ bytes → (result ≡ Ok w) ⊎ (result ≡ Err Memory))
+    → IfErr result (λ fault. fault ≢ Memory → (w : World) → HasImage w → image w ≢ bytes)
+refused_from_exact bytes (Ok x) exact = tt
+refused_from_exact bytes (Err fault) exact = λ other w has is.
+    other (refused_is fault w (exact w has is))
+
+-- ---- the living handles
+
+pub listed : (w : World) → HasImage w → (e : Allocator) → e ≡ allocator_of w → (hs : List Handle)
+    → AllPairs (λ g h. g.index < h.index) hs → set.from_list hs ≡ e.allocator.live
+    → living w ≡ hs
+listed w has e is hs rising lists =
+    living_keys w.entities w.allocator.live hs rising
+    (lists ∙ ap (λ (x : Allocator). x.allocator.live) is) has.world.living
+
+-- none has a row
+pub no_rows : (e : Allocator) → HasAllocatorImage e → (hs : List Handle)
+    → set.from_list hs ≡ e.allocator.live → All (λ h. map.get e.rows h ≡ None) hs
+    → e.rows ≡ map.empty
+no_rows e has hs lists bare = map.same_map total same e.rows map.empty (λ h.
+    none_at h (stands_in hs h) refl ∙ sym (map.get-empty handle_cmp h))
+  where
+    listed_at : (h : Handle) → Contains hs h → map.get e.rows h ≡ None
+    listed_at h is = ap (map.get e.rows) (sym is.2) ∙ bare is.0 h is.1
+
+    none_at : (h : Handle) (b : Bool) → stands_in hs h ≡ b → map.get e.rows h ≡ None
+    none_at h true is = listed_at h (Contains-from_stands_in hs h is)
+    none_at h false is = has.rows_of_living h (λ alive. grind (
+      arith,
+      common_steps,
+      is,
+      set.contains-from_list total hs h,
+      ap (λ s. set.contains s h) lists,
+    ))
+
+pub same_answer : (a b : Bool) → (a ≡ true → b ≡ true) → (b ≡ true → a ≡ true) → a ≡ b
+same_answer true b there back = sym (there refl)
+same_answer false true there back = back refl
+same_answer false false there back = refl
+
+-- ---- the world that is read
+
+module _ (m : EntityMap) (hs : List Handle) (stored : AreStored m hs) where
+  stored_at : (h : Handle) (o : Option Entity) → map.get m h ≡ o → IsStored m h
+      → is_some o ≡ true
+  stored_at h None is stored = absurd (never_stored m h is stored)
+  stored_at h (Some e) is stored = refl
+
+  pub members : (h : Handle) → map.contains_key m h ≡ stands_in hs h
+  members h = same_answer (map.contains_key m h) (stands_in hs h)
+      (λ is. stands_in-from_Contains hs h (stored.only h is))
+      (λ is. stored_at h (map.get m h) refl (stored.each h (Contains-from_stands_in hs h is)))
+
+  pub stored_living : (live : set.FinSet handle_cmp) → set.from_list hs ≡ live → (h : Handle)
+      → map.contains_key m h ≡ set.contains live h
+  stored_living live lists h = members h ∙ sym (set.contains-from_list total hs h)
+      ∙ ap (λ s. set.contains s h) lists
+
+-- none stands twice among those that rise
+not_later : (h : Handle) (hs : List Handle)
+    → ((j : ℕ) (d : Handle) → j < length hs → h.index < (get_or hs j d).index)
+    → stands_in hs h ≡ false
+not_later h [] less = refl
+not_later h (g ∷ hs) less =
+    let far = apart total same h g (λ is.
+    let index = ap (λ (x : Handle). x.index) is in
+    let first = less 0 g (omega arith) in omega (arith, index, first)) in
+    let rest = not_later h hs (λ j d l. less (suc j) d (omega arith)) in
+    grind (arith, common_steps, far, rest)
+
+new_ones : (hs : List Handle) → AllPairs (λ g h. g.index < h.index) hs → AreNew hs map.empty
+new_ones [] rising = tt
+new_ones (h ∷ hs) rising = (
+  ap is_some (map.get-empty handle_cmp h),
+  not_later h hs (λ j d l. rising 0 (suc j) d (omega arith) (omega arith)),
+  new_ones hs (λ i j d before l. rising (suc i) (suc j) d (omega arith) (omega arith)),
+)
+
+abbrev nowhere : Handle → Birth
+nowhere h = record { frame = 0; system = 0; ordinal = 0 }
+
+pub rows_read : (m : EntityMap) (hs : List Handle) → AreStored m hs
+    → AllPairs (λ g h. g.index < h.index) hs → AreRows (with_rows map.empty 0 hs) hs m
+rows_read m hs stored rising =
+    let born = rows-born nowhere hs map.empty [] map.empty rows-empty (new_ones hs rising) in
+    let rows : Rows = with_rows map.empty 0 hs in
+    record {
+      at = born.at;
+      each = λ h. same_answer (map.contains_key rows h) (map.contains_key m h)
+          (λ is. members m hs stored h ∙ there h (map.get rows h) refl is)
+          (λ is.
+          let place = place_of hs h (sym (members m hs stored h) ∙ is) in
+          ap is_some ((born.at h place.0).1 place.1));
+    }
+  where
+    there : (h : Handle) (o : Option ℕ) → map.get (with_rows map.empty 0 hs) h ≡ o
+        → is_some (map.get (with_rows map.empty 0 hs) h) ≡ true → stands_in hs h ≡ true
+    there h None none is = absurd (grind (arith, common_steps))
+    there h (Some place) at is =
+        let born = rows-born nowhere hs map.empty [] map.empty rows-empty (new_ones hs rising) in
+        stands_at hs place h ((born.at h place).0 at)
+
+pub all_live : (live : set.FinSet handle_cmp) (hs : List Handle) → set.from_list hs ≡ live
+    → All (λ h. set.contains live h ≡ true) hs
+all_live live hs lists k d lt =
+    let h = get_or hs k d in
+    ap (λ s. set.contains s h) (sym lists) ∙ set.contains-from_list total hs h
+    ∙ stands_in-from_Contains hs h (k, lt, get_or_default hs k h d lt)
+
+pub living_is : (m : EntityMap) (hs : List Handle) (live : set.FinSet handle_cmp)
+    → AreStored m hs → AllPairs (λ g h. g.index < h.index) hs → set.from_list hs ≡ live
+    → map.keys m ≡ hs
+living_is m hs live stored rising lists =
+    living_keys m live hs rising lists (stored_living m hs stored live lists)

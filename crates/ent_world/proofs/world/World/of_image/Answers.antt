@@ -1,0 +1,174 @@
+use Rattle.std.proofs.Common.{◌≡◌, ◌≤◌, ◌<◌, ◌∙◌, ap, sym, subst, arith, inl, Ok, List, AllPairs, ℕ, length, get_or, true, ◌^◌}
+use Rattle.std.specs.FinMap as map
+use Rattle.std.specs.FinSet as set
+use Rattle.ent_handle.specs.Handle.{Handle}
+use Rattle.ent_alloc.specs.Sequential.{Allocator, top}
+use Rattle.ent_alloc.specs.Sound.{IsSound}
+use Rattle.ent_alloc.specs.Entities.{Entities}
+use Rattle.ent_alloc.specs.Image.{image as allocator_image}
+use Rattle.ent_storage.specs.Image.{entities_bytes, AreStored}
+use Rattle.ent_world.specs.World.{World, IsWorld}
+use Rattle.ent_world.specs.Rows.{AreRows, with_rows}
+use Rattle.ent_world.specs.Image.{allocator_of, framed, image, HasImage, living}
+use Rattle.ent_world.proofs.ImageRead.{allocator_has, AreParts, told, memory_from_not, read_is}
+use Rattle.ent_world.proofs.ImageRead.{refused_is, handed, listed, no_rows, stored_living, rows_read}
+use Rattle.ent_world.proofs.ImageRead.{all_live, living_is}
+use Rattle.ent_world.proofs.world.World.of_image.Goals.{In_ok-phase, In_ok-entities, In_ok-handles}
+use Rattle.ent_world.proofs.world.World.of_image.Goals.{In_ok-storage}
+use Rattle.ent_world.proofs.world.World.of_image.Goals as goal
+
+-- what the bytes tell of a world whose image they are
+told_of : (c : In_ok-phase) (w : World) → HasImage w → image w ≡ c.args.bytes.now
+    → AreParts w c.in_ok-phase.phase c.in_ok-phase.part.now c.in_ok-phase.rest.now
+told_of c w has is = told w has c.args.bytes.now c.in_ok-phase.phase c.in_ok-phase.part.now
+    c.in_ok-phase.rest.now c.in_ok-phase.ensures.phase c.in_ok-phase.ensures.fits
+    c.in_ok-phase.ensures.found is
+
+-- its allocator was read
+allocator_is : (c : In_ok-entities) (w : World) → HasImage w
+    → AreParts w c.in_ok-phase.phase c.in_ok-phase.part.now c.in_ok-phase.rest.now
+    → c.in_ok-entities.entities ≡ allocator_of w
+allocator_is c w has parts = read_is c.in_ok-entities.entities (allocator_of w)
+    (c.in_ok-entities.ensures.exact (allocator_of w) (allocator_has w has) parts.part_is)
+
+pub returns-in_err-entities-clause-exact : goal.returns-in_err-entities-clause-exact
+returns-in_err-entities-clause-exact c w has is =
+    let parts = told_of (goal.at.returns-in_err-entities-clause-exact c).In_ok-phase w has is in
+    handed c.from_residual-in_err-entities.result c.in_err-entities.field-0.0
+    c.from_residual-in_err-entities.ensures.1 (refused_is c.in_err-entities.field-0.0
+    (allocator_of w)
+    (c.in_err-entities.ensures.exact (allocator_of w) (allocator_has w has) parts.part_is)) w
+
+pub returns-in_err-handles-clause-exact : goal.returns-in_err-handles-clause-exact
+returns-in_err-handles-clause-exact c w has is =
+    let at = goal.at.returns-in_err-handles-clause-exact c in
+    let parts = told_of at.In_ok-phase w has is in
+    let e = allocator_is at.In_ok-entities w has parts in
+    handed c.from_residual-in_err-handles.result c.in_err-handles.field-0.0
+    c.from_residual-in_err-handles.ensures.1 (memory_from_not c.in_err-handles.field-0.0
+    (λ other. c.in_err-handles.ensures.rows other (ap (λ (x : Entities). x.rows) e))) w
+
+-- the handles that were listed
+lists : (c : In_ok-handles) → set.from_list c.in_ok-handles.handles.items
+    ≡ c.in_ok-entities.entities.allocator.live
+lists c = ap set.from_list c.in_ok-handles.ensures.items ∙ c.iter.ensures.living
+
+rising : (c : In_ok-handles) → AllPairs (λ g h. g.index < h.index) c.in_ok-handles.handles.items
+rising c = subst (AllPairs (λ g h. g.index < h.index)) (sym c.in_ok-handles.ensures.items)
+    c.iter.ensures.rising
+
+bare : (c : In_ok-handles) → c.in_ok-entities.entities.rows ≡ map.empty
+bare c = no_rows c.in_ok-entities.entities c.in_ok-entities.ensures.has_image c.iter.result
+    c.iter.ensures.living c.in_ok-handles.ensures.bare
+
+pub returns-in_err-storage-clause-exact : goal.returns-in_err-storage-clause-exact
+returns-in_err-storage-clause-exact c w has is =
+    let at = goal.at.returns-in_err-storage-clause-exact c in
+    let parts = told_of at.In_ok-phase w has is in
+    let e = allocator_is at.In_ok-entities w has parts in
+    let same = listed w has c.in_ok-entities.entities e c.in_ok-handles.handles.items
+    (rising at.In_ok-handles) (lists at.In_ok-handles) ∙ sym c.deref.ensures.value in
+    handed c.from_residual-in_err-storage.result c.in_err-storage.field-0.0
+    c.from_residual-in_err-storage.ensures.1 (c.in_err-storage.ensures.refused w.entities
+    (subst (AreStored w.entities) same has.stored)
+    (ap (entities_bytes w.entities) (sym same) ∙ parts.rest_is)) w
+
+pub set_rows-requires-clause-living : goal.set_rows-requires-clause-living
+set_rows-requires-clause-living c =
+    let at = goal.at.set_rows-requires-clause-living c in
+    subst (λ (hs : List Handle).
+    (k : ℕ) (d : Handle) → k < length hs
+    → set.contains c.in_ok-entities.entities.allocator.live (get_or hs k d) ≡ true)
+    (sym c.deref-2.ensures.value)
+    (all_live c.in_ok-entities.entities.allocator.live c.in_ok-handles.handles.items
+    (lists at.In_ok-handles))
+
+-- what was read of the entities
+stored : (c : In_ok-storage) → AreStored c.in_ok-storage.storage.entities
+    c.in_ok-handles.handles.items
+stored c = subst (AreStored c.in_ok-storage.storage.entities) c.deref.ensures.value
+    c.in_ok-storage.ensures.stored
+
+pub invariant_of-result : goal.invariant_of-result
+invariant_of-result c =
+    let at = goal.at.invariant_of-result c in
+    let e = c.in_ok-entities.entities in
+    let s = c.in_ok-storage.storage in
+    let hs = c.in_ok-handles.handles.items in
+    let allocator = c.set_rows.ensures.allocator in
+    let rows : c.set_rows.new.entities.rows ≡ with_rows map.empty 0 hs = c.set_rows.ensures.rows
+    ∙ (λ i. with_rows (bare at.In_ok-handles i) 0 (c.deref-2.ensures.value i)) in
+    let places : s.places ≡ hs = c.in_ok-storage.ensures.places ∙ c.deref.ensures.value in
+    record {
+      world = record {
+        sound = subst IsSound (sym allocator) c.in_ok-entities.ensures.has_image.sound;
+        living = λ h. stored_living s.entities hs (stored at.In_ok-storage) e.allocator.live
+            (lists at.In_ok-handles) h
+            ∙ ap (λ (a : Allocator). set.contains a.live h) (sym allocator);
+      };
+      rows = subst (λ rows. AreRows rows s.places s.entities) (sym rows)
+          (subst (λ places. AreRows (with_rows map.empty 0 hs) places s.entities) (sym places)
+          (rows_read s.entities hs (stored at.In_ok-storage) (rising at.In_ok-handles)));
+      room = rw allocator (omega (
+        arith,
+        c.in_ok-storage.ensures.room,
+        c.top.ensures,
+        c.len.ensures,
+        ap length c.deref.ensures.value,
+      ));
+    }
+
+pub returns-clause-found : goal.returns-clause-found
+returns-clause-found c =
+    let at = goal.at.returns-clause-found c in
+    let e = c.in_ok-entities.entities in
+    let m = c.in_ok-storage.storage.entities in
+    let hs = c.in_ok-handles.handles.items in
+    let keys = living_is m hs e.allocator.live (stored at.In_ok-storage) (rising at.In_ok-handles)
+    (lists at.In_ok-handles) in
+    let part = (λ i. allocator_image (record {
+      allocator = c.set_rows.ensures.allocator i;
+      rows = sym (bare at.In_ok-handles) i;
+    })) ∙ c.in_ok-entities.ensures.found in
+    let rest = ap (entities_bytes m) (keys ∙ sym c.deref.ensures.value)
+    ∙ c.in_ok-storage.ensures.found in
+    (λ i. framed c.in_ok-phase.phase (part i) (rest i)) ∙ sym c.in_ok-phase.ensures.found
+
+pub returns-clause-has_image : goal.returns-clause-has_image
+returns-clause-has_image c =
+    let at = goal.at.returns-clause-has_image c in
+    let e = c.in_ok-entities.entities in
+    let m = c.in_ok-storage.storage.entities in
+    let hs = c.in_ok-handles.handles.items in
+    let allocator = c.set_rows.ensures.allocator in
+    let keys = living_is m hs e.allocator.live (stored at.In_ok-storage) (rising at.In_ok-handles)
+    (lists at.In_ok-handles) in
+    record {
+      world = record {
+        sound = subst IsSound (sym allocator) c.in_ok-entities.ensures.has_image.sound;
+        living = λ h. stored_living m hs (stored at.In_ok-storage) e.allocator.live
+            (lists at.In_ok-handles) h
+            ∙ ap (λ (a : Allocator). set.contains a.live h) (sym allocator);
+      };
+      asked = subst (λ (a : Allocator). a.asked ≤ 2 ^ 50) (sym allocator)
+          c.in_ok-entities.ensures.has_image.asked;
+      phase = c.in_ok-phase.ensures.phase;
+      stored = subst (AreStored m) (sym keys) (stored at.In_ok-storage);
+    }
+
+pub returns-clause-exact : goal.returns-clause-exact
+returns-clause-exact c w has is =
+    let at = goal.at.returns-clause-exact c in
+    let parts = told_of at.In_ok-phase w has is in
+    let e = allocator_is at.In_ok-entities w has parts in
+    let same = listed w has c.in_ok-entities.entities e c.in_ok-handles.handles.items
+    (rising at.In_ok-handles) (lists at.In_ok-handles) ∙ sym c.deref.ensures.value in
+    let entities = c.in_ok-storage.ensures.exact w.entities
+    (subst (AreStored w.entities) same has.stored)
+    (ap (entities_bytes w.entities) (sym same) ∙ parts.rest_is) in
+    let allocator = c.set_rows.ensures.allocator ∙ ap (λ (x : Entities). x.allocator) e in
+    inl (λ i. Ok (record {
+      allocator = allocator i;
+      phase = sym parts.phase_is i;
+      entities = entities i;
+    }))

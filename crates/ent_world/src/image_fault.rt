@@ -1,0 +1,57 @@
+ghost use Rattle.std.specs.Prelude.{◌≡◌};
+ghost use Rattle.ent_world.specs.declared.image_fault.WorldImageFault.TheVariants.{Memory as Refused};
+
+use ent_alloc::ImageFault;
+use ent_handle::Memory;
+use ent_storage::StorageImageFault;
+use std::alloc::AllocError;
+use thiserror::Error;
+
+/// Why bytes were not read as the image of a world: the first fault that they have, in this order.
+#[derive(Clone, Copy, Debug, PartialEq, Eq, Hash, Error)]
+#[non_exhaustive]
+pub enum WorldImageFault {
+    /// The bytes don't begin as the image of a world does.
+    #[error("not an image of a world")]
+    Magic,
+    /// The image is of another version of the format.
+    #[error("version {version} is not known")]
+    Version {
+        /// The version that the image names.
+        version: u32,
+    },
+    /// There are fewer bytes than those before the allocator's part, or than that part has.
+    #[error("bytes are missing")]
+    Length,
+    /// The allocator's part is the image of no allocator.
+    #[error("the allocator's part is damaged")]
+    Entities(ImageFault),
+    /// A living entity has a row. Those of a world aren't written.
+    #[error("slot {index} has a row")]
+    Row {
+        /// The index of its slot.
+        index: u32,
+    },
+    /// The bytes after the allocator's part are those of no entities.
+    #[error("the entities' part is damaged")]
+    Storage(StorageImageFault),
+    /// Out of memory.
+    #[error("out of memory")]
+    Memory,
+}
+
+impl From<AllocError> for WorldImageFault {
+    ghost from_gives = { λ _ fault. fault ≡ Refused };
+
+    fn from(_refused: AllocError) -> Self {
+        WorldImageFault::Memory
+    }
+}
+
+impl From<Memory> for WorldImageFault {
+    ghost from_gives = { λ _ fault. fault ≡ Refused };
+
+    fn from(_refused: Memory) -> Self {
+        WorldImageFault::Memory
+    }
+}
