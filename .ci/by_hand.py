@@ -4,7 +4,7 @@
     .ci/by_hand.py
 
 Comments, blank lines and test modules aren't counted. A branch is `if`, `match`, `while`, `for`, `loop` or `let .. else`, in a closure too.
-Each function with one is a row of the table of docs/BY_HAND.md, which says why it is by hand, and each row is such a function. Missing rows
+Each function with one is in a row of a table of docs/PROVED.md, which says why it is by hand, and a row has such functions alone. Missing rows
 are printed as they have to be written there. The script fails if the table isn't right, or if there is more than MOST allows.
 """
 
@@ -12,12 +12,13 @@ import pathlib
 import re
 import sys
 
-SOURCES, PAGE = pathlib.Path("rust/forgeni/src"), pathlib.Path("docs/BY_HAND.md")
-# What is made, what stands in for the kit, and what draws pictures. docs/BY_HAND.md says of each why it isn't counted.
+SOURCES, PAGE = pathlib.Path("rust/forgeni/src"), pathlib.Path("docs/PROVED.md")
+# What is made, what stands in for the kit, and what draws pictures. docs/PROVED.md says of each why it isn't counted.
 APART = {"proved", "kit"}
 MOST = {"lines of code": 1500, "functions with a branch": 30}
 BRANCHES, ITEMS = {"if", "else", "match", "while", "for", "loop"}, {"impl", "trait", "mod"}
-ROW = re.compile(r"^\| `([^`]+)` \| `([^`]+)` \|(.*)\|$", re.MULTILINE)
+# A row: files, each with its functions, and why they are by hand.
+ROW = re.compile(r"^\| (`[\w/]+\.rs`: [^|]*) \|(.*)\|$", re.MULTILINE)
 TOKEN = re.compile(
     r"""(?P<gap>\s+ | //[^\n]* | /\*.*?\*/) | b?r(?P<marks>\#*)".*?"(?P=marks) | b?"(?:\\.|[^"\\])*" | b?'(?:\\[^']*.|[^'\\])'
     | '\w+ | \w+ | .""",
@@ -115,15 +116,23 @@ def files():
     return {it: found[it] for it in paths if it not in tests}, [found[it] for it in paths if it in tests]
 
 
+def rows_of(page):
+    """The functions of the table, each with its file and the reason of its row."""
+    for functions, reason in ROW.findall(page):
+        for part in functions.split("; "):
+            path, *names = re.findall(r"`([^`]+)`", part)
+            yield from (((name, path), reason.strip()) for name in names)
+
+
 def main():
     by_hand, tests = files()
     branches = [(name, str(path.relative_to(SOURCES))) for path, file in by_hand.items() for name, _ in file.branches]
     counts = {"lines of code": sum(len(it.lines) for it in by_hand.values()), "functions with a branch": len(branches)}
     of_tests = sum(len(it.tests) for it in by_hand.values()) + sum(len(set(it.places)) for it in tests)
-    rows = {(name, path): reason.strip() for name, path, reason in ROW.findall(PAGE.read_text())}
+    rows = dict(rows_of(PAGE.read_text()))
     print(f"{SOURCES}: {', '.join(f'{count:,} {of}' for of, count in counts.items())}, and {of_tests} lines of tests that aren't counted")
     faults = [f"{count:,} {of}, and {MOST[of]:,} at most" for of, count in counts.items() if count > MOST[of]]
-    missing = [f"| `{name}` | `{path}` |  |" for name, path in branches if (name, path) not in rows]
+    missing = [f"| `{path}`: `{name}` |  |" for name, path in branches if (name, path) not in rows]
     faults += ["rows that are missing in " + str(PAGE) + ":\n" + "\n".join(missing)] * bool(missing)
     faults += [f"{PAGE}: no such function with a branch: `{name}` of {path}" for name, path in rows if (name, path) not in branches]
     faults += [f"{PAGE}: no reason: `{name}` of {path}" for (name, path), reason in rows.items() if not reason]

@@ -4,7 +4,23 @@
     cases.py [--crate NAME] [--program FILE].. [CASES..]
 
 The program is `spawnrun` without `--crate`. Without `--program` it runs the program as each compiler of the gate has built it. Without
-files it runs all cases of crates/NAME/cases. The page of crates/spawnrun says how a case is written. It runs at the top of the repository.
+files it runs all cases of crates/NAME/cases. It runs at the top of the repository.
+
+What a case expects comes from docs/FORMATS.md or a worked example, never from a run. Each line begins with a mark and a space, and an empty
+line ends a case. Lines of input and of output may alternate. The program must do nothing else: without `>` it prints nothing, and without
+`!` it writes nothing to standard error, except one line of printable ASCII if the status is 1.
+
+    #                   a comment
+    $                   the arguments. Each `$` is a run of the case, and a case without one has those of the case above
+    < > !               a line of standard input, output, error
+    =                   the exit status, by default 1 if the output begins with `refused`, else 0
+    ~                   a frame for the input of this case and those below: the input replaces its `@`. `~ @` ends that
+    $\\ <\\ >\\ !\\     the same without a line feed at the end. `\\n`, `\\r`, `\\t`, `\\\\` and `\\xff` are one byte each
+    <* >* !*            a range, as `0..255`, and a pattern: once for each number, which replaces `#`, and 7 times the number `#*7`
+    <*, <*_             the same with a comma or a space between
+    <^                  a count: the input so far that many times, with commas between
+    <|                  a text, each of whose beginnings is a run
+    << >>               a file that is the input, or has more of the output
 """
 
 import argparse

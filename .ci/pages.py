@@ -8,8 +8,10 @@ Above each fenced block stands a line that says what the block is:
     <!-- ran by the gate --> commands, which `.ci/run` runs
     <!-- picture -->         a drawing
 
-A block without such a line is refused, so nothing that a page quotes goes uncompared. Two tables are compared too: the steps of
-docs/SCHEDULES.md with what the program prints, and the refusals of docs/SCRIPTS.md, script by script. Links and paths lead to what is there.
+A block without such a line is refused, so nothing that a page quotes goes uncompared. The Rust in the package's README is the front page of its
+docs, and `cargo test` runs it. Two tables of docs/FORMATS.md are compared too: the steps of its first schedule with what the program prints, and
+the refusals of scripts, script by script. Links and paths lead to what is there, and so do the files that CONTRIBUTING lists for a change. Words
+that only the sources use occur in code alone.
 """
 
 import pathlib
@@ -18,7 +20,12 @@ import subprocess
 import sys
 
 PROGRAM = "crates/spawnrun/out/spawnrun"
+FRONT_PAGE = pathlib.Path("rust/forgeni/README.md")
+FORMATS = pathlib.Path("docs/FORMATS.md")
 MARK = re.compile(r"<!-- (from|prints|ran by the gate|picture)(?: (.*))? -->$")
+
+# Words of the sources for which the pages have one that readers know.
+INTERNAL = re.compile(r"\b(seats?|badges?|aside|settled?|at home|ungone|credits?|kit)\b", re.IGNORECASE)
 
 
 def runs_of(lines):
@@ -56,6 +63,7 @@ def blocks_of(page):
         if line.lstrip().startswith("```"):
             if block is None:
                 block, at = [], number
+                above = "<!-- ran by the gate -->" if page == FRONT_PAGE and line == "```rust" else above
             else:
                 yield at, above, block
                 block = above = None
@@ -92,27 +100,41 @@ def cells_of(page, head):
 
 def faults_of_schedule():
     """The steps of the page's schedule are the lines of its file, each with the line that it prints."""
-    cells = cells_of(pathlib.Path("docs/SCHEDULES.md"), "| Line | Prints | |")
+    cells = cells_of(FORMATS, "| Line | Prints | |")
     steps, said = [it[0].strip("`") for it in cells], [it[1].strip("`") for it in cells]
     file = "examples/two_callers.txt"
     if steps != pathlib.Path(file).read_text().splitlines():
-        yield f"docs/SCHEDULES.md: its schedule is not {file}"
+        yield f"{FORMATS}: its first schedule is not {file}"
     if said != printed(f"{PROGRAM} replay < {file}"):
-        yield "docs/SCHEDULES.md: its schedule doesn't print what it says"
+        yield f"{FORMATS}: its first schedule doesn't print what it says"
 
 
 def faults_of_refusals():
     """Each script of the table of refusals is refused with its line."""
-    page = pathlib.Path("docs/SCRIPTS.md")
-    cells = cells_of(page, "| Line | What is wrong | A script that meets it | The way out |")
-    for line, _, script, *_ in cells:
+    for line, _, script in cells_of(FORMATS, "| Line | What is wrong | A script that meets it |"):
         if script and printed(f"{PROGRAM} run", script.strip("`")) != [line.strip("`")]:
-            yield f"{page}: {script} isn't refused with {line}"
+            yield f"{FORMATS}: {script} isn't refused with {line}"
 
 
-def faults_of_paths(page):
-    """Each link of a page leads to a file, and so does each path of a folder that is at the top or beside the page."""
+def faults_of_touched():
+    """Each file of CONTRIBUTING's table of changes is there: `CRATE`: `FOLDER/` `NAME`, `NAME`; `FOLDER/NAME`."""
+    page = pathlib.Path("CONTRIBUTING.md")
+    for _, files in cells_of(page, "| You change | Files |"):
+        for crate, parts in re.findall(r"`(\w+)`: (.*?)(?=\. |\.$|$)", files):
+            folder = pathlib.Path("crates", crate)
+            for name in re.findall(r"`([\w/]+)`", parts) if folder.is_dir() else ():
+                if re.match(r"(src|specs|proofs|cases)/", name):
+                    folder = pathlib.Path("crates", crate)
+                path = folder / name
+                folder = path if name.endswith("/") else folder
+                if not any(path.with_suffix(it).exists() for it in ("", ".rt", ".antt", ".cases")):
+                    yield f"{page}: {path} isn't there"
+
+
+def faults_of_text(page):
+    """Each link of a page leads to a file, and so does each path of a folder that is at the top or beside the page. No word is internal."""
     text = re.sub(r"```.*?```|<!--.*?-->", "", page.read_text(), flags=re.S)
+    yield from (f"{page}: the word {it}" for it in INTERNAL.findall(re.sub(r"`[^`]*`", "", text)))
     for path in re.findall(r"`([\w.]+/[\w./-]*\w)`", text):
         near = [it / path for it in (page.parent, pathlib.Path()) if (it / path.split("/")[0]).is_dir()]
         if near and "NAME" not in path and not any(it.exists() or it.with_suffix(".antt").exists() for it in near):
@@ -126,13 +148,13 @@ def main():
     pages += sorted(pathlib.Path("crates").glob("*/README.md"))
     pages += sorted(pathlib.Path("rust").glob("*/README.md"))
     for page in pages:
-        faults += faults_of_paths(page)
+        faults += faults_of_text(page)
         for at, mark, block in blocks_of(page):
             count += 1
             fault = fault_of(mark, block)
             if fault:
                 faults.append(f"{page}:{at}: the block {fault}")
-    faults += [*faults_of_schedule(), *faults_of_refusals()]
+    faults += [*faults_of_schedule(), *faults_of_refusals(), *faults_of_touched()]
     print(*faults, f"pages: {count} blocks compared, {len(faults)} faults", sep="\n")
     return 1 if faults else 0
 

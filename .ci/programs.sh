@@ -15,7 +15,7 @@ cargo build --offline --quiet --release --features programs --manifest-path rust
         tail -n 1 | grep -qx 'born 2v1 0v2'
     cargo run --offline --quiet --release --features programs --bin spawnrun -- run --show handles < ../../examples/data/reuse.json |
         tail -n 1 | grep -qx 'alive 4'
-    # That of docs/SCHEDULES.md.
+    # That of docs/FORMATS.md.
     cargo run --offline --quiet --release --features programs --bin spawnrun -- draw < ../../examples/two_callers.txt |
         cmp - ../../docs/pictures/two_callers.svg
 )

@@ -2,12 +2,12 @@
 """A second eraser. It reads the proved sources by itself, and compares its results with `rust/forgeni/src/proved`, token by token.
 
     .ci/second_eraser.py                        prints what differs, class by class; any other difference is an error
-    .ci/second_eraser.py --fit                  writes this into the page
+    .ci/second_eraser.py --fit                  writes this into rust/erase/differences.txt
     .ci/second_eraser.py --mutate 500 --seed 1  changes one token of the results at a time; the comparison must find each change
 
 It has another author than `rust/erase`, and another form. A reader goes down a grammar. A name must be an item of these crates, a binding,
 or in one of the lists below of names that mean the same in both languages. Whatever the grammar and the lists don't have is an error. How
-often each class of difference occurs, and why it keeps the meaning, stands in the page. Another count or class is an error too.
+often each class of difference occurs, and why it keeps the meaning, stands in that file. Another count or class is an error too.
 """
 
 import argparse
@@ -17,7 +17,7 @@ import random
 import re
 import sys
 
-SOURCES, RESULTS, PACKAGE, PAGE = "crates", "rust/forgeni/src/proved", "rust/forgeni/Cargo.toml", "docs/PROVED.md"
+SOURCES, RESULTS, PACKAGE, PAGE = "crates", "rust/forgeni/src/proved", "rust/forgeni/Cargo.toml", "rust/erase/differences.txt"
 EDITION = "2024"
 LINTS = "#![allow(dead_code, unused_imports, unused_variables, clippy::all)]"
 
@@ -839,14 +839,13 @@ def main():
         found, made, results, counts = compare(top)
     except Refused as refused:
         sys.exit(f"the second eraser refuses {refused}")
-    page = (top / PAGE).read_text()
-    block = re.search(r"(?<=second_eraser.py -->\n```text\n).*?(?=```)", page, re.DOTALL)[0]
+    block = (top / PAGE).read_text()
     reasons = dict(re.findall(r"^ *\d+ (.+?): (.+)$", block, re.MULTILINE))
     found += [f"{PAGE}: no reason for the class {it}" for it in counts.keys() - reasons.keys() if it[0] != "("]
     if found:
         sys.exit("\n".join(found))
     now = report(made, counts, reasons)
-    (top / PAGE).write_text(page.replace(block, now)) if given.fit else None
+    (top / PAGE).write_text(now) if given.fit else None
     if now != block and not given.fit:
         sys.exit(f"{PAGE} has other counts or classes than\n{now}")
     print(now, end="")

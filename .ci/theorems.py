@@ -1,15 +1,17 @@
 #!/usr/bin/env python3
-"""What one has to read to believe a theorem of docs/THEOREMS.md.
+"""What one has to read to believe a theorem of docs/PROVED.md.
 
     theorems.py check            compares the page with the sources
     theorems.py write            writes the lists of the page
-    theorems.py show FUNCTION    prints what one has to read, file by file
+    theorems.py show FUNCTION    prints the contract, and what one has to read, file by file
 
-A theorem is a block of the page that quotes the contract of a call. Below it stands a line `<!-- read -->`, and below that a list: the
-definitions that the clauses cite, those that these cite, and so on, with the lines of each file. A definition is counted with the comment
-above it, once, and a type with its model. What comes from the kit is no part of a list: `show` names it, and `<!-- kit -->` counts it.
+A theorem is some clauses of the contract of a call. A line `<!-- read FILE FUNCTION: CLAUSE.. -->` names them, and the script writes what
+stands below it, up to an empty line: what the call requires, and how many lines there are to read. These are the definitions that the
+clauses cite, those that these cite, and so on. A definition is counted with the comment above it, once, and a type with its model. What
+comes from the kit is no part of a list: `show` names it, and `<!-- kit -->` counts it. If a block above quotes the contract from FILE, what
+the call requires isn't written again, and the clauses are those of the block.
 
-The page is refused if a quote doesn't stand in its file, if it leaves out something that the call requires, or if a list isn't what the
+The page is refused if a quote leaves out something that the call requires, if a clause isn't one of the call, or if a list isn't what the
 sources give. It needs no program, and runs at the top of the repository.
 """
 
@@ -23,7 +25,8 @@ import textwrap
 
 import pages
 
-PAGE = pathlib.Path("docs/THEOREMS.md")
+PAGE = pathlib.Path("docs/PROVED.md")
+READ = re.compile(r"<!-- read (\S+) (\S+): (.*) -->$")
 CRATES = pathlib.Path("crates")
 Item = collections.namedtuple("Item", "file lines text")
 HEAD = re.compile(r"(?:  )?(?:(?:abbrev|unfoldable) pub|pub (?:record|data)) (\S+)|abbrev (mutual)|pub (?!mod )(\S+)")
@@ -174,82 +177,96 @@ def lines_by_file(items):
     return {it: sorted(lines[it]) for it in sorted(lines, key=lambda it: (order.index(it.parts[1]), str(it)))}
 
 
-def contract_of(lines, head):
-    """The contract of the call with this head: its lines up to its body, and the `impl` around it."""
-    start = next(at for at, it in enumerate(lines) if it.strip() == head)
+def contract_of(file, name):
+    """The contract of a call: its signature, what it requires, its clauses by name, and the `impl` around it."""
+    owner, _, function = name.rpartition("::")
+    lines = file.read_text().splitlines()
+
+    def within(at):
+        depth = len(lines[at]) - len(lines[at].lstrip())
+        return next((lines[it] for it in range(at, 0, -1) if depth and lines[it].startswith("impl")), "")
+
+    def is_head(at):
+        is_of = re.match(r"impl(?:<.*?>)? (\w+)", within(at))
+        return re.match(rf"\s*pub (?:const )?fn {function}\b", lines[at]) and (is_of[1] if is_of else "") == owner
+
+    start = next(it for it in range(len(lines)) if is_head(it))
     depth = len(lines[start]) - len(lines[start].lstrip())
-    within = next((lines[at] for at in range(start, 0, -1) if depth and lines[at].startswith("impl")), "")
-    return [it.strip() for it in lines[start : lines.index(" " * depth + "{", start)]], within
+    parts = [[]]
+    for line in lines[start : lines.index(" " * depth + "{", start)]:
+        if line.strip().startswith(("requires", "ensures")):
+            parts.append([])
+        if line.strip() and not line.strip().startswith("//"):
+            parts[-1].append(line.strip())
+    signature, *clauses = parts
+    ensures = {re.match(r"ensures (\w+)", it[0])[1]: it for it in clauses if it[0].startswith("ensures")}
+    return signature, [it for it in clauses if it[0].startswith("requires")], ensures, within(start)
 
 
-def required(contract):
-    """The lines of a contract that say what the call requires."""
-    inside = False
-    for line in contract:
-        inside = line.startswith("requires") or inside and bool(line) and not line.startswith(("ensures", "//"))
-        if inside:
-            yield line
+def formula_of(clause):
+    """What a clause says, without its keyword and its name."""
+    return re.match(r"\w+ (?:\w+ )?\{ ?(.*?) ?\}$", " ".join(clause))[1]
 
 
 def theorems():
-    """Each theorem of the page: its call, its file, what is cited of it, and what is wrong with its quote."""
-    for at, mark, block in pages.blocks_of(PAGE):
-        file, quoted = pathlib.Path(mark.split()[2]), [it.strip() for it in block]
-        head = next(it for it in quoted if re.search(r"\bfn ", it))
-        contract, within = contract_of(file.read_text().splitlines(), head)
-        signature = itertools.takewhile(lambda it: not it.startswith(("requires", "ensures")), contract)
-        owner = re.match(r"impl(?:<.*?>)? (\w+)", within)
-        name = "::".join([*(owner.groups() if owner else []), re.search(r"fn (\w+)", head)[1]])
-        faults = [pages.fault_of(mark, block), *(f"leaves out {it}" for it in required(contract) if it not in quoted)]
-        yield name, file, code_of([within, *signature, *quoted]), [f"{PAGE}:{at}: {name} {it}" for it in faults if it]
-
+    """Each theorem of the page: its call, its file, what is cited of it, how its list begins, and what is wrong."""
+    quotes = {at: (mark, [it.strip() for it in block]) for at, mark, block in pages.blocks_of(PAGE)}
+    block = None
+    for at, line in enumerate(PAGE.read_text().splitlines(), 1):
+        block = quotes.get(at, block) if not line.startswith("#") else None
+        found = READ.match(line)
+        if not found:
+            continue
+        file, name, names = pathlib.Path(found[1]), found[2], found[3].split()
+        signature, requires, ensures, within = contract_of(file, name)
+        faults = [f"has no clause {it}" for it in names if it not in ensures]
+        clauses = [ensures[it] for it in names if it in ensures]
+        quoted = block and block[0].split()[2:3] == [found[1]] and any(re.search(rf"fn {name.split('::')[-1]}\b", it) for it in block[1])
+        if quoted:
+            faults += [f"leaves out {it}" for clause in [*requires, *clauses] for it in clause if it not in block[1]]
+        text = code_of([within, *signature, *itertools.chain(*requires, *clauses)])
+        conditions = "" if quoted or not requires else f", which requires {', '.join(f'`{formula_of(it)}`' for it in requires)}"
+        yield name, file, text, f"To read for `{name}`{conditions}", [f"{PAGE}:{at}: {name} {it}" for it in faults]
 
 
 def wrapped(text):
-    """The lines of a text. A `~` is a space at which no line ends."""
-    lines = textwrap.wrap(text, width=140, break_long_words=False, break_on_hyphens=False)
-    return [it.replace("~", " ") for it in lines]
+    """The lines of an element of a list."""
+    return textwrap.wrap(text, width=140, subsequent_indent="  ", break_long_words=False, break_on_hyphens=False)
 
 
-
-def reading(items, before):
-    """The list of what there is to read for one theorem: how much, and where those lines stand that no theorem above it needs."""
-    files, known, folders = lines_by_file(items), lines_by_file(before), collections.defaultdict(list)
-    new = {it: len(set(lines) - set(known.get(it, []))) for it, lines in files.items()}
-    for it, count in new.items():
-        folders[it.relative_to(CRATES).parent] += [f"{it.stem}~{count}"] if count else []
-    listed = "; ".join(f"`{it}` {', '.join(names)}" for it, names in folders.items() if names)
-    total = sum(map(len, files.values()))
-    added = f", {sum(new.values())} of them not above" if sum(new.values()) < total else ""
-    return wrapped(f"To read: {total} lines in {len(files)} files{added if listed else ''}" + (f": {listed}." if listed else "."))
+def reading(items, before, head):
+    """What there is to read for one theorem: how much, and how much of it no theorem above needs."""
+    files, known = lines_by_file(items), lines_by_file(before)
+    total, new = sum(map(len, files.values())), sum(len(set(lines) - set(known.get(it, []))) for it, lines in files.items())
+    added = f", {new} of them not above" if 0 < new < total else ""
+    return wrapped(f"- {head}: {total} lines in {len(files)} files{added}.")
 
 
 def kit_counted(kit):
     """How many definitions of the kit are cited."""
     modules = {module for module, _ in kit}
-    return wrapped(f"From the kit, which the gate doesn't prove again: {len(kit)} definitions in {len(modules)} modules. `show` names them.")
+    return wrapped(f"- From Rattle's library, which the gate doesn't prove again: {len(kit)} definitions in {len(modules)} modules.")
 
 
 def made():
     """The page as the sources want it, and what is wrong with its quotes."""
     lists, faults, all_items, all_kit = [], [], set(), set()
-    for _, file, text, wrong in theorems():
+    for _, file, text, head, wrong in theorems():
         items, kit = closure(file, text)
-        lists.append(reading(items, all_items))
+        lists.append(reading(items, all_items, head))
         faults += wrong
         all_items, all_kit = all_items | items, all_kit | kit
     text = PAGE.read_text()
-    if text.count("<!-- read -->") != len(lists):
-        faults.append(f"{PAGE}: not each theorem has its line `<!-- read -->`")
-    lists += [reading(all_items, all_items), kit_counted(all_kit)]
-    parts = re.split(r"(<!-- (?:read|all|kit) -->\n)(?:.+\n)*", text)
+    lists += [reading(all_items, all_items, "To read for all of them"), kit_counted(all_kit)]
+    parts = re.split(r"(<!-- (?:read .*|all|kit) -->\n)(?:(?!<!-- ).+\n)*", text)
     parts[2::2] = ["\n".join([*each, parts[2 * at + 2]]) for at, each in enumerate(lists)]
     return "".join(parts), faults
 
 
 def show(name):
-    file, text = next((file, text) for each, file, text, _ in theorems() if each == name)
+    file, text = next((file, text) for each, file, text, *_ in theorems() if each == name)
     items, kit = closure(file, text)
+    print(f"== {file}", text, sep="\n")
     for path, numbers in lines_by_file(items).items():
         lines = path.read_text().splitlines()
         print(f"\n== {path}", *(lines[it] for it in numbers), sep="\n")

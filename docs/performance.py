@@ -1,18 +1,20 @@
 #!/usr/bin/env python3
-"""Measures for docs/PERFORMANCE.md and draws its chart. It needs nothing but Python, and runs from any folder.
+"""Measures for docs/PERFORMANCE.md and draws its chart, and README's. It needs nothing but Python, and runs from any folder.
 
     docs/performance.py measure [PART..]   runs the scripts that the page names (or those with a PART in their names), puts
-                                           their tables into the page, and draws the chart
-    docs/performance.py draw               draws docs/performance.svg of the tables in the page, and writes its table of limits
-    docs/performance.py check              ends with status 1 if the chart or the limits are others, or a table is missing
+                                           their tables into the page, and draws the charts
+    docs/performance.py draw               draws the charts of the tables in the page: docs/performance.svg has all rows, and
+                                           docs/benchmarks.svg those of README; and writes the page's table of limits
+    docs/performance.py check              ends with status 1 if a chart or the limits are others, or a table is missing
 
-The figures stand in the page alone. Above each table stands a line that says what prints it:
+The figures stand in the page alone. A line above a table says what prints it, and the tables below it up to the next such line:
 
     <!-- measured by COMMAND -->
 
 The command prints one table or several. A table of the page is the printed one whose head begins with the same two columns. A line that
-begins with a dash and the command says when and on what machine they were measured. `measure` needs what the scripts need: `cargo` and
-`rt` on the path, and the two peers that docs/PERFORMANCE.md names. A script builds what it measures, which takes a few minutes more where it has not been built.
+begins with a dash says when and on what machine the commands that it names were measured. `measure` needs what the scripts need: `cargo` and `rt`
+on the path, and the two peers that docs/PERFORMANCE.md names. A script builds what it measures, which takes a few minutes more where it has
+not been built.
 """
 
 import datetime
@@ -23,12 +25,13 @@ import re
 import statistics
 import subprocess
 import sys
+import textwrap
 import time
 from html import escape
 
 TOP = pathlib.Path(__file__).resolve().parent.parent
 PAGE = TOP / "docs/PERFORMANCE.md"
-CHART = TOP / "docs/performance.svg"
+CHART, FEW_CHART = TOP / "docs/performance.svg", TOP / "docs/benchmarks.svg"
 MARK = re.compile(r"<!-- measured by (.*) -->$")
 
 
@@ -49,7 +52,7 @@ def tables_of(lines):
 def measured_tables(lines):
     """Each table that a command prints: the command, and where the table begins and ends."""
     for begin, end in tables_of(lines):
-        mark = MARK.match(lines[begin - 1])
+        mark = next((it for it in map(MARK.match, reversed(lines[:begin])) if it), None)
         if mark:
             yield mark.group(1), begin, end
 
@@ -95,53 +98,75 @@ BESIDE_PLAIN = {
 
 
 def groups_of(lines):
-    """The groups by name. A row of the works belongs to the part that begins with it or before it."""
+    """The groups by name. A row of the works belongs to the part that begins with it or before it, and ends with our time in nanoseconds."""
     groups, part = {}, ""
-    for work, _, _, plain, by_place, _, slots in rows_with(lines, "Work", "Here"):
+    for work, ours, _, plain, by_place, _, slots in rows_with(lines, "Work", "Here"):
         part = next((it for begin, it in PARTS.items() if work.startswith(begin)), part)
         ratios = [numbers_of(plain)[0], numbers_of(slots)[0], None]
-        groups.setdefault(part, []).append((work.replace("`", ""), ratios, numbers_of(by_place)[:2]))
+        groups.setdefault(part, []).append((work.replace("`", ""), ratios, numbers_of(by_place)[:2], ours))
     for columns, part in BESIDE_PLAIN.items():
-        for work, of, _, _, plain, by_place in rows_with(lines, *columns):
+        for work, of, ours, _, plain, by_place in rows_with(lines, *columns):
             label = f"{work.replace('`', '')}: {of}"
-            groups.setdefault(part, []).append((label, [numbers_of(plain)[0], None, None], numbers_of(by_place)[:2]))
-    for work, entities, _, _, plain, by_place, _, slots in rows_with(lines, "Work", "Entities"):
+            groups.setdefault(part, []).append((label, [numbers_of(plain)[0], None, None], numbers_of(by_place)[:2], ours))
+    for work, entities, ours, _, plain, by_place, _, slots in rows_with(lines, "Work", "Entities"):
         ratios = [numbers_of(plain)[0], numbers_of(slots)[0], None]
         label = f"{work.replace('`', '')}: {entities}"
-        groups.setdefault("Components, by number of entities", []).append((label, ratios, numbers_of(by_place)[:2]))
+        groups.setdefault("Components, by number of entities", []).append((label, ratios, numbers_of(by_place)[:2], ours))
     for column, how in (-2, "singly"), (-1, "64 at once"):
         for row in rows_with(lines, "Threads", "Singly"):
             ratios = [None, None, numbers_of(row[column])[0]]
             if any(ratios):
-                groups.setdefault("A phase of threads, and its flush", []).append((f"{how}, threads: {row[0]}", ratios, []))
+                part = "A phase of threads, and its flush"
+                groups.setdefault(part, []).append((f"{how}, threads: {row[0]}", ratios, [], row[column + 3]))
     return groups
 
 
-# The picture. Each dot stands at a ratio of times; left of the line of the same time we are the faster side.
+# The rows of README's chart, by their labels, with what they are called there.
+FEW = {
+    "alloc, then free": "alloc, then free",
+    "contains": "contains",
+    "Reserver::reserve": "reserve, one thread",
+    "Reserver::reserve_into, 64 at once": "reserve 64 at once, one thread",
+    "singly, threads: 4": "reserve on 4 threads, then a flush",
+    "64 at once, threads: 4": "reserve 64 at once on 4 threads",
+    "apply, a command, scattered": "apply a command at a sync point",
+    "Spawn, 4 times get, despawn, rising: 100,000": "spawn, read 4 times, despawn",
+}
 
-TITLE = "Time of each call, ours beside a peer's"
-WIDTH, LEFT, RIGHT, ROW, HEAD = 940, 290, 760, 19, 30
+
+def few_of(groups):
+    """The one group of README's chart, in the order of FEW, with our times in its labels."""
+    rows = {label: (f"{FEW[label]}: {ours} ns", *others, ours) for of in groups.values() for label, *others, ours in of if label in FEW}
+    return {"": [rows[it] for it in FEW]}
+
+
+# The picture. Each mark stands at a ratio of times; left of the line of the same time we are the faster side. A peer's mark has a colour and
+# a shape, so that peers can be told apart by either.
+
+TITLE = "Time of each call, ours divided by a peer's"
+# The plot has this width; to its left are the labels, whose letters have at most this one, and to its right the figures.
+PLOT, LETTER, FIGURES, ROW, HEAD = 470, 6.5, 180, 19, 30
 LEAST, MOST = -4, 2
-DOTS = [("plain", 4), ("slots", 5), ("slab", 6)]
+MARKS = {"plain": "M-4 0A4 4 0 1 1 4 0A4 4 0 1 1 -4 0Z", "slots": "M-4 -4H4V4H-4Z", "slab": "M-5 4L0 -5L5 4Z"}
 
 STYLE = """
-    .paper { fill: #ffffff } .faster { fill: #e9f6ec } .slower { fill: #fdf3ec }
+    .paper { fill: #ffffff } .faster { fill: #eef6f0 } .slower { fill: #f7f3ee }
     text { font: 12px system-ui, -apple-system, "Segoe UI", Helvetica, Arial, sans-serif; fill: #1f2328 }
     .title { font-size: 16px; font-weight: 600 } .group { font-weight: 600 } .quiet { fill: #59636e }
     .figure { text-anchor: end; font-variant-numeric: tabular-nums } .middle { text-anchor: middle }
     .grid { stroke: #d1d9e0 } .even { stroke: #59636e; stroke-width: 1.5 } .span { stroke: #818b98; stroke-width: 1.5 }
-    circle, path { stroke: #ffffff; stroke-width: 1 } .plain { fill: #79b0f2 } .slots { fill: #2f6fd0 } .slab { fill: #143a7b }
+    path { stroke: #ffffff; stroke-width: 1 } .plain { fill: #0072b2 } .slots { fill: #d55e00 } .slab { fill: #24292f }
     @media (prefers-color-scheme: dark) {
-        .paper { fill: #0d1117 } .faster { fill: #0f2117 } .slower { fill: #241a12 } text { fill: #e6edf3 } .quiet { fill: #9198a1 }
+        .paper { fill: #0d1117 } .faster { fill: #0f1a13 } .slower { fill: #1c1711 } text { fill: #e6edf3 } .quiet { fill: #9198a1 }
         .grid { stroke: #30363d } .even { stroke: #9198a1 } .span { stroke: #6e7681 }
-        circle, path { stroke: #0d1117 } .plain { fill: #3f6fb5 } .slots { fill: #77aef5 } .slab { fill: #dbe9ff }
+        path { stroke: #0d1117 } .plain { fill: #56b4e9 } .slots { fill: #e69f00 } .slab { fill: #f0f3f6 }
     }"""
 
 
-def place_of(ratio):
-    """Where a ratio stands, in the picture's width."""
+def place_of(ratio, left):
+    """Where a ratio is in the plot that begins there."""
     part = (min(max(math.log2(ratio), LEAST), MOST) - LEAST) / (MOST - LEAST)
-    return round(LEFT + part * (RIGHT - LEFT), 1)
+    return round(left + part * PLOT, 1)
 
 
 def text(x, y, words, kind):
@@ -152,67 +177,70 @@ def line(kind, x1, y1, x2, y2):
     return f'<line class="{kind}" x1="{x1}" y1="{y1}" x2="{x2}" y2="{y2}"/>'
 
 
-def dot(kind, size, ratio, y):
-    """A dot, or an arrow at the edge if it lies past it."""
-    x, power = place_of(ratio), math.log2(ratio)
-    if LEAST <= power <= MOST:
-        return f'<circle class="{kind}" cx="{x}" cy="{y}" r="{size}"/>'
-    tip = size * (1 if power > MOST else -1)
-    return f'<path class="{kind}" d="M{x - tip} {y - size}L{x + tip} {y}L{x - tip} {y + size}Z"/>'
+def mark(kind, x, y):
+    return f'<path class="{kind}" transform="translate({x} {y})" d="{MARKS[kind]}"/>'
 
 
-def row_of(label, ratios, span, y):
+def row_of(label, ratios, span, left, y):
     yield text(16, y + 4, label, "")
     if len(span) == 2:
-        yield line("span", place_of(span[0]), y, place_of(span[1]), y)
-    for (kind, size), ratio in reversed([*zip(DOTS, ratios)]):
+        yield line("span", place_of(span[0], left), y, place_of(span[1], left), y)
+    for kind, ratio in reversed([*zip(MARKS, ratios)]):
         if ratio:
-            yield dot(kind, size, ratio, y)
+            yield mark(kind, place_of(ratio, left), y)
     for column, ratio in enumerate(ratios):
         if ratio:
-            yield text(RIGHT + 70 + 48 * column, y + 4, f"{ratio:.2f}", "figure")
+            yield text(left + PLOT + 70 + 48 * column, y + 4, f"{ratio:.2f}", "figure")
 
 
-def drawn(lines):
-    """The chart of the tables among these lines."""
-    groups = groups_of(lines)
-    top = 96
-    height = top + sum(HEAD + ROW * len(rows) for rows in groups.values()) + 34
+def drawn(groups):
+    """The chart of these groups of rows."""
+    left = 30 + round(LETTER * max(len(label) for rows in groups.values() for label, *_ in rows))
+    right, width = left + PLOT, left + PLOT + FIGURES
+    even = place_of(1, left)
+    top, heads = 96, HEAD if len(groups) > 1 else 10
+    height = top + sum(heads + ROW * len(rows) for rows in groups.values()) + 34
     bottom = height - 26
 
     marks = [
-        f'<rect class="paper" width="{WIDTH}" height="{height}"/>',
-        f'<rect class="faster" x="{LEFT}" y="{top}" width="{place_of(1) - LEFT}" height="{bottom - top}"/>',
-        f'<rect class="slower" x="{place_of(1)}" y="{top}" width="{RIGHT - place_of(1)}" height="{bottom - top}"/>',
+        f'<rect class="paper" width="{width}" height="{height}"/>',
+        f'<rect class="faster" x="{left}" y="{top}" width="{even - left}" height="{bottom - top}"/>',
+        f'<rect class="slower" x="{even}" y="{top}" width="{right - even}" height="{bottom - top}"/>',
         text(16, 28, TITLE, "title"),
     ]
     for power in range(LEAST, MOST + 1):
-        x = place_of(2.0**power)
+        x = place_of(2.0**power, left)
         marks.append(line("even" if power == 0 else "grid", x, top, x, bottom))
         name = "the same" if power == 0 else f"{2**power}×" if power > 0 else f"1/{2**-power}"
         marks += [text(x, top - 8, name, "quiet middle"), text(x, bottom + 16, name, "quiet middle")]
     x = 16
-    for (kind, size), words in zip(DOTS, PEERS):
-        marks += [f'<circle class="{kind}" cx="{x + 6}" cy="48" r="{size}"/>', text(x + 18, 52, f"beside {words}", "quiet")]
+    for kind, words in zip(MARKS, PEERS):
+        marks += [mark(kind, x + 6, 48), text(x + 18, 52, f"beside {words}", "quiet")]
         x += 84 + 6.2 * len(words)
     marks += [
-        text(place_of(2.0**-2), top - 26, "◂ we take less time", "quiet middle"),
-        text(place_of(2.0**1), top - 26, "we take more time ▸", "quiet middle"),
+        text(place_of(2.0**-2, left), top - 26, "◂ Forgeni is faster", "quiet middle"),
+        text(place_of(2.0**1, left), top - 26, "Forgeni is slower ▸", "quiet middle"),
     ]
-    marks.append(text(RIGHT + 106, top - 26, "our time ÷ the peer's", "quiet middle"))
-    for column, (kind, size) in enumerate(DOTS):
-        marks.append(f'<circle class="{kind}" cx="{RIGHT + 58 + 48 * column}" cy="{top - 12}" r="{size}"/>')
+    marks.append(text(right + 106, top - 26, "our time ÷ the peer's", "quiet middle"))
+    marks += [mark(kind, right + 58 + 48 * column, top - 12) for column, kind in enumerate(MARKS)]
     y = top
     for name, rows in groups.items():
-        marks += [f'<rect class="paper" x="{LEFT}" y="{y}" width="{RIGHT - LEFT}" height="{HEAD - 8}"/>', text(16, y + 18, name, "group")]
-        y += HEAD
-        for label, ratios, span in rows:
-            marks += row_of(label, ratios, span, y + 3)
+        if name:
+            marks += [f'<rect class="paper" x="{left}" y="{y}" width="{PLOT}" height="{HEAD - 8}"/>', text(16, y + 18, name, "group")]
+        y += heads
+        for label, ratios, span, _ in rows:
+            marks += row_of(label, ratios, span, left, y + 3)
             y += ROW
     body = "\n".join(marks)
-    size = f'width="{WIDTH}" height="{height}" viewBox="0 0 {WIDTH} {height}"'
+    size = f'width="{width}" height="{height}" viewBox="0 0 {width} {height}"'
     head = f'<svg xmlns="http://www.w3.org/2000/svg" {size} role="img">\n<title>{TITLE}</title>'
     return f"{head}\n<style>{STYLE}\n</style>\n{body}\n</svg>\n"
+
+
+def charts_of(lines):
+    """Each chart of the tables among these lines, by its file."""
+    groups = groups_of(lines)
+    return {CHART: drawn(groups), FEW_CHART: drawn(few_of(groups))}
 
 
 # The table of limits: a work, the head of its table, how its rows begin, and the limits of the median of their ratios.
@@ -265,6 +293,13 @@ def with_limits(lines):
     return [*lines[: at + 2], *rows, *lines[end:]]
 
 
+def draw(lines):
+    """Writes the table of limits, and draws the charts."""
+    PAGE.write_text("\n".join(with_limits(lines)) + "\n")
+    for file, chart in charts_of(lines).items():
+        file.write_text(chart)
+
+
 # Measuring.
 
 
@@ -288,12 +323,24 @@ def machine(free):
     model = re.sub(r"\((R|TM)\)", "", found.group(1)) if found else "an unknown processor"
     rust = subprocess.run(["rustc", "--version"], text=True, capture_output=True).stdout.split()[1]
     model = " ".join(model.split())
-    return f"on {datetime.date.today()}, {os.cpu_count()} processors ({model}, idle for {100 * free:.0f} %), Rust {rust}."
+    return f"on {datetime.date.today()}, {os.cpu_count()} processors ({model}, idle for {100 * free:.0f} %), Rust {rust}"
 
 
-def day_of(command):
-    """How the line begins that says when the tables of a command were measured."""
-    return f"- `{command}`: "
+DAY = re.compile(r"^- (on \d[^:]*):\s+((?:`[^`]+`,?\s+)+)", re.MULTILINE)
+
+
+def days_of(lines):
+    """When each command was measured, and on what machine."""
+    return {command: it[1] for it in DAY.finditer("\n".join(lines)) for command in re.findall("`([^`]+)`", it[2])}
+
+
+def with_days(lines, days):
+    """These lines, with those days: an item of a list for each day and machine."""
+    text = "\n".join(lines)
+    items = [f"- {day}: {', '.join(f'`{it}`' for it in days if days[it] == day)}" for day in dict.fromkeys(days.values())]
+    said = "\n".join("\n".join(textwrap.wrap(it, 140, subsequent_indent="  ", break_on_hyphens=False)) for it in items)
+    at = DAY.search(text).start()
+    return f"{text[:at]}{said}\n\n{DAY.sub('', text[at:])}".splitlines()
 
 
 def with_tables(lines, command, printed):
@@ -322,15 +369,9 @@ def measure(parts):
             sys.exit(f"{command} ended with status {ran.returncode}:\n{ran.stdout[-2000:]}")
         print(f"{command}: {time.monotonic() - began:.0f} s", flush=True)
         lines = with_tables(lines, command, ran.stdout.splitlines())
-        lines = [day_of(command) + machine(free) if it.startswith(day_of(command)) else it for it in lines]
+        lines = with_days(lines, days_of(lines) | {command: machine(free)})
         PAGE.write_text("\n".join(lines) + "\n")
     draw(lines)
-
-
-def draw(lines):
-    """Writes the table of limits, and draws the chart."""
-    PAGE.write_text("\n".join(with_limits(lines)) + "\n")
-    CHART.write_text(drawn(lines))
 
 
 def faults_of(lines):
@@ -341,12 +382,13 @@ def faults_of(lines):
     for command in dict.fromkeys(command for command, _, _ in measured_tables(lines)):
         if not (TOP / command.split()[0]).exists():
             yield f"docs/PERFORMANCE.md: there is no {command.split()[0]}"
-        if not any(it.startswith(day_of(command)) for it in lines):
+        if command not in days_of(lines):
             yield f"docs/PERFORMANCE.md: no line says when {command} was measured"
     if with_limits(lines) != lines:
         yield "the table of limits isn't what `docs/performance.py draw` writes of the page's tables"
-    if not CHART.exists() or CHART.read_text() != drawn(lines):
-        yield "docs/performance.svg isn't what `docs/performance.py draw` draws of the page's tables"
+    for file, chart in charts_of(lines).items():
+        if not file.exists() or file.read_text() != chart:
+            yield f"docs/{file.name} isn't what `docs/performance.py draw` draws of the page's tables"
 
 
 def main(words):

@@ -25,7 +25,7 @@ pub enum FrameFault {
     /// All systems ran, and the sync point stopped.
     #[error("the sync point stopped: {fault}")]
     Sync {
-        /// What stands of the sync point.
+        /// What came of the sync point.
         fault: SyncFault,
         /// The queue of each system, in the order of the systems.
         queues: Vec<CommandQueue>,

@@ -54,7 +54,7 @@ impl<J: Numbering> Model for Commands<J> {
       queue = i.queue;
     } };
 
-    // The number stands for the world, and the reserver came with it.
+    // The number means the world, and the reserver came with it.
     ghost invariant = { λ i. (J.world_of i.number ≡ arc_value i.world)
         × IsOf (arc_value i.world).shared i.reserver };
 }

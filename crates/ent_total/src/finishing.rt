@@ -56,7 +56,7 @@ impl<J: Numbering> OpenWorld<J> {
         ensures queues { IfOk result (λ made.
             made.1 ≡ record { world = self.of_world; queues = queues_home self queues.items }) }
 
-        // When it succeeds, when it is refused, and what stands then.
+        // When it succeeds, when it is refused, and what holds then.
         ensures home { OnOk result (MayComeHome self queues.items) }
         ensures all { OnOk result
             (length (reservers_home self queues.items) ≡ self.world.shared.count) }
@@ -112,7 +112,7 @@ impl<J: Numbering> OpenWorld<J> {
         ensures queues { IfOk result (λ made.
             made.1 ≡ record { world = self.of_world; queues = queues_home self queues.items }) }
 
-        // When it succeeds, when it is refused, and what stands then.
+        // When it succeeds, when it is refused, and what holds then.
         ensures home { OnOk result (MayComeHome self queues.items) }
         ensures other_phase { IsErrWith result (λ u. u.error ≡ OtherPhase)
             ↔ ¬ (MayComeHome self queues.items) }

@@ -140,7 +140,7 @@ impl<J: Numbering> Opening<J> {
         ensures of { IfOk result (λ made. AreOf number made.1.items) }
         ensures same { IfOk result (λ made. All (λ r. r.shared ≡ self.shared) made.1.items) }
 
-        // What stands if not all could be given out.
+        // What holds if not all could be given out.
         ensures err_phase { IfErr result (λ made.
             made.0 ≡ record { number = number; shared = self.shared; home = made.0.home }) }
         ensures err_some_home { IfErr result (λ made. made.0.home ≢ []) }

@@ -55,7 +55,7 @@ impl<J: Numbering> Model for Reserver<J> {
       reserver = r.reserver;
     } };
 
-    // The number stands for the allocator, and the reserver came with it.
+    // The number means the allocator, and the reserver came with it.
     ghost invariant = { λ r. (J.shared_of r.number ≡ arc_value r.shared)
         × IsOf (arc_value r.shared) r.reserver };
 }

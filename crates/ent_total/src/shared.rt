@@ -51,7 +51,7 @@ impl<J: Numbering> Model for Shared<J> {
       home = s.home.items;
     } };
 
-    // The number stands for this allocator, the reservers returned came with it, and there is room
+    // The number means this allocator, the reservers returned came with it, and there is room
     // for all of them.
     ghost invariant = { λ s. (J.shared_of s.number ≡ arc_value s.shared)
         × All (IsOf (arc_value s.shared)) s.home.items

@@ -113,7 +113,7 @@ impl World {
         ensures counted { OnOk result (self.new.spawned ≡ ordinal (self.old.spawned + 1)) }
         ensures number { self.new.number ≡ self.old.number }
 
-        // When it is refused, and what stands then.
+        // When it is refused, and what holds then.
         ensures needs_flush { IsErrOf result AllocFault.NeedsFlush
             ↔ (0 < self.old.world.allocator.asked) }
         ensures space { IsErrOf result AllocFault.Space
@@ -153,7 +153,7 @@ impl World {
           world = after_spawn birth (bundle_of components.now) handle self.old.world;
         }) }
 
-        // When it is refused, and what stands then.
+        // When it is refused, and what holds then.
         ensures needs_flush { IsErrOf result AllocFault.NeedsFlush
             ↔ (0 < self.old.world.allocator.asked) }
         ensures space { IsErrOf result AllocFault.Space

@@ -187,7 +187,7 @@ impl<J: Numbering> WorldOpening<J> {
         ensures reservers { IfOk result (λ made. issuing made.1.items ≡ self.home) }
         ensures systems { IfOk result (λ made. AreNew number self.world made.1.items) }
 
-        // What stands if not all could be given out.
+        // What holds if not all could be given out.
         ensures err_phase { IfErr result (λ made. made.0 ≡ record {
           number = number;
           of_world = self.of_world;

@@ -104,7 +104,7 @@ impl OpenWorld {
         ensures after { result.allocator
             ≡ after_history self.shared.start (history_of (records_of reservers.items)) }
 
-        // Each reservation stands once, where its step came: the cursor falls with each.
+        // Each reservation is there once, where its step came: the cursor falls with each.
         ensures falls { AllPairs (λ earlier later. later.high <ℤ earlier.high)
             (reservations_of (records_of reservers.items)) }
         ensures numbers { AllPairs (λ r s. r.number ≢ s.number) (records_of reservers.items) }

@@ -47,7 +47,7 @@ impl World {
         ensures flush_reserved { IsErrOf result SyncFault.FlushMemory
             → 0 < length self.old.allocator.taken }
 
-        // What stands after it stopped at a command.
+        // What holds after it stopped at a command.
         ensures stop { IfStopped result (λ system command done _.
             IsStop system command done queues.now) }
         ensures stopped_world { IfStopped result (λ system command done _.
@@ -100,7 +100,7 @@ impl World {
         ensures flushed { self.new.allocator.asked ≡ 0 }
         ensures world { IsWorld self.new }
 
-        // What stands after it stopped again.
+        // What holds after it stopped again.
         ensures no_flush { IsErrOf result SyncFault.FlushMemory → ⊥ }
         ensures stop { IfStopped result (λ later later_command later_done _.
             IsStop later later_command later_done queues.now) }

@@ -32,7 +32,7 @@ impl Entities {
     /// let mut entities = Entities::new();
     /// let mut places = Vec::new();
     /// entities.request_many(3)?;
-    /// entities.flush_with(|handle| places.push((handle, "at home")))?;
+    /// entities.flush_with(|handle| places.push((handle, "here")))?;
     /// assert_eq!(places.len(), 3);
     /// # Ok::<(), Box<dyn std::error::Error>>(())
     /// ```

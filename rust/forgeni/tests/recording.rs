@@ -1,4 +1,4 @@
-//! A log of the calls of Bevy 0.15's `Entities`, as docs/CHECKING_AN_ALLOCATOR.md has it. The type here has
+//! A log of the calls of Bevy 0.15's `Entities`, as docs/FORMATS.md has it. The type here has
 //! Bevy's calls, over an allocator of this package.
 
 use bevy::{Entities, Entity};

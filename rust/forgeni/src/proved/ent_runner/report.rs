@@ -24,7 +24,7 @@ pub enum FrameFault {
     Lost,
     /// All systems ran, and the sync point stopped.
     Sync {
-        /// What stands of the sync point.
+        /// What came of the sync point.
         fault: SyncFault,
         /// The queue of each system, in the order of the systems.
         queues: Vec<CommandQueue>,

@@ -267,7 +267,7 @@ impl Shared {
         // ensures rows { result.rows ≡ self.rows }
         // ensures rows_of_living { HasRowsOfLiving result }
 
-        // Each reservation stands once, where its step came: the cursor falls with each.
+        // Each reservation is there once, where its step came: the cursor falls with each.
         // ensures falls { AllPairs (λ earlier later. later.high <ℤ earlier.high)
         //     (reservations_of (records_of reservers.items)) }
 

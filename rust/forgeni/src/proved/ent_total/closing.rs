@@ -53,7 +53,7 @@ impl Shared {
     /// ensures rows { IfOk result (λ entities. entities.rows ≡ self.shared.rows) }
     /// ensures rows_of_living { IfOk result HasRowsOfLiving }
     ///
-    /// // Each reservation stands once, where its step came: the cursor falls with each.
+    /// // Each reservation is there once, where its step came: the cursor falls with each.
     /// ensures falls { OnOk result (AllPairs (λ earlier later. later.high <ℤ earlier.high)
     ///     (reservations_of (records_of (all_home self reservers.items)))) }
     ///
@@ -72,7 +72,7 @@ impl Shared {
     ///     IsLive (after_flush entities.allocator) h ↔ (IsLive self.shared.start h
     ///     ⊎ Contains (given_in (history_of (records_of (all_home self reservers.items)))) h)) }
     ///
-    /// // When it succeeds, when it is refused, and what stands then.
+    /// // When it succeeds, when it is refused, and what holds then.
     /// ensures home { OnOk result (MayComeHome self reservers.items) }
     /// ensures all { OnOk result (length (all_home self reservers.items) ≡ self.shared.count) }
     /// ensures other_phase { IsErrWith result (λ u. u.error ≡ OtherPhase)
@@ -169,7 +169,7 @@ impl Shared {
     ///     All (λ r. All (Contains entities.allocator.taken) (handles_given r.own))
     ///     (all_home self reservers.items)) }
     ///
-    /// // When it succeeds, when it is refused, and what stands then.
+    /// // When it succeeds, when it is refused, and what holds then.
     /// ensures home { OnOk result (MayComeHome self reservers.items) }
     /// ensures other_phase { IsErrWith result (λ u. u.error ≡ OtherPhase)
     ///     ↔ ¬ (MayComeHome self reservers.items) }

@@ -70,14 +70,14 @@ const SYSTEMS: usize = 65_536;
 ///     × (2 ^ 16 < length systems.now)) }
 /// ensures nothing { IfErr result (λ error. IsUnbegun error → world.new ≡ world.old) }
 ///
-/// // What stands of a frame that was broken off.
+/// // What is left of a frame that was broken off.
 /// ensures lost { IsErrWith result IsLostFrame → (history : List Call)
 ///     × IsBrokenOff S.may_issue S.may_leave systems.now workers world.old.world history
 ///     × (world.new.world ≡ reserved_by history world.old.world) }
 /// ensures still { IsErrWith result IsLostFrame → IsLost world.old.world world.new.world }
 /// ensures lost_some { IsErrWith result IsLostFrame → 0 < length systems.now }
 ///
-/// // What stands if the sync point stopped, whose queues are of this world.
+/// // What holds if the sync point stopped, whose queues are of this world.
 /// ensures stopped { IfErr result (λ error. IfHeld error (λ fault queues.
 ///     StopsAt S.may_issue systems.now workers world.old.world queues.queues world.new.world
 ///     fault)) }
