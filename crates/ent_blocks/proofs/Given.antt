@@ -1,10 +1,10 @@
 -- What was used of the blocks: no handle twice, none that was alive, and a flush brings to life just
 -- these.
-use Rattle.std.proofs.Common.{rules, ◌≡◌, ◌≢◌, ◌⊎◌, ◌↔◌, inl, inr, sym, ap, subst, ◌∙◌, ℕ, ◌≤◌, List, []}
+use Rattle.std.proofs.Common.{◌≡◌, ◌≢◌, ◌⊎◌, ◌↔◌, inl, inr, sym, ap, subst, ◌∙◌, ◌≤◌, List}
 use Rattle.std.proofs.Common.{◌++◌, length, get_or, map, All, AllPairs, Contains}
 use Rattle.std.specs.List.{flat_map}
 use Rattle.ent_handle.specs.Handle.{Handle}
-use Rattle.ent_alloc.specs.Sequential.{Allocator, top, after_flush}
+use Rattle.ent_alloc.specs.Sequential.{Allocator, after_flush}
 use Rattle.ent_alloc.specs.Sound.{IsSound, AreApart, IsLive}
 use Rattle.ent_alloc.specs.Front.{with_front}
 use Rattle.ent_alloc.proofs.FrontPools.{with_front-sound}

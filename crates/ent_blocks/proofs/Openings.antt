@@ -1,5 +1,5 @@
 -- What an opening leaves: the blocks lie in the pool.
-use Rattle.std.proofs.Common.{rules, ◌≡◌, refl, ℕ, zero, suc, ◌+◌, ◌-◌, ◌^◌, ◌<◌, List, [], ◌∷◌, length}
+use Rattle.std.proofs.Common.{◌≡◌, refl, ℕ, zero, suc, ◌+◌, ◌-◌, ◌^◌, ◌<◌, List, [], ◌∷◌, length}
 use Rattle.std.proofs.Common.{get_or, arith}
 use Rattle.ent_alloc.specs.Sequential.{Allocator}
 use Rattle.ent_alloc.specs.Sound.{IsSound}

@@ -1,4 +1,4 @@
-use Rattle.std.proofs.Common.{rules, ◌≡◌, sym, ap, ◌∙◌, ◌+◌, ◌∷◌, ◌++◌, [], arith, subst, drop, append_assoc}
+use Rattle.std.proofs.Common.{◌≡◌, sym, ap, ◌∙◌, ◌+◌, ◌∷◌, ◌++◌, [], arith, drop, append_assoc}
 use Rattle.ent_blocks.specs.Blocks.{Block, Reserver, is_same, accounted, blocks_of}
 use Rattle.ent_blocks.proofs.Accounts.{accounted_same, accounted_other, accounted_none}
 use Rattle.ent_blocks.proofs.accounting.account.Goals.{then-next-reservers+then-is_same}

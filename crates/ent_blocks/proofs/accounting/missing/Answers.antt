@@ -1,4 +1,4 @@
-use Rattle.std.proofs.Common.{rules, ◌≡◌, sym, ap, ◌∙◌, ◌+◌, arith, subst, drop}
+use Rattle.std.proofs.Common.{◌≡◌, sym, ap, ◌∙◌, ◌+◌, arith, drop}
 use Rattle.ent_blocks.specs.Blocks.{Reserver, is_same, are_among, blocks_of}
 use Rattle.ent_blocks.proofs.Accounts.{among_same, among_other, among_none, one_left}
 use Rattle.ent_blocks.proofs.accounting.missing.Goals.{then-next-reservers+then-is_same}

@@ -1,4 +1,4 @@
-use Rattle.std.proofs.Common.{rules, ◌≡◌, sym, ap, ◌∙◌, subst, ◌+◌, ◌≤◌, arith}
+use Rattle.std.proofs.Common.{sym, subst, ◌+◌, ◌≤◌, arith}
 use Rattle.ent_blocks.specs.Blocks.{Block, dealt, reach, end_of}
 use Rattle.ent_blocks.proofs.Dealing.{in_dealt}
 use Rattle.ent_blocks.proofs.Cutting.{below_reach}

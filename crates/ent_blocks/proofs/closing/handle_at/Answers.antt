@@ -1,4 +1,4 @@
-use Rattle.std.proofs.Common.{rules, arith}
+use Rattle.std.proofs.Common.{arith}
 use Rattle.std.proofs.lemmas.Int.{ints}
 use Rattle.ent_blocks.proofs.Positions.{one_there}
 use Rattle.ent_blocks.proofs.closing.handle_at.Goals as goal

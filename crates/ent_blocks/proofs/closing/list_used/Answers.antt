@@ -1,5 +1,5 @@
-use Rattle.std.proofs.Common.{rules, ◌≡◌, sym, ap, ◌∙◌, subst, ◌+◌, ◌-◌, ◌<◌, ◌≤◌, ◌++◌, length, arith}
-use Rattle.std.proofs.Common.{drop, append_assoc}
+use Rattle.std.proofs.Common.{sym, ap, ◌∙◌, subst, ◌+◌, ◌≤◌, length, arith}
+use Rattle.std.proofs.Common.{drop}
 use Rattle.std.specs.List.{flat_map}
 use Rattle.std.proofs.lemmas.List.{length-append}
 use Rattle.ent_blocks.specs.Blocks.{Block, used_of, dealt}

@@ -1,12 +1,11 @@
-use Rattle.std.proofs.Common.{rules, ◌≡◌, sym, ap, ◌∙◌, subst, ◌+◌, ◌≤◌, ◌<◌, List, ◌++◌, length, take}
+use Rattle.std.proofs.Common.{◌≡◌, sym, ap, ◌∙◌, subst, List, ◌++◌, length, take}
 use Rattle.std.proofs.Common.{map, arith, IsPermutation}
 use Rattle.std.specs.List.{flat_map}
 use Rattle.std.proofs.lemmas.List.{length-append}
-use Rattle.ent_handle.specs.Handle.{Handle}
-use Rattle.ent_alloc.specs.Sequential.{Allocator, after_take}
+use Rattle.ent_alloc.specs.Sequential.{after_take}
 use Rattle.ent_alloc.specs.Front.{with_front}
 use Rattle.ent_alloc.proofs.LaidOut.{flushed-laid_out}
-use Rattle.ent_blocks.specs.Blocks.{Block, used_of, rest_of, dealt, unused, AreLaid, after_blocks}
+use Rattle.ent_blocks.specs.Blocks.{Block, used_of, rest_of, dealt, unused, AreLaid}
 use Rattle.ent_blocks.proofs.Dealing.{order_long, order_same, closed_is}
 use Rattle.ent_blocks.proofs.Cutting.{unused_is, parts}
 use Rattle.ent_blocks.proofs.closing.take_used.Goals as goal

@@ -1,9 +1,9 @@
-use Rattle.std.proofs.Common.{rules, ◌≡◌, ◌≢◌, ◌⊎◌, ◌↔◌, sym, ap, ◌∙◌, subst, ◌<◌, ◌≤◌, arith, List}
+use Rattle.std.proofs.Common.{◌≡◌, ◌≢◌, ◌⊎◌, ◌↔◌, sym, ap, ◌∙◌, subst, ◌≤◌, arith, List}
 use Rattle.std.proofs.Common.{map, All, AllPairs, Contains}
 use Rattle.ent_handle.specs.Handle.{Handle}
 use Rattle.ent_alloc.specs.Sequential.{Allocator, after_flush}
 use Rattle.ent_alloc.specs.Sound.{IsLive}
-use Rattle.ent_blocks.specs.Blocks.{Block, Blocks, Phase, dealt, unused, AreLaid, reach, after_blocks}
+use Rattle.ent_blocks.specs.Blocks.{Block, Phase, dealt, unused, AreLaid, reach, after_blocks}
 use Rattle.ent_blocks.specs.Blocks.{accounted, blocks_of}
 use Rattle.ent_blocks.proofs.Accounts.{unused_accounted}
 use Rattle.ent_blocks.proofs.Phases.{closing}
