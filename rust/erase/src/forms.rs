@@ -351,6 +351,7 @@ pub const BARE: &[&str] = &[
     "PartialOrd",
     "Result",
     "Self",
+    "Send",
     "Some",
     "Sync",
     "bool",

@@ -30,7 +30,7 @@ const LINE_FAULT: u8 = 2;
 /// | 3 | Memory ran out. Nothing was written. | `memory` |
 /// | 4 | A call of the input or the output failed. | `device` |
 ///
-/// A failure of the error stream changes no status. `progress` is told how far the task is.
+/// A failure of the error stream changes no status. `progress` gets how far the task is.
 ///
 /// <details><summary>Contract</summary>
 ///

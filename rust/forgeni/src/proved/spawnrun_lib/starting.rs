@@ -20,12 +20,12 @@ use crate::kit::programs::env;
 use std::io;
 
 /// Runs the program on the words that it was started with, and returns its exit status: that of
-/// `execute`, or of `refuse_words` if the words can't be read. If `tells`, the terminal is told how
+/// `execute`, or of `refuse_words` if the words can't be read. If `tells`, the terminal shows how
 /// far a task is.
 ///
 /// If the last word is one too many and names a file, the program runs on the words before it, with
-/// the file for its input. If the output is a pipe whose reader has left, the status is 4, and the
-/// error stream is told nothing.
+/// the file for its input. If the output is a pipe whose reader has left, the status is 4, and
+/// nothing is written to the error stream.
 ///
 /// <details><summary>Contract</summary>
 ///

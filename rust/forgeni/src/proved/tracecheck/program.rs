@@ -167,8 +167,8 @@ fn finish<E: Sink>(errors: &mut E, status: Status) -> u8
 /// Runs the program on the words that it was started with, and returns its exit status.
 ///
 /// If the last word is one too many and names a file, the program runs on the words before it, with
-/// the file for its input. If the output is a pipe whose reader has left, the status is 4, and the
-/// error stream is told nothing.
+/// the file for its input. If the output is a pipe whose reader has left, the status is 4, and
+/// nothing is written to the error stream.
 ///
 /// <details><summary>Contract</summary>
 ///
