@@ -1,14 +1,13 @@
 -- What the workers of a crew have done together, once all of them are back.
-use Rattle.std.proofs.Common.{rules, ◌≡◌, ℕ, ◌<◌, ◌≤◌, ◌+◌, List, [], ◌∷◌, ◌++◌, length, map, get_or, refl}
+use Rattle.std.proofs.Common.{rules, ◌≡◌, ℕ, ◌<◌, ◌≤◌, List, [], ◌∷◌, ◌++◌, length, map, get_or, refl}
 use Rattle.std.proofs.Common.{ap, sym, ◌∙◌, arith, subst, Option, Some, None, true, false, Bool, take}
 use Rattle.std.proofs.Common.{drop, inl, inr, ⊎_elim, ◌⊎◌, Vec, Global, reverse}
-use Rattle.std.proofs.lemmas.Grind.{common_steps}
 use Rattle.std.specs.Prelude.{slice_get, replicate, IsSome, IfSome, IfNone, Any, vec_capacity}
 use Rattle.std.specs.List.{All, AllPairs, flat_map, range_with_len}
 use Rattle.std.specs.List.Sorted.{IsPermutation}
 use Rattle.std.proofs.lemmas.Bool.{cases_lt}
 use Rattle.std.proofs.lemmas.Option.{slice_get_within, get_or_from_slice_get, slice_get-get_or, none-some}
-use Rattle.std.proofs.lemmas.List.{length-map, length-append, take-append-le, take_all, get_or-map}
+use Rattle.std.proofs.lemmas.List.{length-map, length-append, take-append-le, take_all}
 use Rattle.std.proofs.lemmas.List.{length-replicate, map-append, length-reverse}
 use Rattle.std.proofs.lemmas.List.Folds.{flat_map-map}
 use Rattle.std.proofs.lemmas.List.Sorted.{All-permutation, IsPermutation-reverse, length_permutation}
@@ -26,18 +25,14 @@ use Rattle.ent_runner.specs.Worker.{HasWorked, HaveAllWorked, HaveDoneFirst, Has
 use Rattle.ent_runner.specs.Worker.{IsRoomForOne, IsNewWorker, IsLostFor, numbers_of, all_done}
 use Rattle.ent_runner.specs.Worker.{HasStoppedAt, IsRoom}
 use Rattle.ent_runner.proofs.Lists.{of_mapped, each_of_all, mapped_at, same_flat, get_mapped, map_flat}
-use Rattle.ent_runner.proofs.Lists.{at_within, all_flat, flat_all}
+use Rattle.ent_runner.proofs.Lists.{at_within, flat_all}
 use Rattle.ent_runner.proofs.ByNumber.{length_put}
-use Rattle.ent_runner.proofs.Outputs.{inside, full, left_out, long, outputs_at, unwrapped, kept_all}
+use Rattle.ent_runner.proofs.Outputs.{full, left_out, long, outputs_at, unwrapped, kept_all}
 
 -- a slice of the same length that was written back
 pub written_back : {X : Type 0} (n : ℕ) (old new : List X) → n ≡ length old → length new
     ≡ length old → take n (new ++ drop (length new) old) ≡ new
 written_back n old new n_is same = search (rules, take-append-le, take_all)
-
--- what holds, holds of what there is
-pub if_some : {X P : Type 0} (o : Option X) → P → IfSome o (λ _. P)
-if_some it p = search rules
 
 -- what follows if there is none, follows if there is none
 pub none_weaker : {X P Q : Type 0} (o : Option X) → (P → Q) → IfNone o P → IfNone o Q

@@ -1,9 +1,9 @@
 -- What a crew did whose jobs are the systems of a frame, and the history of its reservers, are a frame.
-use Rattle.std.proofs.Common.{rules, ◌≡◌, ℕ, zero, suc, ◌+◌, ◌<◌, ◌≤◌, List, [], ◌∷◌, ◌++◌, length, map}
-use Rattle.std.proofs.Common.{get_or, refl, ap, sym, ◌∙◌, arith, subst, Some, inl, inr, ◌⊎◌, ⊎_elim, ◌-◌}
+use Rattle.std.proofs.Common.{rules, ◌≡◌, ℕ, zero, suc, ◌+◌, ◌<◌, List, [], ◌∷◌, ◌++◌, length, map}
+use Rattle.std.proofs.Common.{get_or, refl, ap, ◌∙◌, arith, subst, Some, inl, inr, ◌⊎◌, ⊎_elim, ◌-◌}
 use Rattle.std.proofs.Common.{Result}
 use Rattle.std.specs.Prelude.{slice_get}
-use Rattle.std.specs.List.{All, AllPairs, FoldsTo, flat_map, range_with_len}
+use Rattle.std.specs.List.{All, AllPairs, flat_map, range_with_len}
 use Rattle.std.specs.List.Sorted.{IsPermutation}
 use Rattle.std.proofs.lemmas.Fn.{FoldsTo-push}
 use Rattle.std.proofs.lemmas.Option.{slice_get_within, slice_get-get_or, get_or_from_slice_get}
@@ -28,8 +28,8 @@ use Rattle.ent_queue.specs.Reserving.{Gains}
 use Rattle.ent_queue.proofs.Gaining.{gains_nothing, gains_then}
 use Rattle.ent_world.specs.World.{World}
 use Rattle.ent_world.specs.OpenWorld.{View}
-use Rattle.ent_runner.specs.Crew.{Does, DoesAt, DidAll, DidUntil, AreDone, AreBrokenOff}
-use Rattle.ent_runner.specs.Frame.{IsFrame, IsBrokenOff, IsWork, HasStopped, SystemMayIssue}
+use Rattle.ent_runner.specs.Crew.{DoesAt, DidAll, DidUntil, AreDone, AreBrokenOff}
+use Rattle.ent_runner.specs.Frame.{IsFrame, IsBrokenOff, IsWork, SystemMayIssue}
 use Rattle.ent_runner.specs.Frame.{SystemMayHaveIssued, view_of, queue_at, commands_of, requests_by}
 use Rattle.ent_runner.proofs.Lists.{each_of_all, all_flat, all_from_each, filter_map_is, map_map_is}
 use Rattle.ent_runner.proofs.Lists.{at_within}

@@ -1,7 +1,6 @@
 -- Two parts of the workers have worked, so all of them have.
-use Rattle.std.proofs.lemmas.Grind.{common_steps}
-use Rattle.std.proofs.Common.{◌≡◌, ◌-◌, ◌<◌, ◌≤◌, ◌+◌, ℕ, List, ◌++◌, length, arith, rules, inl, inr}
-use Rattle.std.proofs.Common.{⊎_elim, get_or, All, sym, refl}
+use Rattle.std.proofs.Common.{◌≡◌, ◌-◌, ◌<◌, ◌≤◌, ℕ, List, ◌++◌, length, arith}
+use Rattle.std.proofs.Common.{⊎_elim, sym, refl}
 use Rattle.std.proofs.lemmas.Bool.{cases_lt}
 use Rattle.std.proofs.lemmas.List.{length-append, get_or_append_left, get_or-append_right}
 use Rattle.ent_alloc.proofs.ListLaws.{All-left, All-right}
@@ -9,7 +8,7 @@ use Rattle.ent_shared.specs.declared.record.Record.{Record}
 use Rattle.ent_shared.specs.Phase.{Shared, Reserver, IsOf}
 use Rattle.ent_runner.specs.Claims.{Claims, IsClaimerOf}
 use Rattle.ent_runner.specs.declared.worker.Worker.{Worker}
-use Rattle.ent_runner.specs.Worker.{HasWorked, HaveAllWorked, AreReady, IsNewWorker}
+use Rattle.ent_runner.specs.Worker.{HaveAllWorked, AreReady, IsNewWorker}
 
 module _ {O : Type 0} (may leave : ℕ → Record → O → Record → Type 0) (shared : Shared)
     (claims : Claims) where

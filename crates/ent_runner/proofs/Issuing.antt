@@ -1,5 +1,5 @@
 -- A system that was run as a job: what it issued, and what its reserver gained.
-use Rattle.std.proofs.Common.{rules, ◌≡◌, ℕ, List, get_or, Some}
+use Rattle.std.proofs.Common.{rules, ◌≡◌, ℕ, List, get_or}
 use Rattle.std.specs.Prelude.{Result, Ok, Err, OnOk, OnErr}
 use Rattle.std.proofs.lemmas.Option.{get_or_from_slice_get}
 use Rattle.ent_shared.specs.declared.record.Record.{Record}

@@ -128,11 +128,6 @@ all_in_range a (suc many) = search (rules, All-cons, all_in_range (a + 1) many)
 pub all_below : (many : ℕ) → All (λ n. n < many) (range_with_len 0 many)
 all_below many = search (rules, all_in_range)
 
--- one more was taken from the front of what is left, and mapped
-pub moved_over : {X Y : Type 0} (f : X → Y) (old new : List X) (x : X) (left next all : List Y)
-    → new ≡ old ++ x ∷ [] → left ≡ f x ∷ next → map f old ++ left ≡ all → map f new ++ next ≡ all
-moved_over f old new x left next all pushed taken whole = grind (arith, common_steps)
-
 -- one more was taken from the end of what is left
 pub moved_back : {X Y : Type 0} (g : X → Y) (old new : List X) (x : X) (left next all : List Y)
     → new ≡ old ++ x ∷ [] → left ≡ next ++ g x ∷ [] → left ++ reverse (map g old) ≡ all

@@ -13,8 +13,8 @@ use Rattle.std.proofs.lemmas.List.Sorted.{sum_by-IsPermutation, All-permutation,
 use Rattle.ent_shared.specs.declared.record.Record.{Record}
 use Rattle.ent_runner.specs.declared.worker.Done.{Done}
 use Rattle.ent_runner.specs.Collecting.{outputs_put}
-use Rattle.ent_runner.specs.Crew.{Does, DidAll, DidUntil}
-use Rattle.ent_runner.specs.Worker.{numbers_of, HaveEnded, HasStoppedAt}
+use Rattle.ent_runner.specs.Crew.{DidAll}
+use Rattle.ent_runner.specs.Worker.{numbers_of, HaveEnded}
 use Rattle.ent_runner.proofs.ByNumber.{is_of, times, all_put, length_put, put_other}
 use Rattle.ent_runner.proofs.Lists.{each_of_all, sum_map, mapped_at, of_mapped, is_number}
 use Rattle.ent_runner.proofs.Lists.{once_in_range, some_in_range, all_below, above_range}

@@ -1,15 +1,13 @@
 -- A worker does one job after the other.
-use Rattle.std.proofs.lemmas.Grind.{common_steps}
-use Rattle.std.proofs.Common.{rules, ◌≡◌, ℕ, ◌<◌, List, [], ◌∷◌, ◌++◌, length, ap, ◌∙◌, subst, refl}
-use Rattle.std.proofs.Common.{arith, map, is_err, false, true≢false}
+use Rattle.std.proofs.Common.{rules, ◌≡◌, ℕ, List, [], ◌∷◌, ◌++◌, ap, subst}
+use Rattle.std.proofs.Common.{is_err, false, true≢false}
 use Rattle.std.specs.Prelude.{Result, Ok, Err, OnOk, OnErr}
-use Rattle.std.specs.List.{All}
 use Rattle.std.proofs.lemmas.Fn.{FoldsTo-push}
 use Rattle.std.proofs.lemmas.List.{map-append}
 use Rattle.ent_shared.specs.declared.record.Record.{Record}
 use Rattle.ent_runner.specs.declared.record.ClaimRecord.{ClaimRecord as Claimed}
 use Rattle.ent_runner.specs.declared.worker.Done.{Done}
-use Rattle.ent_runner.specs.Crew.{Does, HasGained}
+use Rattle.ent_runner.specs.Crew.{HasGained}
 use Rattle.ent_runner.specs.Worker.{numbers_of, DoesKept, HaveEnded, HasStoppedAt}
 
 module _ {O : Type 0} where

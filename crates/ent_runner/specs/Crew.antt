@@ -1,4 +1,4 @@
--- What a crew does: jobs with numbers, each with a reserver that is lent to it, and with one output.
+-- What a crew does: jobs with numbers, each with a reserver that is lent to it and with one output.
 use Rattle.std.specs.Prelude.{◌≡◌, ℕ, ◌<◌, ◌≤◌, List, [], ◌∷◌, ◌++◌, length, map, slice_get, Some}
 use Rattle.std.specs.Prelude.{◌⊎◌}
 use Rattle.std.specs.List.{All, AllPairs, FoldsTo, flat_map, range_with_len}
@@ -82,9 +82,9 @@ module _ {O : Type 0} where
     -- A worker did a job after another one only if that one had ended.
     pub did : OfEach ran before after (λ mine a b. DidAll may outputs a mine b
         ⊎ DidUntil may leave outputs a mine b)
-    -- Why: the last job of a worker ran out of memory, or some are left that no worker has room for.
-    -- If some are left, each worker has done at least one, for whose output it had room from the
-    -- beginning.
+    -- Why: the last job of a worker ran out of memory, or some are left that no worker has room
+    -- for. If some are left, each worker has done at least one, for whose output it had room from
+    -- the beginning.
     pub why : ((worker : ℕ) × (mine : List ℕ) × (a : Record) × (b : Record)
         × (slice_get ran worker ≡ Some mine) × (slice_get before worker ≡ Some a)
         × (slice_get after worker ≡ Some b) × DidUntil may leave outputs a mine b)

@@ -30,8 +30,8 @@ module _ {O : Type 0} where
     pub unused : IsUnused w.claimer
     pub room : IsRoomForOne w.done
 
-  -- Why a worker claims no more although none of its jobs stopped: it found none left, or it has done
-  -- some, and there is no room for another output.
+  -- Why a worker claims no more although none of its jobs stopped: it found none left, or it has
+  -- done some, and there is no room for another output.
   abbrev pub IsThrough : Worker O → Type 0
   IsThrough w = (w.claimer.own.ended ≡ true)
       ⊎ ((0 < length w.done.items) × (vec_capacity w.done ≤ vec_len w.done))
@@ -55,8 +55,8 @@ module _ {O : Type 0} where
     pub ended : HaveEnded may before earlier between
     pub stopped : DoesKept leave between last after
 
-  -- It has done all that it claimed, until none was left, or there was no room for another output, or
-  -- the last of them stopped. Its reserver was this one, and is that one now.
+  -- It has done all that it claimed, until none was left, or there was no room for another output,
+  -- or the last of them stopped. Its reserver was this one, and is that one now.
   pub record HasWorked (may leave : ℕ → Record → O → Record → Type 0) (shared : Shared)
       (claims : Claims) (before after : Reserver) (w : Worker O) : Type 0 where
     pub reserver : IsOf shared after
@@ -95,8 +95,8 @@ module _ {O : Type 0} where
   abbrev pub all_done : List (Worker O) → List (Done O)
   all_done team = flat_map (λ (w : Worker O). w.done.items) team
 
-  -- Together these workers did the first jobs, each once, and at least one if there are any. If some
-  -- are left, each worker did at least one.
+  -- Together these workers did the first jobs, each once, and at least one if there are any. If
+  -- some are left, each worker did at least one.
   pub record HaveDoneFirst (numbers : ℕ) (team : List (Worker O)) : Type 0 where
     pub count : ℕ
     pub within : count ≤ numbers

@@ -1,6 +1,7 @@
 //! A crew: workers that do jobs side by side, in room that was asked for before.
-ghost use Rattle.std.specs.Prelude.{◌≡◌, ◌<◌, ◌≤◌, ◌^◌, [], length, map, reverse, replicate, All, Any};
-ghost use Rattle.std.specs.Prelude.{IfOk, IfSome, IfNone, None, true, false, flat_map, vec_capacity};
+ghost use Rattle.std.specs.Prelude.{◌≡◌, ◌<◌, ◌≤◌, ◌^◌, [], length, map, reverse, replicate};
+ghost use Rattle.std.specs.Prelude.{All, Any, IfOk, IfSome, IfNone, None, true, false, flat_map};
+ghost use Rattle.std.specs.Prelude.{vec_capacity};
 ghost use Rattle.ent_shared.specs.Phase.{IsOf, records_of};
 ghost use Rattle.ent_runner.specs.Collecting.{outputs_put};
 ghost use Rattle.ent_runner.specs.Crew.{AreDone, AreBrokenOff};
@@ -75,9 +76,9 @@ impl<O: Drop> Crew<O> {
     ///
     /// The workers run in threads of `rt`. If a thread can't be started, another one does its work.
     ///
-    /// `None` means that memory ran out: a job returned `Memory`, or jobs are left and no worker has
-    /// memory for the output of another one. Each worker has stopped then. The outputs are dropped,
-    /// and what the jobs reserved stays reserved.
+    /// `None` means that memory ran out: a job returned `Memory`, or jobs are left and no worker
+    /// has memory for the output of another one. All workers have ended then. The outputs are
+    /// dropped, and what the jobs reserved stays reserved.
     pub fn work<R, J>(
         self,
         rt: &R,

@@ -2,8 +2,8 @@
 ghost use Rattle.std.specs.Prelude.{◌≡◌, OnOk, OnErr};
 ghost use Rattle.ent_shared.specs.Phase.{IsOf};
 ghost use Rattle.ent_runner.specs.Claims.{IsClaimerOf};
-ghost use Rattle.ent_runner.specs.Worker.{numbers_of, IsNewWorker, IsThrough, HaveEnded, HasStoppedAt};
-ghost use Rattle.ent_runner.specs.Worker.{HasWorked, AreReady, HaveAllWorked};
+ghost use Rattle.ent_runner.specs.Worker.{numbers_of, IsNewWorker, IsThrough, HaveEnded};
+ghost use Rattle.ent_runner.specs.Worker.{HasStoppedAt, HasWorked, AreReady, HaveAllWorked};
 ghost use denote.Param.Send.{IsSync, IsSend};
 
 use crate::claimer::Claimer;
@@ -32,16 +32,16 @@ pub(crate) struct Done<O> {
 #[derive(Drop)]
 pub(crate) struct Worker<O> {
     pub(crate) claimer: Claimer,
-    /// The outputs of the jobs that it did, in the order of the claims. If a job stopped, its output
-    /// is the last one.
+    /// The outputs of the jobs that it did, in the order of the claims. If a job stopped, its
+    /// output is the last one.
     pub(crate) done: Vec<Done<O>>,
     /// Its last job ran out of memory, so it has claimed no more.
     pub(crate) stopped: bool,
 }
 
 impl<O: Drop> Worker<O> {
-    /// Does the jobs that it claims, until none is left. It claims one only if there is room for its
-    /// output, as there is for the first one. If not, other workers do what is left.
+    /// Does the jobs that it claims, until none is left. It claims one only if there is room for
+    /// its output, as there is for the first one. If not, other workers do what is left.
     fn work<J: Jobs<O>>(
         &mut self,
         site: &Site<'_, J>,

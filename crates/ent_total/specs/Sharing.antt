@@ -1,9 +1,12 @@
 -- What contracts see of a phase and of its reservers.
-use Rattle.std.specs.Prelude.{◌≡◌, ℕ, ◌≤◌, List, ◌++◌, length, map, Result, Ok, refl}
+use Rattle.std.specs.Prelude.{◌≡◌, ℕ, ◌<◌, ◌≤◌, List, [], ◌∷◌, ◌++◌, length, map, refl}
+use Rattle.std.specs.Prelude.{Result, Ok, Err, IfOk, OnErr}
 use Rattle.std.specs.List.{All}
 use Rattle.std.specs.Coded.{Coded, code_by, coded×, coded_ℕ, coded_list}
 use Rattle.ent_handle.specs.Handle.{Handle}
+use Rattle.ent_alloc.specs.Sequential.{listed_alone}
 use Rattle.ent_alloc.specs.declared.refused.Refused.{Refused}
+use Rattle.ent_alloc.specs.declared.refused.Refused.TheVariants.{Quota}
 use Rattle.ent_shared.specs.Phase as inner
 use Rattle.ent_shared.specs.Order.{handles_given}
 use Rattle.ent_shared.specs.Replies.{Reserves}
@@ -52,6 +55,18 @@ pub record MakesReservation (before after : Reserver) (n : ℕ)
     (returned : Result (List Handle) Refused) : Type 0 where
   pub same : after ≡ record before { reserver = after.reserver }
   pub reserves : Reserves before.shared before.reserver after.reserver n returned
+
+-- One handle was reserved, by a step of the reserver unless nothing was left of its quota.
+pub record ReservesOne (before : Reserver) (reply : Result Handle Refused) (after : Reserver)
+    : Type 0 where
+  pub quota : before.reserver.own.left ≡ 0 → (reply ≡ Err (Quota 0)) × (after ≡ before)
+  pub gains : 0 < before.reserver.own.left
+      → MakesReservation before after 1 (listed_alone reply)
+  -- what was given is recorded
+  pub given : IfOk reply (λ handle. handles_given after.reserver.own
+      ≡ handles_given before.reserver.own ++ handle ∷ [])
+  pub refused : OnErr reply
+      (handles_given after.reserver.own ≡ handles_given before.reserver.own)
 
 -- So many handles were reserved. The list has them after those that it had before, and the
 -- reserver's record after those that the reserver was given before.

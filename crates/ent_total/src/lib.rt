@@ -12,6 +12,7 @@ mod frame_error;
 mod framing;
 mod go_on_error;
 mod homecoming;
+mod logging;
 mod numbering;
 mod open_world;
 mod opening;

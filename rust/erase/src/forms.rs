@@ -353,6 +353,7 @@ pub const BARE: &[&str] = &[
     "PartialOrd",
     "Result",
     "Self",
+    "Send",
     "Some",
     "Sync",
     "bool",

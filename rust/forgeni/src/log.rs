@@ -1,31 +1,15 @@
 //! Logs and their sync points: what their proved sources can't have.
 
 use crate::lent::Lent;
-use crate::sharing::Reserver;
-use crate::{Entities, Handle, Refused};
+use crate::{Handle, Refused};
 use core::fmt;
 
 pub use crate::proved::ent_log::{BeginError, Entry, Log, Reserves, SyncPoint};
-
-impl Reserves for Reserver {
-    #[inline]
-    fn reserve_one(&mut self) -> Result<Handle, Refused> {
-        self.reserve()
-    }
-}
 
 impl Reserves for Lent<'_> {
     #[inline]
     fn reserve_one(&mut self) -> Result<Handle, Refused> {
         self.reserve()
-    }
-}
-
-/// It [requests](Entities::request) the handle, so that one caller alone can fill a log too.
-impl Reserves for Entities {
-    #[inline]
-    fn reserve_one(&mut self) -> Result<Handle, Refused> {
-        self.request()
     }
 }
 

@@ -1,4 +1,4 @@
-use Rattle.std.proofs.Common.{◌≡◌, ◌≤◌, ◌+◌, ◌++◌, length, map, reverse, vec_len}
+use Rattle.std.proofs.Common.{◌≡◌, ◌≤◌, ◌+◌, ◌++◌, map, reverse, vec_len}
 use Rattle.std.specs.Prelude.{All, vec_capacity}
 use Rattle.ent_runner.specs.Worker.{IsRoomForOne}
 use Rattle.ent_runner.proofs.crew.recruit.Given as goal

@@ -1,4 +1,4 @@
-use Rattle.std.proofs.Common.{rules, ◌≡◌, ◌∙◌, ◌++◌, ap, length, take, drop, sym}
+use Rattle.std.proofs.Common.{rules, ◌≡◌, ◌∙◌, ◌++◌, ap, length, take, drop}
 use Rattle.std.proofs.lemmas.List.{length-map}
 use Rattle.ent_shared.specs.Phase.{Reserver, records_of}
 use Rattle.ent_shared.specs.Record.{opened_records}

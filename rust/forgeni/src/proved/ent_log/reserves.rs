@@ -1,6 +1,6 @@
 // Made of crates/ent_log/src/reserves.rt by rust/erase. It isn't edited by hand.
 
-use crate::proved::ent_alloc::Refused;
+use crate::proved::ent_alloc::{Entities, Refused};
 use crate::proved::ent_handle::Handle;
 
 /// Who reserves handles for a [`Log`](crate::proved::ent_log::Log), one at a time.
@@ -21,4 +21,12 @@ pub trait Reserves {
     ///
     /// </details>
     fn reserve_one(&mut self) -> Result<Handle, Refused>;
+}
+
+/// It [requests](Entities::request) the handle, so that one caller alone can fill a log too.
+impl Reserves for Entities {
+    #[inline]
+    fn reserve_one(&mut self) -> Result<Handle, Refused> {
+        self.request()
+    }
 }

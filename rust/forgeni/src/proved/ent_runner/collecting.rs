@@ -1,46 +1,42 @@
 // Made of crates/ent_runner/src/collecting.rt by rust/erase. It isn't edited by hand.
 
-//! The queues that workers hand back are put at the numbers of their systems.
+//! The outputs that workers hand back are put at the numbers of their jobs.
 
 use alloc::vec::Vec;
 use crate::kit::vec::FallibleVec;
-use crate::proved::ent_runner::worker::SystemQueue;
-use crate::proved::ent_queue::CommandQueue;
+use crate::proved::ent_runner::worker::Done;
 
-/// Puts each queue at the number of its system.
+/// Puts each output at the number of its job.
 #[inline]
-pub(super) fn put_all(issued: Vec<SystemQueue>, by_system: &mut [Option<CommandQueue>])
-    // requires { All (λ i. i.system < length by_system.old) issued.items }
-    // ensures { by_system.new ≡ queues_put issued.items by_system.old }
+pub(super) fn put_all<O>(done: Vec<Done<O>>, by_number: &mut [Option<O>])
+    // requires { All (λ d. d.number < length by_number.old) done.items }
+    // ensures { by_number.new ≡ outputs_put done.items by_number.old }
 {
-    for one in issued {
-        put(one, by_system);
+    for one in done {
+        put(one, by_number);
     }
 }
 
 #[inline]
-fn put(issued: SystemQueue, by_system: &mut [Option<CommandQueue>])
-    // requires { issued.system < length by_system.old }
-    // ensures { by_system.new ≡ slice_set by_system.old issued.system (Some issued.queue) }
+fn put<O>(done: Done<O>, by_number: &mut [Option<O>])
+    // requires { done.number < length by_number.old }
+    // ensures { by_number.new ≡ slice_set by_number.old done.number (Some done.output) }
 {
-    let SystemQueue { system, queue } = issued;
-    by_system[system] = Some(queue);
+    let Done { number, output } = done;
+    by_number[number] = Some(output);
 }
 
-/// Moves the queues into this list, which has room for them, in the order of the systems. Returns `None`
-/// if a system has no queue, since it didn't run.
+/// Moves the outputs into this list, which has room for them, in the order of the jobs. Returns
+/// `None` if a job has no output, since it wasn't done.
 #[inline]
-pub(super) fn collect(
-    by_system: Vec<Option<CommandQueue>>,
-    mut queues: Vec<CommandQueue>,
-) -> Option<Vec<CommandQueue>>
-    // requires empty { queues.items ≡ [] }
-    // requires room { length by_system.items ≤ vec_capacity queues }
-    // ensures all { IfSome result (λ queues. map Some queues.items ≡ by_system.items) }
-    // ensures lacking { IfNone result (Any (λ queue. queue ≡ None) by_system.items) }
+pub(super) fn collect<O>(by_number: Vec<Option<O>>, mut outputs: Vec<O>) -> Option<Vec<O>>
+    // requires empty { outputs.items ≡ [] }
+    // requires room { length by_number.items ≤ vec_capacity outputs }
+    // ensures all { IfSome result (λ outputs. map Some outputs.items ≡ by_number.items) }
+    // ensures lacking { IfNone result (Any (λ output. output ≡ None) by_number.items) }
 {
-    for queue in by_system {
-        queues.push_reserved(queue?);
+    for output in by_number {
+        outputs.push_reserved(output?);
     }
-    Some(queues)
+    Some(outputs)
 }

@@ -1,137 +1,158 @@
 // Made of crates/ent_runner/src/crew.rt by rust/erase. It isn't edited by hand.
 
-//! The workers of a frame are made before it and taken apart after it, in room that was asked for
-//! before the phase was opened.
+//! A crew: workers that do jobs side by side, in room that was asked for before.
 
 use alloc::vec::Vec;
 use crate::kit::vec::FallibleVec;
 use crate::proved::ent_runner::claimer::Claimer;
 use crate::proved::ent_runner::claims::Claims;
-use crate::proved::ent_runner::collecting::put_all;
-use crate::proved::ent_runner::worker::{SystemQueue, Worker};
+use crate::proved::ent_runner::collecting::{collect, put_all};
+use crate::proved::ent_runner::jobs::Jobs;
+use crate::proved::ent_runner::worker::{Site, Worker, run_all};
 use crate::proved::ent_handle::Memory;
-use crate::proved::ent_queue::CommandQueue;
-use crate::proved::ent_shared::Reserver;
+use crate::proved::ent_shared::{Reserver, Shared};
 use crate::kit::alloc::AllocError;
+use crate::kit::thread::Threads;
 
-/// Room for what the workers hand back.
-pub(super) struct Returned {
-    pub(super) reservers: Vec<Reserver>,
-    pub(super) claimers: Vec<Claimer>,
-    pub(super) by_system: Vec<Option<CommandQueue>>,
-    pub(super) queues: Vec<CommandQueue>,
+/// Workers that do jobs side by side, and the room that they need for it.
+///
+/// A worker does the next job that nobody has claimed yet, until none is left. Each job has one
+/// output of type `O`, and the outputs come back in the order of the jobs.
+pub struct Crew<O> {
+    claims: Claims,
+    /// Each has room for its first output, so that only a worker that has done a job may stop. If
+    /// all workers do as many jobs, no list of outputs grows.
+    workers: Vec<Worker<O>>,
+    /// Room for the claimers when the work is over.
+    claimers: Vec<Claimer>,
+    by_number: Vec<Option<O>>,
+    outputs: Vec<O>,
 }
 
-/// What a frame asks memory for before it opens its phase.
-pub(super) struct Room {
-    pub(super) claims: Claims,
-    pub(super) unused: Vec<Claimer>,
-    pub(super) workers: Vec<Worker>,
-    /// For each worker a list with room for its first queue, so that only a worker that has run a
-    /// system may stop. If all workers run as many systems, no list grows.
-    pub(super) issued: Vec<Vec<SystemQueue>>,
-    pub(super) returned: Returned,
-}
-
-impl Room {
-    /// Room for that many systems and workers.
+impl<O> Crew<O> {
+    /// A crew of that many workers, 1 to 64, with room for the outputs of that many jobs, at most
+    /// 65,536. Both limits are this project's own.
+    ///
+    /// # Errors
+    ///
+    /// [`Memory`] if there is no memory for them.
     #[inline]
-    pub(super) fn new(systems: usize, workers: usize) -> Result<Self, Memory>
-        // requires systems { systems ≤ 2 ^ 16 }
+    pub(crate) fn new(jobs: usize, workers: usize) -> Result<Self, Memory>
+        // requires jobs { jobs ≤ 2 ^ 16 }
         // requires some { 0 < workers }
         // requires few { workers ≤ 64 }
-        // ensures { IfOk result (IsRoomFor systems workers) }
+        // ensures jobs { IfOk result (λ crew. crew.jobs ≡ jobs) }
+        // ensures workers { IfOk result (λ crew. crew.workers ≡ workers) }
     {
-        let (claims, unused) = Claims::open(systems, workers)?;
-        Ok(Room {
+        let (claims, mut claimers) = Claims::open(jobs, workers)?;
+        let team = recruit(&mut claimers, jobs / workers + 1)?;
+        Ok(Crew {
             claims,
-            unused,
-            workers: Vec::with_capacity_fallibly(workers)?,
-            issued: lists_of_room(workers, systems / workers + 1)?,
-            returned: Returned::new(systems, workers)?,
+            workers: team,
+            claimers,
+            by_number: without_outputs(jobs)?,
+            outputs: Vec::with_capacity_fallibly(jobs)?,
         })
     }
-}
 
-impl Returned {
+    /// Does the jobs, each of them once: one worker for each reserver, which is lent to the jobs
+    /// that the worker does. The outputs are in the order of the jobs.
+    ///
+    /// The workers run in threads of `rt`. If a thread can't be started, another one does its work.
+    ///
+    /// `None` means that memory ran out: a job returned `Memory`, or jobs are left and no worker
+    /// has memory for the output of another one. All workers have ended then. The outputs are
+    /// dropped, and what the jobs reserved stays reserved.
     #[inline]
-    fn new(systems: usize, workers: usize) -> Result<Self, AllocError>
-        // ensures { IfOk result (HasReturns systems workers) }
+    pub(crate) fn work<R, J>(
+        self,
+        rt: &R,
+        shared: &Shared,
+        reservers: &mut [Reserver],
+        jobs: &J,
+    ) -> Option<Vec<O>>
+    where
+        R: Threads + Sync,
+        O: Send,
+        J: Jobs<O> + Sync,
+        // requires jobs { J.count jobs.now ≡ self.jobs }
+        // requires workers { length reservers.old ≡ self.workers }
+        // requires own { All (IsOf shared.now) reservers.old }
+        // ensures count { length reservers.new ≡ length reservers.old }
+        // ensures own { All (IsOf shared.now) reservers.new }
+        // ensures done { IfSome result (λ outputs. AreDone (J.may_do jobs.now) self.jobs
+        //     (records_of reservers.old) outputs.items (records_of reservers.new)) }
+        // ensures broken_off { IfNone result (AreBrokenOff (J.may_do jobs.now)
+        //     (J.may_leave jobs.now) self.jobs (records_of reservers.old)
+        //     (records_of reservers.new)) }
+
+        // So late, memory runs out only in a job, or in workers that have done one.
+        // ensures some { IfNone result (0 < self.jobs) }
     {
-        Ok(Returned {
-            reservers: Vec::with_capacity_fallibly(workers)?,
-            claimers: Vec::with_capacity_fallibly(workers)?,
-            by_system: without_queues(systems)?,
-            queues: Vec::with_capacity_fallibly(systems)?,
-        })
+        let Crew {
+            claims,
+            mut workers,
+            mut claimers,
+            mut by_number,
+            outputs,
+        } = self;
+        // More threads than jobs would find nothing to do.
+        let threads = by_number.len();
+        let site = Site {
+            shared,
+            claims: &claims,
+            jobs,
+        };
+        run_all(rt, &site, &mut workers, reservers, threads);
+        let stopped = some_stopped(&workers);
+        disband(workers, &mut claimers, &mut by_number);
+        claims.close(claimers);
+        if stopped {
+            return None;
+        }
+        collect(by_number, outputs)
     }
 }
 
-/// That many lists, each with room for so many queues, and at least for one.
+/// A worker for each claimer, with a list of so much room for its outputs.
 #[inline]
-fn lists_of_room(
-    count: usize,
+fn recruit<O>(
+    claimers: &mut Vec<Claimer>,
     room: usize,
-) -> Result<Vec<Vec<SystemQueue>>, AllocError>
+) -> Result<Vec<Worker<O>>, AllocError>
     // requires { 0 < room }
-    // ensures count { IfOk result (λ lists. length lists.items ≡ count) }
-    // ensures each { IfOk result (λ lists. All IsRoomForOne lists.items) }
+    // ensures claimers { IfOk result (λ team.
+    //     map (λ w. w.claimer) team.items ≡ reverse claimers.old.items) }
+    // ensures fresh { IfOk result (λ team. All (λ w. IsRoomForOne w.done) team.items) }
+    // ensures emptied { IfOk result (λ _. claimers.new.items ≡ []) }
+    // ensures room { vec_capacity claimers.new ≡ vec_capacity claimers.old }
 {
-    let mut lists = Vec::with_capacity_fallibly(count)?;
-    for _ in 0..count {
-        lists.push_reserved(Vec::with_capacity_fallibly(room)?);
-    }
-    Ok(lists)
-}
-
-/// For each of that many systems no queue yet.
-#[inline]
-fn without_queues(count: usize) -> Result<Vec<Option<CommandQueue>>, AllocError>
-    // ensures { IfOk result (λ by_system. by_system.items ≡ replicate count None) }
-{
-    let mut by_system = Vec::with_capacity_fallibly(count)?;
-    for _ in 0..count {
-        by_system.push_reserved(None);
-    }
-    Ok(by_system)
-}
-
-/// A worker for each reserver, in their order, each with one of the claimers and of the lists.
-#[inline]
-pub(super) fn recruit(
-    reservers: Vec<Reserver>,
-    mut claimers: Vec<Claimer>,
-    mut lists: Vec<Vec<SystemQueue>>,
-    workers: &mut Vec<Worker>,
-)
-    // requires empty { workers.old.items ≡ [] }
-    // requires room { length reservers.items ≤ vec_capacity workers.old }
-    // requires same { length claimers.items ≡ length reservers.items }
-    // requires lists { length lists.items ≡ length reservers.items }
-    // requires each { All IsRoomForOne lists.items }
-    // ensures reservers { map (λ w. w.reserver) workers.new.items ≡ reservers.items }
-    // ensures claimers { map (λ w. w.claimer) workers.new.items ≡ reverse claimers.items }
-    // ensures fresh { All (λ w. IsRoomForOne w.issued) workers.new.items }
-{
-    for reserver in reservers {
-        let Some(claimer) = claimers.pop() else {
-            unreachable!()
-        };
-        let Some(issued) = lists.pop() else {
-            unreachable!()
-        };
-        workers.push_reserved(Worker {
-            reserver,
+    let mut team = Vec::with_capacity_fallibly(claimers.len())?;
+    while let Some(claimer) = claimers.pop() {
+        team.push_reserved(Worker {
             claimer,
-            issued,
+            done: Vec::with_capacity_fallibly(room)?,
             stopped: false,
         });
     }
+    Ok(team)
 }
 
-/// Whether a system of a worker has stopped because memory ran out.
+/// For each of that many jobs no output yet.
 #[inline]
-pub(super) fn some_stopped(workers: &[Worker]) -> bool
+fn without_outputs<O>(count: usize) -> Result<Vec<Option<O>>, AllocError>
+    // ensures { IfOk result (λ by_number. by_number.items ≡ replicate count None) }
+{
+    let mut by_number = Vec::with_capacity_fallibly(count)?;
+    for _ in 0..count {
+        by_number.push_reserved(None);
+    }
+    Ok(by_number)
+}
+
+/// Whether a job of a worker has stopped because memory ran out.
+#[inline]
+fn some_stopped<O>(workers: &[Worker<O>]) -> bool
     // ensures going { result ≡ false → All (λ w. w.stopped ≡ false) workers.now }
     // ensures some { result ≡ true → Any (λ w. w.stopped ≡ true) workers.now }
 {
@@ -143,27 +164,23 @@ pub(super) fn some_stopped(workers: &[Worker]) -> bool
     false
 }
 
-/// Takes the workers apart, and puts the queues at the numbers of their systems.
+/// Takes the workers apart, and puts the outputs at the numbers of their jobs.
 #[inline]
-pub(super) fn disband(
-    workers: Vec<Worker>,
-    reservers: &mut Vec<Reserver>,
+fn disband<O>(
+    workers: Vec<Worker<O>>,
     claimers: &mut Vec<Claimer>,
-    by_system: &mut [Option<CommandQueue>],
+    by_number: &mut [Option<O>],
 )
-    // requires empty { (reservers.old.items ≡ []) × (claimers.old.items ≡ []) }
-    // requires room { (length workers.items ≤ vec_capacity reservers.old)
-    //     × (length workers.items ≤ vec_capacity claimers.old) }
-    // requires inside { All (λ w. All (λ i. i.system < length by_system.old) w.issued.items)
+    // requires empty { claimers.old.items ≡ [] }
+    // requires room { length workers.items ≤ vec_capacity claimers.old }
+    // requires inside { All (λ w. All (λ d. d.number < length by_number.old) w.done.items)
     //     workers.items }
-    // ensures reservers { reservers.new.items ≡ map (λ w. w.reserver) workers.items }
     // ensures claimers { claimers.new.items ≡ map (λ w. w.claimer) workers.items }
-    // ensures by_system { by_system.new
-    //     ≡ queues_put (flat_map (λ w. w.issued.items) workers.items) by_system.old }
+    // ensures by_number { by_number.new
+    //     ≡ outputs_put (flat_map (λ w. w.done.items) workers.items) by_number.old }
 {
     for worker in workers {
-        reservers.push_reserved(worker.reserver);
         claimers.push_reserved(worker.claimer);
-        put_all(worker.issued, by_system);
+        put_all(worker.done, by_number);
     }
 }

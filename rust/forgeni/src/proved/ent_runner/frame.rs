@@ -3,18 +3,13 @@
 //! A frame: workers run the systems while the world is open, and the sync point applies their
 //! queues.
 
-use alloc::vec::Vec;
-use crate::proved::ent_runner::claims::Claims;
-use crate::proved::ent_runner::collecting::collect;
-use crate::proved::ent_runner::crew::{Returned, Room, disband, recruit, some_stopped};
+use crate::proved::ent_runner::crew::Crew;
 use crate::proved::ent_runner::gate::Gate;
 use crate::proved::ent_runner::report::{FrameFault, FrameReport};
+use crate::proved::ent_runner::stage::Stage;
 use crate::proved::ent_runner::system::System;
-use crate::proved::ent_runner::worker::{Stage, Worker, run_all};
 use crate::proved::ent_alloc::Limits;
-use crate::proved::ent_queue::CommandQueue;
-use crate::proved::ent_shared::Reserver;
-use crate::proved::ent_world::{OpenWorld, SyncFault, World};
+use crate::proved::ent_world::{SyncFault, World};
 use core::mem;
 use crate::kit::thread::Threads;
 
@@ -85,19 +80,24 @@ where
     //     IsStop system command done queues) }
     // ensures stop_flushed { IfStoppedAt result (λ _ _ _ _ _. world.new.allocator.asked ≡ 0) }
 {
-    let Ok(room) = Room::new(systems.len(), workers) else {
+    let Ok(crew) = Crew::new(systems.len(), workers) else {
         return Err(FrameFault::Memory);
     };
     let closed = mem::replace(world, World::new(Limits::default_limits()));
-    let (opened, reservers) = match closed.open(workers) {
+    let (opened, mut reservers) = match closed.open(workers) {
         Ok(made) => made,
         Err((closed, _)) => {
             *world = closed;
             return Err(FrameFault::Memory);
         }
     };
-    let (closed, queues) = run_open(rt, room, opened, reservers, systems, gate);
-    *world = closed;
+    let stage = Stage {
+        view: opened.view(),
+        systems,
+        gate,
+    };
+    let queues = crew.work(rt, opened.shared(), &mut reservers, &stage);
+    *world = opened.close(reservers);
     let Some(queues) = queues else {
         return Err(FrameFault::Lost);
     };
@@ -105,125 +105,4 @@ where
         Ok(sync) => Ok(FrameReport { queues, sync }),
         Err(fault) => Err(FrameFault::Sync { fault, queues }),
     }
-}
-
-/// Runs the systems on the open world and closes it. There are no queues exactly if the frame was broken
-/// off. Then there is at least one system.
-#[inline]
-fn run_open<R, S, G>(
-    rt: &R,
-    room: Room,
-    opened: OpenWorld,
-    reservers: Vec<Reserver>,
-    systems: &[S],
-    gate: &G,
-) -> (World, Option<Vec<CommandQueue>>)
-where
-    R: Threads + Sync,
-    S: System + Sync,
-    G: Gate + Sync,
-    // requires room { IsRoomFor (length systems.now) opened.shared.count room }
-    // requires some { 0 < opened.shared.count }
-    // requires count { length reservers.items ≡ opened.shared.count }
-    // requires own { All (IsOf opened.shared) reservers.items }
-    // requires unused { records_of reservers.items
-    //     ≡ opened_records opened.shared.start 0 opened.shared.count }
-    // ensures closed { (history : List Call)
-    //     × IfNone result.1 (IsBrokenOff S.may_issue S.may_leave systems.now opened.shared.count
-    //     (world_at_start opened) history)
-    //     × (result.0 ≡ reserved_by history (world_at_start opened))
-    //     × IfSome result.1 (λ queues. IsFrame S.may_issue systems.now opened.shared.count
-    //     (world_at_start opened) queues.items history) }
-    // ensures lost { IfNone result.1 (0 < length systems.now) }
-{
-    let Room {
-        claims,
-        unused,
-        mut workers,
-        issued,
-        returned,
-    } = room;
-    recruit(reservers, unused, issued, &mut workers);
-    work(rt, &opened, &claims, systems, gate, &mut workers);
-    finish(opened, claims, workers, returned)
-}
-
-/// All workers work.
-#[inline]
-fn work<R, S, G>(
-    rt: &R,
-    opened: &OpenWorld,
-    claims: &Claims,
-    systems: &[S],
-    gate: &G,
-    workers: &mut Vec<Worker>,
-)
-where
-    R: Threads + Sync,
-    S: System + Sync,
-    G: Gate + Sync,
-    // requires systems { claims.now.numbers ≡ length systems.now }
-    // requires some { 0 < opened.now.shared.count }
-    // requires count { length workers.old.items ≡ opened.now.shared.count }
-    // requires ready { All (λ w. IsOf opened.now.shared w.reserver
-    //     × IsClaimerOf claims.now w.claimer × IsNewWorker w) workers.old.items }
-    // requires unused { map (λ w. w.reserver.own) workers.old.items
-    //     ≡ opened_records opened.now.shared.start 0 opened.now.shared.count }
-    // ensures { HaveWorked S.may_issue S.may_leave systems.now opened.now claims.now
-    //     workers.new.items }
-{
-    let stage = Stage {
-        shared: opened.shared(),
-        view: opened.view(),
-        systems,
-        claims,
-        gate,
-    };
-    // More threads than systems would find nothing to run.
-    run_all(rt, &stage, workers, systems.len());
-}
-
-/// Closes the world, and collects the queues, unless memory ran out in a system or
-/// some are left.
-#[inline]
-fn finish(
-    opened: OpenWorld,
-    claims: Claims,
-    workers: Vec<Worker>,
-    returned: Returned,
-) -> (World, Option<Vec<CommandQueue>>)
-    // requires each { All (HasClaimed opened.shared claims) workers.items }
-    // requires some { 0 < opened.shared.count }
-    // requires count { length workers.items ≡ opened.shared.count }
-    // requires claims { claims.workers ≡ opened.shared.count }
-    // requires room { HasReturns claims.numbers opened.shared.count returned }
-    // ensures world { result.0
-    //     ≡ reserved_by (history_of (all_records workers.items)) (world_at_start opened) }
-    // ensures legal { IsLegal opened.shared.start (history_of (all_records workers.items)) }
-    // ensures respects { let records = all_records workers.items in
-    //     All (Respects (reservations_of records)) records }
-    // ensures first { HaveRunFirst claims.numbers workers.items }
-    // ensures going { IfSome result.1 (λ _. All (λ w. w.stopped ≡ false) workers.items) }
-    // ensures lost { IfNone result.1 (IsLostFor claims.numbers workers.items) }
-    // ensures once { IfSome result.1 (λ _. IsPermutation
-    //     (flat_map (λ w. systems_of w.issued.items) workers.items)
-    //     (range_with_len 0 claims.numbers)) }
-    // ensures queues { IfSome result.1 (λ queues. map Some queues.items
-    //     ≡ queues_put (flat_map (λ w. w.issued.items) workers.items)
-    //     (replicate claims.numbers None)) }
-{
-    let stopped = some_stopped(&workers);
-    let Returned {
-        mut reservers,
-        mut claimers,
-        mut by_system,
-        queues,
-    } = returned;
-    disband(workers, &mut reservers, &mut claimers, &mut by_system);
-    claims.close(claimers);
-    let world = opened.close(reservers);
-    if stopped {
-        return (world, None);
-    }
-    (world, collect(by_system, queues))
 }

@@ -1,184 +1,164 @@
 // Made of crates/ent_runner/src/worker.rt by rust/erase. It isn't edited by hand.
 
-//! Workers: each claims systems, one after the other, runs them, and keeps their queues.
+//! Workers: each claims jobs, one after the other, does them, and keeps their outputs.
 
 use alloc::vec::Vec;
 use crate::kit::vec::FallibleVec;
 use crate::proved::ent_runner::claimer::Claimer;
 use crate::proved::ent_runner::claims::Claims;
-use crate::proved::ent_runner::gate::Gate;
-use crate::proved::ent_runner::system::System;
+use crate::proved::ent_runner::jobs::Jobs;
 use crate::proved::ent_handle::Memory;
-use crate::proved::ent_queue::{CommandQueue, Commands};
 use crate::proved::ent_shared::{Reserver, Shared};
-use crate::proved::ent_world::View;
 use crate::kit::thread::{Threads, join_mut};
 
-/// The queue that a system has issued.
-pub(super) struct SystemQueue {
-    pub(super) system: usize,
-    pub(super) queue: CommandQueue,
-}
-
-/// What the workers of a frame have in common.
-pub(super) struct Stage<'a, S, G> {
+/// What the workers of a crew have in common.
+pub(super) struct Site<'a, J> {
     pub(super) shared: &'a Shared,
-    pub(super) view: View<'a>,
-    pub(super) systems: &'a [S],
     pub(super) claims: &'a Claims,
-    pub(super) gate: &'a G,
+    pub(super) jobs: &'a J,
 }
 
-/// A worker, which reserves and claims for all systems that it runs.
-pub(super) struct Worker {
-    pub(super) reserver: Reserver,
+/// The output of the job of this number.
+pub(super) struct Done<O> {
+    pub(super) number: usize,
+    pub(super) output: O,
+}
+
+/// What a worker has claimed and done.
+pub(super) struct Worker<O> {
     pub(super) claimer: Claimer,
-    /// The queues of the systems that it ran, in the order of the claims. If a system stopped,
-    /// its queue is the last one.
-    pub(super) issued: Vec<SystemQueue>,
-    /// Its last system ran out of memory, so it has claimed no more.
+    /// The outputs of the jobs that it did, in the order of the claims. If a job stopped, its
+    /// output is the last one.
+    pub(super) done: Vec<Done<O>>,
+    /// Its last job ran out of memory, so it has claimed no more.
     pub(super) stopped: bool,
 }
 
-impl<S: System, G: Gate> Stage<'_, S, G> {
-    /// Runs the system of this number. Its queue has what it issued, also if it stopped.
+impl<O> Worker<O> {
+    /// Does the jobs that it claims, until none is left. It claims one only if there is room for
+    /// its output, as there is for the first one. If not, other workers do what is left.
     #[inline]
-    fn issue(&self, system: usize, reserver: &mut Reserver) -> (CommandQueue, Result<(), Memory>)
-        // requires system { system < length self.now.systems.now }
-        // requires reserver { IsOf self.now.shared.now reserver.old }
-        // ensures stays { IsOf self.now.shared.now reserver.new }
-        // ensures gains { Gains reserver.old.own result.0 reserver.new.own }
-        // ensures may { OnOk result.1
-        //     (SystemMayIssue S.may_issue self.now.systems.now self.now.view system result.0) }
-        // ensures leaves { OnErr result.1
-        //     (SystemMayIssue S.may_leave self.now.systems.now self.now.view system result.0) }
-    {
-        self.gate.entered(system);
-        let mut commands = Commands::new(self.shared, reserver);
-        let ran = self.systems[system].run(&self.view, &mut commands);
-        (commands.finish(), ran)
-    }
-}
-
-impl Worker {
-    /// Runs the systems that it claims, until none is left. It claims one only if there is room
-    /// for its queue, as there is for the first one. If not, other workers run what is left.
-    #[inline]
-    fn work<S: System, G: Gate>(&mut self, stage: &Stage<'_, S, G>) -> Result<(), Memory>
-        // requires systems { stage.now.claims.now.numbers ≡ length stage.now.systems.now }
-        // requires reserver { IsOf stage.now.shared.now self.old.reserver }
-        // requires claimer { IsClaimerOf stage.now.claims.now self.old.claimer }
+    fn work<J: Jobs<O>>(
+        &mut self,
+        site: &Site<'_, J>,
+        reserver: &mut Reserver,
+    ) -> Result<(), Memory>
+        // requires jobs { site.now.claims.now.numbers ≡ J.count site.now.jobs.now }
+        // requires reserver { IsOf site.now.shared.now reserver.old }
+        // requires claimer { IsClaimerOf site.now.claims.now self.old.claimer }
         // requires fresh { IsNewWorker self.old }
-        // ensures reserver { IsOf stage.now.shared.now self.new.reserver }
-        // ensures claimer { IsClaimerOf stage.now.claims.now self.new.claimer }
-        // ensures inside { All (λ i. i.system < length stage.now.systems.now) self.new.issued.items }
-        // ensures ran_some { HasRunSome S.may_issue S.may_leave stage.now.systems.now stage.now.view
-        //     self.old.reserver.own self.new.reserver.own self.new.claimer.own.claims
-        //     self.new.issued.items }
-        // ensures ran { OnOk result (HasRun S.may_issue stage.now.systems.now stage.now.view
-        //     self.old.reserver.own self.new.reserver.own self.new.claimer.own.claims
-        //     self.new.issued.items) }
-        // ensures ended { OnOk result (IsThrough self.new) }
-        // ensures some { OnErr result (0 < length self.new.issued.items) }
-        // ensures refused { OnErr result (WasRefused S.may_leave stage.now.systems.now stage.now.view
-        //     self.new.issued.items) }
-        // ensures stopped { self.new.stopped ≡ self.old.stopped }
+        // ensures reserver { IsOf site.now.shared.now reserver.new }
+        // ensures claimer { IsClaimerOf site.now.claims.now self.new.claimer }
+        // ensures claimed { numbers_of self.new.done.items ≡ self.new.claimer.own.claims }
+        // ensures ended { OnOk result (HaveEnded (J.may_do site.now.jobs.now) reserver.old.own
+        //     self.new.done.items reserver.new.own) }
+        // ensures through { OnOk result (IsThrough self.new) }
+        // ensures stopped { OnErr result (HasStoppedAt (J.may_do site.now.jobs.now)
+        //     (J.may_leave site.now.jobs.now) reserver.old.own self.new.done.items
+        //     reserver.new.own) }
+        // ensures flag { self.new.stopped ≡ self.old.stopped }
     {
-        while let Some(system) = stage.claims.next(&mut self.claimer) {
-            let (queue, ran) = stage.issue(system, &mut self.reserver);
-            self.issued.push_reserved(SystemQueue { system, queue });
+        while let Some(number) = site.claims.next(&mut self.claimer) {
+            let (output, ran) = site.jobs.run(number, site.shared, reserver);
+            self.done.push_reserved(Done { number, output });
             ran?;
-            if self.issued.reserve_fallibly(1).is_err() {
+            if self.done.reserve_fallibly(1).is_err() {
                 return Ok(());
             }
         }
         Ok(())
     }
 
-    /// Works, and remembers if its last system stopped.
+    /// Works, and remembers if its last job stopped.
     #[inline]
-    fn run<S: System, G: Gate>(&mut self, stage: &Stage<'_, S, G>)
-        // requires systems { stage.now.claims.now.numbers ≡ length stage.now.systems.now }
-        // requires reserver { IsOf stage.now.shared.now self.old.reserver }
-        // requires claimer { IsClaimerOf stage.now.claims.now self.old.claimer }
+    fn run<J: Jobs<O>>(&mut self, site: &Site<'_, J>, reserver: &mut Reserver)
+        // requires jobs { site.now.claims.now.numbers ≡ J.count site.now.jobs.now }
+        // requires reserver { IsOf site.now.shared.now reserver.old }
+        // requires claimer { IsClaimerOf site.now.claims.now self.old.claimer }
         // requires fresh { IsNewWorker self.old }
-        // ensures { HasWorked S.may_issue S.may_leave stage.now.shared.now stage.now.claims.now
-        //     stage.now.systems.now stage.now.view self.old.reserver.own self.new }
+        // ensures { HasWorked (J.may_do site.now.jobs.now) (J.may_leave site.now.jobs.now)
+        //     site.now.shared.now site.now.claims.now reserver.old reserver.new self.new }
     {
-        self.stopped = self.work(stage).is_err();
+        self.stopped = self.work(site, reserver).is_err();
     }
 }
 
-/// All workers work side by side, in so many threads if there are as many workers and each thread
-/// can be started. One half of the workers goes to a new thread, again and again, so that no thread
-/// has to start all others. Those that share a thread work one after the other.
+/// All workers work side by side, each with the reserver at its position, in so many threads if
+/// there are as many workers and each thread can be started. One half of the workers goes to a new
+/// thread, again and again, so that no thread has to start all others. Those that share a thread
+/// work one after the other.
 #[inline]
-pub(super) fn run_all<R, S, G>(
+pub(super) fn run_all<R, O, J>(
     rt: &R,
-    stage: &Stage<'_, S, G>,
-    workers: &mut [Worker],
+    site: &Site<'_, J>,
+    workers: &mut [Worker<O>],
+    reservers: &mut [Reserver],
     threads: usize,
 )
 where
     R: Threads + Sync,
-    S: System + Sync,
-    G: Gate + Sync,
-    // requires systems { stage.now.claims.now.numbers ≡ length stage.now.systems.now }
-    // requires ready { AreReady stage.now.shared.now stage.now.claims.now workers.old }
-    // ensures { HaveAllWorked S.may_issue S.may_leave stage.now.shared.now stage.now.claims.now
-    //     stage.now.systems.now stage.now.view workers.old workers.new }
+    O: Send,
+    J: Jobs<O> + Sync,
+    // requires jobs { site.now.claims.now.numbers ≡ J.count site.now.jobs.now }
+    // requires ready { AreReady site.now.shared.now site.now.claims.now reservers.old workers.old }
+    // ensures { HaveAllWorked (J.may_do site.now.jobs.now) (J.may_leave site.now.jobs.now)
+    //     site.now.shared.now site.now.claims.now reservers.old reservers.new workers.new }
 {
     if workers.len() == 1 {
-        workers[0].run(stage);
+        workers[0].run(site, &mut reservers[0]);
         return;
     }
-    let (front, back) = workers.split_at_mut(workers.len() / 2);
+    let middle = workers.len() / 2;
+    let (front, back) = workers.split_at_mut(middle);
+    let (first, second) = reservers.split_at_mut(middle);
     if threads < 2 {
-        run_all(rt, stage, front, threads);
-        run_all(rt, stage, back, threads);
+        run_all(rt, site, front, first, threads);
+        run_all(rt, site, back, second, threads);
         return;
     }
-    run_both(rt, stage, front, back, threads);
+    run_both(rt, site, front, first, back, second, threads);
 }
 
 /// Both parts of the workers work side by side, each in one half of the threads.
 #[inline]
-fn run_both<R, S, G>(
+fn run_both<R, O, J>(
     rt: &R,
-    stage: &Stage<'_, S, G>,
-    front: &mut [Worker],
-    back: &mut [Worker],
+    site: &Site<'_, J>,
+    front: &mut [Worker<O>],
+    first: &mut [Reserver],
+    back: &mut [Worker<O>],
+    second: &mut [Reserver],
     threads: usize,
 )
 where
     R: Threads + Sync,
-    S: System + Sync,
-    G: Gate + Sync,
-    // requires systems { stage.now.claims.now.numbers ≡ length stage.now.systems.now }
-    // requires front { AreReady stage.now.shared.now stage.now.claims.now front.old }
-    // requires back { AreReady stage.now.shared.now stage.now.claims.now back.old }
-    // ensures front { HaveAllWorked S.may_issue S.may_leave stage.now.shared.now
-    //     stage.now.claims.now stage.now.systems.now stage.now.view front.old front.new }
-    // ensures back { HaveAllWorked S.may_issue S.may_leave stage.now.shared.now
-    //     stage.now.claims.now stage.now.systems.now stage.now.view back.old back.new }
+    O: Send,
+    J: Jobs<O> + Sync,
+    // requires jobs { site.now.claims.now.numbers ≡ J.count site.now.jobs.now }
+    // requires front { AreReady site.now.shared.now site.now.claims.now first.old front.old }
+    // requires back { AreReady site.now.shared.now site.now.claims.now second.old back.old }
+    // ensures front { HaveAllWorked (J.may_do site.now.jobs.now) (J.may_leave site.now.jobs.now)
+    //     site.now.shared.now site.now.claims.now first.old first.new front.new }
+    // ensures back { HaveAllWorked (J.may_do site.now.jobs.now) (J.may_leave site.now.jobs.now)
+    //     site.now.shared.now site.now.claims.now second.old second.new back.new }
 {
     let fewer = threads / 2;
     let more = threads - fewer;
-    let mut first = ||
-        // requires { IsSync R.row × IsSync S.row × IsSync G.row
-        //     × (stage.now.claims.now.numbers ≡ length stage.now.systems.now)
-        //     × AreReady stage.now.shared.now stage.now.claims.now front.now }
-        // ensures { HaveAllWorked S.may_issue S.may_leave stage.entry.now.shared.now
-        //     stage.entry.now.claims.now stage.entry.now.systems.now stage.entry.now.view
-        //     front.entry.now front.exit.now }
-    { run_all(rt, stage, front, fewer) };
-    let mut second = ||
-        // requires { IsSync R.row × IsSync S.row × IsSync G.row
-        //     × (stage.now.claims.now.numbers ≡ length stage.now.systems.now)
-        //     × AreReady stage.now.shared.now stage.now.claims.now back.now }
-        // ensures { HaveAllWorked S.may_issue S.may_leave stage.entry.now.shared.now
-        //     stage.entry.now.claims.now stage.entry.now.systems.now stage.entry.now.view
-        //     back.entry.now back.exit.now }
-    { run_all(rt, stage, back, more) };
-    join_mut(rt, &mut first, &mut second);
+    let mut one = ||
+        // requires { IsSync R.row × IsSync J.row × IsSend O.row
+        //     × (site.now.claims.now.numbers ≡ J.count site.now.jobs.now)
+        //     × AreReady site.now.shared.now site.now.claims.now first.now front.now }
+        // ensures { HaveAllWorked (J.may_do site.entry.now.jobs.now)
+        //     (J.may_leave site.entry.now.jobs.now) site.entry.now.shared.now
+        //     site.entry.now.claims.now first.entry.now first.exit.now front.exit.now }
+    { run_all(rt, site, front, first, fewer) };
+    let mut other = ||
+        // requires { IsSync R.row × IsSync J.row × IsSend O.row
+        //     × (site.now.claims.now.numbers ≡ J.count site.now.jobs.now)
+        //     × AreReady site.now.shared.now site.now.claims.now second.now back.now }
+        // ensures { HaveAllWorked (J.may_do site.entry.now.jobs.now)
+        //     (J.may_leave site.entry.now.jobs.now) site.entry.now.shared.now
+        //     site.entry.now.claims.now second.entry.now second.exit.now back.exit.now }
+    { run_all(rt, site, back, second, more) };
+    join_mut(rt, &mut one, &mut other);
 }

@@ -13,6 +13,7 @@ mod frame_error;
 mod framing;
 mod go_on_error;
 mod homecoming;
+mod logging;
 mod open_world;
 mod opening;
 mod other_phase;

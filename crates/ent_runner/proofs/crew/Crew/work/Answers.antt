@@ -1,4 +1,4 @@
-use Rattle.std.proofs.Common.{◌≡◌, ◌∙◌, ap, length, map, sym, arith, take, drop, ◌++◌, inl, All}
+use Rattle.std.proofs.Common.{◌≡◌, ◌∙◌, ap, length, arith, take, drop, ◌++◌, inl, All}
 use Rattle.std.proofs.lemmas.List.{length-replicate}
 use Rattle.ent_runner.specs.Crew.{Crew}
 use Rattle.ent_runner.specs.Worker.{HaveDoneFirst, HasClaimed, all_done}
