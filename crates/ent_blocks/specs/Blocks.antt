@@ -1,7 +1,7 @@
 -- Handles in blocks: the front of the pool is dealt to callers, and each is given the handles of
 -- its own block, in the pool's order, whatever the others do.
-use Rattle.std.specs.Prelude.{◌≡◌, ℕ, ◌+◌, ◌-◌, ◌^◌, ◌<◌, ◌≤◌, nat_le, ◌==◌, ◌&&◌, if◌then◌else◌, max}
-use Rattle.std.specs.Prelude.{Bool, true, false, List, [], ◌∷◌, ◌++◌, length, take, drop, map, refl}
+use Rattle.std.specs.Prelude.{◌≡◌, ℕ, ◌+◌, ◌-◌, ◌^◌, ◌<◌, ◌≤◌, nat_le, ◌==◌, ◌&&◌, max, Bool}
+use Rattle.std.specs.Prelude.{if◌then◌else◌, true, false, List, [], ◌∷◌, ◌++◌, length, take, drop, map, refl}
 use Rattle.std.specs.List.{flat_map, Contains}
 use Rattle.std.specs.Coded.{Coded, code_by, coded×, coded_ℕ, coded_list}
 use Rattle.std.specs.FinMap as maps
@@ -51,8 +51,8 @@ reach [] = 0
 reach (b ∷ blocks) = max (end_of b) (reach blocks)
 
 -- Closing: what was used of the blocks is taken, in the order of the callers, and the pool is what
--- is left of them, and then what was not dealt: it keeps its own order. The slots up to the last one
--- that was used are made, so a fresh one below it that nobody used waits, with generation 1.
+-- is left of them, and then what was not dealt: it keeps its own order. The slots up to the last
+-- one that was used are made, so a fresh one below it that nobody used waits, with generation 1.
 abbrev pub after_blocks : Allocator → List Block → Allocator
 after_blocks s blocks = record s {
   taken = flat_map (used_of s.pool) blocks;

@@ -21,8 +21,8 @@ pub(crate) fn are_of<J: BlockNumbering>(number: u64, reservers: &[BlockReserver<
     true
 }
 
-/// How many blocks have no reserver here. `None` if these aren't reservers of some of the blocks, in
-/// their order.
+/// How many blocks have no reserver here. `None` if these aren't reservers of some of the blocks,
+/// in their order.
 pub(crate) fn missing<J: BlockNumbering>(
     parts: &[Part],
     reservers: &[BlockReserver<J>],

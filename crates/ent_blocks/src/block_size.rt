@@ -1,7 +1,7 @@
 ghost use Rattle.std.specs.Prelude.{◌≡◌, ◌*◌, min, max};
 
-/// How large a caller's block is in the next phase: twice what it used in this one, at least 64, and at
-/// most a limit. So a size follows from the phases before, and is the same on every machine.
+/// How large a caller's block is in the next phase: twice what it used in this one, at least 64,
+/// and at most a limit. So a size follows from the phases before, and is the same on every machine.
 ///
 /// A caller that was refused has used its block up, and gets one of twice the size.
 ///

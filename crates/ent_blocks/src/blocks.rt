@@ -1,5 +1,6 @@
-ghost use Rattle.std.specs.Prelude.{◌≡◌, ◌≢◌, ℕ, ◌+◌, ◌-◌, ◌<◌, ◌≤◌, ◌⊎◌, ◌↔◌, ◌++◌, ◌∷◌, [], length, take, map};
-ghost use Rattle.std.specs.Prelude.{IfOk, IfErr, OnOk, OnErr, IsErrOf, IsTrue, All, AllPairs, Contains};
+ghost use Rattle.std.specs.Prelude.{◌≡◌, ◌≢◌, ℕ, ◌+◌, ◌-◌, ◌<◌, ◌≤◌, ◌⊎◌, ◌↔◌, ◌++◌, ◌∷◌, []};
+ghost use Rattle.std.specs.Prelude.{length, take, map, IfOk, IfErr, OnOk, OnErr, IsErrOf, IsTrue};
+ghost use Rattle.std.specs.Prelude.{All, AllPairs, Contains};
 ghost use Rattle.std.specs.Prelude.{Ok, vec_len, vec_capacity, true, OnSome};
 ghost use Rattle.std.specs.FinSet as set;
 ghost use Rattle.std.specs.FinMap as maps;
@@ -28,9 +29,9 @@ use std::marker::{Model, PhantomData};
 /// An allocator whose pool's front is dealt in blocks, one to each [`BlockReserver`].
 /// [`Entities::open_in_blocks`](forgeni::Entities::open_in_blocks) makes it.
 ///
-/// Which handles a reserver gets depends on the allocator, on the sizes, and on what it has reserved
-/// before: on no other reserver, and on no thread. Many threads may reserve at once: no reservation
-/// writes to what they share.
+/// Which handles a reserver gets depends on the allocator, on the sizes, and on what it has
+/// reserved before: on no other reserver, and on no thread. Many threads may reserve at once: no
+/// reservation writes to what they share.
 #[must_use]
 #[derive(Drop)]
 pub struct Blocks<J: BlockNumbering> {
@@ -164,10 +165,10 @@ impl<J: BlockNumbering> Blocks<J> {
         Ok(take_one(&self.entities, &mut reserver.part)?)
     }
 
-    /// Reserves the next `n` handles of the reserver's block, all of them or none. They are listed as
-    /// [`Reserver::reserve_many`](forgeni::Reserver::reserve_many) lists them: those of old slots
-    /// first, the last of the pool before the others, then those of new slots. A request of 0 is
-    /// always served.
+    /// Reserves the next `n` handles of the reserver's block, all of them or none. They are listed
+    /// as [`Reserver::reserve_many`](forgeni::Reserver::reserve_many) lists them: those of old
+    /// slots first, the last of the pool before the others, then those of new slots. A request of 0
+    /// is always served.
     ///
     /// ```
     /// use forgeni::{BlockError, Entities};
@@ -212,8 +213,8 @@ impl<J: BlockNumbering> Blocks<J> {
         Ok(handles)
     }
 
-    /// [`reserve_many`](Self::reserve_many), which appends the handles to a list. It takes no memory
-    /// if the list has room for them, or if they are refused.
+    /// [`reserve_many`](Self::reserve_many), which appends the handles to a list. It takes no
+    /// memory if the list has room for them, or if they are refused.
     ///
     /// ```
     /// use forgeni::Entities;
@@ -267,9 +268,9 @@ impl<J: BlockNumbering> Blocks<J> {
         Ok(())
     }
 
-    /// Ends the phase with all its reservers, in the order in which they were made. What was used is
-    /// reserved: a flush brings it to life. What is left of the blocks can be given again, and comes
-    /// before all that was not dealt.
+    /// Ends the phase with all its reservers, in the order in which they were made. What was used
+    /// is reserved: a flush brings it to life. What is left of the blocks can be given again, and
+    /// comes before all that was not dealt.
     ///
     /// The slots up to the last one that was used are made. So a new one that nobody used is made
     /// only if a later one was used, and waits with generation 1.
@@ -289,8 +290,8 @@ impl<J: BlockNumbering> Blocks<J> {
     ///
     /// # Errors
     ///
-    /// [`Unended`] has the error, the phase and the reservers as they were. The error is the first of
-    /// these that holds: [`EndError::OtherPhase`], [`EndError::Order`], [`EndError::Missing`],
+    /// [`Unended`] has the error, the phase and the reservers as they were. The error is the first
+    /// of these that holds: [`EndError::OtherPhase`], [`EndError::Order`], [`EndError::Missing`],
     /// [`EndError::Memory`].
     pub fn close(self, reservers: Vec<BlockReserver<J>>) -> Result<Entities, Unended<J>>
         ensures after { IfOk result (λ entities. entities.allocator
@@ -339,7 +340,8 @@ impl<J: BlockNumbering> Blocks<J> {
 
     /// Ends the phase although some reservers are lost: they were dropped, as by a thread that
     /// panicked. The others are in the order in which they were made. What is left of a lost one's
-    /// block counts as used, so [`flush`](Entities::flush) brings all handles of that block to life.
+    /// block counts as used, so [`flush`](Entities::flush) brings all handles of that block to
+    /// life.
     ///
     /// ```
     /// use forgeni::{EndError, Entities};
@@ -358,8 +360,8 @@ impl<J: BlockNumbering> Blocks<J> {
     ///
     /// # Errors
     ///
-    /// [`Unended`] has the error, the phase and the reservers as they were. The error is the first of
-    /// these that holds: [`EndError::OtherPhase`], [`EndError::Order`], [`EndError::Memory`].
+    /// [`Unended`] has the error, the phase and the reservers as they were. The error is the first
+    /// of these that holds: [`EndError::OtherPhase`], [`EndError::Order`], [`EndError::Memory`].
     pub fn close_lost(self, reservers: Vec<BlockReserver<J>>) -> Result<Entities, Unended<J>>
         ensures after { IfOk result (λ entities. entities.allocator ≡ after_blocks
             self.phase.start (accounted self.phase.blocks (blocks_of reservers.items))) }

@@ -48,8 +48,8 @@ impl<J: BlockNumbering> Model for Deal<J> {
 /// Deals the pool's front in blocks of these sizes, one after the other: a block is smaller where
 /// the pool ends.
 ///
-/// The allocator is as it was: no slot is made, and no list of handles. It takes time and memory for
-/// each block, however large they are.
+/// The allocator is as it was: no slot is made, and no list of handles. It takes time and memory
+/// for each block, however large they are.
 ///
 /// # Errors
 ///

@@ -1,6 +1,6 @@
 //! What a block gives: its next handle, or the next ones.
-ghost use Rattle.std.specs.Prelude.{◌≡◌, ◌+◌, ◌<◌, ◌≤◌, ◌++◌, ◌^◌, OnOk, OnErr, IfErr, length, take};
-ghost use Rattle.std.specs.Prelude.{vec_len, vec_capacity};
+ghost use Rattle.std.specs.Prelude.{◌≡◌, ◌+◌, ◌<◌, ◌≤◌, ◌++◌, ◌^◌, OnOk, OnErr, IfErr, length};
+ghost use Rattle.std.specs.Prelude.{take, vec_len, vec_capacity};
 ghost use Rattle.ent_alloc.specs.Sequential.{reply_from, listed, listed_alone};
 ghost use Rattle.ent_blocks.specs.Blocks.{rest_of, after_use};
 

@@ -1,8 +1,9 @@
 //! An allocator whose pool is dealt to callers in blocks, so that their handles don't depend on threads.
 
+use crate::errors::fails;
 use crate::numbers::next_number;
 use crate::proved::ent_blocks::open_in_blocks;
-use crate::shown::{fails, shows};
+use crate::shown::shows;
 use crate::Entities;
 use alloc::vec::Vec;
 

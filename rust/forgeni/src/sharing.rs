@@ -1,9 +1,10 @@
 //! An allocator that many threads reserve from at once.
 
+use crate::errors::fails;
 use crate::numbers::next_number;
 use crate::phase::closed;
 use crate::proved::ent_total::share;
-use crate::shown::{fails, shows};
+use crate::shown::shows;
 use crate::Entities;
 use alloc::vec::Vec;
 

@@ -33,25 +33,4 @@ macro_rules! shows {
     )*};
 }
 
-/// What an error is that hands things back: `Debug` shows all its fields, and it prints why.
-macro_rules! fails {
-    ($($name:ident: $($field:ident)*;)*) => {$(
-        impl core::fmt::Debug for $name {
-            fn fmt(&self, out: &mut core::fmt::Formatter<'_>) -> core::fmt::Result {
-                out.debug_struct(stringify!($name))
-                    $(.field(stringify!($field), &self.$field))*
-                    .finish()
-            }
-        }
-
-        impl core::fmt::Display for $name {
-            fn fmt(&self, out: &mut core::fmt::Formatter<'_>) -> core::fmt::Result {
-                core::fmt::Display::fmt(&self.error, out)
-            }
-        }
-
-        impl core::error::Error for $name {}
-    )*};
-}
-
-pub(crate) use {fails, shows};
+pub(crate) use shows;

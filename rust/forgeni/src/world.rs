@@ -1,8 +1,9 @@
 //! Worlds: what their proved sources can't have.
 
+use crate::errors::fails;
 use crate::numbers::next_number;
 use crate::proved::ent_total::{clone_world, clone_world_from, new_world, open};
-use crate::shown::{fails, shows};
+use crate::shown::shows;
 use crate::world_phase::closed;
 use crate::{Limits, OutOfMemory, ShareError};
 use alloc::vec::Vec;

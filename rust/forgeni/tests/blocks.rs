@@ -262,7 +262,7 @@ fn a_phase_that_is_not_closed() {
     let (blocks, mut reservers, error) = blocks.close(reservers).unwrap_err().into_parts();
     assert_eq!((error, reservers.len()), (EndError::OtherPhase, 5));
     reservers.pop();
-    drop(reservers.remove(1));
+    reservers.remove(1);
     let (blocks, reservers, error) = blocks.close(reservers).unwrap_err().into_parts();
     assert_eq!(error, EndError::Missing { count: 1 });
 

@@ -21,8 +21,8 @@ pub(super) fn are_of(number: u64, reservers: &[BlockReserver]) -> bool
     true
 }
 
-/// How many blocks have no reserver here. `None` if these aren't reservers of some of the blocks, in
-/// their order.
+/// How many blocks have no reserver here. `None` if these aren't reservers of some of the blocks,
+/// in their order.
 #[inline]
 pub(super) fn missing(
     parts: &[Part],

@@ -15,9 +15,9 @@ use crate::proved::ent_handle::Handle;
 /// An allocator whose pool's front is dealt in blocks, one to each [`BlockReserver`].
 /// [`Entities::open_in_blocks`](crate::Entities::open_in_blocks) makes it.
 ///
-/// Which handles a reserver gets depends on the allocator, on the sizes, and on what it has reserved
-/// before: on no other reserver, and on no thread. Many threads may reserve at once: no reservation
-/// writes to what they share.
+/// Which handles a reserver gets depends on the allocator, on the sizes, and on what it has
+/// reserved before: on no other reserver, and on no thread. Many threads may reserve at once: no
+/// reservation writes to what they share.
 #[must_use]
 pub struct Blocks {
     entities: Entities,
@@ -155,10 +155,10 @@ impl Blocks {
         Ok(take_one(&self.entities, &mut reserver.part)?)
     }
 
-    /// Reserves the next `n` handles of the reserver's block, all of them or none. They are listed as
-    /// [`Reserver::reserve_many`](crate::Reserver::reserve_many) lists them: those of old slots
-    /// first, the last of the pool before the others, then those of new slots. A request of 0 is
-    /// always served.
+    /// Reserves the next `n` handles of the reserver's block, all of them or none. They are listed
+    /// as [`Reserver::reserve_many`](crate::Reserver::reserve_many) lists them: those of old
+    /// slots first, the last of the pool before the others, then those of new slots. A request of 0
+    /// is always served.
     ///
     /// ```
     /// use forgeni::{BlockError, Entities};
@@ -212,8 +212,8 @@ impl Blocks {
         Ok(handles)
     }
 
-    /// [`reserve_many`](Self::reserve_many), which appends the handles to a list. It takes no memory
-    /// if the list has room for them, or if they are refused.
+    /// [`reserve_many`](Self::reserve_many), which appends the handles to a list. It takes no
+    /// memory if the list has room for them, or if they are refused.
     ///
     /// ```
     /// use forgeni::Entities;
@@ -276,9 +276,9 @@ impl Blocks {
         Ok(())
     }
 
-    /// Ends the phase with all its reservers, in the order in which they were made. What was used is
-    /// reserved: a flush brings it to life. What is left of the blocks can be given again, and comes
-    /// before all that was not dealt.
+    /// Ends the phase with all its reservers, in the order in which they were made. What was used
+    /// is reserved: a flush brings it to life. What is left of the blocks can be given again, and
+    /// comes before all that was not dealt.
     ///
     /// The slots up to the last one that was used are made. So a new one that nobody used is made
     /// only if a later one was used, and waits with generation 1.
@@ -298,8 +298,8 @@ impl Blocks {
     ///
     /// # Errors
     ///
-    /// [`Unended`] has the error, the phase and the reservers as they were. The error is the first of
-    /// these that holds: [`EndError::OtherPhase`], [`EndError::Order`], [`EndError::Missing`],
+    /// [`Unended`] has the error, the phase and the reservers as they were. The error is the first
+    /// of these that holds: [`EndError::OtherPhase`], [`EndError::Order`], [`EndError::Missing`],
     /// [`EndError::Memory`].
     ///
     /// <details><summary>Contract</summary>
@@ -357,7 +357,8 @@ impl Blocks {
 
     /// Ends the phase although some reservers are lost: they were dropped, as by a thread that
     /// panicked. The others are in the order in which they were made. What is left of a lost one's
-    /// block counts as used, so [`flush`](Entities::flush) brings all handles of that block to life.
+    /// block counts as used, so [`flush`](Entities::flush) brings all handles of that block to
+    /// life.
     ///
     /// ```
     /// use forgeni::{EndError, Entities};
@@ -376,8 +377,8 @@ impl Blocks {
     ///
     /// # Errors
     ///
-    /// [`Unended`] has the error, the phase and the reservers as they were. The error is the first of
-    /// these that holds: [`EndError::OtherPhase`], [`EndError::Order`], [`EndError::Memory`].
+    /// [`Unended`] has the error, the phase and the reservers as they were. The error is the first
+    /// of these that holds: [`EndError::OtherPhase`], [`EndError::Order`], [`EndError::Memory`].
     ///
     /// <details><summary>Contract</summary>
     ///
