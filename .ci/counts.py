@@ -3,8 +3,8 @@
 
     .ci/counts.py [REV..]     a column for each of these commits, and one for what stands here
 
-- clauses: lines with `ensures` in the sources of crates, but for tests, examples and benchmarks;
-- expectations of tests: the comparisons and the rows of tables in crates/*_tests, in the tests of rust/ and in rust/erased_tests;
+- clauses: lines with `ensures` in the sources of crates, but for tests and examples;
+- expectations of tests: the comparisons and the rows of tables in crates/ent_tests, in the tests of rust/ and in rust/erased_tests;
 - expectations of cases: the answers, outputs, messages and exit statuses in the files of cases;
 - expectations of scripts: the calls in examples/*.sh of a function that ends the script unless a run goes as the line says;
 - wrong bodies in the gate, and all of them.
@@ -27,7 +27,7 @@ def lines(folder, patterns):
 
 
 def is_library(path):
-    return not path.name.endswith("_tests") and not path.name.startswith(("bench_", "example", "cases"))
+    return path.name not in ("cases_and_examples", "ent_tests")
 
 
 def checks(script):
@@ -45,9 +45,9 @@ def counts(top):
     crates = [it for it in top.glob("crates/*") if (it / "src").is_dir()]
     clauses = sum("ensures" in it.split("//")[0] for crate in crates if is_library(crate) for it in lines(crate, ["src/**/*.rt"]))
     erased = "rust/erased_tests/src"
-    tests = [*lines(top, ["crates/*_tests/src/**/*.rt", "rust/*/tests/**/*.rs", f"{erased}/*.rs", f"{erased}/values/*.rs"])]
+    tests = [*lines(top, ["crates/ent_tests/src/**/*.rt", "rust/*/tests/**/*.rs", f"{erased}/*.rs", f"{erased}/values/*.rs"])]
     compared = r"\b(assert|assert_eq|assert_ne|prove|prove_eq)!\(|\bexpect\(|^\s*\(\s*(b?r?#*\"|&)"
-    cases = [*lines(top, ["crates/*/cases/*", "crates/cases*/data/*"])]
+    cases = [*lines(top, ["crates/*/cases/*", "crates/cases_and_examples/data/*"])]
     answers = sum(" => " in it or it.startswith(("> ", ">\\ ", ">> ", "! ", "= ")) or it == ">" for it in cases)
     edits = [it for it in top.glob("crates/*/*/*.edit")]
     of_gate = sum(it.parent.name == "must-fail" or "\ngate\n" in it.read_text() for it in edits)

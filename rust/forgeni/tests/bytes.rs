@@ -3,7 +3,7 @@
 //! by item asks for at most twice its room in all: each doubling asks for the whole list again.
 
 mod common;
-#[path = "../../../.ci/refusing_allocator.rs"]
+#[path = "common/refusing_allocator.rs"]
 mod refusing;
 
 use common::{flushed, handle};

@@ -3,7 +3,7 @@
 //! say, and do the same as with ample memory when it is made again.
 
 mod common;
-#[path = "../../../.ci/refusing_allocator.rs"]
+#[path = "common/refusing_allocator.rs"]
 mod refusing;
 
 use common::{handle, this_program};

@@ -20,7 +20,7 @@ mod logs;
 mod peers;
 #[path = "../plain/mod.rs"]
 mod plain;
-#[path = "../../../../.ci/refusing_allocator.rs"]
+#[path = "../../tests/common/refusing_allocator.rs"]
 mod refusing;
 mod slots;
 mod sync;
