@@ -8,6 +8,7 @@ mod game;
 mod going_on;
 mod meadow;
 mod one_thread;
+mod orders;
 mod two_threads;
 
 use anyhow::Result;
@@ -17,6 +18,8 @@ use std::thread::Threads;
 pub fn show<R: Threads + Sync + Print + AllocGlobal>(rt: &R) -> Result<()> {
     head(rt, "One thread")?;
     one_thread::show(rt)?;
+    head(rt, "Orders")?;
+    orders::show(rt)?;
     head(rt, "Two threads")?;
     two_threads::show(rt)?;
     head(rt, "The meadow")?;
