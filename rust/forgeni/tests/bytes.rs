@@ -85,9 +85,10 @@ fn maps_of<T: Copy + Default>(slot: usize) {
         map.retain(|one, _| one.index() < 2 * N);
     });
 
-    // Room for all slots, and a list of handles.
+    // Room for all slots, and a list of handles with their values.
     let clone = exactly(slot * 3 * BYTES, || map.clone());
-    exactly(HANDLE * 2 * BYTES, || clone.into_iter());
+    let entry = size_of::<(Handle, T)>();
+    exactly(entry * 2 * BYTES, || clone.into_iter());
 
     let mut far = HandleMap::new();
     let last = handle(N - 1, 1);
