@@ -1,6 +1,6 @@
 -- An image and the four bytes after it.
-use Rattle.std.proofs.Common.{◌≡◌, ◌≢◌, refl, sym, ap, ◌∙◌, ℕ, ◌^◌, ◌<◌, List, [], ◌++◌, length, arith}
-use Rattle.std.proofs.Common.{Result, Ok, Err, IfErr, IsErrAnd, ◌⊎◌, inr}
+use Rattle.std.proofs.Common.{◌≡◌, ◌≢◌, refl, sym, ap, ◌∙◌, ℕ, ◌^◌, ◌<◌, List, [], ◌++◌, length}
+use Rattle.std.proofs.Common.{arith, Result, Ok, Err, IfErr, IsErrAnd, ◌⊎◌, inr}
 use Rattle.std.proofs.lemmas.List.{length-append, append-nil}
 use Rattle.ent_storage.specs.Image.{word}
 use Rattle.ent_storage.proofs.ImageBytes.{length-word, same_words, same_parts}
@@ -19,7 +19,8 @@ same_ends xs ys m n fits_m fits_n is =
     let all = ap length is in
     let first = length-append xs (word m) in
     let second = length-append ys (word n) in
-    let long : length xs ≡ length ys = omega (arith, all, first, second, length-word m, length-word n) in
+    let long : length xs ≡ length ys =
+    omega (arith, all, first, second, length-word m, length-word n) in
     let parts = same_parts (length ys) xs (word m) ys (word n) long refl is in
     let numbers = same_words m n [] [] fits_m fits_n
     (append-nil (word m) ∙ parts.1 ∙ sym (append-nil (word n))) in
