@@ -15,9 +15,9 @@ impl World {
     /// Appends the image of the world: bytes from which [`read_image`](Self::read_image) makes the
     /// same world anew, with its limits, entities, births, components, waiting slots and requests.
     ///
-    /// The image tells no more than that. Two worlds that are the same to every call have the same
-    /// image, whatever came before. It grows with the slots that were made and the entities that are
-    /// alive, not with the calls.
+    /// The image has no more than that. Two worlds that are the same to every call have the same
+    /// image, whatever came before. It grows with the slots that were made and the living entities,
+    /// not with the calls.
     ///
     /// ```
     /// use forgeni::{ComponentId, World};
@@ -65,8 +65,8 @@ impl World {
 ///
 /// # Errors
 ///
-/// Each but `Memory` says that no world has this image. `Memory` comes if there is no memory for what
-/// the image has, whatever it is.
+/// Each but `Memory` says that no world has this image. `Memory` comes if there is no memory for
+/// what the image has, whatever it is.
 ///
 /// <details><summary>Contract</summary>
 ///
