@@ -3,3 +3,4 @@ pub mod Replied
 pub mod Unused
 pub mod Walking
 mod Refusals
+pub mod ImageEnd

@@ -25,17 +25,17 @@ pub record WorldOpening : Type 0 where
   pub of_world : ℕ
   pub spawned : ℕ
   pub world : Opened
-  pub home : List Reserver
+  pub returned : List Reserver
 
 -- the number by which phases are told apart, the number of the world and how many entities were
 -- spawned in it since the last flush, the world that is open, the reservers that no system has, and
--- the queues that came home
+-- the queues that came back
 pub record OpenWorld : Type 0 where
   pub number : ℕ
   pub of_world : ℕ
   pub spawned : ℕ
   pub world : Opened
-  pub home : List Reserver
+  pub returned : List Reserver
   pub queues : List (List Command)
 
 -- the number of its phase, the world that it views, its reserver, and its commands so far
@@ -67,21 +67,21 @@ abbrev pub issued : List Commands → List (List Command)
 issued all = map (λ (i : Commands). i.queue) all
 
 -- what is returned and what these bring, behind it
-abbrev pub reservers_home : OpenWorld → List Commands → List Reserver
-reservers_home p all = p.home ++ issuing all
+abbrev pub reservers_returned : OpenWorld → List Commands → List Reserver
+reservers_returned p all = p.returned ++ issuing all
 
-abbrev pub queues_home : OpenWorld → List Commands → List (List Command)
-queues_home p all = p.queues ++ issued all
+abbrev pub queues_returned : OpenWorld → List Commands → List (List Command)
+queues_returned p all = p.queues ++ issued all
 
 -- They are all of this phase, and with those returned no more than it has.
-abbrev pub MayComeHome : OpenWorld → List Commands → Type 0
-MayComeHome p all =
-    AreCommandsOf p.number all × (length (reservers_home p all) ≤ p.world.shared.count)
+abbrev pub MayReturn : OpenWorld → List Commands → Type 0
+MayReturn p all =
+    AreCommandsOf p.number all × (length (reservers_returned p all) ≤ p.world.shared.count)
 
-abbrev pub with_home : OpenWorld → List Commands → OpenWorld
-with_home p all = record p {
-  home = reservers_home p all;
-  queues = queues_home p all;
+abbrev pub with_returned : OpenWorld → List Commands → OpenWorld
+with_returned p all = record p {
+  returned = reservers_returned p all;
+  queues = queues_returned p all;
 }
 
 -- Commands were added, and the reserver has gained their reservations and no others. Nothing else
@@ -115,63 +115,63 @@ pub record AreTaken (a : Allocator) (reservers : List Reserver) : Type 0 where
 -- reserved. The reservations stand in one history that is legal and respects each reserver; each
 -- stands there once. No handle was given twice, and none was alive. A flush brings to life just
 -- what was given.
-pub record IsClosed (opened : Opened) (home : List Reserver) (after : World) : Type 0 where
+pub record IsClosed (opened : Opened) (returned : List Reserver) (after : World) : Type 0 where
   pub phase : after.phase ≡ opened.phase
   pub entities : after.entities ≡ opened.entities
   pub world : IsWorld after
   pub allocator : after.allocator
-      ≡ after_history opened.shared.start (history_of (records_of home))
-  pub legal : IsLegal opened.shared.start (history_of (records_of home))
-  pub respects : All (Respects (reservations_of (records_of home))) (records_of home)
+      ≡ after_history opened.shared.start (history_of (records_of returned))
+  pub legal : IsLegal opened.shared.start (history_of (records_of returned))
+  pub respects : All (Respects (reservations_of (records_of returned))) (records_of returned)
   pub falls : AllPairs (λ earlier later. later.high <ℤ earlier.high)
-      (reservations_of (records_of home))
-  pub numbers : AllPairs (λ r s. r.number ≢ s.number) (records_of home)
-  pub distinct : AllPairs (λ g h. g ≢ h) (given_in (history_of (records_of home)))
+      (reservations_of (records_of returned))
+  pub numbers : AllPairs (λ r s. r.number ≢ s.number) (records_of returned)
+  pub distinct : AllPairs (λ g h. g ≢ h) (given_in (history_of (records_of returned)))
   pub not_live : All (λ h. ¬ (IsLive opened.shared.start h))
-      (given_in (history_of (records_of home)))
+      (given_in (history_of (records_of returned)))
   pub brings_to_life : BringsToLife opened.shared.start after.allocator
-      (given_in (history_of (records_of home)))
+      (given_in (history_of (records_of returned)))
 
 -- The phase ended with those of its reservers that are returned: the world is the one that was
 -- opened, and a front of the pool is reserved. It counts what these have requested, and of the
 -- others no more than their quota. It has all handles that these got. If all are returned, it counts
 -- exactly what they have requested, and the cursor is where their history leaves it.
-pub record IsClosedLost (opened : Opened) (home : List Reserver) (after : World) : Type 0 where
+pub record IsClosedLost (opened : Opened) (returned : List Reserver) (after : World) : Type 0 where
   pub phase : after.phase ≡ opened.phase
   pub entities : after.entities ≡ opened.entities
   pub world : IsWorld after
   pub allocator : after.allocator ≡ after_loss opened.shared.start after.allocator.asked
-  pub least : sum_by (λ (r : Reserver). requested_by r.own) home ≤ after.allocator.asked
-  pub most : sum_by (λ (r : Reserver). r.own.left) home + after.allocator.asked
+  pub least : sum_by (λ (r : Reserver). requested_by r.own) returned ≤ after.allocator.asked
+  pub most : sum_by (λ (r : Reserver). r.own.left) returned + after.allocator.asked
       ≤ opened.shared.count * quota
-  pub reached : All (λ (r : Reserver). cursor after.allocator ≤ℤ r.own.mark) home
-  pub asked : length home ≡ opened.shared.count
-      → sum_by (λ (r : Reserver). requested_by r.own) home ≡ after.allocator.asked
-  pub whole : length home ≡ opened.shared.count
+  pub reached : All (λ (r : Reserver). cursor after.allocator ≤ℤ r.own.mark) returned
+  pub asked : length returned ≡ opened.shared.count
+      → sum_by (λ (r : Reserver). requested_by r.own) returned ≡ after.allocator.asked
+  pub whole : length returned ≡ opened.shared.count
       → cursor after.allocator
-      ≡ cursor (after_history opened.shared.start (history_of (records_of home)))
-  pub given : AreTaken after.allocator home
+      ≡ cursor (after_history opened.shared.start (history_of (records_of returned)))
+  pub given : AreTaken after.allocator returned
 
 -- each is stored as the tuple of its parts
 abbrev pub world_opening_code : Coded WorldOpening
 world_opening_code =
     code_by (ℕ × (ℕ × (Opened × List Reserver)))
     (coded× coded_ℕ (coded× coded_ℕ (coded× opened_code (coded_list reserver_code))))
-    (λ o. (o.of_world, (o.spawned, (o.world, o.home))))
-    (λ t. record { of_world = t.0; spawned = t.1.0; world = t.1.1.0; home = t.1.1.1 }) (λ _. refl)
+    (λ o. (o.of_world, (o.spawned, (o.world, o.returned))))
+    (λ t. record { of_world = t.0; spawned = t.1.0; world = t.1.1.0; returned = t.1.1.1 }) (λ _. refl)
 
 abbrev pub open_world_code : Coded OpenWorld
 open_world_code =
     code_by (ℕ × (ℕ × (ℕ × (Opened × (List Reserver × List (List Command))))))
     (coded× coded_ℕ (coded× coded_ℕ (coded× coded_ℕ (coded× opened_code
     (coded× (coded_list reserver_code) (coded_list queued.the_row.coded))))))
-    (λ p. (p.number, (p.of_world, (p.spawned, (p.world, (p.home, p.queues))))))
+    (λ p. (p.number, (p.of_world, (p.spawned, (p.world, (p.returned, p.queues))))))
     (λ t. record {
       number = t.0;
       of_world = t.1.0;
       spawned = t.1.1.0;
       world = t.1.1.1.0;
-      home = t.1.1.1.1.0;
+      returned = t.1.1.1.1.0;
       queues = t.1.1.1.1.1;
     }) (λ _. refl)
 

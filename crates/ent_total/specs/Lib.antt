@@ -7,3 +7,4 @@ pub mod Finishing
 pub mod Framing
 pub mod Issuing
 pub mod Sharing
+pub mod Image

@@ -14,14 +14,14 @@ use Rattle.ent_shared.specs.Replies.{Reserves}
 -- the allocator that is shared, and all its reservers
 pub record Opening : Type 0 where
   pub shared : inner.Shared
-  pub home : List inner.Reserver
+  pub returned : List inner.Reserver
 
 -- the number by which phases are told apart, the allocator that is shared, and the reservers that
 -- are returned
 pub record Shared : Type 0 where
   pub number : ℕ
   pub shared : inner.Shared
-  pub home : List inner.Reserver
+  pub returned : List inner.Reserver
 
 -- the number of its phase, the allocator that it reserves from, and its reserver
 pub record Reserver : Type 0 where
@@ -38,13 +38,13 @@ abbrev pub AreOf : ℕ → List Reserver → Type 0
 AreOf number reservers = All (λ (r : Reserver). r.number ≡ number) reservers
 
 -- the reservers returned, and these behind them
-abbrev pub all_home : Shared → List Reserver → List inner.Reserver
-all_home s reservers = s.home ++ reservers_of reservers
+abbrev pub all_returned : Shared → List Reserver → List inner.Reserver
+all_returned s reservers = s.returned ++ reservers_of reservers
 
 -- They are all of this phase, and with those returned no more than it has.
-abbrev pub MayComeHome : Shared → List Reserver → Type 0
-MayComeHome s reservers =
-    AreOf s.number reservers × (length (all_home s reservers) ≤ s.shared.count)
+abbrev pub MayReturn : Shared → List Reserver → Type 0
+MayReturn s reservers =
+    AreOf s.number reservers × (length (all_returned s reservers) ≤ s.shared.count)
 
 -- The quota has so many handles, and the pool had so many when the phase was opened.
 abbrev pub MayBeServed : Reserver → ℕ → Type 0
@@ -82,14 +82,14 @@ abbrev pub opening_code : Coded Opening
 opening_code =
     code_by (inner.Shared × List inner.Reserver)
     (coded× inner.shared_code (coded_list inner.reserver_code))
-    (λ o. (o.shared, o.home)) (λ t. record { shared = t.0; home = t.1 }) (λ _. refl)
+    (λ o. (o.shared, o.returned)) (λ t. record { shared = t.0; returned = t.1 }) (λ _. refl)
 
 abbrev pub shared_code : Coded Shared
 shared_code =
     code_by (ℕ × (inner.Shared × List inner.Reserver))
     (coded× coded_ℕ (coded× inner.shared_code (coded_list inner.reserver_code)))
-    (λ s. (s.number, (s.shared, s.home)))
-    (λ t. record { number = t.0; shared = t.1.0; home = t.1.1 }) (λ _. refl)
+    (λ s. (s.number, (s.shared, s.returned)))
+    (λ t. record { number = t.0; shared = t.1.0; returned = t.1.1 }) (λ _. refl)
 
 abbrev pub reserver_code : Coded Reserver
 reserver_code =

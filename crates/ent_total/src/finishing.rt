@@ -3,7 +3,7 @@ ghost use Rattle.std.specs.Prelude.{◌≡◌, ◌≢◌, ◌↔◌, ◌+◌, �
 ghost use Rattle.std.specs.Prelude.{IfSome, IsSome, OnOk};
 ghost use Rattle.ent_shared.specs.Phase.{IsOf};
 ghost use Rattle.ent_total.specs.Faults.{IsErrWith};
-ghost use Rattle.ent_total.specs.Issuing.{MayComeHome, reservers_home, queues_home, with_home};
+ghost use Rattle.ent_total.specs.Issuing.{MayReturn, reservers_returned, queues_returned, with_returned};
 ghost use Rattle.ent_total.specs.Issuing.{IsClosed, IsClosedLost};
 ghost use Rattle.ent_total.specs.Finishing.{AreMissing, queues_missing};
 ghost use Rattle.ent_total.specs.declared.unfinished.FinishError.TheVariants.{OtherPhase, InUse};
@@ -14,7 +14,7 @@ use crate::open_world::{OpenWorld, Parts};
 use crate::queues::Queues;
 use crate::unfinished::{FinishError, Unfinished};
 use crate::world::World;
-use crate::world_homecoming::are_of;
+use crate::world_returning::are_of;
 use ent_shared::Reserver;
 
 impl<J: Numbering> OpenWorld<J> {
@@ -50,28 +50,28 @@ impl<J: Numbering> OpenWorld<J> {
     /// [`close_lost`](OpenWorld::close_lost) does.
     pub fn close(mut self, queues: Vec<CommandQueue<J>>) -> Result<(World, Queues), Unfinished<J>>
         ensures world { IfOk result (λ made.
-            IsClosed self.world (reservers_home self queues.items) made.0.world) }
+            IsClosed self.world (reservers_returned self queues.items) made.0.world) }
         ensures number { IfOk result (λ made. made.0.number ≡ self.of_world) }
         ensures spawned { IfOk result (λ made. made.0.spawned ≡ self.spawned) }
         ensures queues { IfOk result (λ made.
-            made.1 ≡ record { world = self.of_world; queues = queues_home self queues.items }) }
+            made.1 ≡ record { world = self.of_world; queues = queues_returned self queues.items }) }
 
         // When it succeeds, when it is refused, and what holds then.
-        ensures home { OnOk result (MayComeHome self queues.items) }
+        ensures may_return { OnOk result (MayReturn self queues.items) }
         ensures all { OnOk result
-            (length (reservers_home self queues.items) ≡ self.world.shared.count) }
+            (length (reservers_returned self queues.items) ≡ self.world.shared.count) }
         ensures other_phase { IsErrWith result (λ u. u.error ≡ OtherPhase)
-            ↔ ¬ (MayComeHome self queues.items) }
+            ↔ ¬ (MayReturn self queues.items) }
         ensures missing { IsErrWith result (λ u. AreMissing u.error)
-            ↔ (MayComeHome self queues.items
-            × (length (reservers_home self queues.items) < self.world.shared.count)) }
+            ↔ (MayReturn self queues.items
+            × (length (reservers_returned self queues.items) < self.world.shared.count)) }
         ensures how_many { IfErr result (λ u. AreMissing u.error
-            → length (reservers_home self queues.items) + queues_missing u.error
+            → length (reservers_returned self queues.items) + queues_missing u.error
             ≡ self.world.shared.count) }
         ensures handed_back { IfErr result (λ u. u.error ≢ InUse
             → (u.open ≡ self) × (u.queues.items ≡ queues.items)) }
-        ensures at_home { IfErr result (λ u. u.error ≡ InUse
-            → (u.open ≡ with_home self queues.items) × (u.queues.items ≡ [])) }
+        ensures returned { IfErr result (λ u. u.error ≡ InUse
+            → (u.open ≡ with_returned self queues.items) × (u.queues.items ≡ [])) }
     {
         let Some(missing) = self.missing(&queues) else {
             return Err(self.unfinished(queues, FinishError::OtherPhase));
@@ -79,7 +79,7 @@ impl<J: Numbering> OpenWorld<J> {
         if missing > 0 {
             return Err(self.unfinished(queues, FinishError::Missing { count: missing }));
         }
-        self.take_home(queues);
+        self.take_back(queues);
         match self.end() {
             Ok(parts) => Ok(close_all(parts)),
             Err(open) => Err(open.in_use()),
@@ -106,48 +106,48 @@ impl<J: Numbering> OpenWorld<J> {
         queues: Vec<CommandQueue<J>>,
     ) -> Result<(World, Queues), Unfinished<J>>
         ensures world { IfOk result (λ made.
-            IsClosedLost self.world (reservers_home self queues.items) made.0.world) }
+            IsClosedLost self.world (reservers_returned self queues.items) made.0.world) }
         ensures number { IfOk result (λ made. made.0.number ≡ self.of_world) }
         ensures spawned { IfOk result (λ made. made.0.spawned ≡ self.spawned) }
         ensures queues { IfOk result (λ made.
-            made.1 ≡ record { world = self.of_world; queues = queues_home self queues.items }) }
+            made.1 ≡ record { world = self.of_world; queues = queues_returned self queues.items }) }
 
         // When it succeeds, when it is refused, and what holds then.
-        ensures home { OnOk result (MayComeHome self queues.items) }
+        ensures may_return { OnOk result (MayReturn self queues.items) }
         ensures other_phase { IsErrWith result (λ u. u.error ≡ OtherPhase)
-            ↔ ¬ (MayComeHome self queues.items) }
+            ↔ ¬ (MayReturn self queues.items) }
         ensures no_missing { IfErr result (λ u. ¬ (AreMissing u.error)) }
         ensures handed_back { IfErr result (λ u. u.error ≢ InUse
             → (u.open ≡ self) × (u.queues.items ≡ queues.items)) }
-        ensures at_home { IfErr result (λ u. u.error ≡ InUse
-            → (u.open ≡ with_home self queues.items) × (u.queues.items ≡ [])) }
+        ensures returned { IfErr result (λ u. u.error ≡ InUse
+            → (u.open ≡ with_returned self queues.items) × (u.queues.items ≡ [])) }
     {
         if self.missing(&queues).is_none() {
             return Err(self.unfinished(queues, FinishError::OtherPhase));
         }
-        self.take_home(queues);
+        self.take_back(queues);
         match self.end() {
             Ok(parts) => Ok(close_some(parts)),
             Err(open) => Err(open.in_use()),
         }
     }
 
-    /// How many systems are missing beside those returned and these, if these may come home.
+    /// How many systems are missing beside those returned and these, if these may come back.
     fn missing(&self, queues: &[CommandQueue<J>]) -> Option<usize>
-        ensures home { IsSome result ↔ MayComeHome self.now queues.now }
+        ensures may_return { IsSome result ↔ MayReturn self.now queues.now }
         ensures count { IfSome result (λ missing.
-            length (reservers_home self.now queues.now) + missing
+            length (reservers_returned self.now queues.now) + missing
             ≡ self.now.world.shared.count) }
     {
         if !are_of(self.number(), queues) {
             return None;
         }
         let most = self.count();
-        let home = self.at_home();
-        if home > most || queues.len() > most - home {
+        let returned = self.returned();
+        if returned > most || queues.len() > most - returned {
             return None;
         }
-        Some(most - home - queues.len())
+        Some(most - returned - queues.len())
     }
 
     /// That it was not closed, and these queues are handed back.
@@ -176,10 +176,10 @@ impl<J: Numbering> OpenWorld<J> {
 
 /// `OpenWorld::close`, with all that it ensures as one fact.
 fn close_all(parts: Parts) -> (World, Queues)
-    requires all { length parts.home.items ≡ parts.world.shared.count }
-    requires own { All (IsOf parts.world.shared) parts.home.items }
+    requires all { length parts.returned.items ≡ parts.world.shared.count }
+    requires own { All (IsOf parts.world.shared) parts.returned.items }
     requires few { length parts.queues.items ≤ 2 ^ 16 }
-    ensures world { IsClosed parts.world parts.home.items result.0.world }
+    ensures world { IsClosed parts.world parts.returned.items result.0.world }
     ensures number { result.0.number ≡ parts.of_world }
     ensures spawned { result.0.spawned ≡ parts.spawned }
     ensures queues { result.1
@@ -189,10 +189,10 @@ fn close_all(parts: Parts) -> (World, Queues)
         of_world,
         spawned,
         world,
-        home,
+        returned,
         queues,
     } = parts;
-    let world = closed_world(world, home);
+    let world = closed_world(world, returned);
     let queues = Queues::new(of_world, queues);
     (
         World {
@@ -206,9 +206,9 @@ fn close_all(parts: Parts) -> (World, Queues)
 
 /// `OpenWorld::close_lost`, with all that it ensures as one fact.
 fn close_some(parts: Parts) -> (World, Queues)
-    requires own { All (IsOf parts.world.shared) parts.home.items }
+    requires own { All (IsOf parts.world.shared) parts.returned.items }
     requires few { length parts.queues.items ≤ 2 ^ 16 }
-    ensures world { IsClosedLost parts.world parts.home.items result.0.world }
+    ensures world { IsClosedLost parts.world parts.returned.items result.0.world }
     ensures number { result.0.number ≡ parts.of_world }
     ensures spawned { result.0.spawned ≡ parts.spawned }
     ensures queues { result.1
@@ -218,10 +218,10 @@ fn close_some(parts: Parts) -> (World, Queues)
         of_world,
         spawned,
         world,
-        home,
+        returned,
         queues,
     } = parts;
-    let world = lost_world(world, home);
+    let world = lost_world(world, returned);
     let queues = Queues::new(of_world, queues);
     (
         World {
@@ -233,17 +233,17 @@ fn close_some(parts: Parts) -> (World, Queues)
     )
 }
 
-fn closed_world(opened: ent_world::OpenWorld, home: Vec<Reserver>) -> ent_world::World
-    requires all { length home.items ≡ opened.shared.count }
-    requires own { All (IsOf opened.shared) home.items }
-    ensures { IsClosed opened home.items result }
+fn closed_world(opened: ent_world::OpenWorld, returned: Vec<Reserver>) -> ent_world::World
+    requires all { length returned.items ≡ opened.shared.count }
+    requires own { All (IsOf opened.shared) returned.items }
+    ensures { IsClosed opened returned.items result }
 {
-    opened.close(home)
+    opened.close(returned)
 }
 
-fn lost_world(opened: ent_world::OpenWorld, home: Vec<Reserver>) -> ent_world::World
-    requires { All (IsOf opened.shared) home.items }
-    ensures { IsClosedLost opened home.items result }
+fn lost_world(opened: ent_world::OpenWorld, returned: Vec<Reserver>) -> ent_world::World
+    requires { All (IsOf opened.shared) returned.items }
+    ensures { IsClosedLost opened returned.items result }
 {
-    opened.close_lost(home)
+    opened.close_lost(returned)
 }

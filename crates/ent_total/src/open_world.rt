@@ -6,12 +6,12 @@ ghost use Rattle.std.specs.Vec.{vec_capacity, vec_len};
 ghost use Rattle.ent_shared.specs.Phase.{IsOf};
 ghost use Rattle.ent_storage.specs.EntityMap.{birth_of, value_of};
 ghost use Rattle.ent_storage.specs.BirthOrder.{ListsAll};
-ghost use Rattle.ent_total.specs.Issuing.{AreNew, MayComeHome, issuing, new_commands, with_home};
+ghost use Rattle.ent_total.specs.Issuing.{AreNew, MayReturn, issuing, new_commands, with_returned};
 
 use crate::command_queue::CommandQueue;
 use crate::commands::Commands;
 use crate::numbering::Numbering;
-use crate::world_homecoming::bring_home;
+use crate::world_returning::bring_back;
 use ent_handle::{Birth, ComponentId, Handle, Memory};
 use ent_shared::Reserver;
 use ent_world::View;
@@ -30,7 +30,7 @@ pub struct OpenWorld<J: Numbering> {
     of_world: u64,
     spawned: u32,
     world: Arc<ent_world::OpenWorld, Global>,
-    home: Vec<Reserver>,
+    returned: Vec<Reserver>,
     queues: Vec<ent_queue::CommandQueue>,
     number: u64,
     of: PhantomData<J>,
@@ -52,19 +52,19 @@ impl<J: Numbering> Model for OpenWorld<J> {
       of_world = p.of_world;
       spawned = p.spawned;
       world = arc_value p.world;
-      home = p.home.items;
+      returned = p.returned.items;
       queues = p.queues.items;
     } };
 
     ghost invariant = { λ p. record {
       -- the number stands for this world, and the reservers returned came with it
       stands_for : J.world_of p.number ≡ arc_value p.world;
-      own : All (IsOf (arc_value p.world).shared) p.home.items;
-      -- a system that came home brought its reserver and its queue
-      each : length p.queues.items ≤ length p.home.items;
+      own : All (IsOf (arc_value p.world).shared) p.returned.items;
+      -- a system that came back brought its reserver and its queue
+      each : length p.queues.items ≤ length p.returned.items;
       -- there are at most 1,024 systems, and there is room for all of them
       few : (arc_value p.world).shared.count ≤ 1024;
-      home_room : (arc_value p.world).shared.count ≤ vec_capacity p.home;
+      home_room : (arc_value p.world).shared.count ≤ vec_capacity p.returned;
       queue_room : (arc_value p.world).shared.count ≤ vec_capacity p.queues;
     } };
 }
@@ -75,7 +75,7 @@ pub(crate) struct Parts {
     pub(crate) of_world: u64,
     pub(crate) spawned: u32,
     pub(crate) world: ent_world::OpenWorld,
-    pub(crate) home: Vec<Reserver>,
+    pub(crate) returned: Vec<Reserver>,
     pub(crate) queues: Vec<ent_queue::CommandQueue>,
 }
 
@@ -85,22 +85,22 @@ impl<J: Numbering> OpenWorld<J> {
         of_world: u64,
         spawned: u32,
         world: Arc<ent_world::OpenWorld, Global>,
-        home: Vec<Reserver>,
+        returned: Vec<Reserver>,
         queues: Vec<ent_queue::CommandQueue>,
         number: u64,
     ) -> Self
         requires stands_for { J.world_of number ≡ arc_value world }
-        requires own { All (IsOf (arc_value world).shared) home.items }
-        requires each { length queues.items ≤ length home.items }
+        requires own { All (IsOf (arc_value world).shared) returned.items }
+        requires each { length queues.items ≤ length returned.items }
         requires few { (arc_value world).shared.count ≤ 1024 }
-        requires home_room { (arc_value world).shared.count ≤ vec_capacity home }
+        requires home_room { (arc_value world).shared.count ≤ vec_capacity returned }
         requires queue_room { (arc_value world).shared.count ≤ vec_capacity queues }
         ensures { result ≡ record {
           number = number;
           of_world = of_world;
           spawned = spawned;
           world = arc_value world;
-          home = home.items;
+          returned = returned.items;
           queues = queues.items;
         } }
     {
@@ -109,7 +109,7 @@ impl<J: Numbering> OpenWorld<J> {
             of_world,
             spawned,
             world,
-            home,
+            returned,
             queues,
             number,
             of: PhantomData,
@@ -169,12 +169,12 @@ impl<J: Numbering> OpenWorld<J> {
         self.world.shared().count()
     }
 
-    /// How many systems have come home: a close that was refused kept their queues.
+    /// How many systems have come back: a close that was refused kept their queues.
     #[must_use]
-    pub fn at_home(&self) -> usize
-        ensures { result ≡ length self.now.home }
+    pub fn returned(&self) -> usize
+        ensures { result ≡ length self.now.returned }
     {
-        self.home.len()
+        self.returned.len()
     }
 
     pub(crate) fn number(&self) -> u64
@@ -193,17 +193,17 @@ impl<J: Numbering> OpenWorld<J> {
         requires { self.old.queues ≡ [] }
         ensures given { IfOk result (λ found. IfSome found (λ c.
             (c ≡ new_commands self.old.number self.old.world c.reserver)
-            × (self.old ≡ record self.new { home = self.new.home ++ c.reserver ∷ [] }))) }
+            × (self.old ≡ record self.new { returned = self.new.returned ++ c.reserver ∷ [] }))) }
         ensures none { IfOk result (λ found. IfNone found (self.new ≡ self.old)) }
         ensures err { OnErr result (self.new ≡ self.old) }
     {
-        if self.home.is_empty() {
+        if self.returned.is_empty() {
             return Ok(None);
         }
         let Ok(world) = Arc::try_clone(&self.world) else {
             return Err(Memory);
         };
-        let Some(reserver) = self.home.pop() else {
+        let Some(reserver) = self.returned.pop() else {
             unreachable!()
         };
         Ok(Some(Commands::new(self.alloc, world, reserver, self.number)))
@@ -213,25 +213,25 @@ impl<J: Numbering> OpenWorld<J> {
     /// for them. One whose owner can't be counted stays with the phase, and so do the others.
     pub(crate) fn give_out(&mut self, systems: &mut Vec<Commands<J>>)
         requires queues { self.old.queues ≡ [] }
-        requires room { vec_len systems.old + length self.old.home ≤ vec_capacity systems.old }
+        requires room { vec_len systems.old + length self.old.returned ≤ vec_capacity systems.old }
         requires new { AreNew self.old.number self.old.world systems.old.items }
         ensures new { AreNew self.old.number self.old.world systems.new.items }
-        ensures given { issuing systems.new.items ++ reverse self.new.home
-            ≡ issuing systems.old.items ++ reverse self.old.home }
-        ensures phase { self.new ≡ record self.old { home = self.new.home } }
+        ensures given { issuing systems.new.items ++ reverse self.new.returned
+            ≡ issuing systems.old.items ++ reverse self.old.returned }
+        ensures phase { self.new ≡ record self.old { returned = self.new.returned } }
     {
         while let Ok(Some(system)) = self.next_system() {
             systems.push_reserved(system);
         }
     }
 
-    /// Takes systems home, in their order, which needs no memory.
-    pub(crate) fn take_home(&mut self, queues: Vec<CommandQueue<J>>)
-        requires { MayComeHome self.old queues.items }
-        ensures { self.new ≡ with_home self.old queues.items }
+    /// Takes systems returned, in their order, which needs no memory.
+    pub(crate) fn take_back(&mut self, queues: Vec<CommandQueue<J>>)
+        requires { MayReturn self.old queues.items }
+        ensures { self.new ≡ with_returned self.old queues.items }
     {
-        bring_home(
-            &mut self.home,
+        bring_back(
+            &mut self.returned,
             &mut self.queues,
             &self.world,
             self.number,
@@ -244,11 +244,11 @@ impl<J: Numbering> OpenWorld<J> {
         ensures world { IfOk result (λ parts. parts.world ≡ self.world) }
         ensures of_world { IfOk result (λ parts. parts.of_world ≡ self.of_world) }
         ensures spawned { IfOk result (λ parts. parts.spawned ≡ self.spawned) }
-        ensures home { IfOk result (λ parts. parts.home.items ≡ self.home) }
+        ensures may_return { IfOk result (λ parts. parts.returned.items ≡ self.returned) }
         ensures queues { IfOk result (λ parts. parts.queues.items ≡ self.queues) }
-        ensures own { IfOk result (λ parts. All (IsOf parts.world.shared) parts.home.items) }
+        ensures own { IfOk result (λ parts. All (IsOf parts.world.shared) parts.returned.items) }
         ensures each { IfOk result (λ parts.
-            length parts.queues.items ≤ length parts.home.items) }
+            length parts.queues.items ≤ length parts.returned.items) }
         ensures few { IfOk result (λ parts. parts.world.shared.count ≤ 1024) }
         ensures err { IfErr result (λ phase. phase ≡ self) }
     {
@@ -257,7 +257,7 @@ impl<J: Numbering> OpenWorld<J> {
             of_world,
             spawned,
             world,
-            home,
+            returned,
             queues,
             number,
             of: _,
@@ -267,11 +267,11 @@ impl<J: Numbering> OpenWorld<J> {
                 of_world,
                 spawned,
                 world,
-                home,
+                returned,
                 queues,
             }),
             Err(world) => Err(OpenWorld::new(
-                alloc, of_world, spawned, world, home, queues, number,
+                alloc, of_world, spawned, world, returned, queues, number,
             )),
         }
     }

@@ -24,7 +24,7 @@ pub(crate) const CALLERS: usize = 1024;
 pub struct Opening<J: Numbering> {
     alloc: Global,
     shared: Arc<ent_shared::Shared, Global>,
-    home: Vec<ent_shared::Reserver>,
+    returned: Vec<ent_shared::Reserver>,
     reservers: Vec<Reserver<J>>,
 }
 
@@ -39,14 +39,14 @@ impl<J: Numbering> Model for Opening<J> {
 
     ghost coded = { opening_code };
 
-    ghost view = { λ o. record { shared = arc_value o.shared; home = o.home.items } };
+    ghost view = { λ o. record { shared = arc_value o.shared; returned = o.returned.items } };
 
     // The reservers returned came with this allocator, and there is room for all of them, returned
     // and where they are given out.
-    ghost invariant = { λ o. All (IsOf (arc_value o.shared)) o.home.items
-        × ((arc_value o.shared).count ≤ vec_capacity o.home)
+    ghost invariant = { λ o. All (IsOf (arc_value o.shared)) o.returned.items
+        × ((arc_value o.shared).count ≤ vec_capacity o.returned)
         × (o.reservers.items ≡ [])
-        × (length o.home.items ≤ vec_capacity o.reservers) };
+        × (length o.returned.items ≤ vec_capacity o.reservers) };
 }
 
 /// Shares an allocator among `count` callers, 1 to 1,024.
@@ -63,7 +63,7 @@ pub fn share<J: Numbering>(
     ensures start { IfOk result (λ o. o.shared.start ≡ entities.allocator) }
     ensures rows { IfOk result (λ o. o.shared.rows ≡ entities.rows) }
     ensures count { IfOk result (λ o. o.shared.count ≡ count) }
-    ensures home { IfOk result (λ o. records_of o.home ≡ opened_records entities.allocator 0 count) }
+    ensures may_return { IfOk result (λ o. records_of o.returned ≡ opened_records entities.allocator 0 count) }
     ensures needs_flush { IsErrWith result (λ u. u.error ≡ NeedsFlush)
         ↔ (0 < entities.allocator.asked) }
     ensures no_count { IsErrWith result (λ u. u.error ≡ Count)
@@ -100,14 +100,14 @@ impl<J: Numbering> Opening<J> {
         ensures start { IfOk result (λ o. o.shared.start ≡ entities.allocator) }
         ensures rows { IfOk result (λ o. o.shared.rows ≡ entities.rows) }
         ensures count { IfOk result (λ o. o.shared.count ≡ count) }
-        ensures home { IfOk result (λ o.
-            records_of o.home ≡ opened_records entities.allocator 0 count) }
+        ensures may_return { IfOk result (λ o.
+            records_of o.returned ≡ opened_records entities.allocator 0 count) }
         ensures err { IfErr result (λ refused. refused ≡ entities) }
     {
         let Ok(reservers) = Vec::with_capacity(alloc, count) else {
             return Err(entities);
         };
-        let (shared, home) = match ent_shared::share(alloc, entities, count) {
+        let (shared, returned) = match ent_shared::share(alloc, entities, count) {
             Ok(made) => made,
             Err((entities, _)) => return Err(entities),
         };
@@ -115,10 +115,10 @@ impl<J: Numbering> Opening<J> {
             Ok(shared) => Ok(Opening {
                 alloc,
                 shared,
-                home,
+                returned,
                 reservers,
             }),
-            Err(refused) => Err(refused.value.close(home)),
+            Err(refused) => Err(refused.value.close(returned)),
         }
     }
 
@@ -135,29 +135,29 @@ impl<J: Numbering> Opening<J> {
     ) -> Result<(Shared<J>, Vec<Reserver<J>>), (Shared<J>, Vec<Reserver<J>>)>
         requires stands_for { J.shared_of number ≡ self.shared }
         ensures phase { IfOk result (λ made.
-            made.0 ≡ record { number = number; shared = self.shared; home = [] }) }
-        ensures reservers { IfOk result (λ made. reservers_of made.1.items ≡ self.home) }
+            made.0 ≡ record { number = number; shared = self.shared; returned = [] }) }
+        ensures reservers { IfOk result (λ made. reservers_of made.1.items ≡ self.returned) }
         ensures of { IfOk result (λ made. AreOf number made.1.items) }
         ensures same { IfOk result (λ made. All (λ r. r.shared ≡ self.shared) made.1.items) }
 
         // What holds if not all could be given out.
         ensures err_phase { IfErr result (λ made.
-            made.0 ≡ record { number = number; shared = self.shared; home = made.0.home }) }
-        ensures err_some_home { IfErr result (λ made. made.0.home ≢ []) }
+            made.0 ≡ record { number = number; shared = self.shared; returned = made.0.returned }) }
+        ensures err_some_returned { IfErr result (λ made. made.0.returned ≢ []) }
         ensures err_reservers { IfErr result (λ made.
-            reservers_of made.1.items ++ reverse made.0.home ≡ self.home) }
+            reservers_of made.1.items ++ reverse made.0.returned ≡ self.returned) }
         ensures err_of { IfErr result (λ made. AreOf number made.1.items) }
     {
         let Opening {
             alloc,
             shared,
-            mut home,
+            mut returned,
             mut reservers,
         } = self;
-        home.reverse();
-        let mut shared = Shared::new(alloc, shared, home, number);
+        returned.reverse();
+        let mut shared = Shared::new(alloc, shared, returned, number);
         shared.give_out(&mut reservers);
-        if shared.at_home() > 0 {
+        if shared.returned() > 0 {
             return Err((shared, reservers));
         }
         Ok((shared, reservers))

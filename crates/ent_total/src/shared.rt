@@ -6,11 +6,11 @@ ghost use Rattle.std.specs.FinMap as map;
 ghost use Rattle.std.specs.Vec.{vec_capacity, vec_len};
 ghost use Rattle.std.specs.Arc.{arc_value};
 ghost use Rattle.ent_shared.specs.Phase.{IsOf};
-ghost use Rattle.ent_total.specs.Sharing.{AreOf, MayComeHome, all_home, reservers_of};
+ghost use Rattle.ent_total.specs.Sharing.{AreOf, MayReturn, all_returned, reservers_of};
 
-use crate::homecoming::bring_home;
 use crate::numbering::Numbering;
 use crate::reserver::Reserver;
+use crate::returning::bring_back;
 use ent_alloc::Living;
 use ent_handle::{Handle, Memory};
 use std::alloc::Global;
@@ -29,7 +29,7 @@ use std::sync::Arc;
 pub struct Shared<J: Numbering> {
     alloc: Global,
     shared: Arc<ent_shared::Shared, Global>,
-    home: Vec<ent_shared::Reserver>,
+    returned: Vec<ent_shared::Reserver>,
     number: u64,
     of: PhantomData<J>,
 }
@@ -48,33 +48,33 @@ impl<J: Numbering> Model for Shared<J> {
     ghost view = { λ s. record {
       number = s.number;
       shared = arc_value s.shared;
-      home = s.home.items;
+      returned = s.returned.items;
     } };
 
     // The number means this allocator, the reservers returned came with it, and there is room
     // for all of them.
     ghost invariant = { λ s. (J.shared_of s.number ≡ arc_value s.shared)
-        × All (IsOf (arc_value s.shared)) s.home.items
-        × ((arc_value s.shared).count ≤ vec_capacity s.home) };
+        × All (IsOf (arc_value s.shared)) s.returned.items
+        × ((arc_value s.shared).count ≤ vec_capacity s.returned) };
 }
 
 impl<J: Numbering> Shared<J> {
     pub(crate) fn new(
         alloc: Global,
         shared: Arc<ent_shared::Shared, Global>,
-        home: Vec<ent_shared::Reserver>,
+        returned: Vec<ent_shared::Reserver>,
         number: u64,
     ) -> Self
         requires stands_for { J.shared_of number ≡ arc_value shared }
-        requires own { All (IsOf (arc_value shared)) home.items }
-        requires room { (arc_value shared).count ≤ vec_capacity home }
+        requires own { All (IsOf (arc_value shared)) returned.items }
+        requires room { (arc_value shared).count ≤ vec_capacity returned }
         ensures { result
-            ≡ record { number = number; shared = arc_value shared; home = home.items } }
+            ≡ record { number = number; shared = arc_value shared; returned = returned.items } }
     {
         Shared {
             alloc,
             shared,
-            home,
+            returned,
             number,
             of: PhantomData,
         }
@@ -90,10 +90,10 @@ impl<J: Numbering> Shared<J> {
 
     /// How many reservers are returned: a close that was refused took them.
     #[must_use]
-    pub fn at_home(&self) -> usize
-        ensures { result ≡ length self.now.home }
+    pub fn returned(&self) -> usize
+        ensures { result ≡ length self.now.returned }
     {
-        self.home.len()
+        self.returned.len()
     }
 
     /// Whether the entity was alive when the phase was opened. It stays so until the close: what is
@@ -183,19 +183,19 @@ impl<J: Numbering> Shared<J> {
     pub fn reserver(&mut self) -> Result<Option<Reserver<J>>, Memory>
         ensures given { IfOk result (λ found. IfSome found (λ r.
             (r.number ≡ self.old.number) × (r.shared ≡ self.old.shared)
-            × (self.old ≡ record self.new { home = self.new.home ++ r.reserver ∷ [] }))) }
+            × (self.old ≡ record self.new { returned = self.new.returned ++ r.reserver ∷ [] }))) }
         ensures none { IfOk result (λ found. IfNone found
-            ((self.old.home ≡ []) × (self.new ≡ self.old))) }
-        ensures none_home { (result ≡ Ok None) ↔ (self.old.home ≡ []) }
+            ((self.old.returned ≡ []) × (self.new ≡ self.old))) }
+        ensures none_returned { (result ≡ Ok None) ↔ (self.old.returned ≡ []) }
         ensures err { OnErr result (self.new ≡ self.old) }
     {
-        if self.home.is_empty() {
+        if self.returned.is_empty() {
             return Ok(None);
         }
         let Ok(shared) = Arc::try_clone(&self.shared) else {
             return Err(Memory);
         };
-        let Some(reserver) = self.home.pop() else {
+        let Some(reserver) = self.returned.pop() else {
             unreachable!()
         };
         Ok(Some(Reserver {
@@ -210,44 +210,44 @@ impl<J: Numbering> Shared<J> {
     /// Gives out those returned, the last one first, to a list that has room for them. One whose
     /// owner can't be counted stays with the phase, and so do the others.
     pub(crate) fn give_out(&mut self, reservers: &mut Vec<Reserver<J>>)
-        requires room { vec_len reservers.old + length self.old.home ≤ vec_capacity reservers.old }
+        requires room { vec_len reservers.old + length self.old.returned ≤ vec_capacity reservers.old }
         requires of { AreOf self.old.number reservers.old.items }
         requires same { All (λ r. r.shared ≡ self.old.shared) reservers.old.items }
         ensures of { AreOf self.old.number reservers.new.items }
         ensures same { All (λ r. r.shared ≡ self.old.shared) reservers.new.items }
-        ensures given { reservers_of reservers.new.items ++ reverse self.new.home
-            ≡ reservers_of reservers.old.items ++ reverse self.old.home }
-        ensures phase { self.new ≡ record self.old { home = self.new.home } }
+        ensures given { reservers_of reservers.new.items ++ reverse self.new.returned
+            ≡ reservers_of reservers.old.items ++ reverse self.old.returned }
+        ensures phase { self.new ≡ record self.old { returned = self.new.returned } }
     {
         while let Ok(Some(reserver)) = self.reserver() {
             reservers.push_reserved(reserver);
         }
     }
 
-    /// Takes reservers home, which needs no memory.
-    pub(crate) fn take_home(&mut self, reservers: Vec<Reserver<J>>)
-        requires { MayComeHome self.old reservers.items }
-        ensures { self.new ≡ record self.old { home = all_home self.old reservers.items } }
+    /// Takes reservers returned, which needs no memory.
+    pub(crate) fn take_back(&mut self, reservers: Vec<Reserver<J>>)
+        requires { MayReturn self.old reservers.items }
+        ensures { self.new ≡ record self.old { returned = all_returned self.old reservers.items } }
     {
-        bring_home(&mut self.home, &self.shared, self.number, reservers);
+        bring_back(&mut self.returned, &self.shared, self.number, reservers);
     }
 
     /// The allocator with the reservers that are returned, if no other reserver owns it too.
     pub(crate) fn end(self) -> Result<(ent_shared::Shared, Vec<ent_shared::Reserver>), Self>
-        ensures ok { IfOk result (λ parts. (parts.0 ≡ self.shared) × (parts.1.items ≡ self.home)) }
+        ensures ok { IfOk result (λ parts. (parts.0 ≡ self.shared) × (parts.1.items ≡ self.returned)) }
         ensures own { IfOk result (λ parts. All (IsOf parts.0) parts.1.items) }
         ensures err { IfErr result (λ shared. shared ≡ self) }
     {
         let Shared {
             alloc,
             shared,
-            home,
+            returned,
             number,
             of: _,
         } = self;
         match Arc::try_unwrap(shared) {
-            Ok(shared) => Ok((shared, home)),
-            Err(shared) => Err(Shared::new(alloc, shared, home, number)),
+            Ok(shared) => Ok((shared, returned)),
+            Err(shared) => Err(Shared::new(alloc, shared, returned, number)),
         }
     }
 

@@ -27,7 +27,7 @@ pub struct WorldOpening<J: Numbering> {
     of_world: u64,
     spawned: u32,
     world: Arc<ent_world::OpenWorld, Global>,
-    home: Vec<Reserver>,
+    returned: Vec<Reserver>,
     queues: Vec<ent_queue::CommandQueue>,
     systems: Vec<Commands<J>>,
 }
@@ -47,17 +47,17 @@ impl<J: Numbering> Model for WorldOpening<J> {
       of_world = o.of_world;
       spawned = o.spawned;
       world = arc_value o.world;
-      home = o.home.items;
+      returned = o.returned.items;
     } };
 
     ghost invariant = { λ o. record {
       -- the reservers came with this world
-      own : All (IsOf (arc_value o.world).shared) o.home.items;
+      own : All (IsOf (arc_value o.world).shared) o.returned.items;
       -- there are at most 1,024 systems, and there is room for all of them
       few : (arc_value o.world).shared.count ≤ 1024;
-      home_room : (arc_value o.world).shared.count ≤ vec_capacity o.home;
+      home_room : (arc_value o.world).shared.count ≤ vec_capacity o.returned;
       queue_room : (arc_value o.world).shared.count ≤ vec_capacity o.queues;
-      room : length o.home.items ≤ vec_capacity o.systems;
+      room : length o.returned.items ≤ vec_capacity o.systems;
       no_queue : o.queues.items ≡ [];
       no_system : o.systems.items ≡ [];
     } };
@@ -80,8 +80,8 @@ pub fn open<J: Numbering>(
         × (o.world.shared.count ≡ count)) }
     ensures world { IfOk result (λ o. (o.world.phase ≡ world.world.phase)
         × (o.world.entities ≡ world.world.entities)) }
-    ensures home { IfOk result (λ o.
-        records_of o.home ≡ opened_records world.world.allocator 0 count) }
+    ensures may_return { IfOk result (λ o.
+        records_of o.returned ≡ opened_records world.world.allocator 0 count) }
     ensures needs_flush { IsErrWith result (λ u. u.error ≡ NeedsFlush)
         ↔ (0 < world.world.allocator.asked) }
     ensures no_count { IsErrWith result (λ u. u.error ≡ Count)
@@ -136,8 +136,8 @@ impl<J: Numbering> WorldOpening<J> {
             × (o.world.shared.count ≡ count)) }
         ensures world { IfOk result (λ o. (o.world.phase ≡ world.phase)
             × (o.world.entities ≡ world.entities)) }
-        ensures home { IfOk result (λ o.
-            records_of o.home ≡ opened_records world.allocator 0 count) }
+        ensures may_return { IfOk result (λ o.
+            records_of o.returned ≡ opened_records world.allocator 0 count) }
         ensures err { IfErr result (λ refused. refused ≡ world) }
     {
         let Ok(queues) = Vec::with_capacity(alloc, count) else {
@@ -146,7 +146,7 @@ impl<J: Numbering> WorldOpening<J> {
         let Ok(systems) = Vec::with_capacity(alloc, count) else {
             return Err(world);
         };
-        let (opened, home) = match world.open(count) {
+        let (opened, returned) = match world.open(count) {
             Ok(made) => made,
             Err((world, _)) => return Err(world),
         };
@@ -156,11 +156,11 @@ impl<J: Numbering> WorldOpening<J> {
                 of_world,
                 spawned,
                 world,
-                home,
+                returned,
                 queues,
                 systems,
             }),
-            Err(refused) => Err(refused.value.close(home)),
+            Err(refused) => Err(refused.value.close(returned)),
         }
     }
 
@@ -181,10 +181,10 @@ impl<J: Numbering> WorldOpening<J> {
           of_world = self.of_world;
           spawned = self.spawned;
           world = self.world;
-          home = [];
+          returned = [];
           queues = [];
         }) }
-        ensures reservers { IfOk result (λ made. issuing made.1.items ≡ self.home) }
+        ensures reservers { IfOk result (λ made. issuing made.1.items ≡ self.returned) }
         ensures systems { IfOk result (λ made. AreNew number self.world made.1.items) }
 
         // What holds if not all could be given out.
@@ -193,12 +193,12 @@ impl<J: Numbering> WorldOpening<J> {
           of_world = self.of_world;
           spawned = self.spawned;
           world = self.world;
-          home = made.0.home;
+          returned = made.0.returned;
           queues = [];
         }) }
-        ensures err_some_home { IfErr result (λ made. made.0.home ≢ []) }
+        ensures err_some_returned { IfErr result (λ made. made.0.returned ≢ []) }
         ensures err_reservers { IfErr result (λ made.
-            issuing made.1.items ++ reverse made.0.home ≡ self.home) }
+            issuing made.1.items ++ reverse made.0.returned ≡ self.returned) }
         ensures err_systems { IfErr result (λ made. AreNew number self.world made.1.items) }
     {
         let WorldOpening {
@@ -206,14 +206,14 @@ impl<J: Numbering> WorldOpening<J> {
             of_world,
             spawned,
             world,
-            mut home,
+            mut returned,
             queues,
             mut systems,
         } = self;
-        home.reverse();
-        let mut open = OpenWorld::new(alloc, of_world, spawned, world, home, queues, number);
+        returned.reverse();
+        let mut open = OpenWorld::new(alloc, of_world, spawned, world, returned, queues, number);
         open.give_out(&mut systems);
-        if open.at_home() > 0 {
+        if open.returned() > 0 {
             return Err((open, systems));
         }
         Ok((open, systems))

@@ -66,6 +66,7 @@ pub use blocks::{DealError, EndError, Undealt, Unended};
 pub use component::{Birth, ComponentId};
 pub use entities::{Entities, Freed, Living, State};
 pub use errors::{Absent, AllocError, FreeError, ImageFault, OutOfMemory, Refused, ReserveError};
+pub use errors::{StorageImageFault, WorldImageFault};
 #[cfg(feature = "std")]
 pub use frames::{run_frame, run_frame_on, FrameError, Join, StdThreads};
 pub use handle::{Handle, ParseHandleError};

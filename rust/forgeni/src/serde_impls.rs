@@ -5,3 +5,4 @@ mod entities;
 mod handle;
 mod handle_map;
 mod numbers;
+mod world;

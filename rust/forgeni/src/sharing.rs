@@ -58,7 +58,7 @@ impl Entities {
 }
 
 shows! {
-    Shared: count at_home;
+    Shared: count returned;
     Reserver: number quota_left;
 }
 

@@ -2,10 +2,10 @@
 
 use crate::errors::fails;
 use crate::numbers::next_number;
-use crate::proved::ent_total::{clone_world, clone_world_from, new_world, open};
+use crate::proved::ent_total::{clone_world, clone_world_from, new_world, open, read_world};
 use crate::shown::shows;
 use crate::world_phase::closed;
-use crate::{Limits, OutOfMemory, ShareError};
+use crate::{Limits, OutOfMemory, ShareError, WorldImageFault};
 use alloc::vec::Vec;
 
 pub use crate::proved::ent_total::{CommandQueue, Commands, FinishError, OpenWorld};
@@ -59,9 +59,11 @@ impl World {
     }
 
     /// Takes over the state of another world, as [`try_clone`](Self::try_clone) copies it. What this one
-    /// had before is gone, and the queues of its earlier phases are refused. The entities and their
-    /// components are copied into new memory. With it, a game that predicts goes back to a frame that the
-    /// server has confirmed:
+    /// had before is gone, and the queues of its earlier phases are refused.
+    ///
+    /// It uses the room that this one has, and never gives it back. So a world that another one is cloned
+    /// into again and again takes memory only as that one grows. With it, a game that predicts goes back
+    /// to a frame that the server has confirmed:
     ///
     /// ```
     /// use forgeni::World;
@@ -84,6 +86,33 @@ impl World {
     /// ever alive.
     pub fn try_clone_from(&mut self, source: &Self) -> Result<(), OutOfMemory> {
         clone_world_from(self, source, next_number())
+    }
+
+    /// The world whose image these bytes are, all of them.
+    ///
+    /// The bytes may come from anywhere. Each image that [`write_image`](Self::write_image) writes is
+    /// read as the same world, which gives no handle that was given before. It refuses the queues of
+    /// phases that were opened before: [`SyncError::OtherWorld`]. Bytes that are the image of no world
+    /// are refused.
+    ///
+    /// ```
+    /// use forgeni::{World, WorldImageFault};
+    ///
+    /// let mut image = Vec::new();
+    /// World::new().write_image(&mut image)?;
+    /// assert!(World::read_image(&image)?.is_empty());
+    /// image[0] = 0;
+    /// assert_eq!(World::read_image(&image).err(), Some(WorldImageFault::Magic));
+    /// # Ok::<(), Box<dyn std::error::Error>>(())
+    /// ```
+    ///
+    /// # Errors
+    ///
+    /// Each but [`Memory`](WorldImageFault::Memory) says that no world has this image.
+    ///
+    /// [`SyncError::OtherWorld`]: crate::SyncError::OtherWorld
+    pub fn read_image(bytes: &[u8]) -> Result<Self, WorldImageFault> {
+        read_world(bytes, next_number())
     }
 
     /// Opens the world for `count` systems, 1 to 1,024, each with its [`Commands`]. They may go to
@@ -144,7 +173,7 @@ impl Copy for View<'_> {}
 
 shows! {
     World: len frame;
-    OpenWorld: count at_home;
+    OpenWorld: count returned;
     Commands: number;
     CommandQueue: number;
     View<'_>: phase;

@@ -35,4 +35,5 @@ mod trace_model;
 mod worked_calls;
 mod worked_traces;
 mod worked_worlds;
+mod world_image;
 mod world_model;

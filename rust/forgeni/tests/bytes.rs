@@ -158,7 +158,7 @@ fn slots_and_lists() {
     exactly((HANDLE + SLOT) * BYTES, flush);
 }
 
-/// A reserver, and what is in it once more: for its way home, or at home.
+/// A reserver, and what is in it once more: for its way back, or returned.
 #[test]
 fn phases() {
     let mut entities = Entities::new();

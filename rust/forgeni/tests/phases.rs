@@ -13,7 +13,7 @@ fn the_allocator_is_back() {
     let first = entities.alloc().expect("a handle");
     let told = entities
         .phase(2, |shared, reservers| {
-            assert_eq!((shared.count(), shared.at_home()), (2, 0));
+            assert_eq!((shared.count(), shared.returned()), (2, 0));
             assert_eq!((reservers.len(), reservers[1].number()), (2, 1));
             assert!(reservers[0].is_of(shared));
             (reservers[0].reserve(), reservers[1].reserve_many(2))

@@ -12,7 +12,7 @@ use forgeni::{
     AllocError, BeginError, Birth, CommandQueue, Commands, ComponentId, Entities, Entry, Fault,
     FreeError, GoOnError, Handle, HandleMap, ImageFault, InsertError, Limits, OpenWorld,
     OutOfMemory, Queues, Report, ReserveError, ShareError, SparseMap, State, Stop, Storage,
-    StorageError, SyncError, SyncPoint, World,
+    StorageError, SyncError, SyncPoint, World, WorldImageFault,
 };
 use refusing::{held, refusing, Refusal};
 use std::rc::Rc;
@@ -136,6 +136,31 @@ fn an_image_of_an_allocator() {
         let (mut again, refused) = insist(refusal, ImageFault::Memory, read);
         assert_eq!((again.len(), again.total(), again.top()), (2, 3, 1));
         assert_eq!(again.alloc(), Ok(handle(1, 2)));
+        refused
+    });
+}
+
+#[test]
+fn an_image_of_a_world() {
+    each_in_turn(|refusal| {
+        let (world, _) = small_world();
+        let mut image = vec![5];
+        let (written, refused) = refusing(refusal, || world.write_image(&mut image));
+        written.unwrap_or_else(|OutOfMemory| {
+            assert!(refused > 0 && image == [5]);
+            world.write_image(&mut image).expect("memory");
+        });
+        let again = World::read_image(&image[1..]).expect("an image");
+        assert_eq!(seen(&again), seen(&world));
+        refused
+    });
+    each_in_turn(|refusal| {
+        let (world, _) = small_world();
+        let mut image = vec![];
+        world.write_image(&mut image).expect("memory");
+        let read = || World::read_image(&image);
+        let (again, refused) = insist(refusal, WorldImageFault::Memory, read);
+        assert_eq!(seen(&again), seen(&world));
         refused
     });
 }
@@ -521,7 +546,7 @@ fn a_close_after_one_in_use() {
     let away = reservers.pop().expect("nine");
     let none = Refusal::All { after: 0 };
     let (left, _) = refusing(none, || shared.close_lost(reservers).expect_err("in use"));
-    assert_eq!((left.reservers.len(), left.shared.at_home()), (0, 8));
+    assert_eq!((left.reservers.len(), left.shared.returned()), (0, 8));
     let (shared, mut reservers) = (left.shared, vec![away]);
     reservers[0].reserve().expect("a handle");
     assert_eq!(shared.close(reservers).expect("closed").reserved(), 1);

@@ -87,12 +87,12 @@ fn nothing_lived_at_the_opening() {
     );
 }
 
-/// Each number of callers has its reservers, and none is at home.
+/// Each number of callers has its reservers, and none is returned.
 #[test]
 fn all_are_given_out() {
     for callers in 1..=1024 {
         let (shared, reservers) = shared(Entities::new(), callers);
-        assert_eq!((shared.count(), shared.at_home()), (callers, 0));
+        assert_eq!((shared.count(), shared.returned()), (callers, 0));
         assert!(reservers.iter().map(Reserver::number).eq(0..callers));
         assert!(shared.close(reservers).is_ok());
     }

@@ -84,7 +84,7 @@ fn a_list_over_old_and_new_slots() {
 fn a_phase_of_nothing_changes_nothing() {
     let (shared, reservers) = share(with_two_waiting(), 1024);
     assert_eq!(
-        (shared.count(), shared.at_home(), reservers.len()),
+        (shared.count(), shared.returned(), reservers.len()),
         (1024, 0, 1024)
     );
     assert_eq!(reservers[1023].number(), 1023);
@@ -171,7 +171,7 @@ fn all_must_come_home() {
     assert_eq!(shared.close(reservers).expect("closed").reserved(), 1);
 }
 
-/// A reserver that was handed in to a refused close is at home, and can go on from there.
+/// A reserver that was handed in to a refused close is returned, and can go on from there.
 #[test]
 fn a_reserver_that_is_in_use() {
     let (shared, mut reservers) = share(Entities::new(), 2);
@@ -183,9 +183,9 @@ fn a_reserver_that_is_in_use() {
         (CloseError::InUse, 0)
     );
     let mut shared = refused.shared;
-    assert_eq!((shared.count(), shared.at_home()), (2, 1));
+    assert_eq!((shared.count(), shared.returned()), (2, 1));
     assert_eq!(away.reserve(), Ok(handle(1, 1)));
-    let mut back = shared.reserver().expect("memory").expect("at home");
+    let mut back = shared.reserver().expect("memory").expect("returned");
     assert_eq!((back.number(), back.quota_left()), (0, (1 << 40) - 1));
     assert_eq!(back.reserve(), Ok(handle(2, 1)));
     assert!(shared.reserver().expect("memory").is_none());
@@ -266,7 +266,7 @@ fn dropped_in_any_order() {
     // The reservers first.
     let (shared, reservers) = share(with_two_waiting(), 3);
     drop(reservers);
-    assert_eq!((shared.count(), shared.at_home()), (3, 0));
+    assert_eq!((shared.count(), shared.returned()), (3, 0));
     drop(shared);
     // On other threads.
     let (shared, reservers) = share(with_two_waiting(), 3);
@@ -342,12 +342,12 @@ fn reservers_keep_their_order() {
     assert_eq!(numbers(&refused.reservers), [2, 1, 0, 3, 0]);
     assert!(refused.reservers[4].is_of(&other));
 
-    // Those at home are given out again, the last one that came back first.
+    // Those returned are given out again, the last one that came back first.
     let mut reservers = refused.reservers;
     let foreign = reservers.pop().expect("five");
     let refused = refused.shared.close_lost(reservers).expect_err("in use");
     assert_eq!(refused.error, CloseError::InUse);
-    assert_eq!((refused.reservers.len(), refused.shared.at_home()), (0, 4));
+    assert_eq!((refused.reservers.len(), refused.shared.returned()), (0, 4));
     drop(foreign);
     let closed = refused.shared.close(vec![last]).expect("all are there");
     assert_eq!(closed.reserved(), 0);
@@ -374,7 +374,10 @@ fn phases_without_end() {
 #[test]
 fn what_they_print() {
     let (shared, reservers) = share(small(3, 1), 1);
-    assert_eq!(format!("{shared:?}"), "Shared { count: 1, at_home: 0, .. }");
+    assert_eq!(
+        format!("{shared:?}"),
+        "Shared { count: 1, returned: 0, .. }"
+    );
     let text = "Reserver { number: 0, quota_left: 1099511627776, .. }";
     assert_eq!(format!("{:?}", reservers[0]), text);
     assert_eq!(

@@ -130,13 +130,13 @@ fn errors_with_parts() {
         ),
         (
             &unclosed,
-            "Unclosed { shared: Shared { count: 2, at_home: 0, .. }, reservers: [], \
+            "Unclosed { shared: Shared { count: 2, returned: 0, .. }, reservers: [], \
              error: Missing { count: 2 } }",
         ),
         (&unopened, "Unopened { world: World { len: 0, frame: 0, .. }, error: Count }"),
         (
             &unfinished,
-            "Unfinished { open: OpenWorld { count: 1, at_home: 0, .. }, queues: [], \
+            "Unfinished { open: OpenWorld { count: 1, returned: 0, .. }, queues: [], \
              error: Missing { count: 1 } }",
         ),
     ]);
@@ -189,7 +189,10 @@ fn values_of_an_allocator() {
     reservers[1].reserve_many(3).expect("handles");
     let text = "Reserver { number: 1, quota_left: 1099511627773, .. }";
     debugs([
-        (&shared as &dyn Debug, "Shared { count: 2, at_home: 0, .. }"),
+        (
+            &shared as &dyn Debug,
+            "Shared { count: 2, returned: 0, .. }",
+        ),
         (&reservers[1], text),
     ]);
     let phase = Entities::new().phase(2, |_, lent| {
@@ -241,7 +244,7 @@ fn values_of_worlds() {
     debugs([
         (
             &open as &dyn Debug,
-            "OpenWorld { count: 2, at_home: 0, .. }",
+            "OpenWorld { count: 2, returned: 0, .. }",
         ),
         (&systems[1], "Commands { number: 1, .. }"),
     ]);

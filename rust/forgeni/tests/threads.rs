@@ -154,7 +154,7 @@ fn phase(seed: u64, callers: usize, slots: u64, most: u64) {
             "{place}: quota"
         );
     }
-    // It doesn't matter in which order they come home.
+    // It doesn't matter in which order they come back.
     reservers.rotate_left(numbers.below(callers as u64) as usize);
     let mut entities = shared.close(reservers).expect("closed");
     expect_one_history(&mut model, &by_caller, &place);

@@ -170,7 +170,7 @@ fn a_phase_wants_all_its_queues() {
     let left = open.close(vec![first]).expect_err("one is missing");
     assert_eq!(left.error, FinishError::Missing { count: 1 });
     assert_eq!(left.to_string(), "missing queues: 1");
-    assert_eq!((left.open.count(), left.open.at_home()), (2, 0));
+    assert_eq!((left.open.count(), left.open.returned()), (2, 0));
     assert_eq!(left.queues.len(), 1);
     let (open, mut queues) = (left.open, left.queues);
 
@@ -228,7 +228,7 @@ fn a_refused_close_keeps_its_queues() {
     second.insert(one, &[(HP, 2)]).expect("memory");
     let left = open.close_lost(vec![second.finish()]).expect_err("in use");
     assert_eq!((left.error, left.queues.len()), (FinishError::InUse, 0));
-    assert_eq!((left.open.count(), left.open.at_home()), (2, 1));
+    assert_eq!((left.open.count(), left.open.returned()), (2, 1));
     let left = left.open.close(Vec::new()).expect_err("one is missing");
     assert_eq!(left.error, FinishError::Missing { count: 1 });
     let (mut world, queues) = left.open.close(vec![first.finish()]).expect("all queues");

@@ -225,6 +225,42 @@ fn run(seed: u64, threads: usize) {
     }
 }
 
+/// A world that is now and then read from its own image goes on as the model says.
+fn run_with_images(seed: u64, steps: u64) {
+    let mut numbers = Numbers::of(seed);
+    let slots = 1 + numbers.below(40) as u32;
+    let generations = 1 + numbers.below(40) as u32;
+    let mut model = WorldModel::new(slots, generations);
+    let mut world = World::with_limits(Limits::new(slots, generations).expect("limits"));
+    for step in 0..steps {
+        let place = format!("seed {seed}, step {step}");
+        match numbers.below(12) {
+            0 => {
+                let way = Way {
+                    systems: 2,
+                    threads: 1,
+                };
+                world = phase(world, &mut model, seed + step * 7919, way, &place);
+            }
+            1 | 2 => world = World::read_image(&image(&world)).expect(&place),
+            _ => call(&mut world, &mut model, &mut numbers, &place),
+        }
+        compare(&world, &model, &place);
+    }
+}
+
+fn image(world: &World) -> Vec<u8> {
+    let mut image = vec![];
+    world.write_image(&mut image).expect("memory");
+    image
+}
+
+#[test]
+fn images_of_a_world() {
+    seeds(100, |seed| run_with_images(seed, 60));
+    seeds(3, |seed| run_with_images(seed, 1_000));
+}
+
 #[test]
 fn systems_on_one_thread() {
     seeds(1_000, |seed| run(seed, 1));

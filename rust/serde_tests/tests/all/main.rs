@@ -7,3 +7,4 @@ mod handles;
 mod hostile;
 mod images;
 mod numbers;
+mod worlds;

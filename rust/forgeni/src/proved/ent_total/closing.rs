@@ -1,10 +1,9 @@
 // Made of crates/ent_total/src/closing.rt by rust/erase. It isn't edited by hand.
 
 //! A phase ends, and gives the allocator back.
-
 use alloc::vec::Vec;
-use crate::proved::ent_total::homecoming::are_of;
 use crate::proved::ent_total::reserver::Reserver;
+use crate::proved::ent_total::returning::are_of;
 use crate::proved::ent_total::shared::Shared;
 use crate::proved::ent_total::unclosed::{CloseError, Unclosed};
 use crate::proved::ent_alloc::Entities;
@@ -45,47 +44,47 @@ impl Shared {
     /// ```text
     /// // All reservations stand in one history that is legal and respects every reserver.
     /// ensures legal { OnOk result (IsLegal self.shared.start
-    ///     (history_of (records_of (all_home self reservers.items)))) }
-    /// ensures respects { OnOk result (let records = records_of (all_home self reservers.items) in
+    ///     (history_of (records_of (all_returned self reservers.items)))) }
+    /// ensures respects { OnOk result (let records = records_of (all_returned self reservers.items) in
     ///     All (Respects (reservations_of records)) records) }
     /// ensures after { IfOk result (λ entities. entities.allocator ≡ after_history
-    ///     self.shared.start (history_of (records_of (all_home self reservers.items)))) }
+    ///     self.shared.start (history_of (records_of (all_returned self reservers.items)))) }
     /// ensures rows { IfOk result (λ entities. entities.rows ≡ self.shared.rows) }
     /// ensures rows_of_living { IfOk result HasRowsOfLiving }
     ///
     /// // Each reservation is there once, where its step came: the cursor falls with each.
     /// ensures falls { OnOk result (AllPairs (λ earlier later. later.high <ℤ earlier.high)
-    ///     (reservations_of (records_of (all_home self reservers.items)))) }
+    ///     (reservations_of (records_of (all_returned self reservers.items)))) }
     ///
     /// // Each reserver has a number of its own.
     /// ensures numbers { OnOk result (AllPairs (λ r s. r.number ≢ s.number)
-    ///     (records_of (all_home self reservers.items))) }
+    ///     (records_of (all_returned self reservers.items))) }
     ///
     /// // No handle was given twice, and none was alive.
     /// ensures distinct { OnOk result (AllPairs (λ g h. g ≢ h)
-    ///     (given_in (history_of (records_of (all_home self reservers.items))))) }
+    ///     (given_in (history_of (records_of (all_returned self reservers.items))))) }
     /// ensures not_live { OnOk result (All (λ h. ¬ (IsLive self.shared.start h))
-    ///     (given_in (history_of (records_of (all_home self reservers.items))))) }
+    ///     (given_in (history_of (records_of (all_returned self reservers.items))))) }
     ///
     /// // A flush brings to life exactly what was given.
     /// ensures brings_to_life { IfOk result (λ entities. (h : HandleValue) →
     ///     IsLive (after_flush entities.allocator) h ↔ (IsLive self.shared.start h
-    ///     ⊎ Contains (given_in (history_of (records_of (all_home self reservers.items)))) h)) }
+    ///     ⊎ Contains (given_in (history_of (records_of (all_returned self reservers.items)))) h)) }
     ///
     /// // When it succeeds, when it is refused, and what holds then.
-    /// ensures home { OnOk result (MayComeHome self reservers.items) }
-    /// ensures all { OnOk result (length (all_home self reservers.items) ≡ self.shared.count) }
+    /// ensures may_return { OnOk result (MayReturn self reservers.items) }
+    /// ensures all { OnOk result (length (all_returned self reservers.items) ≡ self.shared.count) }
     /// ensures other_phase { IsErrWith result (λ u. u.error ≡ OtherPhase)
-    ///     ↔ ¬ (MayComeHome self reservers.items) }
+    ///     ↔ ¬ (MayReturn self reservers.items) }
     /// ensures missing { IsErrWith result (λ u. IsMissing u.error)
-    ///     ↔ (MayComeHome self reservers.items
-    ///     × (length (all_home self reservers.items) < self.shared.count)) }
+    ///     ↔ (MayReturn self reservers.items
+    ///     × (length (all_returned self reservers.items) < self.shared.count)) }
     /// ensures how_many { IfErr result (λ u. IsMissing u.error
-    ///     → length (all_home self reservers.items) + count_missing u.error ≡ self.shared.count) }
+    ///     → length (all_returned self reservers.items) + count_missing u.error ≡ self.shared.count) }
     /// ensures handed_back { IfErr result (λ u. u.error ≢ InUse
     ///     → (u.shared ≡ self) × (u.reservers.items ≡ reservers.items)) }
-    /// ensures at_home { IfErr result (λ u. u.error ≡ InUse
-    ///     → (u.shared ≡ record self { home = all_home self reservers.items })
+    /// ensures returned { IfErr result (λ u. u.error ≡ InUse
+    ///     → (u.shared ≡ record self { returned = all_returned self reservers.items })
     ///     × (u.reservers.items ≡ [])) }
     /// ```
     ///
@@ -98,9 +97,9 @@ impl Shared {
         if missing > 0 {
             return Err(self.unclosed(reservers, CloseError::Missing { count: missing }));
         }
-        self.take_home(reservers);
+        self.take_back(reservers);
         match self.end() {
-            Ok((shared, home)) => Ok(shared.close(home)),
+            Ok((shared, returned)) => Ok(shared.close(returned)),
             Err(shared) => Err(shared.in_use()),
         }
     }
@@ -145,39 +144,39 @@ impl Shared {
     /// // It counts what the reservers that are here have requested, and of the others no more than
     /// // their quota.
     /// ensures least { IfOk result (λ entities.
-    ///     sum_by (λ r. requested_by r.own) (all_home self reservers.items)
+    ///     sum_by (λ r. requested_by r.own) (all_returned self reservers.items)
     ///     ≤ entities.allocator.asked) }
     /// ensures most { IfOk result (λ entities.
-    ///     sum_by (λ r. r.own.left) (all_home self reservers.items) + entities.allocator.asked
+    ///     sum_by (λ r. r.own.left) (all_returned self reservers.items) + entities.allocator.asked
     ///     ≤ self.shared.count * quota) }
     /// ensures reached { IfOk result (λ entities.
-    ///     All (λ r. cursor entities.allocator ≤ℤ r.own.mark) (all_home self reservers.items)) }
+    ///     All (λ r. cursor entities.allocator ≤ℤ r.own.mark) (all_returned self reservers.items)) }
     ///
     /// // If all are here, it counts what they have requested, and the cursor is where `close`
     /// // leaves it.
     /// ensures asked { IfOk result (λ entities.
-    ///     length (all_home self reservers.items) ≡ self.shared.count
-    ///     → sum_by (λ r. requested_by r.own) (all_home self reservers.items)
+    ///     length (all_returned self reservers.items) ≡ self.shared.count
+    ///     → sum_by (λ r. requested_by r.own) (all_returned self reservers.items)
     ///     ≡ entities.allocator.asked) }
     /// ensures whole { IfOk result (λ entities.
-    ///     length (all_home self reservers.items) ≡ self.shared.count
+    ///     length (all_returned self reservers.items) ≡ self.shared.count
     ///     → cursor entities.allocator ≡ cursor (after_history self.shared.start
-    ///     (history_of (records_of (all_home self reservers.items))))) }
+    ///     (history_of (records_of (all_returned self reservers.items))))) }
     ///
     /// // What the reservers that are here were given is reserved.
     /// ensures given { IfOk result (λ entities.
     ///     All (λ r. All (Contains entities.allocator.taken) (handles_given r.own))
-    ///     (all_home self reservers.items)) }
+    ///     (all_returned self reservers.items)) }
     ///
     /// // When it succeeds, when it is refused, and what holds then.
-    /// ensures home { OnOk result (MayComeHome self reservers.items) }
+    /// ensures may_return { OnOk result (MayReturn self reservers.items) }
     /// ensures other_phase { IsErrWith result (λ u. u.error ≡ OtherPhase)
-    ///     ↔ ¬ (MayComeHome self reservers.items) }
+    ///     ↔ ¬ (MayReturn self reservers.items) }
     /// ensures no_missing { IfErr result (λ u. ¬ (IsMissing u.error)) }
     /// ensures handed_back { IfErr result (λ u. u.error ≢ InUse
     ///     → (u.shared ≡ self) × (u.reservers.items ≡ reservers.items)) }
-    /// ensures at_home { IfErr result (λ u. u.error ≡ InUse
-    ///     → (u.shared ≡ record self { home = all_home self reservers.items })
+    /// ensures returned { IfErr result (λ u. u.error ≡ InUse
+    ///     → (u.shared ≡ record self { returned = all_returned self reservers.items })
     ///     × (u.reservers.items ≡ [])) }
     /// ```
     ///
@@ -187,29 +186,29 @@ impl Shared {
         if self.missing(&reservers).is_none() {
             return Err(self.unclosed(reservers, CloseError::OtherPhase));
         }
-        self.take_home(reservers);
+        self.take_back(reservers);
         match self.end() {
-            Ok((shared, home)) => Ok(shared.close_lost(home)),
+            Ok((shared, returned)) => Ok(shared.close_lost(returned)),
             Err(shared) => Err(shared.in_use()),
         }
     }
 
-    /// How many reservers are missing beside those returned and these, if these may come home.
+    /// How many reservers are missing beside those returned and these, if these may come back.
     #[inline]
     fn missing(&self, reservers: &[Reserver]) -> Option<usize>
-        // ensures home { IsSome result ↔ MayComeHome self.now reservers.now }
+        // ensures may_return { IsSome result ↔ MayReturn self.now reservers.now }
         // ensures count { IfSome result (λ missing.
-        //     length (all_home self.now reservers.now) + missing ≡ self.now.shared.count) }
+        //     length (all_returned self.now reservers.now) + missing ≡ self.now.shared.count) }
     {
         if !are_of(self.number(), reservers) {
             return None;
         }
         let most = self.count();
-        let home = self.at_home();
-        if home > most || reservers.len() > most - home {
+        let returned = self.returned();
+        if returned > most || reservers.len() > most - returned {
             return None;
         }
-        Some(most - home - reservers.len())
+        Some(most - returned - reservers.len())
     }
 
     /// The phase goes on, and hands these back.

@@ -4,7 +4,7 @@ use alloc::vec::Vec;
 use crate::kit::vec::FallibleVec;
 use crate::proved::ent_total::command_queue::CommandQueue;
 use crate::proved::ent_total::commands::Commands;
-use crate::proved::ent_total::world_homecoming::bring_home;
+use crate::proved::ent_total::world_returning::bring_back;
 use crate::proved::ent_handle::{Birth, ComponentId, Handle, Memory};
 use crate::proved::ent_shared::Reserver;
 use crate::proved::ent_world::View;
@@ -19,7 +19,7 @@ pub struct OpenWorld {
     of_world: u64,
     spawned: u32,
     world: Arc<crate::proved::ent_world::OpenWorld>,
-    home: Vec<Reserver>,
+    returned: Vec<Reserver>,
     queues: Vec<crate::proved::ent_queue::CommandQueue>,
     number: u64,
 }
@@ -29,7 +29,7 @@ pub(super) struct Parts {
     pub(super) of_world: u64,
     pub(super) spawned: u32,
     pub(super) world: crate::proved::ent_world::OpenWorld,
-    pub(super) home: Vec<Reserver>,
+    pub(super) returned: Vec<Reserver>,
     pub(super) queues: Vec<crate::proved::ent_queue::CommandQueue>,
 }
 
@@ -39,22 +39,22 @@ impl OpenWorld {
         of_world: u64,
         spawned: u32,
         world: Arc<crate::proved::ent_world::OpenWorld>,
-        home: Vec<Reserver>,
+        returned: Vec<Reserver>,
         queues: Vec<crate::proved::ent_queue::CommandQueue>,
         number: u64,
     ) -> Self
         // requires stands_for { J.world_of number ≡ arc_value world }
-        // requires own { All (IsOf (arc_value world).shared) home.items }
-        // requires each { length queues.items ≤ length home.items }
+        // requires own { All (IsOf (arc_value world).shared) returned.items }
+        // requires each { length queues.items ≤ length returned.items }
         // requires few { (arc_value world).shared.count ≤ 1024 }
-        // requires home_room { (arc_value world).shared.count ≤ vec_capacity home }
+        // requires home_room { (arc_value world).shared.count ≤ vec_capacity returned }
         // requires queue_room { (arc_value world).shared.count ≤ vec_capacity queues }
         // ensures { result ≡ record {
         //   number = number;
         //   of_world = of_world;
         //   spawned = spawned;
         //   world = arc_value world;
-        //   home = home.items;
+        //   returned = returned.items;
         //   queues = queues.items;
         // } }
     {
@@ -62,7 +62,7 @@ impl OpenWorld {
             of_world,
             spawned,
             world,
-            home,
+            returned,
             queues,
             number,
         }
@@ -175,21 +175,21 @@ impl OpenWorld {
         self.world.shared().count()
     }
 
-    /// How many systems have come home: a close that was refused kept their queues.
+    /// How many systems have come back: a close that was refused kept their queues.
     ///
     /// <details><summary>Contract</summary>
     ///
     /// In the words of the folder `specs/` of crate `ent_total`:
     ///
     /// ```text
-    /// ensures { result ≡ length self.now.home }
+    /// ensures { result ≡ length self.now.returned }
     /// ```
     ///
     /// </details>
     #[must_use]
     #[inline]
-    pub fn at_home(&self) -> usize {
-        self.home.len()
+    pub fn returned(&self) -> usize {
+        self.returned.len()
     }
 
     #[inline]
@@ -210,17 +210,17 @@ impl OpenWorld {
         // requires { self.old.queues ≡ [] }
         // ensures given { IfOk result (λ found. IfSome found (λ c.
         //     (c ≡ new_commands self.old.number self.old.world c.reserver)
-        //     × (self.old ≡ record self.new { home = self.new.home ++ c.reserver ∷ [] }))) }
+        //     × (self.old ≡ record self.new { returned = self.new.returned ++ c.reserver ∷ [] }))) }
         // ensures none { IfOk result (λ found. IfNone found (self.new ≡ self.old)) }
         // ensures err { OnErr result (self.new ≡ self.old) }
     {
-        if self.home.is_empty() {
+        if self.returned.is_empty() {
             return Ok(None);
         }
         let Ok(world) = Arc::try_clone(&self.world) else {
             return Err(Memory);
         };
-        let Some(reserver) = self.home.pop() else {
+        let Some(reserver) = self.returned.pop() else {
             unreachable!()
         };
         Ok(Some(Commands::new(world, reserver, self.number)))
@@ -231,26 +231,26 @@ impl OpenWorld {
     #[inline]
     pub(super) fn give_out(&mut self, systems: &mut Vec<Commands>)
         // requires queues { self.old.queues ≡ [] }
-        // requires room { vec_len systems.old + length self.old.home ≤ vec_capacity systems.old }
+        // requires room { vec_len systems.old + length self.old.returned ≤ vec_capacity systems.old }
         // requires new { AreNew self.old.number self.old.world systems.old.items }
         // ensures new { AreNew self.old.number self.old.world systems.new.items }
-        // ensures given { issuing systems.new.items ++ reverse self.new.home
-        //     ≡ issuing systems.old.items ++ reverse self.old.home }
-        // ensures phase { self.new ≡ record self.old { home = self.new.home } }
+        // ensures given { issuing systems.new.items ++ reverse self.new.returned
+        //     ≡ issuing systems.old.items ++ reverse self.old.returned }
+        // ensures phase { self.new ≡ record self.old { returned = self.new.returned } }
     {
         while let Ok(Some(system)) = self.next_system() {
             systems.push_reserved(system);
         }
     }
 
-    /// Takes systems home, in their order, which needs no memory.
+    /// Takes systems returned, in their order, which needs no memory.
     #[inline]
-    pub(super) fn take_home(&mut self, queues: Vec<CommandQueue>)
-        // requires { MayComeHome self.old queues.items }
-        // ensures { self.new ≡ with_home self.old queues.items }
+    pub(super) fn take_back(&mut self, queues: Vec<CommandQueue>)
+        // requires { MayReturn self.old queues.items }
+        // ensures { self.new ≡ with_returned self.old queues.items }
     {
-        bring_home(
-            &mut self.home,
+        bring_back(
+            &mut self.returned,
             &mut self.queues,
             &self.world,
             self.number,
@@ -264,11 +264,11 @@ impl OpenWorld {
         // ensures world { IfOk result (λ parts. parts.world ≡ self.world) }
         // ensures of_world { IfOk result (λ parts. parts.of_world ≡ self.of_world) }
         // ensures spawned { IfOk result (λ parts. parts.spawned ≡ self.spawned) }
-        // ensures home { IfOk result (λ parts. parts.home.items ≡ self.home) }
+        // ensures may_return { IfOk result (λ parts. parts.returned.items ≡ self.returned) }
         // ensures queues { IfOk result (λ parts. parts.queues.items ≡ self.queues) }
-        // ensures own { IfOk result (λ parts. All (IsOf parts.world.shared) parts.home.items) }
+        // ensures own { IfOk result (λ parts. All (IsOf parts.world.shared) parts.returned.items) }
         // ensures each { IfOk result (λ parts.
-        //     length parts.queues.items ≤ length parts.home.items) }
+        //     length parts.queues.items ≤ length parts.returned.items) }
         // ensures few { IfOk result (λ parts. parts.world.shared.count ≤ 1024) }
         // ensures err { IfErr result (λ phase. phase ≡ self) }
     {
@@ -276,7 +276,7 @@ impl OpenWorld {
             of_world,
             spawned,
             world,
-            home,
+            returned,
             queues,
             number,
         } = self;
@@ -285,11 +285,11 @@ impl OpenWorld {
                 of_world,
                 spawned,
                 world,
-                home,
+                returned,
                 queues,
             }),
             Err(world) => Err(OpenWorld::new(
-                of_world, spawned, world, home, queues, number,
+                of_world, spawned, world, returned, queues, number,
             )),
         }
     }

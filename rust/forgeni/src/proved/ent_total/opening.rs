@@ -15,7 +15,7 @@ pub(super) const CALLERS: usize = 1024;
 /// A phase that has no number yet, with all its reservers.
 pub struct Opening {
     shared: Arc<crate::proved::ent_shared::Shared>,
-    home: Vec<crate::proved::ent_shared::Reserver>,
+    returned: Vec<crate::proved::ent_shared::Reserver>,
     reservers: Vec<Reserver>,
 }
 
@@ -34,7 +34,7 @@ pub struct Opening {
 /// ensures start { IfOk result (λ o. o.shared.start ≡ entities.allocator) }
 /// ensures rows { IfOk result (λ o. o.shared.rows ≡ entities.rows) }
 /// ensures count { IfOk result (λ o. o.shared.count ≡ count) }
-/// ensures home { IfOk result (λ o. records_of o.home ≡ opened_records entities.allocator 0 count) }
+/// ensures may_return { IfOk result (λ o. records_of o.returned ≡ opened_records entities.allocator 0 count) }
 /// ensures needs_flush { IsErrWith result (λ u. u.error ≡ NeedsFlush)
 ///     ↔ (0 < entities.allocator.asked) }
 /// ensures no_count { IsErrWith result (λ u. u.error ≡ Count)
@@ -79,24 +79,24 @@ impl Opening {
         // ensures start { IfOk result (λ o. o.shared.start ≡ entities.allocator) }
         // ensures rows { IfOk result (λ o. o.shared.rows ≡ entities.rows) }
         // ensures count { IfOk result (λ o. o.shared.count ≡ count) }
-        // ensures home { IfOk result (λ o.
-        //     records_of o.home ≡ opened_records entities.allocator 0 count) }
+        // ensures may_return { IfOk result (λ o.
+        //     records_of o.returned ≡ opened_records entities.allocator 0 count) }
         // ensures err { IfErr result (λ refused. refused ≡ entities) }
     {
         let Ok(reservers) = Vec::with_capacity_fallibly(count) else {
             return Err(entities);
         };
-        let (shared, home) = match crate::proved::ent_shared::share(entities, count) {
+        let (shared, returned) = match crate::proved::ent_shared::share(entities, count) {
             Ok(made) => made,
             Err((entities, _)) => return Err(entities),
         };
         match Arc::new(shared) {
             Ok(shared) => Ok(Opening {
                 shared,
-                home,
+                returned,
                 reservers,
             }),
-            Err(refused) => Err(refused.value.close(home)),
+            Err(refused) => Err(refused.value.close(returned)),
         }
     }
 
@@ -114,28 +114,28 @@ impl Opening {
     ) -> Result<(Shared, Vec<Reserver>), (Shared, Vec<Reserver>)>
         // requires stands_for { J.shared_of number ≡ self.shared }
         // ensures phase { IfOk result (λ made.
-        //     made.0 ≡ record { number = number; shared = self.shared; home = [] }) }
-        // ensures reservers { IfOk result (λ made. reservers_of made.1.items ≡ self.home) }
+        //     made.0 ≡ record { number = number; shared = self.shared; returned = [] }) }
+        // ensures reservers { IfOk result (λ made. reservers_of made.1.items ≡ self.returned) }
         // ensures of { IfOk result (λ made. AreOf number made.1.items) }
         // ensures same { IfOk result (λ made. All (λ r. r.shared ≡ self.shared) made.1.items) }
 
         // What holds if not all could be given out.
         // ensures err_phase { IfErr result (λ made.
-        //     made.0 ≡ record { number = number; shared = self.shared; home = made.0.home }) }
-        // ensures err_some_home { IfErr result (λ made. made.0.home ≢ []) }
+        //     made.0 ≡ record { number = number; shared = self.shared; returned = made.0.returned }) }
+        // ensures err_some_returned { IfErr result (λ made. made.0.returned ≢ []) }
         // ensures err_reservers { IfErr result (λ made.
-        //     reservers_of made.1.items ++ reverse made.0.home ≡ self.home) }
+        //     reservers_of made.1.items ++ reverse made.0.returned ≡ self.returned) }
         // ensures err_of { IfErr result (λ made. AreOf number made.1.items) }
     {
         let Opening {
             shared,
-            mut home,
+            mut returned,
             mut reservers,
         } = self;
-        home.reverse();
-        let mut shared = Shared::new(shared, home, number);
+        returned.reverse();
+        let mut shared = Shared::new(shared, returned, number);
         shared.give_out(&mut reservers);
-        if shared.at_home() > 0 {
+        if shared.returned() > 0 {
             return Err((shared, reservers));
         }
         Ok((shared, reservers))

@@ -2,8 +2,8 @@
 
 use alloc::vec::Vec;
 use crate::kit::vec::FallibleVec;
-use crate::proved::ent_total::homecoming::bring_home;
 use crate::proved::ent_total::reserver::Reserver;
+use crate::proved::ent_total::returning::bring_back;
 use crate::proved::ent_alloc::Living;
 use crate::proved::ent_handle::{Handle, Memory};
 use crate::kit::sync::Arc;
@@ -18,7 +18,7 @@ use crate::kit::sync::Arc;
 #[must_use]
 pub struct Shared {
     shared: Arc<crate::proved::ent_shared::Shared>,
-    home: Vec<crate::proved::ent_shared::Reserver>,
+    returned: Vec<crate::proved::ent_shared::Reserver>,
     number: u64,
 }
 
@@ -26,18 +26,18 @@ impl Shared {
     #[inline]
     pub(super) fn new(
         shared: Arc<crate::proved::ent_shared::Shared>,
-        home: Vec<crate::proved::ent_shared::Reserver>,
+        returned: Vec<crate::proved::ent_shared::Reserver>,
         number: u64,
     ) -> Self
         // requires stands_for { J.shared_of number ≡ arc_value shared }
-        // requires own { All (IsOf (arc_value shared)) home.items }
-        // requires room { (arc_value shared).count ≤ vec_capacity home }
+        // requires own { All (IsOf (arc_value shared)) returned.items }
+        // requires room { (arc_value shared).count ≤ vec_capacity returned }
         // ensures { result
-        //     ≡ record { number = number; shared = arc_value shared; home = home.items } }
+        //     ≡ record { number = number; shared = arc_value shared; returned = returned.items } }
     {
         Shared {
             shared,
-            home,
+            returned,
             number,
         }
     }
@@ -66,14 +66,14 @@ impl Shared {
     /// In the words of the folder `specs/` of crate `ent_total`:
     ///
     /// ```text
-    /// ensures { result ≡ length self.now.home }
+    /// ensures { result ≡ length self.now.returned }
     /// ```
     ///
     /// </details>
     #[must_use]
     #[inline]
-    pub fn at_home(&self) -> usize {
-        self.home.len()
+    pub fn returned(&self) -> usize {
+        self.returned.len()
     }
 
     /// Whether the entity was alive when the phase was opened. It stays so until the close: what is
@@ -214,23 +214,23 @@ impl Shared {
     /// ```text
     /// ensures given { IfOk result (λ found. IfSome found (λ r.
     ///     (r.number ≡ self.old.number) × (r.shared ≡ self.old.shared)
-    ///     × (self.old ≡ record self.new { home = self.new.home ++ r.reserver ∷ [] }))) }
+    ///     × (self.old ≡ record self.new { returned = self.new.returned ++ r.reserver ∷ [] }))) }
     /// ensures none { IfOk result (λ found. IfNone found
-    ///     ((self.old.home ≡ []) × (self.new ≡ self.old))) }
-    /// ensures none_home { (result ≡ Ok None) ↔ (self.old.home ≡ []) }
+    ///     ((self.old.returned ≡ []) × (self.new ≡ self.old))) }
+    /// ensures none_returned { (result ≡ Ok None) ↔ (self.old.returned ≡ []) }
     /// ensures err { OnErr result (self.new ≡ self.old) }
     /// ```
     ///
     /// </details>
     #[inline]
     pub fn reserver(&mut self) -> Result<Option<Reserver>, Memory> {
-        if self.home.is_empty() {
+        if self.returned.is_empty() {
             return Ok(None);
         }
         let Ok(shared) = Arc::try_clone(&self.shared) else {
             return Err(Memory);
         };
-        let Some(reserver) = self.home.pop() else {
+        let Some(reserver) = self.returned.pop() else {
             unreachable!()
         };
         Ok(Some(Reserver {
@@ -244,44 +244,44 @@ impl Shared {
     /// owner can't be counted stays with the phase, and so do the others.
     #[inline]
     pub(super) fn give_out(&mut self, reservers: &mut Vec<Reserver>)
-        // requires room { vec_len reservers.old + length self.old.home ≤ vec_capacity reservers.old }
+        // requires room { vec_len reservers.old + length self.old.returned ≤ vec_capacity reservers.old }
         // requires of { AreOf self.old.number reservers.old.items }
         // requires same { All (λ r. r.shared ≡ self.old.shared) reservers.old.items }
         // ensures of { AreOf self.old.number reservers.new.items }
         // ensures same { All (λ r. r.shared ≡ self.old.shared) reservers.new.items }
-        // ensures given { reservers_of reservers.new.items ++ reverse self.new.home
-        //     ≡ reservers_of reservers.old.items ++ reverse self.old.home }
-        // ensures phase { self.new ≡ record self.old { home = self.new.home } }
+        // ensures given { reservers_of reservers.new.items ++ reverse self.new.returned
+        //     ≡ reservers_of reservers.old.items ++ reverse self.old.returned }
+        // ensures phase { self.new ≡ record self.old { returned = self.new.returned } }
     {
         while let Ok(Some(reserver)) = self.reserver() {
             reservers.push_reserved(reserver);
         }
     }
 
-    /// Takes reservers home, which needs no memory.
+    /// Takes reservers returned, which needs no memory.
     #[inline]
-    pub(super) fn take_home(&mut self, reservers: Vec<Reserver>)
-        // requires { MayComeHome self.old reservers.items }
-        // ensures { self.new ≡ record self.old { home = all_home self.old reservers.items } }
+    pub(super) fn take_back(&mut self, reservers: Vec<Reserver>)
+        // requires { MayReturn self.old reservers.items }
+        // ensures { self.new ≡ record self.old { returned = all_returned self.old reservers.items } }
     {
-        bring_home(&mut self.home, &self.shared, self.number, reservers);
+        bring_back(&mut self.returned, &self.shared, self.number, reservers);
     }
 
     /// The allocator with the reservers that are returned, if no other reserver owns it too.
     #[inline]
     pub(super) fn end(self) -> Result<(crate::proved::ent_shared::Shared, Vec<crate::proved::ent_shared::Reserver>), Self>
-        // ensures ok { IfOk result (λ parts. (parts.0 ≡ self.shared) × (parts.1.items ≡ self.home)) }
+        // ensures ok { IfOk result (λ parts. (parts.0 ≡ self.shared) × (parts.1.items ≡ self.returned)) }
         // ensures own { IfOk result (λ parts. All (IsOf parts.0) parts.1.items) }
         // ensures err { IfErr result (λ shared. shared ≡ self) }
     {
         let Shared {
             shared,
-            home,
+            returned,
             number,
         } = self;
         match Arc::try_unwrap(shared) {
-            Ok(shared) => Ok((shared, home)),
-            Err(shared) => Err(Shared::new(shared, home, number)),
+            Ok(shared) => Ok((shared, returned)),
+            Err(shared) => Err(Shared::new(shared, returned, number)),
         }
     }
 

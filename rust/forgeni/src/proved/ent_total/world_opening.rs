@@ -19,7 +19,7 @@ pub struct WorldOpening {
     of_world: u64,
     spawned: u32,
     world: Arc<crate::proved::ent_world::OpenWorld>,
-    home: Vec<Reserver>,
+    returned: Vec<Reserver>,
     queues: Vec<crate::proved::ent_queue::CommandQueue>,
     systems: Vec<Commands>,
 }
@@ -42,8 +42,8 @@ pub struct WorldOpening {
 ///     × (o.world.shared.count ≡ count)) }
 /// ensures world { IfOk result (λ o. (o.world.phase ≡ world.world.phase)
 ///     × (o.world.entities ≡ world.world.entities)) }
-/// ensures home { IfOk result (λ o.
-///     records_of o.home ≡ opened_records world.world.allocator 0 count) }
+/// ensures may_return { IfOk result (λ o.
+///     records_of o.returned ≡ opened_records world.world.allocator 0 count) }
 /// ensures needs_flush { IsErrWith result (λ u. u.error ≡ NeedsFlush)
 ///     ↔ (0 < world.world.allocator.asked) }
 /// ensures no_count { IsErrWith result (λ u. u.error ≡ Count)
@@ -105,8 +105,8 @@ impl WorldOpening {
         //     × (o.world.shared.count ≡ count)) }
         // ensures world { IfOk result (λ o. (o.world.phase ≡ world.phase)
         //     × (o.world.entities ≡ world.entities)) }
-        // ensures home { IfOk result (λ o.
-        //     records_of o.home ≡ opened_records world.allocator 0 count) }
+        // ensures may_return { IfOk result (λ o.
+        //     records_of o.returned ≡ opened_records world.allocator 0 count) }
         // ensures err { IfErr result (λ refused. refused ≡ world) }
     {
         let Ok(queues) = Vec::with_capacity_fallibly(count) else {
@@ -115,7 +115,7 @@ impl WorldOpening {
         let Ok(systems) = Vec::with_capacity_fallibly(count) else {
             return Err(world);
         };
-        let (opened, home) = match world.open(count) {
+        let (opened, returned) = match world.open(count) {
             Ok(made) => made,
             Err((world, _)) => return Err(world),
         };
@@ -124,11 +124,11 @@ impl WorldOpening {
                 of_world,
                 spawned,
                 world,
-                home,
+                returned,
                 queues,
                 systems,
             }),
-            Err(refused) => Err(refused.value.close(home)),
+            Err(refused) => Err(refused.value.close(returned)),
         }
     }
 
@@ -150,10 +150,10 @@ impl WorldOpening {
         //   of_world = self.of_world;
         //   spawned = self.spawned;
         //   world = self.world;
-        //   home = [];
+        //   returned = [];
         //   queues = [];
         // }) }
-        // ensures reservers { IfOk result (λ made. issuing made.1.items ≡ self.home) }
+        // ensures reservers { IfOk result (λ made. issuing made.1.items ≡ self.returned) }
         // ensures systems { IfOk result (λ made. AreNew number self.world made.1.items) }
 
         // What holds if not all could be given out.
@@ -162,26 +162,26 @@ impl WorldOpening {
         //   of_world = self.of_world;
         //   spawned = self.spawned;
         //   world = self.world;
-        //   home = made.0.home;
+        //   returned = made.0.returned;
         //   queues = [];
         // }) }
-        // ensures err_some_home { IfErr result (λ made. made.0.home ≢ []) }
+        // ensures err_some_returned { IfErr result (λ made. made.0.returned ≢ []) }
         // ensures err_reservers { IfErr result (λ made.
-        //     issuing made.1.items ++ reverse made.0.home ≡ self.home) }
+        //     issuing made.1.items ++ reverse made.0.returned ≡ self.returned) }
         // ensures err_systems { IfErr result (λ made. AreNew number self.world made.1.items) }
     {
         let WorldOpening {
             of_world,
             spawned,
             world,
-            mut home,
+            mut returned,
             queues,
             mut systems,
         } = self;
-        home.reverse();
-        let mut open = OpenWorld::new(of_world, spawned, world, home, queues, number);
+        returned.reverse();
+        let mut open = OpenWorld::new(of_world, spawned, world, returned, queues, number);
         open.give_out(&mut systems);
-        if open.at_home() > 0 {
+        if open.returned() > 0 {
             return Err((open, systems));
         }
         Ok((open, systems))

@@ -5,15 +5,15 @@ use Rattle.ent_total.proofs.open_world.OpenWorld.give_out.Given as goal
 
 -- each time one less is returned
 abbrev pub decreases-loop-system : goal.decreases-loop-system
-decreases-loop-system g l = length l.self.home
+decreases-loop-system g l = length l.self.returned
 
 -- those that were given out so far, and those that are left
 abbrev pub invariant-loop-system : goal.invariant-loop-system
 invariant-loop-system g l = record {
-  given : issuing l.systems.items ++ reverse l.self.home
-      ≡ issuing l.initial.systems.items ++ reverse l.initial.self.home;
+  given : issuing l.systems.items ++ reverse l.self.returned
+      ≡ issuing l.initial.systems.items ++ reverse l.initial.self.returned;
   new : AreNew l.self.number l.self.world l.systems.items;
-  room : vec_len l.systems + length l.self.home ≤ vec_capacity l.systems;
-  phase : l.self ≡ record l.initial.self { home = l.self.home };
+  room : vec_len l.systems + length l.self.returned ≤ vec_capacity l.systems;
+  phase : l.self ≡ record l.initial.self { returned = l.self.returned };
   queues : l.self.queues ≡ [];
 }

@@ -1,12 +1,12 @@
 use Rattle.std.proofs.Common.{rules, ◌≡◌, All, List, Contains, subst}
 use Rattle.ent_shared.specs.Phase.{Reserver}
 use Rattle.ent_shared.specs.Order.{handles_given}
-use Rattle.ent_total.specs.Sharing.{all_home}
+use Rattle.ent_total.specs.Sharing.{all_returned}
 use Rattle.ent_total.proofs.shared.Shared.close_lost.Goals as goal
 
 pub returns-in-Ok-clause-given : goal.returns-in-Ok-clause-given
 returns-in-Ok-clause-given g c =
-    let all : c.in-Ok.home.items ≡ all_home c.args.self c.args.reservers.items = search rules in
+    let all : c.in-Ok.returned.items ≡ all_returned c.args.self c.args.reservers.items = search rules in
     subst (λ (rs : List Reserver).
     All (λ (r : Reserver). All (Contains c.close_lost.result.allocator.taken) (handles_given r.own))
     rs) all c.close_lost.ensures.given

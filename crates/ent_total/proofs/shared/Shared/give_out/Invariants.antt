@@ -5,15 +5,15 @@ use Rattle.ent_total.proofs.shared.Shared.give_out.Given as goal
 
 -- each time one less is returned
 abbrev pub decreases-loop-reserver : goal.decreases-loop-reserver
-decreases-loop-reserver g l = length l.self.home
+decreases-loop-reserver g l = length l.self.returned
 
 -- those that were given out so far, and those that are left
 abbrev pub invariant-loop-reserver : goal.invariant-loop-reserver
 invariant-loop-reserver g l = record {
-  given : reservers_of l.reservers.items ++ reverse l.self.home
-      ≡ reservers_of l.initial.reservers.items ++ reverse l.initial.self.home;
+  given : reservers_of l.reservers.items ++ reverse l.self.returned
+      ≡ reservers_of l.initial.reservers.items ++ reverse l.initial.self.returned;
   of : AreOf l.self.number l.reservers.items;
   same : All (λ (r : Reserver). r.shared ≡ l.initial.self.shared) l.reservers.items;
-  room : vec_len l.reservers + length l.self.home ≤ vec_capacity l.reservers;
-  phase : l.self ≡ record l.initial.self { home = l.self.home };
+  room : vec_len l.reservers + length l.self.returned ≤ vec_capacity l.reservers;
+  phase : l.self ≡ record l.initial.self { returned = l.self.returned };
 }

@@ -1,6 +1,6 @@
 use Rattle.std.proofs.Common.{take}
 use Rattle.ent_total.specs.Issuing.{AreCommandsOf}
-use Rattle.ent_total.proofs.world_homecoming.are_of.Given as goal
+use Rattle.ent_total.proofs.world_returning.are_of.Given as goal
 
 abbrev pub invariant-loop-one : goal.invariant-loop-one
 invariant-loop-one g l = AreCommandsOf l.number (take l.one-index l.queues)

@@ -4,7 +4,7 @@ use Rattle.ent_shared.specs.Phase.{Shared, IsOf}
 use Rattle.ent_total.specs.Sharing.{Reserver}
 use Rattle.ent_total.proofs.Walking.{stand_for_one, walked_on, first_has, left_have, one_less}
 use Rattle.ent_total.proofs.Walking.{moved_on}
-use Rattle.ent_total.proofs.homecoming.bring_home.Goals as goal
+use Rattle.ent_total.proofs.returning.bring_back.Goals as goal
 
 pub loop-reserver-preserved : goal.loop-reserver-preserved
 loop-reserver-preserved g c =
@@ -14,7 +14,7 @@ loop-reserver-preserved g c =
     let old = c.loop-reserver.reserver-iterator.rest.items in
     let rest = c.next.new.self.rest.items in
     let x = c.in-Some.reserver in
-    let home = c.loop-reserver.home.items in
+    let returned = c.loop-reserver.returned.items in
     let next = c.push_reserved.new.self.items in
     let r = c.reserver.inside.reserver in
     let s = c.args.shared.now in
@@ -28,9 +28,9 @@ loop-reserver-preserved g c =
     record {
       all = walked_on yielded old rest x front c.args.reservers.items i.all;
       items = moved_on yielded old rest x front (λ (d : Reserver). d.reserver)
-          c.args.home.now.items home next i.items
-          (p.items ∙ ap (λ (d : Reserver). home ++ d.reserver ∷ []) view_is);
-      own = All-same (IsOf s) next (home ++ r ∷ []) p.items (All-push (IsOf s) home r i.own
+          c.args.returned.now.items returned next i.items
+          (p.items ∙ ap (λ (d : Reserver). returned ++ d.reserver ∷ []) view_is);
+      own = All-same (IsOf s) next (returned ++ r ∷ []) p.items (All-push (IsOf s) returned r i.own
           (subst (λ (t : Shared). IsOf t r) same c.reserver.invariant.1));
       of = left_have yielded old rest x front P i.of;
       room = omega (arith, less, p.len, p.capacity, i.room);

@@ -2,7 +2,7 @@ use Rattle.std.proofs.Common.{rules, arith, refl, ◌≡◌}
 use Rattle.std.proofs.lemmas.List.{take_all}
 use Rattle.std.proofs.lemmas.List.Elements.{All-more}
 use Rattle.ent_total.specs.Sharing.{Reserver, AreOf}
-use Rattle.ent_total.proofs.homecoming.are_of.Goals as goal
+use Rattle.ent_total.proofs.returning.are_of.Goals as goal
 
 pub loop-reserver-preserved : goal.loop-reserver-preserved
 loop-reserver-preserved g c =

@@ -2,15 +2,15 @@ use Rattle.std.proofs.Common.{◌≡◌, ◌≤◌, ◌+◌, ◌++◌, length, v
 use Rattle.std.specs.Prelude.{All, vec_capacity}
 use Rattle.ent_shared.specs.Phase.{IsOf}
 use Rattle.ent_total.specs.Sharing.{AreOf, reservers_of}
-use Rattle.ent_total.proofs.homecoming.bring_home.Given as goal
+use Rattle.ent_total.proofs.returning.bring_back.Given as goal
 
 -- those that came so far
 abbrev pub invariant-loop-reserver : goal.invariant-loop-reserver
 invariant-loop-reserver g l = record {
   all : l.yielded ++ l.reserver-iterator.rest.items ≡ l.fn.reservers.items;
-  items : l.home.items ≡ l.initial.home.items ++ reservers_of l.yielded;
-  own : All (IsOf l.fn.shared) l.home.items;
+  items : l.returned.items ≡ l.initial.returned.items ++ reservers_of l.yielded;
+  own : All (IsOf l.fn.shared) l.returned.items;
   of : AreOf l.fn.number l.reserver-iterator.rest.items;
-  room : vec_len l.home + length l.reserver-iterator.rest.items ≤ vec_capacity l.home;
-  capacity : vec_capacity l.home ≡ vec_capacity l.initial.home;
+  room : vec_len l.returned + length l.reserver-iterator.rest.items ≤ vec_capacity l.returned;
+  capacity : vec_capacity l.returned ≡ vec_capacity l.initial.returned;
 }

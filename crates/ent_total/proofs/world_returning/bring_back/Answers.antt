@@ -5,7 +5,7 @@ use Rattle.ent_world.specs.OpenWorld.{OpenWorld}
 use Rattle.ent_total.specs.Issuing.{Commands}
 use Rattle.ent_total.proofs.Walking.{stand_for_one, walked_on, first_has, left_have, one_less}
 use Rattle.ent_total.proofs.Walking.{moved_on}
-use Rattle.ent_total.proofs.world_homecoming.bring_home.Goals as goal
+use Rattle.ent_total.proofs.world_returning.bring_back.Goals as goal
 
 pub loop-one-preserved : goal.loop-one-preserved
 loop-one-preserved g c =
@@ -16,9 +16,9 @@ loop-one-preserved g c =
     let rest = c.next.new.self.rest.items in
     let x = c.in-Some.one in
     let inside = c.one-inside.inside.0.0 in
-    let home = c.loop-one.home.items in
+    let returned = c.loop-one.returned.items in
     let next = c.push_reserved.new.self.items in
-    let queues = c.loop-one.queues_home.items in
+    let queues = c.loop-one.queues_returned.items in
     let world = c.args.world.now in
     let p = c.push_reserved.ensures in
     let q = c.push_reserved-in-loop-one.ensures in
@@ -30,14 +30,14 @@ loop-one-preserved g c =
     let less = one_less yielded old rest x front in
     record {
       all = walked_on yielded old rest x front c.args.queues.items i.all;
-      home = moved_on yielded old rest x front (λ (i : Commands). i.reserver)
-          c.args.home.now.items home next i.home
-          (p.items ∙ ap (λ (i : Commands). home ++ i.reserver ∷ []) view_is);
+      returned = moved_on yielded old rest x front (λ (i : Commands). i.reserver)
+          c.args.returned.now.items returned next i.returned
+          (p.items ∙ ap (λ (i : Commands). returned ++ i.reserver ∷ []) view_is);
       queues = moved_on yielded old rest x front (λ (i : Commands). i.queue)
-          c.args.queues_home.now.items queues c.push_reserved-in-loop-one.new.self.items i.queues
+          c.args.queues_returned.now.items queues c.push_reserved-in-loop-one.new.self.items i.queues
           (q.items ∙ ap (λ (i : Commands). queues ++ i.queue ∷ []) view_is);
-      own = All-same (IsOf world.shared) next (home ++ inside.reserver ∷ []) p.items
-          (All-push (IsOf world.shared) home inside.reserver i.own
+      own = All-same (IsOf world.shared) next (returned ++ inside.reserver ∷ []) p.items
+          (All-push (IsOf world.shared) returned inside.reserver i.own
           (subst (λ (w : OpenWorld). IsOf w.shared inside.reserver) same
           c.one-inside.invariant.1));
       of = left_have yielded old rest x front P i.of;

@@ -1,4 +1,4 @@
-//! Systems come home: their reservers and their queues go back to the phase.
+//! Systems come back: their reservers and their queues go back to the phase.
 ghost use Rattle.std.specs.Prelude.{◌≡◌, ◌+◌, ◌≤◌, ◌↔◌, ◌++◌, All, IsTrue, length};
 ghost use Rattle.std.specs.Vec.{vec_capacity, vec_len};
 ghost use Rattle.ent_shared.specs.Phase.{IsOf};
@@ -22,24 +22,24 @@ pub(crate) fn are_of<J: Numbering>(number: u64, queues: &[CommandQueue<J>]) -> b
 }
 
 /// Adds the reservers and the queues to those returned, behind them. There is room for them.
-pub(crate) fn bring_home<J: Numbering>(
-    home: &mut Vec<Reserver>,
-    queues_home: &mut Vec<ent_queue::CommandQueue>,
+pub(crate) fn bring_back<J: Numbering>(
+    returned: &mut Vec<Reserver>,
+    queues_returned: &mut Vec<ent_queue::CommandQueue>,
     world: &ent_world::OpenWorld,
     number: u64,
     queues: Vec<CommandQueue<J>>,
 )
     requires stands_for { J.world_of number ≡ world.now }
     requires of { AreCommandsOf number queues.items }
-    requires own { All (IsOf world.now.shared) home.old.items }
-    requires room { vec_len home.old + length queues.items ≤ vec_capacity home.old }
-    requires queue_room { vec_len queues_home.old + length queues.items
-        ≤ vec_capacity queues_home.old }
-    ensures home { home.new.items ≡ home.old.items ++ issuing queues.items }
-    ensures queues { queues_home.new.items ≡ queues_home.old.items ++ issued queues.items }
-    ensures own { All (IsOf world.now.shared) home.new.items }
-    ensures room { vec_capacity home.new ≡ vec_capacity home.old }
-    ensures queue_room { vec_capacity queues_home.new ≡ vec_capacity queues_home.old }
+    requires own { All (IsOf world.now.shared) returned.old.items }
+    requires room { vec_len returned.old + length queues.items ≤ vec_capacity returned.old }
+    requires queue_room { vec_len queues_returned.old + length queues.items
+        ≤ vec_capacity queues_returned.old }
+    ensures may_return { returned.new.items ≡ returned.old.items ++ issuing queues.items }
+    ensures queues { queues_returned.new.items ≡ queues_returned.old.items ++ issued queues.items }
+    ensures own { All (IsOf world.now.shared) returned.new.items }
+    ensures room { vec_capacity returned.new ≡ vec_capacity returned.old }
+    ensures queue_room { vec_capacity queues_returned.new ≡ vec_capacity queues_returned.old }
 {
     for one in queues {
         let Commands {
@@ -47,7 +47,7 @@ pub(crate) fn bring_home<J: Numbering>(
             queue,
             ..
         } = one.commands;
-        home.push_reserved(reserver);
-        queues_home.push_reserved(queue);
+        returned.push_reserved(reserver);
+        queues_returned.push_reserved(queue);
     }
 }

@@ -1,6 +1,6 @@
 use Rattle.std.proofs.Common.{take}
 use Rattle.ent_total.specs.Sharing.{AreOf}
-use Rattle.ent_total.proofs.homecoming.are_of.Given as goal
+use Rattle.ent_total.proofs.returning.are_of.Given as goal
 
 abbrev pub invariant-loop-reserver : goal.invariant-loop-reserver
 invariant-loop-reserver g l = AreOf l.number (take l.reserver-index l.reservers)

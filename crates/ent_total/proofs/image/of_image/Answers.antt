@@ -1,0 +1,35 @@
+use Rattle.std.proofs.Common.{rules, ◌∙◌, ap, sym, arith, length, Ok, inl}
+use Rattle.std.proofs.lemmas.List.{length-append}
+use Rattle.ent_storage.specs.Image.{word}
+use Rattle.ent_storage.proofs.ImageBytes.{length-word}
+use Rattle.ent_world.specs.Image.{image as world_image}
+use Rattle.ent_world.proofs.ImageRead.{read_is, refused_is}
+use Rattle.ent_total.proofs.ImageEnd.{of, same_ends, handed}
+use Rattle.ent_total.proofs.image.of_image.Goals as goal
+
+pub returns-then-bytes-lt-COUNT-clause-exact : goal.returns-then-bytes-lt-COUNT-clause-exact
+returns-then-bytes-lt-COUNT-clause-exact c w spawned has fits is =
+    absurd (omega (
+      arith,
+      length-append (world_image w) (word spawned),
+      ap length is,
+      length-word spawned,
+      c.if-bytes-lt-COUNT.true,
+    ))
+
+pub returns-in_err-world-clause-exact : goal.returns-in_err-world-clause-exact
+returns-in_err-world-clause-exact c w spawned has fits is =
+    let cut = c.split_count-spawned in
+    let same = same_ends (world_image w) cut.result.0.now spawned cut.result.1 fits (search rules)
+    (is ∙ cut.ensures) in
+    handed c.from_residual.result c.in_err-world.field-0.0 c.from_residual.ensures.1
+    (refused_is c.in_err-world.field-0.0 w (c.in_err-world.ensures.exact w has same.0))
+    (of w c.args.number spawned)
+
+pub returns-clause-exact : goal.returns-clause-exact
+returns-clause-exact c w spawned has fits is =
+    let cut = c.split_count-spawned in
+    let same = same_ends (world_image w) cut.result.0.now spawned cut.result.1 fits (search rules)
+    (is ∙ cut.ensures) in
+    let read = read_is c.in_ok-world.world w (c.in_ok-world.ensures.exact w has same.0) in
+    inl (λ i. Ok (of (read i) c.args.number (sym same.1 i)))

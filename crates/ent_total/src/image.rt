@@ -1,0 +1,114 @@
+//! Worlds as bytes, and back.
+ghost use Rattle.std.specs.Prelude.{◌≡◌, ◌≢◌, ◌+◌, ◌^◌, ◌<◌, ◌≤◌, ◌++◌, ◌⊎◌, ℕ, length, Ok, Err};
+ghost use Rattle.std.specs.Prelude.{IfOk, IfErr, OnOk, OnErr, vec_len, vec_capacity};
+ghost use Rattle.ent_storage.specs.Image.{word};
+ghost use Rattle.ent_world.specs.World.{World as WorldValue};
+ghost use Rattle.ent_world.specs.Image.{most, HasImage};
+ghost use Rattle.ent_total.specs.Image.{image};
+
+use crate::world::World;
+use ent_handle::Memory;
+use ent_storage::{read_word, write_word};
+use ent_world::WorldImageFault;
+use std::alloc::Global;
+
+/// How many bytes the count of spawned entities has. They are the last ones.
+const COUNT: usize = 4;
+
+impl World {
+    /// Appends the image of the world: bytes from which [`read_image`](Self::read_image) makes the
+    /// same world anew, with its limits, entities, births, components, waiting slots and requests.
+    ///
+    /// The image has no more than that. Two worlds that are the same to every call have the same
+    /// image, whatever came before. It grows with the slots that were made and the living entities,
+    /// not with the calls.
+    ///
+    /// ```
+    /// use forgeni::{ComponentId, World};
+    ///
+    /// const SPEED: ComponentId = ComponentId(0);
+    ///
+    /// let mut world = World::new();
+    /// let cart = world.spawn(&[(SPEED, 40)])?;
+    /// let mut image = Vec::new();
+    /// world.write_image(&mut image)?;
+    /// let again = World::read_image(&image)?;
+    /// assert_eq!(again.get(cart, SPEED), Some(40));
+    /// # Ok::<(), Box<dyn std::error::Error>>(())
+    /// ```
+    ///
+    /// # Errors
+    ///
+    /// [`OutOfMemory`](Memory) if there is no memory for the bytes. The list is unchanged then.
+    pub fn write_image(&self, out: &mut Vec<u8>) -> Result<(), Memory>
+        ensures written { OnOk result
+            (out.new.items ≡ out.old.items ++ image self.now.world self.now.spawned) }
+        ensures has_image { OnOk result (HasImage self.now.world) }
+        ensures unchanged { OnErr result (out.new.items ≡ out.old.items) }
+
+        // Memory runs out only for a list that lacks room.
+        ensures memory { OnErr result
+            (vec_capacity out.old < vec_len out.old + most self.now.world + 4) }
+    {
+        self.world.write_image(COUNT as u32, out)?;
+        write_word(out, self.spawned);
+        Ok(())
+    }
+}
+
+/// The world whose image these bytes are, all of them, with this number.
+///
+/// # Errors
+///
+/// Each but `Memory` says that no world has this image. `Memory` comes if there is no memory for
+/// what the image has, whatever it is.
+pub fn read_world(alloc: Global, bytes: &[u8], number: u64) -> Result<World, WorldImageFault>
+    ensures found { IfOk result (λ w. image w.world w.spawned ≡ bytes.now) }
+    ensures has_image { IfOk result (λ w. HasImage w.world) }
+    ensures number { IfOk result (λ w. w.number ≡ number) }
+
+    // The image of a world is read as this world, unless memory runs out.
+    ensures exact { (w : WorldValue) (spawned : ℕ) → HasImage w → spawned < 2 ^ 32
+        → image w spawned ≡ bytes.now
+        → (result ≡ Ok (record { world = w; number = number; spawned = spawned }))
+        ⊎ (result ≡ Err WorldImageFault.Memory) }
+
+    // What is refused is the image of no world.
+    ensures refused { IfErr result (λ fault. fault ≢ WorldImageFault.Memory
+        → (w : WorldValue) (spawned : ℕ) → HasImage w → spawned < 2 ^ 32
+        → image w spawned ≢ bytes.now) }
+{
+    of_image(alloc, bytes, number)
+}
+
+/// What `read_world` returns.
+fn of_image(alloc: Global, bytes: &[u8], number: u64) -> Result<World, WorldImageFault>
+    ensures found { IfOk result (λ w. image w.world w.spawned ≡ bytes.now) }
+    ensures has_image { IfOk result (λ w. HasImage w.world) }
+    ensures number { IfOk result (λ w. w.number ≡ number) }
+    ensures exact { (w : WorldValue) (spawned : ℕ) → HasImage w → spawned < 2 ^ 32
+        → image w spawned ≡ bytes.now
+        → (result ≡ Ok (record { world = w; number = number; spawned = spawned }))
+        ⊎ (result ≡ Err WorldImageFault.Memory) }
+{
+    if bytes.len() < COUNT {
+        return Err(WorldImageFault::Magic);
+    }
+    let (part, spawned) = split_count(bytes);
+    let world = ent_world::World::read_image(alloc, part)?;
+    Ok(World {
+        world,
+        number,
+        spawned,
+    })
+}
+
+/// The bytes before the count, and the count.
+fn split_count(bytes: &[u8]) -> (&[u8], u32)
+    requires { 4 ≤ length bytes.now }
+    ensures { bytes.now ≡ result.0.now ++ word result.1 }
+{
+    let (part, count) = bytes.split_at(bytes.len() - COUNT);
+    let (spawned, _) = read_word(count);
+    (part, spawned)
+}

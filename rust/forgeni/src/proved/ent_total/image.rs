@@ -1,0 +1,130 @@
+// Made of crates/ent_total/src/image.rt by rust/erase. It isn't edited by hand.
+
+//! Worlds as bytes, and back.
+
+use alloc::vec::Vec;
+use crate::proved::ent_total::world::World;
+use crate::proved::ent_handle::Memory;
+use crate::proved::ent_storage::{read_word, write_word};
+use crate::proved::ent_world::WorldImageFault;
+
+/// How many bytes the count of spawned entities has. They are the last ones.
+const COUNT: usize = 4;
+
+impl World {
+    /// Appends the image of the world: bytes from which [`read_image`](Self::read_image) makes the
+    /// same world anew, with its limits, entities, births, components, waiting slots and requests.
+    ///
+    /// The image has no more than that. Two worlds that are the same to every call have the same
+    /// image, whatever came before. It grows with the slots that were made and the living entities,
+    /// not with the calls.
+    ///
+    /// ```
+    /// use forgeni::{ComponentId, World};
+    ///
+    /// const SPEED: ComponentId = ComponentId(0);
+    ///
+    /// let mut world = World::new();
+    /// let cart = world.spawn(&[(SPEED, 40)])?;
+    /// let mut image = Vec::new();
+    /// world.write_image(&mut image)?;
+    /// let again = World::read_image(&image)?;
+    /// assert_eq!(again.get(cart, SPEED), Some(40));
+    /// # Ok::<(), Box<dyn std::error::Error>>(())
+    /// ```
+    ///
+    /// # Errors
+    ///
+    /// [`OutOfMemory`](Memory) if there is no memory for the bytes. The list is unchanged then.
+    ///
+    /// <details><summary>Contract</summary>
+    ///
+    /// In the words of the folder `specs/` of crate `ent_total`:
+    ///
+    /// ```text
+    /// ensures written { OnOk result
+    ///     (out.new.items ≡ out.old.items ++ image self.now.world self.now.spawned) }
+    /// ensures has_image { OnOk result (HasImage self.now.world) }
+    /// ensures unchanged { OnErr result (out.new.items ≡ out.old.items) }
+    ///
+    /// // Memory runs out only for a list that lacks room.
+    /// ensures memory { OnErr result
+    ///     (vec_capacity out.old < vec_len out.old + most self.now.world + 4) }
+    /// ```
+    ///
+    /// </details>
+    #[inline]
+    pub fn write_image(&self, out: &mut Vec<u8>) -> Result<(), Memory> {
+        self.world.write_image(COUNT as u32, out)?;
+        write_word(out, self.spawned);
+        Ok(())
+    }
+}
+
+/// The world whose image these bytes are, all of them, with this number.
+///
+/// # Errors
+///
+/// Each but `Memory` says that no world has this image. `Memory` comes if there is no memory for
+/// what the image has, whatever it is.
+///
+/// <details><summary>Contract</summary>
+///
+/// In the words of the folder `specs/` of crate `ent_total`:
+///
+/// ```text
+/// ensures found { IfOk result (λ w. image w.world w.spawned ≡ bytes.now) }
+/// ensures has_image { IfOk result (λ w. HasImage w.world) }
+/// ensures number { IfOk result (λ w. w.number ≡ number) }
+///
+/// // The image of a world is read as this world, unless memory runs out.
+/// ensures exact { (w : WorldValue) (spawned : ℕ) → HasImage w → spawned < 2 ^ 32
+///     → image w spawned ≡ bytes.now
+///     → (result ≡ Ok (record { world = w; number = number; spawned = spawned }))
+///     ⊎ (result ≡ Err WorldImageFault.Memory) }
+///
+/// // What is refused is the image of no world.
+/// ensures refused { IfErr result (λ fault. fault ≢ WorldImageFault.Memory
+///     → (w : WorldValue) (spawned : ℕ) → HasImage w → spawned < 2 ^ 32
+///     → image w spawned ≢ bytes.now) }
+/// ```
+///
+/// </details>
+#[inline]
+pub fn read_world(bytes: &[u8], number: u64) -> Result<World, WorldImageFault> {
+    of_image(bytes, number)
+}
+
+/// What `read_world` returns.
+#[inline]
+fn of_image(bytes: &[u8], number: u64) -> Result<World, WorldImageFault>
+    // ensures found { IfOk result (λ w. image w.world w.spawned ≡ bytes.now) }
+    // ensures has_image { IfOk result (λ w. HasImage w.world) }
+    // ensures number { IfOk result (λ w. w.number ≡ number) }
+    // ensures exact { (w : WorldValue) (spawned : ℕ) → HasImage w → spawned < 2 ^ 32
+    //     → image w spawned ≡ bytes.now
+    //     → (result ≡ Ok (record { world = w; number = number; spawned = spawned }))
+    //     ⊎ (result ≡ Err WorldImageFault.Memory) }
+{
+    if bytes.len() < COUNT {
+        return Err(WorldImageFault::Magic);
+    }
+    let (part, spawned) = split_count(bytes);
+    let world = crate::proved::ent_world::World::read_image(part)?;
+    Ok(World {
+        world,
+        number,
+        spawned,
+    })
+}
+
+/// The bytes before the count, and the count.
+#[inline]
+fn split_count(bytes: &[u8]) -> (&[u8], u32)
+    // requires { 4 ≤ length bytes.now }
+    // ensures { bytes.now ≡ result.0.now ++ word result.1 }
+{
+    let (part, count) = bytes.split_at(bytes.len() - COUNT);
+    let (spawned, _) = read_word(count);
+    (part, spawned)
+}

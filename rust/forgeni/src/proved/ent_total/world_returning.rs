@@ -1,0 +1,54 @@
+// Made of crates/ent_total/src/world_returning.rt by rust/erase. It isn't edited by hand.
+
+//! Systems come back: their reservers and their queues go back to the phase.
+
+use alloc::vec::Vec;
+use crate::kit::vec::FallibleVec;
+use crate::proved::ent_total::command_queue::CommandQueue;
+use crate::proved::ent_total::commands::Commands;
+use crate::proved::ent_shared::Reserver;
+
+/// Whether all of them are of the phase of this number.
+#[inline]
+pub(super) fn are_of(number: u64, queues: &[CommandQueue]) -> bool
+    // ensures { IsTrue result ↔ AreCommandsOf number queues.now }
+{
+    for one in queues {
+        if one.commands.number != number {
+            return false;
+        }
+    }
+    true
+}
+
+/// Adds the reservers and the queues to those returned, behind them. There is room for them.
+#[inline]
+pub(super) fn bring_back(
+    returned: &mut Vec<Reserver>,
+    queues_returned: &mut Vec<crate::proved::ent_queue::CommandQueue>,
+    world: &crate::proved::ent_world::OpenWorld,
+    number: u64,
+    queues: Vec<CommandQueue>,
+)
+    // requires stands_for { J.world_of number ≡ world.now }
+    // requires of { AreCommandsOf number queues.items }
+    // requires own { All (IsOf world.now.shared) returned.old.items }
+    // requires room { vec_len returned.old + length queues.items ≤ vec_capacity returned.old }
+    // requires queue_room { vec_len queues_returned.old + length queues.items
+    //     ≤ vec_capacity queues_returned.old }
+    // ensures may_return { returned.new.items ≡ returned.old.items ++ issuing queues.items }
+    // ensures queues { queues_returned.new.items ≡ queues_returned.old.items ++ issued queues.items }
+    // ensures own { All (IsOf world.now.shared) returned.new.items }
+    // ensures room { vec_capacity returned.new ≡ vec_capacity returned.old }
+    // ensures queue_room { vec_capacity queues_returned.new ≡ vec_capacity queues_returned.old }
+{
+    for one in queues {
+        let Commands {
+            reserver,
+            queue,
+            ..
+        } = one.commands;
+        returned.push_reserved(reserver);
+        queues_returned.push_reserved(queue);
+    }
+}
