@@ -4,5 +4,6 @@
 mod entities;
 mod handle;
 mod handle_map;
+mod image;
 mod numbers;
 mod world;

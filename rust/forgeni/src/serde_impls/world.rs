@@ -1,9 +1,9 @@
 //! A world is the bytes of its image.
 
+use crate::serde_impls::image::ImageVisitor;
 use crate::World;
 use alloc::vec::Vec;
-use core::fmt;
-use serde::de::{Deserialize, Deserializer, Error, SeqAccess, Visitor};
+use serde::de::{Deserialize, Deserializer};
 use serde::ser::{Error as _, Serialize, Serializer};
 
 /// As the bytes that [`write_image`](World::write_image) writes. JSON has a list of numbers for them.
@@ -19,30 +19,9 @@ impl Serialize for World {
 /// an error.
 impl<'de> Deserialize<'de> for World {
     fn deserialize<D: Deserializer<'de>>(deserializer: D) -> Result<Self, D::Error> {
-        deserializer.deserialize_bytes(ImageVisitor)
-    }
-}
-
-struct ImageVisitor;
-
-impl<'de> Visitor<'de> for ImageVisitor {
-    type Value = World;
-
-    fn expecting(&self, out: &mut fmt::Formatter<'_>) -> fmt::Result {
-        out.write_str("the bytes of a world's image")
-    }
-
-    fn visit_bytes<E: Error>(self, image: &[u8]) -> Result<World, E> {
-        World::read_image(image).map_err(E::custom)
-    }
-
-    /// How many there are to come isn't asked for: an input can say any number.
-    fn visit_seq<A: SeqAccess<'de>>(self, mut bytes: A) -> Result<World, A::Error> {
-        let mut image = Vec::new();
-        while let Some(byte) = bytes.next_element()? {
-            image.try_reserve(1).map_err(A::Error::custom)?;
-            image.push(byte);
-        }
-        self.visit_bytes(&image)
+        deserializer.deserialize_bytes(ImageVisitor {
+            expected: "the bytes of a world's image",
+            read: World::read_image,
+        })
     }
 }
