@@ -1,13 +1,39 @@
-//! What is written as the bytes of its image.
+//! Allocators and worlds are the bytes of their images.
 
+use crate::{Entities, World};
 use alloc::vec::Vec;
 use core::fmt;
-use serde::de::{Error, SeqAccess, Visitor};
+use serde::de::{Deserialize, Deserializer, Error, SeqAccess, Visitor};
+use serde::ser::{Error as _, Serialize, Serializer};
+
+macro_rules! is_its_image {
+    ($Type:ident, $expected:literal) => {
+        /// As the bytes that `write_image` writes. JSON has a list of numbers for them.
+        impl Serialize for $Type {
+            fn serialize<S: Serializer>(&self, serializer: S) -> Result<S::Ok, S::Error> {
+                let mut image = Vec::new();
+                self.write_image(&mut image).map_err(S::Error::custom)?;
+                serializer.serialize_bytes(&image)
+            }
+        }
+
+        /// Reads the bytes, or a list of them, as `read_image` does. What it refuses is an error.
+        impl<'de> Deserialize<'de> for $Type {
+            fn deserialize<D: Deserializer<'de>>(deserializer: D) -> Result<Self, D::Error> {
+                let (expected, read) = ($expected, $Type::read_image);
+                deserializer.deserialize_bytes(ImageVisitor { expected, read })
+            }
+        }
+    };
+}
+
+is_its_image!(Entities, "the bytes of an allocator's image");
+is_its_image!(World, "the bytes of a world's image");
 
 /// Reads the bytes of an image, or a list of them.
-pub(super) struct ImageVisitor<T, F> {
-    pub(super) expected: &'static str,
-    pub(super) read: fn(&[u8]) -> Result<T, F>,
+struct ImageVisitor<T, F> {
+    expected: &'static str,
+    read: fn(&[u8]) -> Result<T, F>,
 }
 
 impl<'de, T, F: fmt::Display> Visitor<'de> for ImageVisitor<T, F> {
