@@ -95,7 +95,8 @@ module _ {C : Type 0} where
       extends_added before new [] ready (err ∙ sym (append-nil before.log)) refl
 
 module _ {C : Type 0} (before after : Filled C) (lent left : Lent)
-    (lent_is : lent.reserver.now ≡ before.reserver.now) (shared_is : lent.shared.now ≡ before.shared.now)
+    (lent_is : lent.reserver.now ≡ before.reserver.now)
+    (shared_is : lent.shared.now ≡ before.shared.now)
     (left_is : after.reserver.now ≡ left.reserver.now) (name : after.reserver.ghost_name
     ≡ before.reserver.ghost_name) (kept : after.shared.now ≡ before.shared.now) where
   replied : (reply : Result Handle Refused) → ReservesOne lent reply left

@@ -130,7 +130,8 @@ module _ {C : Type 0} where
           (opened start k) mine r
       did_at k mine r at there =
           let less = slice_get_within ran k mine at in
-          did k mine (opened start k) r at (opened_at start workers opens opened_are k (omega (arith, teams))) there
+          let before = opened_at start workers opens opened_are k (omega (arith, teams)) in
+          did k mine (opened start k) r at before there
 
       gains_at : (k : ℕ) (mine : List ℕ) (r : Record) → slice_get ran k ≡ Some mine
           → slice_get records k ≡ Some r → LogGains (opened start k) (entries_by logs mine) r

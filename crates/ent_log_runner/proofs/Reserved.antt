@@ -1,5 +1,6 @@
 -- The handles of all spawns are reserved in the allocator after the run.
-use Rattle.std.proofs.Common.{rules, ◌≡◌, ℕ, ◌<◌, List, [], ◌∷◌, refl, ap, ◌∙◌, sym, subst, arith, get_or}
+use Rattle.std.proofs.Common.{rules, ◌≡◌, ℕ, ◌<◌, List, [], ◌∷◌, refl, ap, ◌∙◌, sym, subst, arith}
+use Rattle.std.proofs.Common.{get_or}
 use Rattle.std.proofs.Common.{Bool, true, false, None}
 use Rattle.std.specs.Prelude.{filter, ◌==◌, if◌then◌else◌, IsTrue}
 use Rattle.std.specs.List.{All}
