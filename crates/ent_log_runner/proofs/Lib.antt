@@ -1,0 +1,3 @@
+pub mod Gaining
+pub mod Logged
+pub mod Reserved

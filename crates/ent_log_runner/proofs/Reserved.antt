@@ -1,0 +1,111 @@
+-- The handles of all spawns are reserved in the allocator after the run.
+use Rattle.std.proofs.Common.{rules, ◌≡◌, ℕ, ◌<◌, List, [], ◌∷◌, refl, ap, ◌∙◌, sym, subst, arith}
+use Rattle.std.proofs.Common.{get_or}
+use Rattle.std.proofs.Common.{Bool, true, false, None}
+use Rattle.std.specs.Prelude.{filter, ◌==◌, if◌then◌else◌, IsTrue}
+use Rattle.std.specs.List.{All}
+use Rattle.std.proofs.lemmas.Grind.{common_steps}
+use Rattle.std.proofs.lemmas.Option.{slice_get_within}
+use Rattle.std.proofs.lemmas.List.Elements.{All-nil, All-cons, All-head, All-tail, All-append}
+use Rattle.std.proofs.lemmas.List.Elements.{Contains-get_or}
+use Rattle.std.proofs.lemmas.List.Sorted.{All-permutation, IsPermutation-sym}
+use Rattle.ent_handle.specs.Handle.{Handle}
+use Rattle.ent_alloc.specs.Sequential.{Allocator, state_of, stands_in}
+use Rattle.ent_alloc.specs.Sound.{IsSound, IsLive}
+use Rattle.ent_alloc.proofs.Histories.{given_in-taken, given_in-not_live, after_history-takes}
+use Rattle.ent_alloc.proofs.PoolLaw.{live-after_takes}
+use Rattle.ent_alloc.proofs.HandleSets.{stands_in-from_Contains}
+use Rattle.ent_alloc.specs.History.{Call, given_in, handles_in, after_history, requests_of}
+use Rattle.ent_alloc.proofs.ListLaws.{All-left, All-right}
+use Rattle.ent_log.specs.declared.entry.Entry.{Entry}
+use Rattle.ent_log.specs.Logs.{spawned_in, entries_of, first_unreserved, is_reserved}
+use Rattle.ent_runner.proofs.Lists.{all_from_each}
+use Rattle.ent_log_runner.specs.Running.{HaveRun, log_at, entries_by}
+use Rattle.ent_log_runner.proofs.Gaining.{spawned_both}
+use Rattle.ent_log_runner.proofs.Logged.{everywhere, log_is}
+
+module _ (P : Handle → Type 0) where
+  kept : (call : Call) (more : List Call) (b : Bool) → All P (handles_in call.reply)
+      → All P (given_in more) → All P (given_in (if b then call ∷ more else more))
+  kept call more true here rest = All-append P (handles_in call.reply) (given_in more) here rest
+  kept call more false here rest = rest
+
+  given_kept : (p : Call → Bool) (history : List Call) → All P (given_in history)
+      → All P (given_in (filter p history))
+  given_kept p [] all = all
+  given_kept p (call ∷ history) all = kept call (filter p history) (p call)
+      (All-left P (handles_in call.reply) (given_in history) all)
+      (given_kept p history (All-right P (handles_in call.reply) (given_in history) all))
+
+module _ {C : Type 0} (start after : Allocator) (workers count : ℕ) (logs : List (List (Entry C)))
+    (run : HaveRun workers count start logs after) (Q : Handle → Type 0)
+    (all : All Q (given_in run.history)) where
+  abbrev In : ℕ → Type 0
+  In n = All Q (spawned_in (log_at logs n))
+
+  in_entries : (mine : List ℕ) → All Q (spawned_in (entries_by logs mine)) → All In mine
+  in_entries [] each = All-nil In
+  in_entries (n ∷ mine) each =
+      let both = subst (All Q) (spawned_both (log_at logs n) (entries_by logs mine)) each in
+      let left = spawned_in (log_at logs n) in
+      let right = spawned_in (entries_by logs mine) in
+      All-cons In n mine (All-left Q left right both) (in_entries mine (All-right Q left right both))
+
+  in_log : (n : ℕ) → n < count → In n
+  in_log = everywhere In count run.ran run.once (λ k mine at.
+      in_entries mine (subst (All Q) (run.given k mine at)
+      (given_kept Q (λ (call : Call). call.caller == k) run.history all)))
+
+  flat : (ls : List (List (Entry C))) → All (λ log. All Q (spawned_in log)) ls
+      → All Q (spawned_in (entries_of ls))
+  flat [] each = All-nil Q
+  flat (l ∷ ls) each =
+      subst (All Q) (sym (spawned_both l (entries_of ls)))
+      (All-append Q (spawned_in l) (spawned_in (entries_of ls))
+      (All-head (λ log. All Q (spawned_in log)) l ls each)
+      (flat ls (All-tail (λ log. All Q (spawned_in log)) l ls each)))
+
+  pub in_all : All Q (spawned_in (entries_of logs))
+  in_all = flat logs (all_from_each (λ log. All Q (spawned_in log)) logs (λ k log at.
+      subst (λ l. All Q (spawned_in l)) (log_is logs k log at)
+      (in_log k (omega (arith, slice_get_within logs k log at, run.each_log)))))
+
+abbrev IsReserved : Allocator → Handle → Type 0
+IsReserved s h = is_reserved (state_of s h) ≡ true
+
+none_unreserved : (s : Allocator) (hs : List Handle) → All (IsReserved s) hs
+    → first_unreserved s hs ≡ None
+none_unreserved s [] all = refl
+none_unreserved s (h ∷ hs) all =
+    let here = All-head (IsReserved s) h hs all in
+    let rest = none_unreserved s hs (All-tail (IsReserved s) h hs all) in
+    search (rules, here, rest)
+
+reserved_here : (s : Allocator) (h : Handle) → IsTrue (stands_in s.taken h) → ¬ (IsLive s h)
+    → IsReserved s h
+reserved_here s h taken not_live = grind (arith, common_steps)
+
+stand_there : (hs : List Handle) → All (λ h. IsTrue (stands_in hs h)) hs
+stand_there hs k d within = stands_in-from_Contains hs (get_or hs k d)
+    (Contains-get_or hs k d within)
+
+pub reserved_all : {C : Type 0} (start after : Allocator) (workers count : ℕ)
+    (logs : List (List (Entry C))) → HaveRun workers count start logs after → IsSound start
+    → start.asked ≡ 0 → first_unreserved after (spawned_in (entries_of logs)) ≡ None
+reserved_all start after workers count logs run sound flushed =
+    let given : List Handle = given_in run.history in
+    let taken : List Handle = (after_history start run.history).taken in
+    let perm = given_in-taken start run.history sound run.legal flushed in
+    let there = All-permutation (λ h. IsTrue (stands_in taken h)) taken given
+    (IsPermutation-sym given taken perm) (stand_there taken) in
+    let away = given_in-not_live start run.history sound run.legal in
+    let live = live_still start run.history in
+    none_unreserved after (spawned_in (entries_of logs))
+    (in_all start after workers count logs run (IsReserved after) (rw run.after_is (λ k d within.
+    reserved_here (after_history start run.history) (get_or given k d) (there k d within)
+    (λ alive. away k d within (rw live at alive)))))
+  where
+    live_still : (s : Allocator) (history : List Call) → (after_history s history).live ≡ s.live
+    live_still s history =
+        ap (λ (a : Allocator). a.live) (after_history-takes s history)
+        ∙ live-after_takes s (requests_of history)

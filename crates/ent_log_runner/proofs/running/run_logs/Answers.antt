@@ -1,0 +1,70 @@
+use Rattle.std.proofs.Common.{rules, ◌≡◌, ◌∙◌, ◌++◌, ap, length, take, drop, subst}
+use Rattle.std.proofs.lemmas.List.{length-map}
+use Rattle.ent_alloc.specs.Sound.{IsSound}
+use Rattle.ent_shared.specs.Phase.{Reserver, records_of}
+use Rattle.ent_shared.specs.Record.{opened_records}
+use Rattle.ent_runner.proofs.Conducting.{written_back}
+use Rattle.ent_log_runner.proofs.Logged.{logged, broken_off}
+use Rattle.ent_log_runner.proofs.Reserved.{reserved_all}
+use Rattle.ent_log_runner.proofs.running.run_logs.Given as given
+use Rattle.ent_log_runner.proofs.running.run_logs.Goals.{After-close}
+use Rattle.ent_log_runner.proofs.running.run_logs.Goals as goal
+
+-- the reservers are written back
+back : (g : given.Over) (c : After-close g) → take c.in-Ok-share.made.1.len
+    (c.work-logs.new.reservers ++ drop (length c.work-logs.new.reservers)
+    c.in-Ok-share.made.1.items) ≡ c.work-logs.new.reservers
+back g c = written_back c.in-Ok-share.made.1.len c.in-Ok-share.made.1.items
+    c.work-logs.new.reservers c.in-Ok-share.made.1.ok.0
+    (c.work-logs.ensures.count ∙ ap length c.deref_mut.ensures.value)
+
+-- the allocator that was shared is the one before
+same : (g : given.Over) (c : After-close g) → c.in-Ok-share.made.0.start
+    ≡ c.args.entities.now.allocator
+same g c = search rules
+
+opened : (g : given.Over) (c : After-close g) → records_of c.deref_mut.result.now
+    ≡ opened_records c.args.entities.now.allocator 0 c.args.workers
+opened g c = rw c.deref_mut.ensures.value (search rules)
+
+many : (g : given.Over) (c : After-close g) → length c.deref_mut.result.now ≡ c.args.workers
+many g c = rw c.deref_mut.ensures.value (search rules)
+
+pub returns-clause-ok : goal.returns-clause-ok
+returns-clause-ok g c =
+    let a = (goal.at.returns-clause-ok g c).After-close in
+    let own = λ (r : Reserver). r.own in
+    let e = c.close.ensures in
+    let w = c.work-logs.ensures in
+    let legal = rw (back g a, same g a) at e.legal in
+    let done = rw c.in-Some.is at w.done in
+    logged c.args.entities.now.allocator c.close.result.allocator c.args.workers
+    (records_of c.deref_mut.result.now) (records_of c.work-logs.new.reservers) (opened g a)
+    (length-map c.deref_mut.result.now own ∙ many g a)
+    (length-map c.work-logs.new.reservers own ∙ (w.count ∙ many g a)) legal
+    (rw (back g a) at e.respects) (rw (back g a, same g a) at e.after)
+    g.S.LogSystem.may_log g.S.LogSystem.may_leave c.args.systems.now c.in-Some.logs.items
+    (search (rules, done))
+
+pub returns-in_default-logs-clause-lost : goal.returns-in_default-logs-clause-lost
+returns-in_default-logs-clause-lost g c lost =
+    let a = (goal.at.returns-in_default-logs-clause-lost g c).After-close in
+    let own = λ (r : Reserver). r.own in
+    let e = c.close.ensures in
+    let w = c.work-logs.ensures in
+    let legal = rw (back g a, same g a) at e.legal in
+    broken_off c.args.entities.now.allocator c.close.result.allocator c.args.workers
+    (records_of c.deref_mut.result.now) (records_of c.work-logs.new.reservers) (opened g a)
+    (length-map c.deref_mut.result.now own ∙ many g a)
+    (length-map c.work-logs.new.reservers own ∙ (w.count ∙ many g a)) legal
+    (rw (back g a) at e.respects) (rw (back g a, same g a) at e.after)
+    g.S.LogSystem.may_log g.S.LogSystem.may_leave c.args.systems.now
+    (search (rules, w.broken_off))
+
+pub returns-clause-reserved : goal.returns-clause-reserved
+returns-clause-reserved g c =
+    let a = (goal.at.returns-clause-reserved g c).After-close in
+    let run = (returns-clause-ok g c).run in
+    reserved_all c.args.entities.now.allocator c.close.result.allocator c.args.workers
+    (length c.args.systems.now) c.in-Some.logs.items run
+    (subst IsSound (same g a) c.in-Ok-share.ensures.sound) c.requires.flushed

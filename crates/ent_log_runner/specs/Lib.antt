@@ -1,0 +1,4 @@
+pub mod OfShared
+pub mod Lending
+pub mod Logging
+pub mod Running

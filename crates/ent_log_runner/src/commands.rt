@@ -1,0 +1,116 @@
+ghost use Rattle.std.specs.Prelude.{◌≡◌, [], ◌∷◌, ◌++◌, Result, IfOk, OnOk, OnErr, IsErrOf};
+ghost use Rattle.ent_handle.specs.Handle.{Handle as HandleValue};
+ghost use Rattle.ent_alloc.specs.declared.refused.Refused.{Refused as Refusal};
+ghost use Rattle.ent_shared.specs.Phase.{IsOf};
+ghost use Rattle.ent_log.specs.declared.entry.Entry.TheVariants.{Spawn, Command};
+ghost use Rattle.ent_log.specs.Spawning.{returned};
+
+use crate::lent::Lent;
+use ent_alloc::ReserveError;
+use ent_handle::{Handle, Memory};
+use ent_log::{Entry, Log};
+use ent_shared::{Reserver, Shared};
+use std::alloc::Global;
+
+/// Fills the log of one system, with a reserver that is lent to it.
+///
+/// A spawn reserves its handle at once, so a system knows what it will have spawned. `L` is the log
+/// that is filled, a [`Log`] of the caller's type of commands.
+#[derive(Drop)]
+pub struct LogCommands<'s, 'r, L> {
+    reserver: &'r mut Reserver,
+    shared: &'s Shared,
+    log: L,
+}
+
+impl<'s, 'r, C> LogCommands<'s, 'r, Log<C>> {
+    ghost use Rattle.ent_log_runner.specs.Logging.{IsReady, Extends, log_of, reserver_of, shared_of};
+    ghost use Rattle.ent_log_runner.specs.Lending.{RepliesOne};
+
+    /// Begins with an empty log. The reserver is one of those that came with the allocator.
+    pub fn new(alloc: Global, shared: &'s Shared, reserver: &'r mut Reserver) -> Self
+        requires { IsOf shared.now reserver.old }
+        ensures same { result.reserver.ghost_name ≡ reserver.entry.ghost_name }
+        ensures reserver { reserver_of result ≡ reserver.old }
+        ensures shared { shared_of result ≡ shared.now }
+        ensures log { log_of result ≡ [] }
+    {
+        LogCommands {
+            reserver,
+            shared,
+            log: Log::new(alloc),
+        }
+    }
+
+    /// The entries so far, in the order of issue.
+    #[must_use]
+    pub fn entries(&self) -> &[Entry<C>]
+        ensures { result.now ≡ log_of self.now }
+    {
+        self.log.entries()
+    }
+
+    /// Reserves a handle at once, and adds its entry. Room for the entry is allocated first, so each
+    /// handle that is reserved has one.
+    ///
+    /// # Errors
+    ///
+    /// The log is as it was.
+    ///
+    /// - [`ReserveError::Memory`] if there is no room for the entry. Nothing was reserved.
+    /// - [`ReserveError::Space`] and [`ReserveError::Quota`] as [`Shared::reserve`] returns them.
+    ///   [`ReserveError::or_memory`] lets the system go on.
+    pub fn spawn(&mut self) -> Result<Handle, ReserveError>
+        requires { IsReady self.old }
+        ensures extends { Extends self.old self.new }
+        ensures ok { IfOk result (λ handle. log_of self.new ≡ log_of self.old ++ Spawn handle ∷ []) }
+        ensures err { OnErr result (log_of self.new ≡ log_of self.old) }
+
+        // Anything but Memory is the result of a reservation.
+        ensures replies { (reply : Result HandleValue Refusal) → result ≡ returned reply
+            → RepliesOne (shared_of self.old) (reserver_of self.old) reply (reserver_of self.new) }
+        ensures memory { IsErrOf result ReserveError.Memory
+            → reserver_of self.new ≡ reserver_of self.old }
+    {
+        let mut lent = Lent {
+            shared: self.shared,
+            reserver: &mut *self.reserver,
+        };
+        self.log.spawn(&mut lent)
+    }
+}
+
+impl<L> LogCommands<'_, '_, L> {
+    /// Gives the log back, and the reserver to its owner.
+    pub fn finish(self) -> L
+        ensures reserver { self.exit.0.now ≡ self.entry.reserver.now }
+        ensures log { result ≡ self.entry.log }
+    {
+        let LogCommands {
+            reserver: _,
+            shared: _,
+            log,
+        } = self;
+        log
+    }
+}
+
+impl<C: Drop> LogCommands<'_, '_, Log<C>> {
+    ghost use Rattle.ent_log_runner.specs.Logging.{IsReady, Extends, log_of, reserver_of};
+
+    /// Adds a command, which the sync point hands on in its turn.
+    ///
+    /// # Errors
+    ///
+    /// [`OutOfMemory`](Memory) if there is no room for it. The log is as it was, and the command is
+    /// dropped.
+    pub fn push(&mut self, command: C) -> Result<(), Memory>
+        requires { IsReady self.old }
+        ensures extends { Extends self.old self.new }
+        ensures reserver { reserver_of self.new ≡ reserver_of self.old }
+        ensures ok { OnOk result (log_of self.new ≡ log_of self.old ++ Command command ∷ []) }
+        ensures err { OnErr result (log_of self.new ≡ log_of self.old) }
+    {
+        self.log.push(command)
+    }
+}

@@ -1,0 +1,41 @@
+//! Systems that fill logs are the jobs of a crew.
+ghost use Rattle.std.specs.Prelude.{length};
+ghost use Rattle.ent_log_runner.specs.Logging.{LogGains};
+ghost use Rattle.ent_log_runner.specs.Running.{SystemMayLog};
+
+use crate::commands::LogCommands;
+use crate::system::LogSystem;
+use ent_handle::Memory;
+use ent_log::Log;
+use ent_runner::Jobs;
+use ent_shared::{Reserver, Shared};
+use std::alloc::Global;
+
+/// The systems that fill logs together.
+#[derive(Drop)]
+pub(crate) struct LogStage<'s, S> {
+    pub(crate) alloc: Global,
+    pub(crate) systems: &'s [S],
+}
+
+impl<C, S: LogSystem<C>> Jobs<Log<C>> for LogStage<'_, S> {
+    ghost count = { λ stage. length stage.systems.now };
+
+    ghost may_do = { λ stage number before log after. LogGains before log after
+        × SystemMayLog S.may_log stage.systems.now number log };
+
+    ghost may_leave = { λ stage number before log after. LogGains before log after
+        × SystemMayLog S.may_leave stage.systems.now number log };
+
+    /// Runs the system of this number. Its log has what it entered, also if it stopped.
+    fn run(
+        &self,
+        number: usize,
+        shared: &Shared,
+        reserver: &mut Reserver,
+    ) -> (Log<C>, Result<(), Memory>) {
+        let mut commands = LogCommands::new(self.alloc, shared, reserver);
+        let ran = self.systems[number].run(self.alloc, &mut commands);
+        (commands.finish(), ran)
+    }
+}

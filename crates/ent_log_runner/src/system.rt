@@ -1,0 +1,35 @@
+ghost use Rattle.std.specs.Prelude.{◌≡◌, [], List, OnOk, OnErr};
+ghost use Rattle.ent_log.specs.declared.entry.Entry.{Entry as LogEntry};
+ghost use Rattle.ent_log_runner.specs.Logging.{IsReady, Extends, log_of};
+
+use crate::commands::LogCommands;
+use ent_handle::Memory;
+use ent_log::Log;
+use std::alloc::Global;
+
+/// A system that fills a log. `C` is the caller's type of commands.
+///
+/// One value of it may run on any worker.
+pub trait LogSystem<C> {
+    /// What it may enter in its log. A run without a fault, from an empty log on, leaves a log of
+    /// this kind.
+    ghost may_log: { Self → List (LogEntry C) → Type 0 };
+
+    /// What it may leave in its log if memory is refused to it: anything, unless the system says
+    /// more.
+    ghost may_leave: { Self → List (LogEntry C) → Type 0 } = { λ _ _. Unit {0} };
+
+    /// Runs it once.
+    ///
+    /// # Errors
+    ///
+    /// `Memory`, if memory was refused to the system. All logs are then dropped, and what the
+    /// systems had reserved stays reserved.
+    fn run(&self, alloc: Global, commands: &mut LogCommands<'_, '_, Log<C>>) -> Result<(), Memory>
+        requires { IsReady commands.old }
+        ensures extends { Extends commands.old commands.new }
+        ensures may { log_of commands.old ≡ []
+            → OnOk result (may_log self.now (log_of commands.new)) }
+        ensures leaves { log_of commands.old ≡ []
+            → OnErr result (may_leave self.now (log_of commands.new)) };
+}
