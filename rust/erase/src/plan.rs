@@ -18,6 +18,7 @@ const TOPS: &[&str] = &["ent_log", "ent_replay", "ent_runner", "ent_total"];
 
 /// The programs, with their crates. The package has them behind its feature of this name.
 const PROGRAM_CRATES: &[&str] = &[
+    "cli",
     "devices",
     "ent_script",
     "spawnrun",

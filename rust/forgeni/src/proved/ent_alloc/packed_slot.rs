@@ -139,7 +139,7 @@ impl PackedSlot {
         if generation == 0 { number } else { generation }
     }
 
-    /// Who has the slot.
+    /// The slot's occupancy.
     #[inline]
     pub(super) fn occupancy(&self) -> Occupancy
         // ensures { result ≡ self.now.occupancy }
@@ -157,8 +157,7 @@ impl PackedSlot {
         }
     }
 
-    /// Who has the slot, if its generation is this one. The mark of a living occupant is the first
-    /// that it is compared with.
+    /// The slot's occupancy, if its generation is this one. A living occupant is looked for first.
     #[inline]
     pub(super) fn occupancy_at(&self, generation: u32) -> Option<Occupancy>
         // requires least { 1 ≤ generation }

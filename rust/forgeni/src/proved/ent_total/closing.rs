@@ -10,7 +10,7 @@ use crate::proved::ent_total::unclosed::{CloseError, Unclosed};
 use crate::proved::ent_alloc::Entities;
 
 impl Shared {
-    /// Ends the phase with all its reservers: those that are at home, and these. The allocator is as
+    /// Ends the phase with all its reservers: those that are returned, and these. The allocator is as
     /// if their reservations had been made one by one, in the order of their atomic steps, and
     /// [`flush`](Entities::flush) brings to life what they were given. It takes no memory.
     ///
@@ -36,7 +36,7 @@ impl Shared {
     ///
     /// [`Unclosed`] has the error, and the `Shared`, which goes on. The error is the first of these
     /// that holds: [`CloseError::OtherPhase`] and [`CloseError::Missing`], with all reservers
-    /// handed back; [`CloseError::InUse`], and then those that came are at home.
+    /// handed back; [`CloseError::InUse`], and then those that came are returned.
     ///
     /// <details><summary>Contract</summary>
     ///
@@ -128,7 +128,7 @@ impl Shared {
     ///
     /// [`Unclosed`] has the error, and the `Shared`, which goes on. The error is the first of these
     /// that holds: [`CloseError::OtherPhase`], with all reservers handed back;
-    /// [`CloseError::InUse`], and then those that came are at home. As long as a reserver that
+    /// [`CloseError::InUse`], and then those that came are returned. As long as a reserver that
     /// wasn't handed in exists, it is `InUse`. One that was given to [`core::mem::forget`] exists
     /// for good.
     ///
@@ -194,7 +194,7 @@ impl Shared {
         }
     }
 
-    /// How many reservers are missing beside those at home and these, if these may come home.
+    /// How many reservers are missing beside those returned and these, if these may come home.
     #[inline]
     fn missing(&self, reservers: &[Reserver]) -> Option<usize>
         // ensures home { IsSome result ↔ MayComeHome self.now reservers.now }

@@ -144,7 +144,7 @@ impl OpenWorld {
         }
     }
 
-    /// How many systems are missing beside those at home and these, if these may come home.
+    /// How many systems are missing beside those returned and these, if these may come home.
     #[inline]
     fn missing(&self, queues: &[CommandQueue]) -> Option<usize>
         // ensures home { IsSome result ↔ MayComeHome self.now queues.now }

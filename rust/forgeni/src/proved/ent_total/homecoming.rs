@@ -18,7 +18,7 @@ pub(super) fn are_of(number: u64, reservers: &[Reserver]) -> bool
     true
 }
 
-/// Adds the reservers of the reservers to those at home, behind them. There is room for them.
+/// Adds the reservers of the reservers to those returned, behind them. There is room for them.
 #[inline]
 pub(super) fn bring_home(
     home: &mut Vec<crate::proved::ent_shared::Reserver>,

@@ -200,7 +200,7 @@ impl OpenWorld {
         self.number
     }
 
-    /// A system with the last of the reservers that are at home, or `None` if none is.
+    /// A system with the last of the reservers that are returned, or `None` if none is.
     ///
     /// # Errors
     ///
@@ -226,8 +226,8 @@ impl OpenWorld {
         Ok(Some(Commands::new(world, reserver, self.number)))
     }
 
-    /// Gives out the systems of the reservers at home, the last one first, to a list that has room
-    /// for them. One whose owner can't be counted stays at home, and so do the others.
+    /// Gives out the systems of the reservers returned, the last one first, to a list that has room
+    /// for them. One whose owner can't be counted stays with the phase, and so do the others.
     #[inline]
     pub(super) fn give_out(&mut self, systems: &mut Vec<Commands>)
         // requires queues { self.old.queues ≡ [] }

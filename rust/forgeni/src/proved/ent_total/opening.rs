@@ -105,7 +105,7 @@ impl Opening {
     ///
     /// # Errors
     ///
-    /// The same, with some reservers at home in the phase: each owns a part of the allocator, and no
+    /// The same, with some reservers returned to the phase: each owns a part of the allocator, and no
     /// more owners could be counted. That takes 2^62 of them.
     #[inline]
     pub(crate) fn numbered(

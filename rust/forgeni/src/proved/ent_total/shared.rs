@@ -42,7 +42,7 @@ impl Shared {
         }
     }
 
-    /// How many reservers it has, whether they exist, are at home or were lost.
+    /// How many reservers it has, whether they exist, are returned or were lost.
     ///
     /// <details><summary>Contract</summary>
     ///
@@ -59,7 +59,7 @@ impl Shared {
         self.shared.count()
     }
 
-    /// How many reservers are at home: a close that was refused took them.
+    /// How many reservers are returned: a close that was refused took them.
     ///
     /// <details><summary>Contract</summary>
     ///
@@ -201,7 +201,7 @@ impl Shared {
         self.number
     }
 
-    /// The last of the reservers that are at home, or `None` if none is. It takes no memory.
+    /// The last of the reservers that are returned, or `None` if none is. It takes no memory.
     ///
     /// # Errors
     ///
@@ -240,8 +240,8 @@ impl Shared {
         }))
     }
 
-    /// Gives out those at home, the last one first, to a list that has room for them. One whose
-    /// owner can't be counted stays at home, and so do the others.
+    /// Gives out those returned, the last one first, to a list that has room for them. One whose
+    /// owner can't be counted stays with the phase, and so do the others.
     #[inline]
     pub(super) fn give_out(&mut self, reservers: &mut Vec<Reserver>)
         // requires room { vec_len reservers.old + length self.old.home ≤ vec_capacity reservers.old }
@@ -267,7 +267,7 @@ impl Shared {
         bring_home(&mut self.home, &self.shared, self.number, reservers);
     }
 
-    /// The allocator with the reservers that are at home, if no other reserver owns it too.
+    /// The allocator with the reservers that are returned, if no other reserver owns it too.
     #[inline]
     pub(super) fn end(self) -> Result<(crate::proved::ent_shared::Shared, Vec<crate::proved::ent_shared::Reserver>), Self>
         // ensures ok { IfOk result (λ parts. (parts.0 ≡ self.shared) × (parts.1.items ≡ self.home)) }

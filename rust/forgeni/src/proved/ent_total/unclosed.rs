@@ -16,7 +16,7 @@ pub enum CloseError {
         /// How many.
         count: usize,
     },
-    /// A reserver that was not handed in still exists. Those that came are at home in the
+    /// A reserver that was not handed in still exists. Those that came are returned in the
     /// [`Shared`] now: [`Shared::reserver`] gives them out again, and the next close has them.
     InUse,
 }

@@ -21,7 +21,7 @@ pub(super) fn are_of(number: u64, queues: &[CommandQueue]) -> bool
     true
 }
 
-/// Adds the reservers and the queues to those at home, behind them. There is room for them.
+/// Adds the reservers and the queues to those returned, behind them. There is room for them.
 #[inline]
 pub(super) fn bring_home(
     home: &mut Vec<Reserver>,

@@ -137,7 +137,7 @@ impl WorldOpening {
     ///
     /// # Errors
     ///
-    /// The same, with the reservers of some systems at home in the phase: each system owns a part of
+    /// The same, with the reservers of some systems returned to the phase: each system owns a part of
     /// the world, and no more owners could be counted. That takes 2^62 of them.
     #[inline]
     pub(crate) fn numbered(

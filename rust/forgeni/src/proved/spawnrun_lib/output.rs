@@ -23,8 +23,8 @@ pub(super) fn write<O: Sink>(output: &mut O, text: &[u8], status: Status) -> Sta
     }
 }
 
-/// Writes the line that refuses an input. If the line went out, the error stream is told what the
-/// test wants that failed, and what it found.
+/// Writes the line that refuses an input. If the line went out, the error stream gets what the
+/// failed test asks for, and what it found.
 #[inline]
 pub(super) fn refuse<O: Sink, E: Sink>(output: &mut O, errors: &mut E, refusal: &Refusal) -> Status
     // ensures ends { (result ≡ Status.Refused) ⊎ (result ≡ Status.Device) }

@@ -24,7 +24,7 @@ impl Progress for () {
     fn end(&mut self) {}
 }
 
-// How often it is told, in seconds.
+// The time between two reports, in seconds.
 const STEP: u64 = 1;
 
 /// Tells a terminal once a second how far a run is. Each line stands over the one before, and the

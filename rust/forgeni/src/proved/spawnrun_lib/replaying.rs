@@ -16,7 +16,7 @@ use crate::proved::ent_replay::{
     Cause, Event, Machine, Outcome, ReadFault, ReplayFault, read_schedule, write_outcome,
 };
 
-// After how many events it is told how far a run is.
+// The events between two reports of how far a run is.
 const STEP: usize = 65_536;
 
 // Runs schedules over an empty allocator of these limits.

@@ -79,7 +79,7 @@ where
 /// has done is kept as text alone, and its operations are freed after it has run, so beside the
 /// script memory grows with the world, the text and the longest frame.
 ///
-/// Before each frame `progress` is told how many are done. `()` is for who doesn't want to know.
+/// Before each frame `progress` gets how many are done; `()` ignores it.
 ///
 /// # Errors
 ///

@@ -54,7 +54,7 @@ pub(super) trait Work {
 /// After `Memory`, or a failure of the input, the output is as it was. `Device` is one failed call
 /// of one of the two devices.
 ///
-/// Only a refused input is told to the error stream: what the input has to be, and what was found
+/// Only a refused input writes to the error stream: what the input has to be, and what was found
 /// instead. If the error stream fails, nothing else changes.
 #[inline]
 pub(super) fn do_work<W: Work, I: Source, O: Sink, E: Sink, P: Progress>(

@@ -5,7 +5,7 @@
 use crate::proved::devices::{Failed, Sink};
 use crate::kit::itoa::Buffer;
 
-// After how many lines it is told.
+// The lines between two reports.
 const STEP: u64 = 1_000_000;
 
 /// After each million lines, writes to the terminal how many were read, if `is_wanted`. Returns how many

@@ -3,7 +3,7 @@ use Rattle.clap.specs.declared.builder.ArgAction.TheVariants.{Set}
 use Rattle.clap.specs.declared.builder.value_parser.ValueParser.{ValueParser}
 use Rattle.clap.specs.Words.{NarrowsTo, Rule}
 use Rattle.clap.specs.declared.builder.value_parser.ValueParser.TheVariants.{Signed}
-use Rattle.tracecheck.proofs.command_line.number_option.Goals as goal
+use Rattle.cli.proofs.options.number_option.Goals as goal
 
 -- the range narrows the numbers that the type has
 narrowed : (parser : ValueParser) (from start end : ℤ) (most : ℕ) → most < 4294967296

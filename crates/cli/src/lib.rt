@@ -1,0 +1,15 @@
+//! What the command lines of the programs have in common: their options for limits, the name of an
+//! input file, and how a run ends.
+#![tactic(auto)]
+
+mod ending;
+mod line_fault;
+mod options;
+mod words;
+
+pub use ending::{finish, refuse_file, refuse_line, refuse_words};
+pub use line_fault::LineFault;
+pub use options::limits_of;
+pub use options::{generations_option, number_option, slots_option};
+pub use words::file_name;
+pub use words::words_after_name;
