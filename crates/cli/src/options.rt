@@ -1,12 +1,9 @@
-//! The options that take numbers, and the limits that two of them give.
-ghost use Rattle.std.specs.Prelude.{◌≡◌, Some, false, codes};
+//! The options that take numbers.
+ghost use Rattle.std.specs.Prelude.{◌≡◌, false};
 ghost use Rattle.clap.specs.Words.{rule_of};
-ghost use Rattle.ent_alloc.specs.Limits.{AreLimits};
-ghost use Rattle.cli.specs.Options.{HasNumber, generations_option, given, number_option};
-ghost use Rattle.cli.specs.Options.{option_number, slots_option};
+ghost use Rattle.cli.specs.Options.{generations_option, number_option, slots_option};
 
-use clap::{Arg, ArgAction, ArgMatches};
-use ent_alloc::Limits;
+use clap::{Arg, ArgAction};
 use std::alloc::Global;
 
 /// An option that takes a whole number from 1 to `most`, and has a default.
@@ -56,18 +53,4 @@ pub fn generations_option<'a>(alloc: Global) -> Arg<'a>
         "2147483647",
         "The last generation of a slot",
     )
-}
-
-/// The limits that the two options give.
-pub fn limits_of(options: &ArgMatches<'_>) -> Limits
-    requires slots { HasNumber (codes "slots") 4294967295 (given options.now) }
-    requires generations { HasNumber (codes "generations") 2147483647 (given options.now) }
-    ensures slots { option_number (codes "slots") (given options.now) ≡ Some result.slots }
-    ensures generations { option_number (codes "generations") (given options.now)
-        ≡ Some result.generations }
-    ensures within { AreLimits result }
-{
-    let slots = options.get_one::<u32>("slots").unwrap();
-    let generations = options.get_one::<u32>("generations").unwrap();
-    Limits::new(slots, generations).unwrap()
 }

@@ -1,9 +1,8 @@
 // Made of crates/cli/src/options.rt by rust/erase. It isn't edited by hand.
 
-//! The options that take numbers, and the limits that two of them give.
+//! The options that take numbers.
 
-use crate::kit::programs::clap::{Arg, ArgAction, ArgMatches};
-use crate::proved::ent_alloc::Limits;
+use crate::kit::programs::clap::{Arg, ArgAction};
 
 /// An option that takes a whole number from 1 to `most`, and has a default.
 ///
@@ -76,19 +75,4 @@ pub fn generations_option<'a>() -> Arg<'a> {
         "2147483647",
         "The last generation of a slot",
     )
-}
-
-/// The limits that the two options give.
-#[inline]
-pub(crate) fn limits_of(options: &ArgMatches<'_>) -> Limits
-    // requires slots { HasNumber (codes "slots") 4294967295 (given options.now) }
-    // requires generations { HasNumber (codes "generations") 2147483647 (given options.now) }
-    // ensures slots { option_number (codes "slots") (given options.now) ≡ Some result.slots }
-    // ensures generations { option_number (codes "generations") (given options.now)
-    //     ≡ Some result.generations }
-    // ensures within { AreLimits result }
-{
-    let slots = options.get_one::<u32>("slots").unwrap();
-    let generations = options.get_one::<u32>("generations").unwrap();
-    Limits::new(slots, generations).unwrap()
 }

@@ -1,7 +1,7 @@
 use Rattle.std.proofs.Common.{rules, codes, lit<, is_some, ap}
 use Rattle.clap.specs.Words.{found_of}
 use Rattle.cli.proofs.Numbers.{number_read}
-use Rattle.cli.proofs.options.limits_of.Goals as goal
+use Rattle.cli.proofs.limits.limits_of.Goals as goal
 
 pub unwrap-slots-requires : goal.unwrap-slots-requires
 unwrap-slots-requires c =
