@@ -66,7 +66,8 @@ MANY = b"reserve 1 41 =>" + b"".join(b" %dv1" % it for it in range(1, 42))
 ENDS = [
     (["spawnrun", "draw", "--help"], b"", 2, b"", b"Draws the schedule of allocator events on standard input, as an SVG\n"),
     (["spawnrun", "draw", "--slots", "0"], b"", 2, b"", b"error: invalid value '0' for '--slots <N>'"),
-    (["spawnrun", "draw", "replay"], b"", 2, b"", b"error: unexpected argument 'replay' found\n\nUsage: spawnrun draw [OPTIONS]\n"),
+    (["spawnrun", "draw", "replay"], b"", 4, b"", b"spawnrun: no such file: replay\n"),
+    (["spawnrun", "draw", "one", "two"], b"", 2, b"", b"error: unexpected argument 'one' found\n\nUsage: spawnrun draw [OPTIONS]\n"),
     (["spawnrun", "draw"], b"flush\n" * 201, 1, b"refused size\n", TOO_MUCH + b"201 events\n"),
     (["spawnrun", "draw"], b"alloc\n" * 41, 1, b"refused size\n", TOO_MUCH + b"more slots at line 41 (counted from 1)\n"),
     (["spawnrun", "draw"], b"begin 1 4294967295\nstep 1\nanswer 1\nflush", 1, b"refused size\n", TOO_MUCH + b"more slots at line 2 (counted"),
@@ -75,7 +76,7 @@ ENDS = [
     (["spawnrun", "draw", "examples/two_callers.txt"], b"x", 0, b"<svg ", b""),
     (["spawnrun", "draw", "--slots", "1", "examples/data/reuse.json"], b"", 1, b"refused line 1 word\n", b"a line must be "),
     (["tracecheck", "--draw=no/folder", "examples/given_twice.txt"], b"x", 4, b"differs line 6: ", b"no/folder can't be written: "),
-    (["tracecheck", "--draw", "no/folder", "examples/no_such.txt"], b"", 2, b"", b"error: unexpected argument 'examples/no_such.txt' found"),
+    (["tracecheck", "--draw", "no/folder", "examples/no_such.txt"], b"", 4, b"", b"tracecheck: no such file: examples/no_such.txt\n"),
     (["tracecheck", "--draw", "examples/given_twice.txt"], DIFFERS, 2, b"", b"error: 'examples/given_twice.txt' is no SVG, and isn't written over\n\nUsage"),
     (["tracecheck", "--draw"], DIFFERS, 2, b"", b"Usage: tracecheck --draw FILE [OPTIONS]\n"),
     (["tracecheck", "--draw", "--help"], DIFFERS, 2, b"", b"Usage: tracecheck --draw FILE [OPTIONS]\n"),

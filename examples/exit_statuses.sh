@@ -46,7 +46,7 @@ ends 1 'refused script components' "'components' must be " "$out/object" run
 # Words that are refused use no device: nothing is printed, though the input is one that would be accepted.
 ends 2 '' 'error: ' "$here/one_caller.txt"
 ends 2 '' 'error: ' "$here/one_caller.txt" rerun
-ends 2 '' 'error: ' "$here/one_caller.txt" replay again
+ends 2 '' 'error: ' "$here/one_caller.txt" replay once again
 ends 2 '' 'error: ' "$here/one_caller.txt" replay --slots
 ends 2 '' 'error: ' "$here/one_caller.txt" replay --slots 0
 ends 2 '' 'error: ' "$here/one_caller.txt" replay --slots 4294967296
@@ -64,16 +64,17 @@ ends 2 '' 'spawnrun ' "$here/one_caller.txt" --version
 ends 4 '' 'device' "$here" replay
 ends 4 '' 'device' "$here" run
 
-# A file that the last word names is the input, and standard input isn't read. Without such a file the word is one too many.
+# A file that the last word names is the input, and standard input isn't read. Such a file has to be there, and can be opened.
 ends 0 '0v1' '' "$out/object" replay "$here/one_caller.txt"
 ends 0 '0v1' '' "$out/object" replay --slots 4 "$here/one_caller.txt"
 ends 0 'frame 0' '' "$out/object" run --workers=2 "$scripts/spawners.json"
 ends 1 'refused line 1 word' 'a line must be ' "$here/one_caller.txt" replay "$out/object"
-ends 2 '' "error: unexpected argument '$out/none'" "$here/one_caller.txt" replay "$out/none"
+ends 4 '' "spawnrun: no such file: $out/none" "$here/one_caller.txt" replay "$out/none"
+ends 4 '' "spawnrun: can't be opened: $out/" "$here/one_caller.txt" replay "$out/$(printf '%0300d' 0)"
 ends 2 '' 'error: ' "$here/one_caller.txt" replay --slots "$here/one_caller.txt"
 ends 2 '' 'error: ' "$here/one_caller.txt" replay "$here/one_caller.txt" "$here/one_caller.txt"
 ends 2 '' 'error: ' "$here/one_caller.txt" "$here/one_caller.txt"
-ends 4 '' 'device' "$here/one_caller.txt" run "$here"
+ends 4 '' "spawnrun: is a folder: $here" "$here/one_caller.txt" run "$here"
 
 # full INPUT WORDS..: all that the program prints is lost.
 full() {

@@ -1,16 +1,13 @@
 -- What the words of a subcommand give: the values of its options.
-use Rattle.std.proofs.Common.{rules, ◌≡◌, ◌^◌, ◌<◌, ◌≤◌, ℕ, Bool, true, false, List, [], ◌∷◌, cond}
+use Rattle.std.proofs.Common.{rules, ◌≡◌, ℕ, Bool, true, false, List, [], ◌∷◌, cond}
 use Rattle.std.proofs.Common.{refl, inl, inr, codes, Option, Some, None, is_some}
-use Rattle.std.specs.Prelude.{Result, option_map}
+use Rattle.std.specs.Prelude.{option_map}
 use Rattle.std.specs.Option.{option_map_or}
 use Rattle.std.specs.List.{AllByRecursion, slice_index_or, list_any}
-use Rattle.clap.specs.Words.{Row, Rule, Shape, Text, built, fault_of, subcommand_of, without_minus}
+use Rattle.clap.specs.Words.{Row, Rule, Shape, Text, built, fault_of, subcommand_of}
 use Rattle.clap.specs.Words.{rows_of, first_of, first_value}
-use Rattle.clap.specs.Matches.{ReadsOne, one_text}
 use Rattle.clap.specs.declared.parser.matches.Found.{Found}
-use Rattle.std.specs.declared.num.ParseIntError.{ParseIntError}
-use Rattle.std.specs.Str.Parse.{ExplainsUnsignedError, HasUnsignedDigitsIfOk, ParsesUnsigned}
-use Rattle.clap.proofs.WalkLemmas.{first_value-rows, one_text-rows}
+use Rattle.clap.proofs.WalkLemmas.{first_value-rows}
 use Rattle.clap.specs.Simple.{new_shape, entered, filled, help_rule, label_of, names_of, rows_at}
 use Rattle.clap.specs.Walk.{finished, walk, answers_to, nothing_held, stop_after}
 use Rattle.clap.specs.Faults.{check_fault, entered_fault, level_fault}
@@ -20,8 +17,8 @@ use Rattle.spawnrun_lib.specs.declared.show.Show.TheVariants.{Births, Handles}
 use Rattle.std.specs.Borrow.{Bor}
 use Rattle.std.specs.Str.{bytes_eq}
 use Rattle.std.proofs.lemmas.Slice.Eq.{bytes_eq-Decides}
-use Rattle.spawnrun_lib.specs.CommandLine.{HasNumber, HasShow, option_number, references_to}
-use Rattle.spawnrun_lib.specs.CommandLine.{number_option, generations_option, program, slots_option}
+use Rattle.cli.specs.Options.{HasNumber, generations_option, number_option, slots_option}
+use Rattle.spawnrun_lib.specs.CommandLine.{HasShow, program, references_to}
 use Rattle.spawnrun_lib.specs.CommandLine.{show_option, show_text, shown, workers_option}
 use Rattle.spawnrun_lib.proofs.ParsedOptions.{none_of, Fits, HasValue, IsOption, IsRequest}
 use Rattle.spawnrun_lib.proofs.ParsedOptions.{option-has_value}
@@ -136,20 +133,6 @@ IsAsked-no_fault words e =
     let below = none_of (entered_fault (built program) stop) _ walked.1 in
     let settled = none_of _ _ below.1 in
     stopped stop (finished (built program).top.rules end) below.0 (none_of _ _ settled.1).1
-
--- what `FromStr` promises of a number of this many bits
-abbrev number_gives : ℕ → Text → Result ℕ ParseIntError → Type 0
-number_gives bits text r = ParsesUnsigned bits 10 text r × ExplainsUnsignedError 10 text r
-    × HasUnsignedDigitsIfOk text r
-
--- the number that the getter of an option in range reads
-pub number_read : (bits : ℕ) (option : Text) (most : ℕ) (found : Found) (r : Option ℕ) → most
-    < 2 ^ bits → HasNumber option most (rows_of found)
-    → ((text : Text) → one_text found option ≡ Some text → ReadsOne (number_gives bits) text r)
-    → (n : ℕ) × (r ≡ Some n) × (1 ≤ n) × (n ≤ most) × (option_number option (rows_of found)
-    ≡ Some n)
-number_read bits option most found r fits number reads =
-    search (rules, one_text-rows, reads (without_minus number.text))
 
 -- the text that the getter of `--show` reads
 pub show_read : (found : Found) (r : Option (Bor Text)) → HasShow (rows_of found)

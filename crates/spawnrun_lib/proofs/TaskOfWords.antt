@@ -1,26 +1,21 @@
 -- From the program's words to its task: the subcommand that clap finds, and the faults.
 use Rattle.std.proofs.Common.{rules, ◌≡◌, ◌∙◌, Bool, true, false, List, [], cond, IfSome, refl, sym}
 use Rattle.std.proofs.Common.{ap, subst, codes, Option, Some, None}
-use Rattle.std.specs.Prelude.{Result, IfErr, IsErrAnd, option_map}
+use Rattle.std.specs.Prelude.{option_map}
 use Rattle.std.specs.List.{slice_index_or}
-use Rattle.clap.specs.Words.{HasMatchesOf, kind_of, is_simple, Row, Shape, Text, built, fault_of}
+use Rattle.clap.specs.Words.{HasMatchesOf, is_simple, Row, Shape, Text, built, fault_of}
 use Rattle.clap.specs.Words.{is_simple_and_free, subcommand_of, rows_of, subcommand_rows_of, App}
 use Rattle.clap.specs.Words.{found_of, takes}
 use Rattle.clap.specs.Matches.{subcommand_name_of}
-use Rattle.clap.specs.declared.error.Error.{Error}
-use Rattle.clap.specs.declared.error.ErrorKind.TheVariants.{OutOfMemory}
-use Rattle.spawnrun_lib.specs.declared.task.LineFault.{LineFault}
-use Rattle.spawnrun_lib.specs.declared.task.LineFault.TheVariants.{Memory}
 use Rattle.clap.specs.declared.parser.ArgMatches.{ArgMatches}
-use Rattle.clap.specs.Kinds.{HasKind}
 use Rattle.clap.specs.Simple.{new_shape, entered, names_of}
 use Rattle.clap.specs.Walk.{nothing_held, stop_after, texts}
 use Rattle.clap.specs.Faults.{entered_fault}
 use Rattle.clap.proofs.OnLiterals.{clap_on_literals}
 use Rattle.std.specs.Borrow.{Bor}
 use Rattle.clap.specs.Takes.{built_takes, entered_passes}
-use Rattle.spawnrun_lib.specs.CommandLine.{IsFaultIn, IsFaultOf, HasNumber, HasShow, references_to}
-use Rattle.spawnrun_lib.specs.CommandLine.{program, program_of, shown}
+use Rattle.cli.specs.Options.{HasNumber}
+use Rattle.spawnrun_lib.specs.CommandLine.{HasShow, program, program_of, references_to, shown}
 use Rattle.spawnrun_lib.proofs.MovedFaults.{level_fault-moved}
 use Rattle.spawnrun_lib.proofs.MovedNames.{moved_shape, rows_after-moved}
 use Rattle.spawnrun_lib.proofs.MovedTakes.{level_passes-moved}
@@ -168,15 +163,3 @@ pub none_other : (found : Option (Text × List Row)) → IsAsked found
     ≡ option_map (λ p. p.0) found
     → IfSome r (λ p. (p.0.now ≡ codes "replay" → ⊥) × (p.0.now ≡ codes "run" → ⊥)) → ⊥
 none_other found it it2 named other = search rules
-
--- an error of words that are admitted is lack of memory
-pub only_memory : {T : Type 0} (r : Result T LineFault) (error : Error) (admitted : Type 0)
-    → IsErrAnd r (IsFaultOf error)
-    → (admitted → kind_of error ≡ OutOfMemory) → IfErr r (λ fault. admitted → fault ≡ Memory)
-only_memory it error admitted fault kind = search rules
-
--- and clap's rules find it
-pub found_fault : {T : Type 0} (r : Result T LineFault) (error : Error) (words : List Text)
-    → IsErrAnd r (IsFaultOf error)
-    → HasKind (fault_of program words) error → IfErr r (IsFaultIn words)
-found_fault it error words fault kind = search rules

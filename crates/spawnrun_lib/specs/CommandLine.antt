@@ -1,34 +1,19 @@
 -- The program's command line, in the words of clap.
-use Rattle.std.specs.Prelude.{⊤, ◌≡◌, ◌≢◌, ℕ, List, [], ◌∷◌, Option, Some, true, pos, codes}
-use Rattle.std.specs.Prelude.{◌≤◌, map, option_map}
+use Rattle.std.specs.Prelude.{◌≡◌, ℕ, List, [], ◌∷◌, ◌≤◌, map, Option, Some, true, codes}
 use Rattle.std.specs.Borrow.{Bor}
-use Rattle.std.specs.Str.Parse.{digits_value, without_leading_plus}
-use Rattle.clap.specs.Words.{App, IsAmong, IsSignedIn, Row, Rule, Text, fault_of, found_of, kind_of}
-use Rattle.clap.specs.Words.{first_of}
-use Rattle.clap.specs.Words.{rows_of, without_minus, new_app, new_rule, one_of, subcommand_of}
-use Rattle.clap.specs.Words.{with_rule, with_subcommand}
+use Rattle.clap.specs.Words.{App, IsAmong, Row, Rule, Text, fault_of, first_of, new_app, new_rule}
+use Rattle.clap.specs.Words.{subcommand_of, with_rule, with_subcommand}
 use Rattle.clap.specs.Simple.{on_top}
-use Rattle.clap.specs.declared.builder.value_parser.ValueParser.TheVariants.{Names, Signed}
-use Rattle.clap.specs.declared.parser.ArgMatches.{ArgMatches}
-use Rattle.clap.specs.declared.error.Error.{Error}
+use Rattle.clap.specs.declared.builder.value_parser.ValueParser.TheVariants.{Names}
 use Rattle.clap.specs.declared.error.kind.ErrorKind.{ErrorKind}
-use Rattle.clap.specs.declared.error.kind.ErrorKind.TheVariants.{OutOfMemory}
+use Rattle.cli.specs.Fault.{IsFaultAmong}
+use Rattle.cli.specs.Options.{generations_option, number_option, option_number, slots_option}
+use Rattle.cli.specs.declared.line_fault.LineFault.{LineFault}
 use Rattle.ent_alloc.specs.Limits.{AreLimits}
 use Rattle.spawnrun_lib.specs.declared.show.Show.{Show}
 use Rattle.spawnrun_lib.specs.declared.show.Show.TheVariants.{Births, Handles}
-use Rattle.spawnrun_lib.specs.declared.task.LineFault.{LineFault}
-use Rattle.spawnrun_lib.specs.declared.task.LineFault.TheVariants.{Line, Memory}
 use Rattle.spawnrun_lib.specs.declared.task.Task.{Task}
 use Rattle.spawnrun_lib.specs.declared.task.Task.TheVariants.{Replay, Run}
-
--- an option that takes a whole number from 1 to `most`, and has a default
-abbrev pub number_option : Text → ℕ → Text → Rule
-number_option name most default = record (new_rule name) {
-  long = Some name;
-  value_names = 1;
-  parser = Some (Signed (pos 1) (pos most));
-  defaults = default ∷ [];
-}
 
 -- an option that takes one of these names, and has a default
 abbrev pub name_option : Text → Bor (List (Bor Text)) → Text → Rule
@@ -38,12 +23,6 @@ name_option name names default = record (new_rule name) {
   parser = Some (Names names);
   defaults = default ∷ [];
 }
-
-abbrev pub slots_option : Rule
-slots_option = number_option (codes "slots") 4294967295 (codes "4294967295")
-
-abbrev pub generations_option : Rule
-generations_option = number_option (codes "generations") 2147483647 (codes "2147483647")
 
 abbrev pub replay_command : App
 replay_command = with_rule (with_rule (new_app (codes "replay")) slots_option) generations_option
@@ -89,21 +68,6 @@ references_to texts = record {
 abbrev pub program : App
 program = program_of (references_to shown)
 
--- what clap's matches have for each option
-abbrev pub given : ArgMatches → List Row
-given matches = rows_of (found_of matches)
-
--- the number that an option has in clap's matches
-abbrev pub option_number : Text → List Row → Option ℕ
-option_number option rows =
-    option_map (λ text. digits_value 10 (without_leading_plus text)) (one_of option rows)
-
--- the option's value is a whole number from 1 to `most`, which may have a sign
-pub record HasNumber (option : Text) (most : ℕ) (rows : List Row) : Type 0 where
-  pub text : Text
-  pub is : one_of option rows ≡ Some (without_minus text)
-  pub within : IsSignedIn (pos 1) (pos most) text
-
 -- the option's value is one of what `--show` takes
 abbrev pub HasShow : List Row → Type 0
 HasShow rows = (show : Show) × (first_of (codes "show") rows ≡ Some (show_text show))
@@ -124,15 +88,9 @@ AsksFor words (Run workers show) = (rows : List Row)
     × (option_number (codes "workers") rows ≡ Some workers) × AreWorkers workers
     × (first_of (codes "show") rows ≡ Some (show_text show))
 
--- the fault that an error of clap's is
-abbrev pub IsFaultOf : Error → LineFault → Type 0
-IsFaultOf error (Line same) = (same ≡ error) × (kind_of error ≢ OutOfMemory)
-IsFaultOf error Memory = kind_of error ≡ OutOfMemory
-
 -- clap's rules find the fault in the words, unless memory was refused
 abbrev pub IsFaultIn : List Text → LineFault → Type 0
-IsFaultIn words (Line error) = IsAmong (kind_of error) (fault_of program words)
-IsFaultIn words Memory = ⊤
+IsFaultIn words = IsFaultAmong (fault_of program words)
 
 -- clap's rules find a fault in the words, or a request for help
 abbrev pub IsFaulty : List Text → Type 0

@@ -1,14 +1,11 @@
 //! The program: what its words ask for, done between two devices, and what it says on the error
 //! stream.
 ghost use Rattle.std.specs.Prelude.{◌≡◌, ◌≢◌, ◌≤◌, ◌+◌, ◌⊎◌, [], min, map, length, codes, true};
-ghost use Rattle.std.specs.Prelude.{OnErr};
-ghost use Rattle.std.specs.Prelude.{IfOk, IfSome, OnOk, string_bytes};
-ghost use Rattle.std.specs.IoError.{error_kind};
+ghost use Rattle.std.specs.Prelude.{IfSome};
 ghost use Rattle.std.specs.Io.KnownBytes.{Appends};
 ghost use Rattle.clap.specs.Words.{fault_of, takes};
 ghost use Rattle.spawnrun_lib.specs.CommandLine.{IsFaulty, program};
 ghost use Rattle.devices.specs.Device.{OneFails, Takes, TakesAtMost};
-ghost use Rattle.spawnrun_lib.specs.Status.{exit_number, said, words_status};
 ghost use Rattle.spawnrun_lib.specs.Program.{AsksTo, Fails, Gives};
 ghost use Rattle.spawnrun_lib.specs.Work.{HasAdvised, HasDone, HasRefused, input_limit};
 
@@ -16,16 +13,12 @@ use crate::progress::Progress;
 use crate::replaying::replay;
 use crate::running::run;
 use crate::status::Status;
-use crate::task::{LineFault, Task, command_line};
+use crate::task::{Task, command_line};
+use cli::{LineFault, finish, refuse_line};
 use devices::{Sink, Source};
-use std::alloc::{AllocError, Global};
+use std::alloc::Global;
 use std::convert::AsStr;
-use std::io;
-use std::io::ErrorKind;
 use std::thread::Threads;
-
-// The exit status for words that are no command line of the program, and for a request for help.
-const LINE_FAULT: u8 = 2;
 
 /// Does what the words after the program's name ask for, and returns the exit status.
 ///
@@ -99,64 +92,9 @@ where
                     run(rt, alloc, input, output, errors, progress, workers, show)
                 }
             };
-            finish(errors, status)
+            finish(errors, status.number())
         }
         Err(LineFault::Line(error)) => refuse_line(format!(in alloc; "{error}"), errors),
-        Err(LineFault::Memory) => finish(errors, Status::Memory),
+        Err(LineFault::Memory) => finish(errors, Status::Memory.number()),
     }
-}
-
-// Ends the program with clap's text on words that are no command line, if there was memory for it.
-fn refuse_line<E: Sink>(text: Result<String, AllocError>, errors: &mut E) -> u8
-    ensures status { OnOk text (result ≡ 2) }
-    ensures text_said { IfOk text (λ text. E.failures errors.new ≡ E.failures errors.old
-        → Appends (E.written errors.old) (E.written errors.new) (string_bytes text)) }
-    ensures memory { OnErr text (result ≡ 3) }
-    ensures memory_said { OnErr text (E.failures errors.new ≡ E.failures errors.old
-        → Appends (E.written errors.old) (E.written errors.new) (codes "memory\n")) }
-{
-    match text {
-        Ok(text) => {
-            let _ = errors.put(text.as_bytes());
-            LINE_FAULT
-        }
-        Err(AllocError) => finish(errors, Status::Memory),
-    }
-}
-
-/// Ends the program if its words can't be read, and returns the exit status: 3 if memory ran out, 2
-/// if a word is no UTF-8, else 4. It says on the error stream what `execute` says then.
-pub fn refuse_words<E: Sink>(error: &io::Error, errors: &mut E) -> u8
-    ensures status { result ≡ words_status (error_kind error.now) }
-    ensures memory_said { result ≡ 3 → E.failures errors.new ≡ E.failures errors.old
-        → Appends (E.written errors.old) (E.written errors.new) (codes "memory\n") }
-    ensures text_said { result ≡ 2 → E.failures errors.new ≡ E.failures errors.old
-        → Appends (E.written errors.old) (E.written errors.new)
-        (codes "error: invalid UTF-8 was detected in one or more arguments\n") }
-    ensures device_said { result ≡ 4 → E.failures errors.new ≡ E.failures errors.old
-        → Appends (E.written errors.old) (E.written errors.new) (codes "device\n") }
-{
-    match error.kind() {
-        ErrorKind::OutOfMemory => finish(errors, Status::Memory),
-        ErrorKind::InvalidData => {
-            let _ = errors.put(b"error: invalid UTF-8 was detected in one or more arguments\n");
-            LINE_FAULT
-        }
-        _ => finish(errors, Status::Device),
-    }
-}
-
-// Says on the error stream what the output doesn't show, and gives the status its number.
-fn finish<E: Sink>(errors: &mut E, status: Status) -> u8
-    ensures number { result ≡ exit_number status }
-    ensures quiet { result ≤ 1 → errors.new ≡ errors.old }
-    ensures said { E.failures errors.new ≡ E.failures errors.old
-        → Appends (E.written errors.old) (E.written errors.new) (said status) }
-{
-    let _ = match status {
-        Status::Done | Status::Refused => Ok(()),
-        Status::Memory => errors.put(b"memory\n"),
-        Status::Device => errors.put(b"device\n"),
-    };
-    status.number()
 }

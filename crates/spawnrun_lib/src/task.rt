@@ -3,16 +3,15 @@ ghost use Rattle.std.specs.Prelude.{◌≡◌, ◌≢◌, [], IfOk, IfErr, OnOk,
 ghost use Rattle.std.specs.Prelude.{codes};
 ghost use Rattle.clap.specs.Words.{app_of, fault_of, first_of, rule_of, takes};
 ghost use Rattle.clap.specs.declared.builder.Command.TheViews.{out-Command as fields_of};
-ghost use Rattle.ent_alloc.specs.Limits.{AreLimits};
-ghost use Rattle.spawnrun_lib.specs.CommandLine.{AreWorkers, AsksFor, HasNumber, HasShow};
-ghost use Rattle.spawnrun_lib.specs.CommandLine.{IsFaultIn, IsFaulty};
-ghost use Rattle.spawnrun_lib.specs.CommandLine.{given, name_option, option_number, number_option};
-ghost use Rattle.spawnrun_lib.specs.CommandLine.{program, program_of, replay_command, run_command};
+ghost use Rattle.cli.specs.Options.{HasNumber, given, option_number};
+ghost use Rattle.spawnrun_lib.specs.CommandLine.{AreWorkers, AsksFor, HasShow, IsFaultIn, IsFaulty};
+ghost use Rattle.spawnrun_lib.specs.CommandLine.{name_option, program, program_of};
+ghost use Rattle.spawnrun_lib.specs.CommandLine.{replay_command, run_command};
 ghost use Rattle.spawnrun_lib.specs.CommandLine.{show_text, top_command};
 
 use crate::show::Show;
-use clap::error::ErrorKind;
 use clap::{Arg, ArgMatches, Command};
+use cli::{LineFault, generations_option, limits_of, number_option, slots_option};
 use ent_alloc::Limits;
 use std::alloc::{AllocError, Global};
 use std::convert::AsStr;
@@ -34,7 +33,7 @@ const PROGRAM_END: &str =
      1  the input was refused: one line of output names the test that it fails\n  \
      2  the words are no command line, or ask for help or the version\n  \
      3  memory ran out, and nothing was written\n  \
-     4  reading or writing failed";
+     4  reading or writing failed, or there is no such file";
 
 const RUN_END: &str = "Examples:\n  \
      echo '{\"components\":[\"hp\"],\"frames\":[[[{\"spawn\":{\"hp\":20}}]]]}' | spawnrun run\n  \
@@ -60,59 +59,6 @@ pub enum Task {
     },
 }
 
-/// Why words ask for no task.
-#[derive(Debug, Drop)]
-pub enum LineFault {
-    /// They are no command line of the program, or they ask for help. The error's `Display` is the
-    /// text to show.
-    Line(clap::Error),
-    /// Memory ran out while they were read.
-    Memory,
-}
-
-impl From<clap::Error> for LineFault {
-    ghost use Rattle.spawnrun_lib.specs.CommandLine.{IsFaultOf};
-
-    ghost from_gives = { IsFaultOf };
-
-    fn from(error: clap::Error) -> Self {
-        if error.kind() == ErrorKind::OutOfMemory {
-            LineFault::Memory
-        } else {
-            LineFault::Line(error)
-        }
-    }
-}
-
-impl From<AllocError> for LineFault {
-    ghost use Rattle.spawnrun_lib.specs.declared.task.LineFault.TheVariants.{Memory};
-
-    ghost from_gives = { λ _ fault. fault ≡ Memory };
-
-    fn from(_refused: AllocError) -> Self {
-        LineFault::Memory
-    }
-}
-
-fn number_option<'a>(
-    alloc: Global,
-    name: &'a str,
-    most: u32,
-    default: &'a str,
-    help: &'a str,
-) -> Arg<'a>
-    ensures rule { rule_of result ≡ number_option name.entry.now most default.entry.now }
-    ensures own { result.global ≡ false }
-{
-    let range = clap::value_parser!(u32).range(1..=i64::from(most));
-    Arg::new(alloc, name)
-        .long(name)
-        .value_name("N")
-        .value_parser(range)
-        .default_value(default)
-        .help(help)
-}
-
 // An option that takes one of these names.
 fn name_option<'a>(
     alloc: Global,
@@ -136,25 +82,11 @@ fn replay_command<'a>(alloc: Global) -> Result<Command<'a>, AllocError>
     ensures app { IfOk result (λ c. app_of c ≡ replay_command) }
     ensures own { IfOk result (λ c. (fields_of c).has_globals ≡ false) }
 {
-    let slots = number_option(
-        alloc,
-        "slots",
-        u32::MAX,
-        "4294967295",
-        "How many slots may be made",
-    );
-    let generations = number_option(
-        alloc,
-        "generations",
-        (1 << 31) - 1,
-        "2147483647",
-        "The last generation of a slot",
-    );
     Command::new(alloc, "replay")
         .about("Runs the schedule of allocator events on standard input")
         .after_help(REPLAY_END)
-        .arg(slots)?
-        .arg(generations)
+        .arg(slots_option(alloc))?
+        .arg(generations_option(alloc))
 }
 
 fn run_command<'a>(alloc: Global, shown: &'a [&'a str]) -> Result<Command<'a>, AllocError>
@@ -198,19 +130,6 @@ fn program<'a>(alloc: Global, shown: &'a [&'a str]) -> Result<Command<'a>, Alloc
         .subcommand(replay)?
         .subcommand(run)?
         .bin_name("spawnrun")
-}
-
-fn limits_of(options: &ArgMatches<'_>) -> Limits
-    requires slots { HasNumber (codes "slots") 4294967295 (given options.now) }
-    requires generations { HasNumber (codes "generations") 2147483647 (given options.now) }
-    ensures slots { option_number (codes "slots") (given options.now) ≡ Some result.slots }
-    ensures generations { option_number (codes "generations") (given options.now)
-        ≡ Some result.generations }
-    ensures within { AreLimits result }
-{
-    let slots = options.get_one::<u32>("slots").unwrap();
-    let generations = options.get_one::<u32>("generations").unwrap();
-    Limits::new(slots, generations).unwrap()
 }
 
 fn workers_of(options: &ArgMatches<'_>) -> usize

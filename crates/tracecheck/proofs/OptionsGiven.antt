@@ -31,7 +31,8 @@ use Rattle.clap.proofs.CallerLemmas.{default_present, entry_by_id, same_rules_by
 use Rattle.clap.proofs.OnLiterals.{clap_on_literals}
 use Rattle.clap.proofs.SimpleLemmas.{ready_simple, simple_groups}
 use Rattle.clap.proofs.WalkLemmas.{one_text-rows}
-use Rattle.tracecheck.specs.CommandLine.{HasNumber, given, number_option, program}
+use Rattle.cli.specs.Options.{HasNumber, given, number_option}
+use Rattle.tracecheck.specs.CommandLine.{program}
 
 -- ---- the arguments of the program's command
 

@@ -1,7 +1,5 @@
 -- The program's exit status.
-use Rattle.std.specs.Prelude.{◌≡◌, ℕ, List, [], Option, codes}
-use Rattle.std.specs.declared.io.ErrorKind.{ErrorKind}
-use Rattle.std.specs.declared.io.ErrorKind.TheVariants.{InvalidData, OutOfMemory}
+use Rattle.std.specs.Prelude.{◌≡◌, ℕ, List, Option}
 use Rattle.clap.specs.Words.{Text}
 use Rattle.devices.specs.Device.{Writes}
 use Rattle.ent_alloc.specs.Limits.{Limits}
@@ -36,15 +34,3 @@ abbrev pub HasSaid : List Text → Status → Option (List ℕ) → Option (List
     → Type 0
 HasSaid words ended input old new =
     (limits : Limits) × AsksFor words limits × Writes (IsSaidOf limits ended) input old new
-
--- what the error stream is told of a status
-abbrev pub said : Status → List ℕ
-said status.Memory = codes "memory\n"
-said status.Device = codes "device\n"
-said other = []
-
--- the exit status if the program's words can't be read
-abbrev pub words_status : ErrorKind → ℕ
-words_status OutOfMemory = 3
-words_status InvalidData = 2
-words_status kind = 4

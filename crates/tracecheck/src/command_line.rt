@@ -1,12 +1,10 @@
 //! The limits that the words after the program's name ask for.
-ghost use Rattle.std.specs.Prelude.{◌≡◌, ◌≢◌, [], IfOk, IfErr, OnOk, Ok, Some, codes, map, true, false};
-ghost use Rattle.clap.specs.Words.{app_of, fault_of, rule_of, takes};
-ghost use Rattle.ent_alloc.specs.Limits.{AreLimits};
-ghost use Rattle.tracecheck.specs.CommandLine.{AsksFor, HasNumber, IsFaultIn, IsFaulty, given};
-ghost use Rattle.tracecheck.specs.CommandLine.{number_option, option_number, program, top_command};
+ghost use Rattle.std.specs.Prelude.{◌≡◌, ◌≢◌, [], IfOk, IfErr, OnOk, Ok, map, true, false};
+ghost use Rattle.clap.specs.Words.{app_of, fault_of, takes};
+ghost use Rattle.tracecheck.specs.CommandLine.{AsksFor, IsFaultIn, IsFaulty, program, top_command};
 
-use clap::error::ErrorKind;
-use clap::{Arg, ArgAction, ArgMatches, Command};
+use clap::Command;
+use cli::{LineFault, generations_option, limits_of, slots_option};
 use ent_alloc::Limits;
 use std::alloc::{AllocError, Global};
 use std::convert::AsStr;
@@ -24,61 +22,7 @@ const PROGRAM_END: &str = "It reads standard input, or the file that is named by
      1  the trace differs: the output names the line, and what the allocator answers there\n  \
      2  the text is no trace, or the words are no command line, or ask for help or the version\n  \
      3  memory ran out, and nothing was written\n  \
-     4  reading or writing failed";
-
-/// Why words ask for no check.
-#[derive(Drop)]
-pub enum LineFault {
-    /// They are no command line of the program, or they ask for help. The error's `Display` is the
-    /// text to show.
-    Line(clap::Error),
-    /// Memory ran out while they were read.
-    Memory,
-}
-
-impl From<clap::Error> for LineFault {
-    ghost use Rattle.tracecheck.specs.CommandLine.{IsFaultOf};
-
-    ghost from_gives = { IsFaultOf };
-
-    fn from(error: clap::Error) -> Self {
-        if error.kind() == ErrorKind::OutOfMemory {
-            LineFault::Memory
-        } else {
-            LineFault::Line(error)
-        }
-    }
-}
-
-impl From<AllocError> for LineFault {
-    ghost use Rattle.tracecheck.specs.declared.command_line.LineFault.TheVariants.{Memory};
-
-    ghost from_gives = { λ _ fault. fault ≡ Memory };
-
-    fn from(_refused: AllocError) -> Self {
-        LineFault::Memory
-    }
-}
-
-fn number_option<'a>(
-    alloc: Global,
-    name: &'a str,
-    most: u32,
-    default: &'a str,
-    help: &'a str,
-) -> Arg<'a>
-    ensures rule { rule_of result ≡ number_option name.entry.now most default.entry.now }
-    ensures own { result.global ≡ false }
-{
-    let range = clap::value_parser!(u32).range(1..=i64::from(most));
-    Arg::new(alloc, name)
-        .long(name)
-        .action(ArgAction::Set)
-        .value_name("N")
-        .value_parser(range)
-        .default_value(default)
-        .help(help)
-}
+     4  reading or writing failed, or there is no such file";
 
 // The program without its options.
 fn top_command<'a>(alloc: Global) -> Command<'a>
@@ -94,37 +38,10 @@ fn top_command<'a>(alloc: Global) -> Command<'a>
 fn program<'a>(alloc: Global) -> Result<Command<'a>, AllocError>
     ensures { IfOk result (λ c. app_of c ≡ program) }
 {
-    let slots = number_option(
-        alloc,
-        "slots",
-        u32::MAX,
-        "4294967295",
-        "How many slots may be made",
-    );
-    let generations = number_option(
-        alloc,
-        "generations",
-        (1 << 31) - 1,
-        "2147483647",
-        "The last generation of a slot",
-    );
     top_command(alloc)
-        .arg(slots)?
-        .arg(generations)?
+        .arg(slots_option(alloc))?
+        .arg(generations_option(alloc))?
         .bin_name("tracecheck")
-}
-
-fn limits_of(options: &ArgMatches<'_>) -> Limits
-    requires slots { HasNumber (codes "slots") 4294967295 (given options.now) }
-    requires generations { HasNumber (codes "generations") 2147483647 (given options.now) }
-    ensures slots { option_number (codes "slots") (given options.now) ≡ Some result.slots }
-    ensures generations { option_number (codes "generations") (given options.now)
-        ≡ Some result.generations }
-    ensures within { AreLimits result }
-{
-    let slots = options.get_one::<u32>("slots").unwrap();
-    let generations = options.get_one::<u32>("generations").unwrap();
-    Limits::new(slots, generations).unwrap()
 }
 
 /// Reads the limits from the words after the program's name.

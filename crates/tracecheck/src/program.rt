@@ -1,28 +1,23 @@
 //! The program: what its words ask for, done between two devices, and what it writes to the error stream
 //! and to a terminal.
-ghost use Rattle.std.specs.Prelude.{◌≡◌, ◌≢◌, ◌≤◌, ◌⊎◌, IfOk, OnErr, OnOk, map, true, false};
-ghost use Rattle.std.specs.Prelude.{◌<◌, codes, is_some, length, string_bytes};
-ghost use Rattle.std.specs.IoError.{error_kind};
+ghost use Rattle.std.specs.Prelude.{◌≡◌, ◌≢◌, ◌≤◌, ◌⊎◌, codes, map, true, false};
 ghost use Rattle.std.specs.Io.KnownBytes.{Appends};
 ghost use Rattle.clap.specs.Words.{takes};
 ghost use Rattle.devices.specs.Device.{OneFails};
 ghost use Rattle.tracecheck.specs.CommandLine.{IsFaulty, program};
-ghost use Rattle.tracecheck.specs.Status.{HasSaid, exit_number, said, words_status};
+ghost use Rattle.tracecheck.specs.Status.{HasSaid};
 
-use crate::command_line::{LineFault, are_limits, command_line};
+use crate::command_line::{are_limits, command_line};
 use crate::running::check_trace;
 use crate::status::Status;
+use cli::{LineFault, file_name, finish, refuse_file, refuse_line, refuse_words, words_after_name};
 use devices::{Counted, Muted, Noting, Sink, Source, open_named};
 use std::alloc::{AllocError, Global};
 use std::cell::Cell;
 use std::convert::AsStr;
 use std::env::Env;
-use std::io::{ErrorKind, Read, Write};
+use std::io::{Read, Write};
 use std::rt::Files;
-use std::{env, io};
-
-// The exit status for words that are no command line of the program, and for a request for help.
-const LINE_FAULT: u8 = 2;
 
 /// Checks the trace that the input gives, and returns the exit status. The words after the
 /// program's name give the limits.
@@ -91,73 +86,21 @@ pub fn execute<S: AsStr, I: Source, O: Sink, E: Sink, T: Sink>(
     match command_line(alloc, words) {
         Ok(limits) => {
             let status = check_trace(alloc, input, output, terminal, tells, limits);
-            finish(errors, status)
+            finish(errors, status.number())
         }
         Err(LineFault::Line(error)) => refuse_line(format!(in alloc; "{error}"), errors),
-        Err(LineFault::Memory) => finish(errors, Status::Memory),
+        Err(LineFault::Memory) => finish(errors, Status::Memory.number()),
     }
-}
-
-// Ends the program with clap's text on words that are no command line, if there was memory for it.
-fn refuse_line<E: Sink>(text: Result<String, AllocError>, errors: &mut E) -> u8
-    ensures status { OnOk text (result ≡ 2) }
-    ensures text_said { IfOk text (λ text. E.failures errors.new ≡ E.failures errors.old
-        → Appends (E.written errors.old) (E.written errors.new) (string_bytes text)) }
-    ensures memory { OnErr text (result ≡ 3) }
-    ensures memory_said { OnErr text (E.failures errors.new ≡ E.failures errors.old
-        → Appends (E.written errors.old) (E.written errors.new) (codes "memory\n")) }
-{
-    match text {
-        Ok(text) => {
-            let _ = errors.put(text.as_bytes());
-            LINE_FAULT
-        }
-        Err(AllocError) => finish(errors, Status::Memory),
-    }
-}
-
-// Ends the program if its words can't be read, and returns the exit status: 3 if memory ran out, 2
-// if a word is no UTF-8, else 4.
-fn refuse_words<E: Sink>(error: &io::Error, errors: &mut E) -> u8
-    ensures status { result ≡ words_status (error_kind error.now) }
-    ensures memory_said { result ≡ 3 → E.failures errors.new ≡ E.failures errors.old
-        → Appends (E.written errors.old) (E.written errors.new) (codes "memory\n") }
-    ensures text_said { result ≡ 2 → E.failures errors.new ≡ E.failures errors.old
-        → Appends (E.written errors.old) (E.written errors.new)
-        (codes "error: invalid UTF-8 was detected in one or more arguments\n") }
-    ensures device_said { result ≡ 4 → E.failures errors.new ≡ E.failures errors.old
-        → Appends (E.written errors.old) (E.written errors.new) (codes "device\n") }
-{
-    match error.kind() {
-        ErrorKind::OutOfMemory => finish(errors, Status::Memory),
-        ErrorKind::InvalidData => {
-            let _ = errors.put(b"error: invalid UTF-8 was detected in one or more arguments\n");
-            LINE_FAULT
-        }
-        _ => finish(errors, Status::Device),
-    }
-}
-
-// Says on the error stream what the output doesn't show, and gives the status its number.
-fn finish<E: Sink>(errors: &mut E, status: Status) -> u8
-    ensures number { result ≡ exit_number status }
-    ensures quiet { result ≤ 2 → errors.new ≡ errors.old }
-    ensures said { E.failures errors.new ≡ E.failures errors.old
-        → Appends (E.written errors.old) (E.written errors.new) (said status) }
-{
-    let _ = match status {
-        Status::Agrees | Status::Differs | Status::Refused => Ok(()),
-        Status::Memory => errors.put(b"memory\n"),
-        Status::Device => errors.put(b"device\n"),
-    };
-    status.number()
 }
 
 /// Runs the program on the words that it was started with, and returns its exit status.
 ///
-/// If the last word is one too many and names a file, the program runs on the words before it, with
-/// the file for its input. If the output is a pipe whose reader has left, the status is 4, and
-/// nothing is written to the error stream.
+/// If the last word is one too many and no option, it names a file: the program runs on the words
+/// before it, with the file for its input. The status is 4 if there is no such file, if it is a
+/// folder, or if it can't be opened, and a line on the error stream says so.
+///
+/// If the output is a pipe whose reader has left, the status is 4, and nothing is written to the error
+/// stream.
 pub fn start<R, I: Read + Drop, O: Write + Drop, E: Write + Drop, T: Write + Drop>(
     rt: &R,
     input: I,
@@ -174,12 +117,27 @@ where
     let mut output = Counted::new(Noting::new(output, &has_left));
     let mut errors = Counted::new(Muted::new(errors, &has_left));
     let mut terminal = Counted::new(terminal);
-    let words = match words(rt) {
+    let words = match words_after_name(rt) {
         Ok(words) => words,
         Err(error) => return refuse_words(&error, &mut errors),
     };
-    match named_file(rt, &words) {
-        Ok(Some(file)) => execute(
+    let name = match file_name(&words, |words| are_limits(rt.alloc(), words)) {
+        Ok(name) => name,
+        Err(AllocError) => return finish(&mut errors, Status::Memory.number()),
+    };
+    let Some(name) = name else {
+        return execute(
+            rt.alloc(),
+            &words,
+            &mut Counted::new(input),
+            &mut output,
+            &mut errors,
+            &mut terminal,
+            tells,
+        );
+    };
+    match open_named(rt, name) {
+        Ok(file) => execute(
             rt.alloc(),
             &words[..words.len() - 1],
             &mut Counted::new(file),
@@ -188,36 +146,6 @@ where
             &mut terminal,
             tells,
         ),
-        Ok(None) => execute(
-            rt.alloc(),
-            &words,
-            &mut Counted::new(input),
-            &mut output,
-            &mut errors,
-            &mut terminal,
-            tells,
-        ),
-        Err(error) => refuse_words(&error, &mut errors),
+        Err(fault) => refuse_file("tracecheck", name, fault, &mut errors),
     }
-}
-
-// The words after the program's name.
-fn words(rt: &(impl Env + AllocGlobal)) -> io::Result<Vec<String>> {
-    let mut words = env::args(rt)?;
-    let _ = words.next();
-    Ok(words.collect(rt.alloc())?)
-}
-
-// The file that the last word names: the program takes the words before it, but not all of them, and
-// it is no option. An `Err` is of memory.
-fn named_file<R: Files + AllocGlobal>(rt: &R, words: &[String]) -> io::Result<Option<R::File>>
-    ensures { IfOk result (λ file. is_some file ≡ true → 0 < length words.now) }
-{
-    let Some((name, before)) = words.split_last() else {
-        return Ok(None);
-    };
-    if name.starts_with('-') || are_limits(rt.alloc(), words)? || !are_limits(rt.alloc(), before)? {
-        return Ok(None);
-    }
-    Ok(open_named(rt, name)?)
 }

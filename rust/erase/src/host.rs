@@ -46,7 +46,11 @@ const MODULES: &[Module] = &[
     ),
     module("std::cell", "core::cell", &["Cell"]),
     module("std::env", "crate::host::env", &["args"]),
-    module("std::fs", "crate::host::fs", &["File", "read_to_string"]),
+    module(
+        "std::fs",
+        "crate::host::fs",
+        &["File", "metadata", "read_to_string"],
+    ),
     module(
         "std::io",
         "std::io",
@@ -111,6 +115,7 @@ const METHODS: &[&str] = &[
     "err",
     "fail",
     "flush",
+    "is_dir",
     "kind",
     "load",
     "map_or",
@@ -144,7 +149,15 @@ const ASSOCIATED: &[Associated] = &[
     ("Error", &["from"]),
     (
         "ErrorKind",
-        &["BrokenPipe", "Interrupted", "OutOfMemory", "TimedOut"],
+        &[
+            "BrokenPipe",
+            "Interrupted",
+            "IsADirectory",
+            "NotADirectory",
+            "NotFound",
+            "OutOfMemory",
+            "TimedOut",
+        ],
     ),
     ("Cell", &["new"]),
     ("Fail", &["new"]),

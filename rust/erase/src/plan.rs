@@ -24,6 +24,7 @@ const TOPS: &[&str] = &[
 
 /// The programs, with their crates. The package has them behind its feature of this name.
 const PROGRAM_CRATES: &[&str] = &[
+    "cli",
     "devices",
     "ent_script",
     "spawnrun",

@@ -4,7 +4,7 @@ use crate::kit::alloc::AllocError;
 use crate::kit::programs::clap::{numbers, Arg, Command, Error};
 use crate::kit::programs::rt::HostRuntime;
 use crate::kit::programs::string::AsStr;
-use crate::proved::devices::open_named;
+use crate::proved::devices::{open_named, NameFault};
 use crate::proved::ent_alloc::Limits;
 use std::fs::File;
 
@@ -34,19 +34,19 @@ pub(super) fn limits_in(command: Command<'_>, words: &[impl AsStr]) -> Result<Li
 }
 
 /// The file that the last word names, by the rule of the proved programs: the words before it are a command line, all
-/// words aren't, and it is no option.
+/// words aren't, and it is no option. An `Err` says why that file isn't read.
 pub(super) fn named_file<W: AsStr>(
     rt: HostRuntime,
     words: &[W],
     is_line: impl Fn(&[W]) -> bool,
-) -> Result<Option<File>, AllocError> {
+) -> Result<Option<File>, NameFault> {
     let Some((name, before)) = words.split_last() else {
         return Ok(None);
     };
     if name.as_str().starts_with('-') || is_line(words) || !is_line(before) {
         return Ok(None);
     }
-    open_named(&rt, name.as_str())
+    open_named(&rt, name.as_str()).map(Some)
 }
 
 fn number<'a>(name: &'a str, most: u32, default: &'a str, help: &'a str) -> Arg<'a> {
@@ -91,20 +91,23 @@ mod tests {
         let file = concat!(env!("CARGO_MANIFEST_DIR"), "/LICENSE-MIT");
         let is_named = |words: &[&str]| {
             let is_line = |words: &[&str]| limits(words).is_some();
-            let named = named_file(HostRuntime, words, is_line);
-            named.expect("memory").is_some()
+            named_file(HostRuntime, words, is_line).map(|file| file.is_some())
         };
-        assert!(is_named(&[file]) && is_named(&["--slots", "3", file]));
-        let others: [&[&str]; 6] = [
+        assert_eq!(is_named(&[file]), Ok(true));
+        assert_eq!(is_named(&["--slots", "3", file]), Ok(true));
+        let others: [&[&str]; 5] = [
             &[],
             &["--slots", file],
             &[file, "--slots"],
             &[file, file],
             &["--slots", "3"],
-            &["/no/such/file"],
         ];
         for words in others {
-            assert!(!is_named(words), "{words:?}");
+            assert_eq!(is_named(words), Ok(false), "{words:?}");
         }
+        let folder = env!("CARGO_MANIFEST_DIR");
+        assert_eq!(is_named(&["/no/such/file"]), Err(NameFault::Missing));
+        assert_eq!(is_named(&["--slots", "3", folder]), Err(NameFault::Folder));
+        assert_eq!(is_named(&["a\0b"]), Err(NameFault::Closed));
     }
 }

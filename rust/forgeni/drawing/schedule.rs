@@ -8,10 +8,11 @@ use crate::kit::programs::clap::{Command, Error};
 use crate::kit::programs::env;
 use crate::kit::programs::rt::HostRuntime;
 use crate::kit::programs::string::AsStr;
+use crate::proved::cli::{refuse_file, refuse_words};
 use crate::proved::devices::{read_all, Counted, InputFault, Sink, Source};
 use crate::proved::ent_alloc::Limits;
 use crate::proved::ent_replay::read_schedule;
-use crate::proved::spawnrun_lib::{refuse_words, replay, Status, INPUT_LIMIT};
+use crate::proved::spawnrun_lib::{replay, Status, INPUT_LIMIT};
 use std::format;
 use std::io::Read;
 use std::process::ExitCode;
@@ -49,7 +50,10 @@ fn draw_asked(rt: HostRuntime) -> u8 {
     match named_file(rt, &words, |words| limits(words).is_ok()) {
         Ok(Some(file)) => draw_input(rt, file, &words[..words.len() - 1], &mut errors),
         Ok(None) => draw_input(rt, rt.stdin(), &words, &mut errors),
-        Err(refused) => refuse_words(&refused.into(), &mut errors),
+        Err(fault) => {
+            let name = words.last().map_or("", AsStr::as_str);
+            refuse_file("spawnrun", name, fault, &mut errors)
+        }
     }
 }
 

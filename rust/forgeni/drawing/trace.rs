@@ -12,9 +12,9 @@ use crate::kit::programs::clap::Command;
 use crate::kit::programs::env;
 use crate::kit::programs::rt::HostRuntime;
 use crate::kit::programs::string::AsStr;
+use crate::proved::cli::{refuse_file, refuse_words};
 use crate::proved::devices::{read_all, Counted, InputFault};
 use crate::proved::ent_alloc::Limits;
-use crate::proved::spawnrun_lib::refuse_words;
 use std::format;
 use std::io::{self, Read, Write};
 use std::process::{self, ExitCode, ExitStatus, Stdio};
@@ -108,7 +108,11 @@ fn check(rt: HostRuntime, file: &str, words: &[&str]) -> Result<u8, Failure> {
     match named_file(rt, words, |words| limits(words).is_some()) {
         Ok(Some(input)) => check_input(input, file, &words[..words.len() - 1]),
         Ok(None) => check_input(rt.stdin(), file, words),
-        Err(_) => Err(memory()),
+        Err(fault) => {
+            let name = words.last().copied().unwrap_or_default();
+            let mut errors = Counted::new(rt.stderr());
+            Ok(refuse_file("tracecheck", name, fault, &mut errors))
+        }
     }
 }
 

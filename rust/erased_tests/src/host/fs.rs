@@ -1,6 +1,7 @@
 //! Files.
 
 use super::rt::Files;
+use std::fs::Metadata;
 use std::io;
 use std::path::Path;
 
@@ -24,4 +25,9 @@ impl File {
     pub fn open<R: Files>(rt: &R, name: &str) -> io::Result<R::File> {
         rt.open_file(name)
     }
+}
+
+/// What the file of this name is.
+pub fn metadata<R: Files>(rt: &R, name: &str) -> io::Result<Metadata> {
+    rt.metadata(name)
 }

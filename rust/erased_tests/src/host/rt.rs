@@ -2,6 +2,7 @@
 
 use crate::kit::thread::{StdThreads, Threads};
 use std::cell::RefCell;
+use std::fs::Metadata;
 use std::io;
 
 std::thread_local! {
@@ -29,6 +30,9 @@ pub trait Files {
 
     /// The file of this name, open for reading.
     fn open_file(&self, name: &str) -> io::Result<Self::File>;
+
+    /// What the file of this name is.
+    fn metadata(&self, name: &str) -> io::Result<Metadata>;
 }
 
 /// The right to allocate.
@@ -50,6 +54,10 @@ impl Files for HostRuntime {
 
     fn open_file(&self, name: &str) -> io::Result<Self::File> {
         std::fs::File::open(name)
+    }
+
+    fn metadata(&self, name: &str) -> io::Result<Metadata> {
+        std::fs::metadata(name)
     }
 }
 

@@ -11,6 +11,8 @@
 #![allow(dead_code, unused_imports, unused_variables, clippy::all)]
 
 #[cfg(feature = "programs")]
+pub mod cli;
+#[cfg(feature = "programs")]
 pub mod devices;
 pub mod ent_alloc;
 pub mod ent_blocks;

@@ -25,11 +25,11 @@ returns-after-task-clause-reads g c = λ unfailed _ other.
       | in-Replay w ↦
           subst (HaveRead source.failures source.remaining before) (sym w.input-is)
           (λ same. w.replay-status.ensures.reads same
-          (λ is. other (c.finish.ensures.number ∙ ap exit_number (w.status-is ∙ is)))) unfailed
+          (λ is. other (c.finish.ensures.status ∙ c.number.ensures ∙ ap exit_number (w.status-is ∙ is)))) unfailed
       | in-Run w ↦
           subst (HaveRead source.failures source.remaining before) (sym w.input-is)
           (λ same. w.run-status.ensures.reads same
-          (λ is. other (c.finish.ensures.number ∙ ap exit_number (w.status-is ∙ is)))) unfailed
+          (λ is. other (c.finish.ensures.status ∙ c.number.ensures ∙ ap exit_number (w.status-is ∙ is)))) unfailed
     ]
 
 pub returns-after-task-clause-stops : goal.returns-after-task-clause-stops

@@ -1,8 +1,9 @@
 use Rattle.std.proofs.Common.{◌≡◌, ◌∙◌, IfSome, ℕ, List, codes, true, refl, sym, map, subst, Some}
-use Rattle.clap.specs.Words.{HasKind, rows_of, found_of, takes, subcommand_of}
+use Rattle.clap.specs.Words.{HasKind, fault_of, rows_of, found_of, takes, subcommand_of}
 use Rattle.spawnrun_lib.specs.CommandLine.{program}
-use Rattle.spawnrun_lib.proofs.TaskOfWords.{IsProgram-names, MeetsTask-parse, found_fault}
-use Rattle.spawnrun_lib.proofs.TaskOfWords.{none_other, only_memory, replay_asked, run_asked}
+use Rattle.cli.proofs.Faults.{found_fault, only_memory}
+use Rattle.spawnrun_lib.proofs.TaskOfWords.{IsProgram-names, MeetsTask-parse, none_other}
+use Rattle.spawnrun_lib.proofs.TaskOfWords.{replay_asked, run_asked}
 use Rattle.spawnrun_lib.proofs.TaskOfWords.{subcommand_met-named, MeetsTask}
 use Rattle.spawnrun_lib.proofs.task.command_line.Given as given
 use Rattle.spawnrun_lib.proofs.task.command_line.Goals.{In_ok-matches, In-replay, In-run}
@@ -43,7 +44,8 @@ returns-in_err-matches-clause-fault g c =
     let words : List (List ℕ) = map g.S.AsStr.text c.args.words.now in
     let is = IsProgram-names _ _ c.in_ok-program.ensures refl in
     let kind = c.in_err-matches.ensures.kinds is.free in
-    found_fault _ c.in_err-matches.field-0.0 words c.from_residual-in_err-matches.ensures.1
+    found_fault _ c.in_err-matches.field-0.0 (fault_of program words)
+    c.from_residual-in_err-matches.ensures.1
     (subst (λ kinds. HasKind kinds c.in_err-matches.field-0.0) (is.fault words) kind)
 
 pub limits_of-requires-clause-slots : goal.limits_of-requires-clause-slots

@@ -6,8 +6,8 @@ use Rattle.spawnrun_lib.proofs.task.replay_command.Goals as goal
 
 pub returns-clause-app : goal.returns-clause-app
 returns-clause-app c =
-    let slots = c.number_option-slots.ensures in
-    let generations = c.number_option-generations.ensures in
+    let slots = c.slots_option.ensures in
+    let generations = c.generations_option.ensures in
     IfOk-weaker c.arg-2.result _ _ (λ _ adds. with_option adds generations.own
     (with_option c.in_ok-arg.ensures slots.own (ap app_of_fields c.after_help.ensures
     ∙ ap app_of_fields c.about.ensures ∙ c.new.ensures.app) slots.rule) generations.rule)

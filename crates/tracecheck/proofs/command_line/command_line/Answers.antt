@@ -2,7 +2,7 @@ use Rattle.std.proofs.Common.{rules, arith, ◌≡◌, ◌∙◌, ℕ, List, tru
 use Rattle.std.proofs.lemmas.Grind.{common_steps}
 use Rattle.clap.specs.Words.{App, takes}
 use Rattle.tracecheck.specs.CommandLine.{program}
-use Rattle.tracecheck.proofs.LimitsOfWords.{only_memory}
+use Rattle.cli.proofs.Faults.{only_memory}
 use Rattle.tracecheck.proofs.OptionsGiven.{generations-given, slots-given}
 use Rattle.tracecheck.proofs.command_line.command_line.Goals as goal
 

@@ -3,6 +3,7 @@
 //! The contracts are those of the kit's `std::fs`.
 
 use super::rt::Files;
+use std::fs::Metadata;
 use std::io;
 
 /// Where a file is opened by its name.
@@ -16,6 +17,13 @@ impl File {
     pub fn open<R: Files>(rt: &R, name: &str) -> io::Result<R::File> {
         rt.open_file(name)
     }
+}
+
+/// The contract: what the file of this name is; or why that can't be said.
+///
+/// For a long name Rust's std takes memory, and it ends the program if that is refused.
+pub fn metadata<R: Files>(rt: &R, name: &str) -> io::Result<Metadata> {
+    rt.metadata(name)
 }
 
 #[cfg(test)]
@@ -37,6 +45,15 @@ mod tests {
             .read_to_string(&mut text)
             .expect("a text");
         assert!(text.starts_with("MIT License"));
+    }
+
+    #[test]
+    fn a_folder_is_no_file() {
+        let is_folder = |name| metadata(&HostRuntime, name).map(|it| it.is_dir()).ok();
+        assert_eq!(is_folder(env!("CARGO_MANIFEST_DIR")), Some(true));
+        let file = concat!(env!("CARGO_MANIFEST_DIR"), "/LICENSE-MIT");
+        assert_eq!(is_folder(file), Some(false));
+        assert_eq!(is_folder("/no/such/file"), None);
     }
 
     #[test]

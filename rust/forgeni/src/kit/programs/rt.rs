@@ -7,6 +7,7 @@ use super::streams::Stream;
 use super::time::Clock;
 use crate::kit::alloc::AllocError;
 use crate::kit::thread::{StdThreads, Threads};
+use std::fs::Metadata;
 use std::io;
 
 /// The right to allocate. In Rust nobody has to be handed it.
@@ -19,6 +20,9 @@ pub trait Files {
 
     /// The contract: the file of this name, open for reading; or why it can't be opened.
     fn open_file(&self, name: &str) -> io::Result<Self::File>;
+
+    /// The contract: what the file of this name is; or why that can't be said.
+    fn metadata(&self, name: &str) -> io::Result<Metadata>;
 }
 
 /// The rights.
@@ -36,6 +40,10 @@ impl Files for HostRuntime {
 
     fn open_file(&self, name: &str) -> io::Result<Self::File> {
         std::fs::File::open(name)
+    }
+
+    fn metadata(&self, name: &str) -> io::Result<Metadata> {
+        std::fs::metadata(name)
     }
 }
 

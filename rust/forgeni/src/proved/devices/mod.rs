@@ -11,5 +11,5 @@ mod pipe;
 pub use counted::Counted;
 pub use device::{Failed, Sink, Source};
 pub use input::{InputFault, read_all};
-pub use named::open_named;
+pub use named::{NameFault, open_named, put_refusal};
 pub use pipe::{Muted, Noting};

@@ -4,21 +4,15 @@
 //! stream.
 
 use crate::kit::programs::format;
-use crate::kit::programs::string::String;
 use crate::proved::spawnrun_lib::progress::Progress;
 use crate::proved::spawnrun_lib::replaying::replay;
 use crate::proved::spawnrun_lib::running::run;
 use crate::proved::spawnrun_lib::status::Status;
-use crate::proved::spawnrun_lib::task::{LineFault, Task, command_line};
+use crate::proved::spawnrun_lib::task::{Task, command_line};
+use crate::proved::cli::{LineFault, finish, refuse_line};
 use crate::proved::devices::{Sink, Source};
-use crate::kit::alloc::AllocError;
 use crate::kit::programs::string::AsStr;
-use std::io;
-use std::io::ErrorKind;
 use crate::kit::thread::Threads;
-
-// The exit status for words that are no command line of the program, and for a request for help.
-const LINE_FAULT: u8 = 2;
 
 /// Does what the words after the program's name ask for, and returns the exit status.
 ///
@@ -101,75 +95,9 @@ where
                     run(rt, input, output, errors, progress, workers, show)
                 }
             };
-            finish(errors, status)
+            finish(errors, status.number())
         }
         Err(LineFault::Line(error)) => refuse_line(format!("{error}"), errors),
-        Err(LineFault::Memory) => finish(errors, Status::Memory),
+        Err(LineFault::Memory) => finish(errors, Status::Memory.number()),
     }
-}
-
-// Ends the program with clap's text on words that are no command line, if there was memory for it.
-#[inline]
-fn refuse_line<E: Sink>(text: Result<String, AllocError>, errors: &mut E) -> u8
-    // ensures status { OnOk text (result ≡ 2) }
-    // ensures text_said { IfOk text (λ text. E.failures errors.new ≡ E.failures errors.old
-    //     → Appends (E.written errors.old) (E.written errors.new) (string_bytes text)) }
-    // ensures memory { OnErr text (result ≡ 3) }
-    // ensures memory_said { OnErr text (E.failures errors.new ≡ E.failures errors.old
-    //     → Appends (E.written errors.old) (E.written errors.new) (codes "memory\n")) }
-{
-    match text {
-        Ok(text) => {
-            let _ = errors.put(text.as_bytes());
-            LINE_FAULT
-        }
-        Err(AllocError) => finish(errors, Status::Memory),
-    }
-}
-
-/// Ends the program if its words can't be read, and returns the exit status: 3 if memory ran out, 2
-/// if a word is no UTF-8, else 4. It says on the error stream what `execute` says then.
-///
-/// <details><summary>Contract</summary>
-///
-/// In the words of the folder `specs/` of crate `spawnrun_lib`:
-///
-/// ```text
-/// ensures status { result ≡ words_status (error_kind error.now) }
-/// ensures memory_said { result ≡ 3 → E.failures errors.new ≡ E.failures errors.old
-///     → Appends (E.written errors.old) (E.written errors.new) (codes "memory\n") }
-/// ensures text_said { result ≡ 2 → E.failures errors.new ≡ E.failures errors.old
-///     → Appends (E.written errors.old) (E.written errors.new)
-///     (codes "error: invalid UTF-8 was detected in one or more arguments\n") }
-/// ensures device_said { result ≡ 4 → E.failures errors.new ≡ E.failures errors.old
-///     → Appends (E.written errors.old) (E.written errors.new) (codes "device\n") }
-/// ```
-///
-/// </details>
-#[inline]
-pub fn refuse_words<E: Sink>(error: &io::Error, errors: &mut E) -> u8 {
-    match error.kind() {
-        ErrorKind::OutOfMemory => finish(errors, Status::Memory),
-        ErrorKind::InvalidData => {
-            let _ = errors.put(b"error: invalid UTF-8 was detected in one or more arguments\n");
-            LINE_FAULT
-        }
-        _ => finish(errors, Status::Device),
-    }
-}
-
-// Says on the error stream what the output doesn't show, and gives the status its number.
-#[inline]
-fn finish<E: Sink>(errors: &mut E, status: Status) -> u8
-    // ensures number { result ≡ exit_number status }
-    // ensures quiet { result ≤ 1 → errors.new ≡ errors.old }
-    // ensures said { E.failures errors.new ≡ E.failures errors.old
-    //     → Appends (E.written errors.old) (E.written errors.new) (said status) }
-{
-    let _ = match status {
-        Status::Done | Status::Refused => Ok(()),
-        Status::Memory => errors.put(b"memory\n"),
-        Status::Device => errors.put(b"device\n"),
-    };
-    status.number()
 }

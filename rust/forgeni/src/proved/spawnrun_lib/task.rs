@@ -3,8 +3,8 @@
 //! What the words after the program's name ask for.
 
 use crate::proved::spawnrun_lib::show::Show;
-use crate::kit::programs::clap::error::ErrorKind;
 use crate::kit::programs::clap::{Arg, ArgMatches, Command};
+use crate::proved::cli::{LineFault, generations_option, limits_of, number_option, slots_option};
 use crate::proved::ent_alloc::Limits;
 use crate::kit::alloc::AllocError;
 use crate::kit::programs::string::AsStr;
@@ -26,7 +26,7 @@ const PROGRAM_END: &str =
      1  the input was refused: one line of output names the test that it fails\n  \
      2  the words are no command line, or ask for help or the version\n  \
      3  memory ran out, and nothing was written\n  \
-     4  reading or writing failed";
+     4  reading or writing failed, or there is no such file";
 
 const RUN_END: &str = "Examples:\n  \
      echo '{\"components\":[\"hp\"],\"frames\":[[[{\"spawn\":{\"hp\":20}}]]]}' | spawnrun run\n  \
@@ -50,53 +50,6 @@ pub enum Task {
         /// What names an entity in the output.
         show: Show,
     },
-}
-
-/// Why words ask for no task.
-#[derive(Debug)]
-pub enum LineFault {
-    /// They are no command line of the program, or they ask for help. The error's `Display` is the
-    /// text to show.
-    Line(crate::kit::programs::clap::Error),
-    /// Memory ran out while they were read.
-    Memory,
-}
-
-impl From<crate::kit::programs::clap::Error> for LineFault {
-    #[inline]
-    fn from(error: crate::kit::programs::clap::Error) -> Self {
-        if error.kind() == ErrorKind::OutOfMemory {
-            LineFault::Memory
-        } else {
-            LineFault::Line(error)
-        }
-    }
-}
-
-impl From<AllocError> for LineFault {
-    #[inline]
-    fn from(_refused: AllocError) -> Self {
-        LineFault::Memory
-    }
-}
-
-#[inline]
-fn number_option<'a>(
-    name: &'a str,
-    most: u32,
-    default: &'a str,
-    help: &'a str,
-) -> Arg<'a>
-    // ensures rule { rule_of result ≡ number_option name.entry.now most default.entry.now }
-    // ensures own { result.global ≡ false }
-{
-    let range = crate::kit::programs::clap::value_parser!(u32).range(1..=i64::from(most));
-    Arg::new(name)
-        .long(name)
-        .value_name("N")
-        .value_parser(range)
-        .default_value(default)
-        .help(help)
 }
 
 // An option that takes one of these names.
@@ -123,23 +76,11 @@ fn replay_command<'a>() -> Result<Command<'a>, AllocError>
     // ensures app { IfOk result (λ c. app_of c ≡ replay_command) }
     // ensures own { IfOk result (λ c. (fields_of c).has_globals ≡ false) }
 {
-    let slots = number_option(
-        "slots",
-        u32::MAX,
-        "4294967295",
-        "How many slots may be made",
-    );
-    let generations = number_option(
-        "generations",
-        (1 << 31) - 1,
-        "2147483647",
-        "The last generation of a slot",
-    );
     Command::new("replay")
         .about("Runs the schedule of allocator events on standard input")
         .after_help(REPLAY_END)
-        .arg(slots)?
-        .arg(generations)
+        .arg(slots_option())?
+        .arg(generations_option())
 }
 
 #[inline]
@@ -185,20 +126,6 @@ fn program<'a>(shown: &'a [&'a str]) -> Result<Command<'a>, AllocError>
         .subcommand(replay)?
         .subcommand(run)?
         .bin_name("spawnrun")
-}
-
-#[inline]
-fn limits_of(options: &ArgMatches<'_>) -> Limits
-    // requires slots { HasNumber (codes "slots") 4294967295 (given options.now) }
-    // requires generations { HasNumber (codes "generations") 2147483647 (given options.now) }
-    // ensures slots { option_number (codes "slots") (given options.now) ≡ Some result.slots }
-    // ensures generations { option_number (codes "generations") (given options.now)
-    //     ≡ Some result.generations }
-    // ensures within { AreLimits result }
-{
-    let slots = options.get_one::<u32>("slots").unwrap();
-    let generations = options.get_one::<u32>("generations").unwrap();
-    Limits::new(slots, generations).unwrap()
 }
 
 #[inline]

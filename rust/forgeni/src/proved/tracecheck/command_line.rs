@@ -2,8 +2,8 @@
 
 //! The limits that the words after the program's name ask for.
 
-use crate::kit::programs::clap::error::ErrorKind;
-use crate::kit::programs::clap::{Arg, ArgAction, ArgMatches, Command};
+use crate::kit::programs::clap::Command;
+use crate::proved::cli::{LineFault, generations_option, limits_of, slots_option};
 use crate::proved::ent_alloc::Limits;
 use crate::kit::alloc::AllocError;
 use crate::kit::programs::string::AsStr;
@@ -21,54 +21,7 @@ const PROGRAM_END: &str = "It reads standard input, or the file that is named by
      1  the trace differs: the output names the line, and what the allocator answers there\n  \
      2  the text is no trace, or the words are no command line, or ask for help or the version\n  \
      3  memory ran out, and nothing was written\n  \
-     4  reading or writing failed";
-
-/// Why words ask for no check.
-pub enum LineFault {
-    /// They are no command line of the program, or they ask for help. The error's `Display` is the
-    /// text to show.
-    Line(crate::kit::programs::clap::Error),
-    /// Memory ran out while they were read.
-    Memory,
-}
-
-impl From<crate::kit::programs::clap::Error> for LineFault {
-    #[inline]
-    fn from(error: crate::kit::programs::clap::Error) -> Self {
-        if error.kind() == ErrorKind::OutOfMemory {
-            LineFault::Memory
-        } else {
-            LineFault::Line(error)
-        }
-    }
-}
-
-impl From<AllocError> for LineFault {
-    #[inline]
-    fn from(_refused: AllocError) -> Self {
-        LineFault::Memory
-    }
-}
-
-#[inline]
-fn number_option<'a>(
-    name: &'a str,
-    most: u32,
-    default: &'a str,
-    help: &'a str,
-) -> Arg<'a>
-    // ensures rule { rule_of result ≡ number_option name.entry.now most default.entry.now }
-    // ensures own { result.global ≡ false }
-{
-    let range = crate::kit::programs::clap::value_parser!(u32).range(1..=i64::from(most));
-    Arg::new(name)
-        .long(name)
-        .action(ArgAction::Set)
-        .value_name("N")
-        .value_parser(range)
-        .default_value(default)
-        .help(help)
-}
+     4  reading or writing failed, or there is no such file";
 
 // The program without its options.
 #[inline]
@@ -86,36 +39,10 @@ fn top_command<'a>() -> Command<'a>
 fn program<'a>() -> Result<Command<'a>, AllocError>
     // ensures { IfOk result (λ c. app_of c ≡ program) }
 {
-    let slots = number_option(
-        "slots",
-        u32::MAX,
-        "4294967295",
-        "How many slots may be made",
-    );
-    let generations = number_option(
-        "generations",
-        (1 << 31) - 1,
-        "2147483647",
-        "The last generation of a slot",
-    );
     top_command()
-        .arg(slots)?
-        .arg(generations)?
+        .arg(slots_option())?
+        .arg(generations_option())?
         .bin_name("tracecheck")
-}
-
-#[inline]
-fn limits_of(options: &ArgMatches<'_>) -> Limits
-    // requires slots { HasNumber (codes "slots") 4294967295 (given options.now) }
-    // requires generations { HasNumber (codes "generations") 2147483647 (given options.now) }
-    // ensures slots { option_number (codes "slots") (given options.now) ≡ Some result.slots }
-    // ensures generations { option_number (codes "generations") (given options.now)
-    //     ≡ Some result.generations }
-    // ensures within { AreLimits result }
-{
-    let slots = options.get_one::<u32>("slots").unwrap();
-    let generations = options.get_one::<u32>("generations").unwrap();
-    Limits::new(slots, generations).unwrap()
 }
 
 /// Reads the limits from the words after the program's name.

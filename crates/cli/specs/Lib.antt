@@ -1,0 +1,3 @@
+pub mod Fault
+pub mod Options
+pub mod Ending

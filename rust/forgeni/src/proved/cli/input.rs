@@ -1,0 +1,37 @@
+// Made of crates/cli/src/input.rt by rust/erase. It isn't edited by hand.
+
+//! The input file that words name.
+
+use crate::kit::programs::string::String;
+use crate::kit::alloc::AllocError;
+
+/// The name of an input file, if the last word is one: it is no option, and one too many. `is_line`
+/// tells whether words are a command line. Those before the last one are, and all of them aren't.
+///
+/// # Errors
+///
+/// Memory ran out in `is_line`.
+///
+/// <details><summary>Contract</summary>
+///
+/// In the words of the folder `specs/` of crate `cli`:
+///
+/// ```text
+/// requires { F.IsAlwaysCallable is_line }
+/// ensures { IfOk result (λ name. is_some name ≡ true → 0 < length words.now) }
+/// ```
+///
+/// </details>
+#[inline]
+pub fn file_name<F: Fn(&[String]) -> Result<bool, AllocError>>(
+    words: &[String],
+    is_line: F,
+) -> Result<Option<&str>, AllocError> {
+    let Some((name, before)) = words.split_last() else {
+        return Ok(None);
+    };
+    if name.starts_with('-') || is_line(words)? || !is_line(before)? {
+        return Ok(None);
+    }
+    Ok(Some(name.as_str()))
+}

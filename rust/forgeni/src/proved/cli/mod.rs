@@ -1,0 +1,18 @@
+// Made of crates/cli/src/lib.rt by rust/erase. It isn't edited by hand.
+
+//! What the command lines of the programs have in common: their options for limits, the name of an
+//! input file, and how a run ends.
+
+mod ending;
+mod input;
+mod limits;
+mod line_fault;
+mod options;
+mod words;
+
+pub use ending::{finish, refuse_file, refuse_line, refuse_words};
+pub use input::file_name;
+pub(crate) use limits::limits_of;
+pub use line_fault::LineFault;
+pub use options::{generations_option, number_option, slots_option};
+pub use words::words_after_name;
