@@ -11,7 +11,7 @@ fault_of kind.NotFound = fault.Missing
 fault_of kind.NotADirectory = fault.Missing
 fault_of kind.IsADirectory = fault.Folder
 fault_of kind.OutOfMemory = fault.Memory
-fault_of other = fault.Closed
+fault_of _ = fault.Closed
 
 abbrev pub reason : NameFault → List ℕ
 reason fault.Missing = codes "no such file"
