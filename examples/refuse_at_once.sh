@@ -1,6 +1,6 @@
 #!/bin/sh
 # Runs `spawnrun replay` under a limit on its address space, on schedules of a few lines that request more handles than fit. Each must end
-# with status 3, `memory` on standard error and nothing else, within two seconds of the processor, and an ordinary schedule must run as ever. The first
+# with status 3, `memory` on standard error and nothing else, within five seconds of the processor, and an ordinary schedule must run as ever. The first
 # schedule requests 4,294,967,295 handles, which take 32 GiB: it must be refused under any limit in the memory that the program takes
 # anyway. The second requests a reply that fits and a line that doesn't. It needs `timeout` on the path, a shell with `ulimit -v`, and the
 # program as `.ci/run` or `prove.sh` built it. If it wasn't built, `rt`, which then proves it first.
@@ -18,7 +18,7 @@ replay() {
     status=0
     (
         ulimit -v "$1"
-        ulimit -t 2
+        ulimit -t 5
         exec timeout 120 "$program" replay
     ) <"$2" >"$out/printed" 2>"$out/said" || status=$?
 }

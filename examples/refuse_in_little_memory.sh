@@ -1,6 +1,6 @@
 #!/bin/sh
 # Runs `spawnrun run` under a limit on its address space, on texts of about 4 MB that are no scripts: a list of small objects, objects that
-# nest, a script with a key too many, and one whose last operation means nothing. Each must be refused by its line, within two seconds of the
+# nest, a script with a key too many, and one whose last operation means nothing. Each must be refused by its line, within five seconds of the
 # processor, in eight bytes of memory for each byte of text beside what the program takes anyway. It needs `timeout` and `awk` on the path,
 # a shell with `ulimit -v`, and the program as `.ci/run` or `prove.sh` built it. If it wasn't built, `rt`, which then proves it first.
 set -eu
@@ -24,7 +24,7 @@ refused() {
     status=0
     (
         ulimit -v "$limit"
-        ulimit -t 2
+        ulimit -t 5
         exec timeout 120 "$program" run
     ) <"$out/$1" >"$out/printed" 2>"$out/said" || status=$?
     if [ "$status" = 1 ] && [ "$(cat "$out/printed")" = "$2" ]; then
