@@ -28,7 +28,7 @@ module _ {C : Type 0} where
   SystemMayLog {S} may systems n log =
       (system : S) → slice_get systems n ≡ Some system → may system log
 
-  -- or leave it there, if memory was refused to it
+  -- or leave it there, if it ran out of memory
   abbrev pub SystemMayHaveLogged : {S : Type 0} → (S → List (Entry C) → Type 0)
       → (S → List (Entry C) → Type 0) → List S → ℕ → List (Entry C) → Type 0
   SystemMayHaveLogged may leave systems n log =

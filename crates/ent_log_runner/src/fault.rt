@@ -3,7 +3,7 @@ use thiserror::Error;
 /// Why systems filled no logs. The allocator is in its place again.
 #[derive(Clone, Copy, Debug, PartialEq, Eq, Hash, Error)]
 pub enum LogFault {
-    /// Memory was refused before any system ran. The allocator is as it was.
+    /// Memory ran out before any system ran. The allocator is as it was.
     #[error("out of memory before any system ran")]
     Memory,
     /// A system returned `Memory`, or systems are left and no worker has memory for the log of

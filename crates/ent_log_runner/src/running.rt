@@ -28,7 +28,7 @@ use std::thread::Threads;
 ///
 /// # Errors
 ///
-/// - [`LogFault::Memory`] if memory was refused before any system ran. The allocator is as it was.
+/// - [`LogFault::Memory`] if memory ran out before any system ran. The allocator is as it was.
 /// - [`LogFault::Lost`] if a system returned `Memory`, or if systems are left and no worker has
 ///   memory for the log of another one. The logs are dropped. What the systems that ran had reserved
 ///   stays reserved, and nothing else is: [`Entities::flush`] brings it to life.

@@ -15,16 +15,15 @@ pub trait LogSystem<C> {
     /// this kind.
     ghost may_log: { Self → List (LogEntry C) → Type 0 };
 
-    /// What it may leave in its log if memory is refused to it: anything, unless the system says
-    /// more.
+    /// What it may leave in its log if it runs out of memory. The default allows anything.
     ghost may_leave: { Self → List (LogEntry C) → Type 0 } = { λ _ _. Unit {0} };
 
     /// Runs it once.
     ///
     /// # Errors
     ///
-    /// `Memory`, if memory was refused to the system. All logs are then dropped, and what the
-    /// systems had reserved stays reserved.
+    /// `Memory`, if the system ran out of memory. All logs are then dropped, and what the systems
+    /// had reserved stays reserved.
     fn run(&self, alloc: Global, commands: &mut LogCommands<'_, '_, Log<C>>) -> Result<(), Memory>
         requires { IsReady commands.old }
         ensures extends { Extends commands.old commands.new }
