@@ -1,5 +1,5 @@
 #!/bin/sh
-# Proves the program and all crates below it, and builds and runs it, as the gate does, but without wrong bodies, tests and other crates.
+# Proves the program and all crates below it, and builds and runs it, as the gate does, but without mutants, tests and other crates.
 # With arguments it takes these crates in place of the program. What it builds stands in crates/NAME/out/NAME. It works on a copy, needs `rt`
 # on the path, and ends with 0 exactly if all is proved.
 set -eu
@@ -26,7 +26,7 @@ cp "$top/HANDLES" "$copy"
 mkdir "$copy/crates"
 for crate in $(sed 's/[: ].*//' "$copy/crates.txt"); do
     cp -R "$top/crates/$crate" "$copy/crates"
-    rm -rf "$copy/crates/$crate/out" "$copy/crates/$crate/wrong_bodies"
+    rm -rf "$copy/crates/$crate/out" "$copy/crates/$crate/mutants"
 done
 
 (cd "$copy" && rt ci)

@@ -54,13 +54,14 @@ class Defined:
         return self.old(given)[::-1] + self.fresh(given)
 
     def close(self, blocks):
-        """The slots up to the last one that was used are made."""
+        """If something is left before the last one that was used, the slots up to that one are made."""
         dealt = sum(size for _, size, _ in blocks)
         handles = [self.pool[before:before + size] for before, size, _ in blocks]
         used = [h for (_, _, n), hs in zip(blocks, handles) for h in hs[:n]]
         rests = [h for (_, _, n), hs in zip(blocks, handles) for h in hs[n:]]
         reach = max([before + n for before, _, n in blocks if n > 0], default=0)
-        self.made += max(0, reach - len(self.old(self.pool)))
+        if len(used) < reach:
+            self.made += max(0, reach - len(self.old(self.pool)))
         self.taken, self.pool = used, rests + self.pool[dealt:]
 
     def flush(self):

@@ -1,5 +1,5 @@
 #!/usr/bin/env python3
-"""Counts what the repository promises and shows: clauses, expectations, wrong bodies, tests. None of them may fall.
+"""Counts what the repository promises and shows: clauses, expectations, mutants, tests. None of them may fall.
 
     .ci/counts.py [REV..]     a column for each of these commits, and one for what stands here
 
@@ -7,7 +7,7 @@
 - expectations of tests: the comparisons and the rows of tables in crates/ent_tests, in the tests of rust/ and in rust/erased_tests;
 - expectations of cases: the answers, outputs, messages and exit statuses in the files of cases;
 - expectations of scripts: the calls in examples/*.sh of a function that ends the script unless a run goes as the line says;
-- wrong bodies in the gate, and all of them.
+- mutants in the gate, and all of them.
 
 It runs at the top of the repository.
 """
@@ -49,8 +49,9 @@ def counts(top):
     compared = r"\b(assert|assert_eq|assert_ne|prove|prove_eq)!\(|\bexpect\(|^\s*\(\s*(b?r?#*\"|&)"
     cases = [*lines(top, ["crates/*/cases/*", "crates/cases_and_examples/data/*"])]
     answers = sum(" => " in it or it.startswith(("> ", ">\\ ", ">> ", "! ", "= ")) or it == ">" for it in cases)
-    edits = [it for it in top.glob("crates/*/*/*.edit")]
-    of_gate = sum(it.parent.name == "must-fail" or "\ngate\n" in it.read_text() for it in edits)
+    # Before they were patches, mutants were `.edit` files too.
+    mutants = [*top.glob("crates/*/*/*.edit"), *top.glob("crates/*/mutants/*.patch")]
+    of_gate = sum(it.parent.name == "must-fail" or "\ngate\n" in it.read_text() for it in mutants)
     return {
         "crates": len(crates),
         "clauses (lines with `ensures`)": clauses,
@@ -58,7 +59,7 @@ def counts(top):
         "expectations of tests": sum(bool(re.search(compared, it)) for it in tests),
         "expectations of cases": answers,
         "expectations of scripts": sum(len([*checks(it)]) for it in top.glob("examples/*.sh")),
-        "wrong bodies": len(edits),
+        "mutants": len(mutants),
         "of them in the gate": of_gate,
     }
 

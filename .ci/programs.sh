@@ -7,7 +7,7 @@
 set -eu
 cd "$(dirname "$0")/.."
 cases=${1:-600}
-cargo build --offline --quiet --release --features programs --manifest-path rust/forgeni/Cargo.toml
+cargo build --offline --quiet --profile programs --features programs --manifest-path rust/forgeni/Cargo.toml
 # README's first commands.
 (
     cd rust/forgeni
@@ -24,7 +24,7 @@ if cargo clippy --version >/dev/null 2>&1; then
     (cd rust/forgeni && cargo clippy --offline --quiet --all-targets --features programs -- -D warnings)
 fi
 python3 .ci/tokens.py --texts $((cases < 5000 ? 5000 : cases))
-export PROGRAMS=$PWD/rust/forgeni/target/release
+export PROGRAMS=$PWD/rust/forgeni/target/programs
 python3 .ci/cases.py --program "$PROGRAMS/spawnrun"
 python3 .ci/cases.py --crate tracecheck --program "$PROGRAMS/tracecheck"
 python3 .ci/changed_replies.py --program "$PROGRAMS/tracecheck"

@@ -34,7 +34,7 @@ LEFT_OUT, FEATURE = {"cli", "devices", "ent_script", "spawnrun", "spawnrun_lib",
 
 # The paths of the kit, and what stands for them.
 PATHS = {f"std::{it}": f"crate::kit::{it}" for it in "alloc collections sync thread".split()}
-PATHS |= {f"std::{it}": f"core::{it}" for it in "cmp error fmt hash marker mem num".split()}
+PATHS |= {f"std::{it}": f"core::{it}" for it in "cmp error fmt hash marker mem num slice".split()}
 PATHS |= {"std::vec": "alloc::vec"}
 PATHS |= {it: f"crate::kit::{it}" for it in "atomic_table either itoa smallvec".split()} | {"thiserror": ""}
 # The right to allocate, as a type or a value, and a type that a ghost trait bounds are written so until they go, each by its class.
@@ -45,13 +45,13 @@ NEEDS = {"collect_in": "crate::kit::vec::CollectIn", "list call": "crate::kit::v
 # What goes of what is imported from there, and what stays, or may be called.
 MODEL, GLOBAL, ERROR = "std::marker::Model", "std::alloc::Global", "thiserror::Error"
 IMPORTS = named(
-    "std: fmt mem; std::alloc: AllocError AllocFailed; std::cmp: Ordering; std::collections: BTreeMap LinkedList; std::error: Error;"
+    "std: fmt mem slice; std::alloc: AllocError AllocFailed; std::cmp: Ordering; std::collections: BTreeMap LinkedList; std::error: Error;"
     "std::hash: Hash Hasher; std::marker: PhantomData; std::num: NonZeroU32 NonZeroU64; std::sync: Arc; std::thread: Threads join_mut; std::vec: IntoIter;"
     "atomic_table: Badge Join Play Seat Split Table TableRule; either: Either Left Right; itoa: Buffer Integer; smallvec: SmallVec"
 )
 ASSOCIATED = named(
     "Arc: new try_clone try_unwrap; BTreeMap: new; Badge: blank; Buffer: new; NonZeroU32: new; NonZeroU64: MIN new; Table: of_words;"
-    "SmallVec: new with_capacity; Vec: new with_capacity; fmt: Debug Display Formatter Result; i64: from; mem: replace;"
+    "SmallVec: new with_capacity; Vec: new with_capacity; fmt: Debug Display Formatter Result; i64: from; mem: replace; slice: Iter;"
     "u16: from_le_bytes; u32: MAX from from_le_bytes; u64: from from_le_bytes; usize: from"
 )
 PRELUDE = set(
@@ -77,6 +77,9 @@ CONSTANT = named(
     "ent_alloc/requests: none; ent_handle/handle: from_bits from_parts generation index new to_bits; ent_replay/trace/log: new;"
     "ent_storage/handle_map: limit new with_limit; ent_storage/limit: of slots"
 )
+# Files whose `pub(crate)` stays, since the package's own `several` lends several values of a map at once. No contract can say what the map
+# is after that.
+OPENED = {f"ent_storage/{it}" for it in "handle_map handle_map/generation handle_map/slot sparse_map".split()}
 # What `prove_eq!` may call, and whose stand-in is an enum alone (the empty path: what is imported from these crates).
 READS, WITHOUT_METHODS = {"beyond", "cursor"}, {"", "either::Either"}
 # Types with a layout of their own, the one of which the results derive the equality, and those of data, which derives more in the results.
@@ -84,7 +87,7 @@ LAYOUTS = dict.fromkeys(named("ent_blocks: BlockReserver; ent_replay: Log; ent_t
 LAYOUTS |= {"ent_handle::Handle": "#[repr(transparent)]"}
 WORD_TYPE, DATA = "ent_handle::Handle", named("ent_replay: Call CheckError Difference FlushReply Log Reservation ReserveReply")
 # What a type derives in the results, if nothing is left of its derive: errors that hand back queues, and reports.
-DERIVES = dict.fromkeys(named("ent_total: FrameError GoOnError SyncError"), "Debug") | {"ent_world::SyncReport": "Clone, PartialEq, Eq"}
+DERIVES = {"ent_world::SyncReport": "Clone, PartialEq, Eq"}
 # Types whose `Debug` the package has by hand.
 SHOWN_BY_HAND = named("ent_handle: Memory; ent_world: SyncReport")
 EQUALITY = {"PartialEq": "#[inline]fneq(&self,other:&Self)->bool{self.bits==other.bits}}", "Eq": "}"}
@@ -95,8 +98,8 @@ RENAMED |= {f"Vec::{it}": it + "_fallibly" for it in ("from_slice", "with_capaci
 LISTS = dict.fromkeys("extend_from_slice extend_with_clones push_reserved reserve_exact resize shrink_to_fit".split(), "")
 LISTS |= dict.fromkeys("sort_by_cached_key sort_by_key".split(), "")
 LIST_CALLS = {"capacity": "sized_capacity", "extend_with_clones": "extend_from_slice_fallibly", "push_reserved": "push_reserved"}
-LISTS |= {"capacity": "living", "push": "living", "reserve": "] index living self shared storage"}
-LISTS |= {"insert": "blocked calls commands items last latest living queue seen self spent values"}
+LISTS |= {"capacity": "living", "push": "living log", "reserve": "] blocks index living self shared storage"}
+LISTS |= {"insert": "blocked calls commands entry items last latest living map queue seen self spent vacant values"}
 KEYWORDS = set(
     "as async await break const continue crate dyn else enum extern false fn for if impl in let loop match mod move mut pub ref return "
     "static struct super trait true type unsafe use where while ghost requires ensures".split()
@@ -383,7 +386,7 @@ class Reader:
     def after_generic(self, mark, _):
         name, *bound = self.texts(mark)
         self.bounds[name] = "".join(bound[1:])
-        if self.knows("ghost", self.bounds[name]):
+        if self.knows("ghost", self.bounds[name].removesuffix("+Send+Sync")):
             self.names[-1][name] = GHOST
             self.gone(mark, GHOST)
 
@@ -604,7 +607,7 @@ GRAMMAR = r"""
 file      = -('#' '!' '[' 'tactic' group ']')* item* END
 group     = '(' (group | !')' ANY)* ')'
 item      = ghost | use | module | constant | function | data | impl | trait
-ghost     = -('pub'? 'ghost' ('use' UNTIL_SEMICOLON | NAME (':' CLAUSE)? ('=' CLAUSE)?) (';' | ','))
+ghost     = -('pub'? 'ghost' ('use' UNTIL_SEMICOLON | NAME (':' CLAUSE)? ('=' CLAUSE)? ('by' CLAUSE)?) (';' | ','))
 use       = visible? 'use' PREFIX ('{' leaf% '}' | leaf) ';'
 leaf      = NAME ('as' NAME)?
 module    = visible? 'mod' DECLARED ';'
@@ -685,8 +688,9 @@ WORDS = {it.upper(): lambda r, it=it: r.look().kind == it and r.take() for it in
     "UNTIL_SEMICOLON": lambda r: r.set("at", r.text.text.index(";", r.at)),
     "CLAUSE": lambda r: r.sees("{") and r.set("at", r.text.after_clause(r.look().start)),
     "CLAUSE_WORD": lambda r: r.sees("requires", "ensures") and r.set("requires", r.requires or r.sees("requires")) and r.take(),
-    "MET": lambda r: (it := MET.match(r.text.text, r.look().start)) and (not it[1] or r.crate == "ent_queue") and r.set("at", it.end()),
-    "SCOPE": lambda r: r.sees("crate", "super") and r.add("super", "visibility" if r.drop().text == "crate" else None),
+    "MET": lambda r: (it := MET.match(r.text.text, r.look().start)) and (not it[1] or r.crate in ("ent_log_runner", "ent_queue")) and r.set("at", it.end()),
+    "SCOPE": lambda r: r.sees("crate", "super")
+    and (r.result in OPENED and r.sees("crate") and r.take() or r.add("super", "visibility" if r.drop().text == "crate" else None)),
     "FORMATTER": lambda r: r.imports.get("fmt") == "std::fmt" and r.add("'_"),
     "BIND": lambda r: r.word("NAME") and (r.names[-1].update({r.out[-1].text: None}) or True),
     "FIELD": lambda r: r.word("NAME") and r.set("fields", [*r.fields, r.out[-1].text]),

@@ -6,6 +6,7 @@ mod caller;
 mod frames;
 mod game;
 mod going_on;
+mod logs;
 mod meadow;
 mod one_thread;
 mod orders;
@@ -22,6 +23,8 @@ pub fn show<R: Threads + Sync + Print + AllocGlobal>(rt: &R) -> Result<()> {
     orders::show(rt)?;
     head(rt, "Two threads")?;
     two_threads::show(rt)?;
+    head(rt, "Logs")?;
+    logs::show(rt)?;
     head(rt, "The meadow")?;
     frames::show(rt)?;
     head(rt, "The game")?;

@@ -1,3 +1,4 @@
 pub mod Fault
 pub mod Options
 pub mod Ending
+pub mod Words

@@ -1,5 +1,7 @@
 //! The input file that words name.
-ghost use Rattle.std.specs.Prelude.{◌≡◌, ◌<◌, IfOk, is_some, length, true};
+ghost use Rattle.std.specs.Prelude.{◌≡◌, None, Ok, IfErr, IfOk, IfSome, string_bytes};
+ghost use Rattle.std.specs.Fn.{FnReturnsAt};
+ghost use Rattle.cli.specs.Words.{IsUnknown, NamesFile, NamesNone};
 
 use std::alloc::AllocError;
 
@@ -14,7 +16,12 @@ pub fn file_name<F: Fn(&[String]) -> Result<bool, AllocError>>(
     is_line: F,
 ) -> Result<Option<&str>, AllocError>
     requires { F.IsAlwaysCallable is_line }
-    ensures { IfOk result (λ name. is_some name ≡ true → 0 < length words.now) }
+    ensures named { IfOk result (λ name. IfSome name (λ name.
+        NamesFile (FnReturnsAt F.Fn is_line) string_bytes words.now name.now)) }
+    ensures none { result ≡ Ok None
+        → NamesNone (FnReturnsAt F.Fn is_line) string_bytes words.now }
+    ensures memory { IfErr result (λ error.
+        IsUnknown (FnReturnsAt F.Fn is_line) words.now error) }
 {
     let Some((name, before)) = words.split_last() else {
         return Ok(None);

@@ -1,15 +1,20 @@
 //! The words that a program was started with.
+ghost use Rattle.std.specs.Prelude.{◌≡◌, IfOk};
+ghost use Rattle.std.specs.Vec.Iter.{into_iter_items};
+ghost use Rattle.cli.specs.Words.{after_name};
 
-use std::env::Env;
-use std::{env, io};
+use std::alloc::{AllocError, Global};
+use std::env::Args;
 
-/// The words after the program's name.
+/// The words after the program's name, of all that the program was started with.
 ///
 /// # Errors
 ///
-/// A word is no UTF-8, memory ran out, or the system doesn't give the words.
-pub fn words_after_name(rt: &(impl Env + AllocGlobal)) -> io::Result<Vec<String>> {
-    let mut words = env::args(rt)?;
-    let _ = words.next();
-    Ok(words.collect(rt.alloc())?)
+/// Memory ran out.
+pub fn words_after_name(alloc: Global, words: Args) -> Result<Vec<String>, AllocError>
+    ensures { IfOk result (λ others. others.items ≡ after_name (into_iter_items words)) }
+{
+    let mut words = words;
+    let _name = words.next();
+    words.collect(alloc)
 }

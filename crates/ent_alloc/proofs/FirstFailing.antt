@@ -36,6 +36,17 @@ failed_before [] more fault is = absurd (none_some fault is)
 failed_before (test ∷ tests) more fault is =
     failed_step test tests more fault (failed_before tests more fault) is test.0 refl
 
+-- if all pass, the first of them do
+failed_or_not : (tests more : List Test) → first_failing (tests ++ more) ≡ None
+    → (o : Option ImageFault) → first_failing tests ≡ o → first_failing tests ≡ None
+failed_or_not tests more is None at = at
+failed_or_not tests more is (Some fault) at =
+    absurd (none_some fault (sym is ∙ failed_before tests more fault at))
+
+pub none_before : (tests more : List Test) → first_failing (tests ++ more) ≡ None
+    → first_failing tests ≡ None
+none_before tests more is = failed_or_not tests more is (first_failing tests) refl
+
 passed_step : (test : Test) (tests more : List Test)
     → (first_failing tests ≡ None → first_failing (tests ++ more) ≡ first_failing more)
     → first_failing (test ∷ tests) ≡ None

@@ -2,7 +2,17 @@
 -- it.
 use Rattle.std.proofs.Common.{◌≡◌, ◌⊎◌, inl, inr, sym, ap, ◌∙◌, subst, ℕ, ◌+◌, ◌-◌, ◌<◌, ◌≤◌}
 use Rattle.std.proofs.Common.{List, [], ◌++◌, length, take, drop, reverse, All, AllPairs, arith}
-use Rattle.std.proofs.Common.{IsPermutation}
+use Rattle.std.proofs.Common.{IsPermutation, refl, get_or, slice_get, Some}
+use Rattle.std.proofs.lemmas.List.{length-map, get_or-map, get_or_append_left, get_or-append-add}
+use Rattle.std.proofs.lemmas.List.{get_or-reverse, get_or_default}
+use Rattle.std.proofs.lemmas.Option.{slice_get_read, get_or_from_slice_get}
+use Rattle.std.proofs.Common.{◌∷◌, map}
+use Rattle.std.proofs.lemmas.List.{length-take-le, drop-append-le, take-append-le, length-drop}
+use Rattle.std.proofs.lemmas.List.{drop-take}
+use Rattle.ent_alloc.specs.Limits.{Limits}
+use Rattle.ent_alloc.specs.Slots.{handle_at, roster_of}
+use Rattle.ent_alloc.specs.declared.slot_record.SlotRecord.{SlotRecord}
+use Rattle.ent_alloc.proofs.Portioned.{map-append}
 use Rattle.std.proofs.lemmas.Bool.{cases_lt}
 use Rattle.std.proofs.lemmas.List.{length-append, length-reverse, append_assoc}
 use Rattle.std.proofs.lemmas.List.{append-nil, take-append-drop, reverse-append, reverse-reverse}
@@ -16,9 +26,9 @@ use Rattle.ent_alloc.specs.Sequential.{Allocator, available, top, fresh}
 use Rattle.ent_alloc.specs.Sound.{IsSound, IsWithin, AreApart}
 use Rattle.ent_alloc.specs.Entities.{idle, allocator_of, AreReserved}
 use Rattle.ent_alloc.specs.declared.requests.Requests.{Requests}
-use Rattle.ent_alloc.specs.Front.{with_front}
+use Rattle.ent_alloc.specs.Front.{with_front, slots_of, AreSlotsOf}
 use Rattle.ent_alloc.proofs.FreshHandles.{length-fresh, All-fresh, take_joined, drop_joined}
-use Rattle.ent_alloc.proofs.FreshHandles.{fresh-none}
+use Rattle.ent_alloc.proofs.FreshHandles.{fresh-none, get_or-fresh}
 use Rattle.ent_alloc.proofs.LaidOut.{old_ones, IsLaidOut, flushed-laid_out, laid_out-sound}
 use Rattle.ent_alloc.proofs.ListLaws.{All-left, AllPairs-left, AllPairs-IsPermutation}
 use Rattle.ent_alloc.proofs.Reversed.{drop-reverse, take-reverse}
@@ -273,3 +283,156 @@ module _ (r : Roster) (requests : Requests) (s : Allocator) (hs : List Handle)
         (front_view r hs sound_at_rest few_at_rest same_at_rest
         ∙ ap (λ s. with_front s hs) view_at_rest)
         (with_front-sound s hs sound_in flushed few same) reserved.rows
+
+-- ---- the same of the slots of these handles
+
+module _ (r : Roster) (requests : Requests) (s : Allocator) (is : List ℕ)
+    (reserved : AreReserved r requests.asked requests.served)
+    (view : allocator_of r requests.asked requests.served ≡ s) (flushed : s.asked ≡ 0)
+    (few : length is ≤ length s.pool) (order : AreSlotsOf (take (length is) s.pool) is) where
+  as_long : length is ≡ length order.front
+  as_long = ap length order.slots ∙ length-map order.front (λ (h : Handle). h.index)
+
+  few_front : length order.front ≤ length s.pool
+  few_front = omega (arith, as_long)
+
+  same_front : IsPermutation (take (length order.front) s.pool) order.front
+  same_front = subst (λ n. IsPermutation (take n s.pool) order.front) as_long order.same
+
+  pub few_of : length is ≤ length r.pending + (r.limits.slots - r.made)
+  few_of = omega (arith, as_long, few_in r requests s order.front reserved view flushed few_front same_front)
+
+  pub room_of : r.made + (length is - length r.pending) ≤ r.limits.slots
+  room_of = omega (arith, as_long, room_in r requests s order.front reserved view flushed few_front same_front)
+
+  module _ (r' : Roster) (grown_is : r' ≡ grown r (length is - length r.pending)) where
+    grown_front : r' ≡ grown r (length order.front - length r.pending)
+    grown_front = grown_is ∙ ap (λ n. grown r (n - length r.pending)) as_long
+
+    pub enough_of : length is ≤ length r'.pending
+    enough_of = omega (
+      arith,
+      as_long,
+      enough_in r requests s order.front reserved view flushed few_front same_front r' grown_front,
+    )
+
+    pub waits_of : AreSlotsOf (drop (length r'.pending - length is) r'.pending) is
+    waits_of = record {
+      front = order.front;
+      same = subst (λ n. IsPermutation (drop (length r'.pending - n) r'.pending) order.front)
+          (sym as_long)
+          (waits_in r requests s order.front reserved view flushed few_front same_front r' grown_front);
+      slots = order.slots;
+    }
+
+    pub stands_of : (r'' : Roster)
+        → ((slots : AreSlotsOf (drop (length r'.pending - length is) r'.pending) is)
+        → r'' ≡ record r' {
+          pending = take (length r'.pending - length is) r'.pending ++ reverse slots.front;
+        }) → StandFor r'' requests (with_front s order.front)
+    unfolding waits_of
+    stands_of r'' each =
+        front_stands r requests s order.front reserved view flushed few_front same_front r' grown_front
+        r''
+        (each waits_of ∙ ap (λ n. record r' {
+          pending = take (length r'.pending - n) r'.pending ++ reverse order.front;
+        }) as_long)
+
+-- ---- the slot at a position
+
+module _ (r : Roster) (position : ℕ) where
+  abbrev index_of : Handle → ℕ
+  index_of h = h.index
+
+  at_position : (x : ℕ) (d : Handle) → position < length (idle r)
+      → (get_or (idle r) position d).index ≡ x → slice_get (slots_of (idle r)) position ≡ Some x
+  at_position x d below is =
+      slice_get_read (slots_of (idle r)) (length (slots_of (idle r))) position x refl
+      (omega (arith, length-map (idle r) index_of))
+      (sym (get_or_default (slots_of (idle r)) position x 0
+      (omega (arith, length-map (idle r) index_of))
+      ∙ get_or-map index_of (idle r) position d 0 below ∙ is))
+
+  pub slot_waits : (h : Handle) → position < length r.pending
+      → slice_get r.pending (length r.pending - 1 - position) ≡ Some h
+      → slice_get (slots_of (idle r)) position ≡ Some h.index
+  slot_waits h waits is =
+      at_position h.index h (omega (arith, length-idle r))
+      (ap index_of
+      (get_or_append_left (reverse r.pending) (fresh r.made (r.limits.slots - r.made)) h position
+      (omega (arith, length-reverse r.pending))
+      ∙ get_or-reverse r.pending position h waits
+      ∙ get_or_from_slice_get r.pending (length r.pending - 1 - position) h h is))
+
+  pub slot_is_fresh : length r.pending ≤ position → position < length (idle r)
+      → slice_get (slots_of (idle r)) position ≡ Some (r.made + (position - length r.pending))
+  slot_is_fresh late below =
+      let d : Handle = record { index = 0; generation = 1 } in
+      let k = position - length r.pending in
+      let there : length (reverse r.pending) + k ≡ position =
+      omega (arith, length-reverse r.pending) in
+      at_position (r.made + k) d below
+      (ap index_of
+      (ap (λ n. get_or (idle r) n d) (sym there)
+      ∙ get_or-append-add (reverse r.pending) (fresh r.made (r.limits.slots - r.made)) k d
+      ∙ get_or-fresh r.made (r.limits.slots - r.made) k d (omega (arith, length-idle r))))
+
+-- ---- those that wait, as they are listed
+
+module _ (records : List SlotRecord) where
+  slots_waiting : (pending : List ℕ)
+      → slots_of (reverse (map (handle_at records) pending)) ≡ reverse pending
+  slots_waiting [] = refl
+  slots_waiting (i ∷ is) =
+      let h = handle_at records i in
+      let hs = map (handle_at records) is in
+      ap slots_of (reverse-append (h ∷ []) hs)
+      ∙ map-append (λ (h : Handle). h.index) (reverse hs) (h ∷ [])
+      ∙ ap (◌++ i ∷ []) (slots_waiting is)
+      ∙ sym (reverse-append (i ∷ []) is)
+
+-- some of a list from its other end
+pub turned_part : (xs ys : List ℕ) (from n : ℕ) → n ≤ length xs - from
+    → reverse (take n (drop (length xs - from - n) xs)) ≡ take n (drop from (reverse xs ++ ys))
+turned_part xs ys from n few = by_from (cases_lt (length xs) from)
+  where
+    by_from : (length xs < from) ⊎ (from ≤ length xs)
+        → reverse (take n (drop (length xs - from - n) xs)) ≡ take n (drop from (reverse xs ++ ys))
+    by_from (inl past) =
+        let none : n ≡ 0 = omega (arith, few) in
+        ap (λ n. reverse (take n (drop (length xs - from - n) xs))) none
+        ∙ sym (ap (λ n. take n (drop from (reverse xs ++ ys))) none)
+    by_from (inr within) =
+        let end = length xs - from in
+        let zs = take end xs in
+        let long : length zs ≡ end = length-take-le end xs (omega arith) in
+        let sum : end ≡ (end - n) + n = omega (arith, few) in
+        let start : length zs - n ≡ end - n = omega (arith, long) in
+        sym (ap (take n) (drop-append-le from (reverse xs) ys (omega (arith, length-reverse xs)))
+        ∙ take-append-le n (drop from (reverse xs)) ys
+        (omega (arith, few, length-drop from (reverse xs), length-reverse xs))
+        ∙ ap (take n) (drop-reverse from xs)
+        ∙ take-reverse n zs
+        ∙ ap (λ k. reverse (drop k zs)) start
+        ∙ ap (λ k. reverse (drop (end - n) (take k xs))) sum
+        ∙ ap reverse (drop-take (end - n) n xs))
+
+pub waiting_long : (limits : Limits) (records : List SlotRecord) (pending : List ℕ) (r : Roster)
+    → roster_of limits records pending ≡ r → length r.pending ≡ length pending
+waiting_long limits records pending r view =
+    sym (ap (λ (r : Roster). length r.pending) view) ∙ length-map pending (handle_at records)
+
+pub waiting_part : (limits : Limits) (records : List SlotRecord) (pending : List ℕ) (r : Roster)
+    (from n : ℕ) → roster_of limits records pending ≡ r → n ≤ length r.pending - from
+    → reverse (take n (drop (length pending - from - n) pending))
+    ≡ take n (drop from (slots_of (idle r)))
+waiting_part limits records pending r from n view few =
+    let r' = roster_of limits records pending in
+    let news = fresh r'.made (r'.limits.slots - r'.made) in
+    let as_long = waiting_long limits records pending r view in
+    let slots : slots_of (idle r') ≡ reverse pending ++ slots_of news =
+    map-append (λ (h : Handle). h.index) (reverse r'.pending) news
+    ∙ ap (◌++ slots_of news) (slots_waiting records pending) in
+    turned_part pending (slots_of news) from n (omega (arith, as_long))
+    ∙ ap (λ xs. take n (drop from xs)) (sym slots)
+    ∙ ap (λ (r : Roster). take n (drop from (slots_of (idle r)))) view

@@ -21,23 +21,22 @@ use Rattle.ent_alloc.specs.declared.slot_record.SlotRecord.{SlotRecord}
 use Rattle.ent_alloc.specs.declared.slot_record.Occupancy.TheVariants.{Pending}
 use Rattle.ent_alloc.specs.Slots.{is_alive, row_of, record_at, no_slot, handle_at, occupants}
 use Rattle.ent_alloc.specs.Slots.{rows_from, roster_of, AreLinked}
-use Rattle.ent_alloc.specs.Front.{waiting_at, placed, moved}
+use Rattle.ent_alloc.specs.Front.{waiting_at, placed, moved, slots_of, AreSlotsOf}
 use Rattle.ent_alloc.proofs.ListLaws.{AllPairs-head, AllPairs-tail}
 use Rattle.ent_alloc.proofs.ListLaws.{AllPairs-IsPermutation}
 use Rattle.ent_alloc.proofs.KeptRows.{rows_from-set}
 
 -- ---- the positions
 
-pub length-placed : (pending : List ℕ) (top : ℕ) (hs : List Handle) → length (placed pending top hs)
+pub length-placed : (pending : List ℕ) (top : ℕ) (is : List ℕ) → length (placed pending top is)
     ≡ length pending
 length-placed pending top [] = refl
-length-placed pending top (h ∷ hs) =
-    length-placed (set pending (top - 1) h.index) (top - 1) hs
-    ∙ length-set pending (top - 1) h.index
+length-placed pending top (i ∷ is) =
+    length-placed (set pending (top - 1) i) (top - 1) is ∙ length-set pending (top - 1) i
 
 -- nothing changes from the top on
 pub placed-above : (pending : List ℕ) (top at : ℕ) (hs : List Handle) → length hs ≤ top → top ≤ at
-    → get_or (placed pending top hs) at 0 ≡ get_or pending at 0
+    → get_or (placed pending top (slots_of hs)) at 0 ≡ get_or pending at 0
 placed-above pending top at [] few above = refl
 placed-above pending top at (h ∷ hs) few above =
     placed-above (set pending (top - 1) h.index) (top - 1) at hs (omega arith) (omega arith)
@@ -45,14 +44,14 @@ placed-above pending top at (h ∷ hs) few above =
 
 -- nor below them
 pub placed-below : (pending : List ℕ) (top at : ℕ) (hs : List Handle) → length hs ≤ top → at < top
-    - length hs → get_or (placed pending top hs) at 0 ≡ get_or pending at 0
+    - length hs → get_or (placed pending top (slots_of hs)) at 0 ≡ get_or pending at 0
 placed-below pending top at [] few below = refl
 placed-below pending top at (h ∷ hs) few below =
     placed-below (set pending (top - 1) h.index) (top - 1) at hs (omega arith) (omega arith)
     ∙ get_or-set_other pending (top - 1) at h.index 0 (omega arith)
 
 pub placed-at : (pending : List ℕ) (top k : ℕ) (hs : List Handle) (d : Handle) → length hs ≤ top
-    → top ≤ length pending → k < length hs → get_or (placed pending top hs) (top - 1 - k) 0
+    → top ≤ length pending → k < length hs → get_or (placed pending top (slots_of hs)) (top - 1 - k) 0
     ≡ (get_or hs k d).index
 placed-at pending top k [] d few within below = absurd (omega arith)
 placed-at pending top zero (h ∷ hs) d few within below =
@@ -68,15 +67,15 @@ placed-at pending top (suc k) (h ∷ hs) d few within below =
 
 -- ---- the records
 
-pub length-moved : (records : List SlotRecord) (top : ℕ) (hs : List Handle)
-    → length (moved records top hs) ≡ length records
+pub length-moved : (records : List SlotRecord) (top : ℕ) (is : List ℕ)
+    → length (moved records top is) ≡ length records
 length-moved records top [] = refl
-length-moved records top (h ∷ hs) =
-    let w = waiting_at (record_at records h.index).generation (top - 1) in
-    length-moved (set records h.index w) (top - 1) hs ∙ length-set records h.index w
+length-moved records top (i ∷ is) =
+    let w = waiting_at (record_at records i).generation (top - 1) in
+    length-moved (set records i w) (top - 1) is ∙ length-set records i w
 
 pub moved-other : (records : List SlotRecord) (top at : ℕ) (hs : List Handle)
-    → All (λ h. h.index ≢ at) hs → record_at (moved records top hs) at ≡ record_at records at
+    → All (λ h. h.index ≢ at) hs → record_at (moved records top (slots_of hs)) at ≡ record_at records at
 moved-other records top at [] others = refl
 moved-other records top at (h ∷ hs) others =
     let w = waiting_at (record_at records h.index).generation (top - 1) in
@@ -85,7 +84,7 @@ moved-other records top at (h ∷ hs) others =
     ∙ get_or-set_other records h.index at w no_slot (λ e. here (sym e))
 
 pub generation-moved : (records : List SlotRecord) (top at : ℕ) (hs : List Handle)
-    → All (λ h. h.index < length records) hs → (record_at (moved records top hs) at).generation
+    → All (λ h. h.index < length records) hs → (record_at (moved records top (slots_of hs)) at).generation
     ≡ (record_at records at).generation
 generation-moved records top at [] made = refl
 generation-moved records top at (h ∷ hs) made =
@@ -99,7 +98,7 @@ generation-moved records top at (h ∷ hs) made =
 
 pub moved-at : (records : List SlotRecord) (top k : ℕ) (hs : List Handle) (d : Handle)
     → All (λ h. h.index < length records) hs → AllPairs AreApart hs → k < length hs
-    → (record_at (moved records top hs) (get_or hs k d).index).occupancy
+    → (record_at (moved records top (slots_of hs)) (get_or hs k d).index).occupancy
     ≡ Pending (top - 1 - k)
 moved-at records top k [] d made apart below = absurd (omega arith)
 moved-at records top zero (h ∷ hs) d made apart below =
@@ -141,7 +140,7 @@ vacant-set records index at w new old = grind (arith, common_steps)
 
 pub occupants-moved : (records : List SlotRecord) (top : ℕ) (hs : List Handle)
     → All (λ h. IsVacant (record_at records h.index)) hs
-    → occupants 0 (moved records top hs) ≡ occupants 0 records
+    → occupants 0 (moved records top (slots_of hs)) ≡ occupants 0 records
 occupants-moved records top [] vacant = refl
 occupants-moved records top (h ∷ hs) vacant =
     let w = waiting_at (record_at records h.index).generation (top - 1) in
@@ -153,7 +152,7 @@ occupants-moved records top (h ∷ hs) vacant =
 
 pub rows-moved : (records : List SlotRecord) (top : ℕ) (hs : List Handle)
     → All (λ h. IsVacant (record_at records h.index)) hs
-    → rows_from 0 (moved records top hs) ≡ rows_from 0 records
+    → rows_from 0 (moved records top (slots_of hs)) ≡ rows_from 0 records
 rows-moved records top [] vacant = refl
 rows-moved records top (h ∷ hs) vacant =
     let w = waiting_at (record_at records h.index).generation (top - 1) in
@@ -253,10 +252,10 @@ module _ (limits : Limits) (records : List SlotRecord) (pending : List ℕ) (liv
     apart = AllPairs-IsPermutation AreApart (λ g h ne e. ne (sym e)) waited hs same waited_apart
 
     abbrev after : List SlotRecord
-    after = moved records (length pending) hs
+    after = moved records (length pending) (slots_of hs)
 
     abbrev order : List ℕ
-    order = placed pending (length pending) hs
+    order = placed pending (length pending) (slots_of hs)
 
     early_other : (position : ℕ) → position < from → All (λ h. h.index ≢ get_or pending position 0) hs
     early_other position early = each (λ h. h.index ≢ get_or pending position 0)
@@ -268,20 +267,20 @@ module _ (limits : Limits) (records : List SlotRecord) (pending : List ℕ) (liv
     made_after : (position : ℕ) → position < length order
         → get_or order position 0 < length after
     made_after position within =
-        let long = length-placed pending (length pending) hs in
-        let longer = length-moved records (length pending) hs in
+        let long = length-placed pending (length pending) (slots_of hs) in
+        let longer = length-moved records (length pending) (slots_of hs) in
         by_place (cases_lt position from)
       where
         by_place : (position < from) ⊎ (from ≤ position) → get_or order position 0 < length after
         by_place (inl early) =
-            let long = length-placed pending (length pending) hs in
-            let longer = length-moved records (length pending) hs in
+            let long = length-placed pending (length pending) (slots_of hs) in
+            let longer = length-moved records (length pending) (slots_of hs) in
             let was = linked.made position (omega arith) in
             let stays = placed-below pending (length pending) position hs few early in
             omega arith
         by_place (inr late) =
-            let long = length-placed pending (length pending) hs in
-            let longer = length-moved records (length pending) hs in
+            let long = length-placed pending (length pending) (slots_of hs) in
+            let longer = length-moved records (length pending) (slots_of hs) in
             let k = length pending - 1 - position in
             let at : length pending - 1 - k ≡ position = omega arith in
             let d = handle_at records 0 in
@@ -302,7 +301,7 @@ module _ (limits : Limits) (records : List SlotRecord) (pending : List ℕ) (liv
             (moved-other records (length pending) (get_or pending position 0) hs
             (early_other position early)) ∙ linked.forward position (omega arith)
         by_place (inr late) =
-            let long = length-placed pending (length pending) hs in
+            let long = length-placed pending (length pending) (slots_of hs) in
             let k = length pending - 1 - position in
             let at : length pending - 1 - k ≡ position = omega arith in
             let d = handle_at records 0 in
@@ -323,7 +322,7 @@ module _ (limits : Limits) (records : List SlotRecord) (pending : List ℕ) (liv
         by_slot : ((k : ℕ) × (k < length hs) × ((d : Handle) → (get_or hs k d).index ≡ index))
             ⊎ All (λ h. h.index ≢ index) hs → Is index position
         by_slot (inl found) =
-            let long = length-placed pending (length pending) hs in
+            let long = length-placed pending (length pending) (slots_of hs) in
             let k = found.0 in
             let lt : k < length hs = found.1 in
             let d = handle_at records 0 in
@@ -338,8 +337,8 @@ module _ (limits : Limits) (records : List SlotRecord) (pending : List ℕ) (liv
                   ∙ placed-at pending (length pending) k hs d few (omega arith) lt ∙ slot;
             }
         by_slot (inr none) =
-            let long = length-placed pending (length pending) hs in
-            let longer = length-moved records (length pending) hs in
+            let long = length-placed pending (length pending) (slots_of hs) in
+            let longer = length-moved records (length pending) (slots_of hs) in
             let was : (record_at records index).occupancy ≡ Pending position =
             sym (ap (λ (r : SlotRecord). r.occupancy)
             (moved-other records (length pending) index hs none)) ∙ is in
@@ -350,7 +349,7 @@ module _ (limits : Limits) (records : List SlotRecord) (pending : List ℕ) (liv
             by_place : (position < from) ⊎ (from ≤ position) → position < length pending
                 → get_or pending position 0 ≡ index → Is index position
             by_place (inl early) listed back =
-                let long = length-placed pending (length pending) hs in
+                let long = length-placed pending (length pending) (slots_of hs) in
                 record {
                   listed = omega arith;
                   back = placed-below pending (length pending) position hs few early ∙ back;
@@ -368,8 +367,8 @@ module _ (limits : Limits) (records : List SlotRecord) (pending : List ℕ) (liv
 
     pub front_keeps_links : AreLinked limits after order live
     front_keeps_links =
-        let long = length-placed pending (length pending) hs in
-        let longer = length-moved records (length pending) hs in
+        let long = length-placed pending (length pending) (slots_of hs) in
+        let longer = length-moved records (length pending) (slots_of hs) in
         let living = occupants-moved records (length pending) hs all_vacant in
         let generation : (index : ℕ) → (record_at after index).generation
         ≡ (record_at records index).generation =
@@ -399,7 +398,7 @@ module _ (limits : Limits) (records : List SlotRecord) (pending : List ℕ) (liv
         → get_or (map (handle_at after) order) k d
         ≡ get_or (take from (map (handle_at records) pending) ++ reverse hs) k d
     waits_after k d lt =
-        let long = length-placed pending (length pending) hs in
+        let long = length-placed pending (length pending) (slots_of hs) in
         let all = length-map order (handle_at after) in
         get_or-map (handle_at after) order k 0 d (omega arith) ∙ by_place (cases_lt k from)
       where
@@ -416,7 +415,7 @@ module _ (limits : Limits) (records : List SlotRecord) (pending : List ℕ) (liv
             ∙ sym (get_or_append_left (take from (map (handle_at records) pending)) (reverse hs) d k
             (omega (arith, short)))
         by_place (inr late) =
-            let long = length-placed pending (length pending) hs in
+            let long = length-placed pending (length pending) (slots_of hs) in
             let all = length-map order (handle_at after) in
             let j = length pending - 1 - k in
             let at : length pending - 1 - j ≡ k = omega arith in
@@ -446,7 +445,7 @@ module _ (limits : Limits) (records : List SlotRecord) (pending : List ℕ) (liv
         ≡ take from (map (handle_at records) pending) ++ reverse hs =
         same_lists _ _ (omega (
           arith,
-          length-placed pending (length pending) hs,
+          length-placed pending (length pending) (slots_of hs),
           length-map order (handle_at after),
           length-append (take from (map (handle_at records) pending)) (reverse hs),
           length-reverse hs,
@@ -454,7 +453,7 @@ module _ (limits : Limits) (records : List SlotRecord) (pending : List ℕ) (liv
         )) waits_after in
         let living = occupants-moved records (length pending) hs all_vacant in
         let rows = rows-moved records (length pending) hs all_vacant in
-        let made = length-moved records (length pending) hs in
+        let made = length-moved records (length pending) (slots_of hs) in
         λ i. record {
           limits = limits;
           live = sets.from_list (living i);
@@ -463,35 +462,55 @@ module _ (limits : Limits) (records : List SlotRecord) (pending : List ℕ) (liv
           made = made i;
         }
 
--- the same of a roster that the vectors stand for
+-- the same of a roster that the vectors stand for, and of the slots of the handles
 module _ (limits : Limits) (records : List SlotRecord) (pending : List ℕ) (live : ℕ)
-    (hs : List Handle) (r : Roster) (linked : AreLinked limits records pending live)
-    (view : roster_of limits records pending ≡ r) (few : length hs ≤ length r.pending)
-    (same : IsPermutation (drop (length r.pending - length hs) r.pending) hs) where
+    (is : List ℕ) (r : Roster) (linked : AreLinked limits records pending live)
+    (view : roster_of limits records pending ≡ r) (few : length is ≤ length r.pending)
+    (order : AreSlotsOf (drop (length r.pending - length is) r.pending) is) where
+  abbrev hs : List Handle
+  hs = order.front
+
   long_view : length r.pending ≡ length pending
   long_view = sym (ap (λ (r : Roster). length r.pending) view) ∙ length-map pending (handle_at records)
 
+  as_many : length is ≡ length hs
+  as_many = ap length order.slots ∙ length-map hs (λ (h : Handle). h.index)
+
   few_in : length hs ≤ length pending
-  few_in = omega (arith, long_view)
+  few_in = omega (arith, long_view, as_many)
 
   same_in : IsPermutation (drop (length pending - length hs) (map (handle_at records) pending)) hs
   same_in = subst (λ xs. IsPermutation (drop (length pending - length hs) xs) hs)
       (sym (ap (λ (r : Roster). r.pending) view))
-      (subst (λ k. IsPermutation (drop (k - length hs) r.pending) hs) long_view same)
+      (subst (λ k. IsPermutation (drop k r.pending) hs)
+      (λ i. long_view i - as_many i) order.same)
 
-  pub slots_in : All (λ h. h.index < length records) hs
-  slots_in = made_slots limits records pending live hs linked few_in same_in
+  made_front : All (λ h. h.index < length records) hs
+  made_front = made_slots limits records pending live hs linked few_in same_in
 
-  pub links_in : AreLinked limits (moved records (length pending) hs)
-      (placed pending (length pending) hs) live
-  links_in = front_keeps_links limits records pending live hs linked few_in same_in
+  pub slots_in : All (λ i. i < length records) is
+  slots_in = subst (All (λ i. i < length records)) (sym order.slots)
+      (λ k d lt. let h = handle_at records 0 in
+      let long = length-map hs (λ (h : Handle). h.index) in
+      let at = get_or-map (λ (h : Handle). h.index) hs k h d (omega arith) in
+      let below = made_front k h (omega arith) in omega (arith, at))
 
-  pub roster_in : roster_of limits (moved records (length pending) hs)
-      (placed pending (length pending) hs) ≡ record r {
-        pending = take (length r.pending - length hs) r.pending ++ reverse hs;
+  pub links_in : AreLinked limits (moved records (length pending) is)
+      (placed pending (length pending) is) live
+  links_in = subst
+      (λ is. AreLinked limits (moved records (length pending) is)
+      (placed pending (length pending) is) live)
+      (sym order.slots)
+      (front_keeps_links limits records pending live hs linked few_in same_in)
+
+  pub roster_in : roster_of limits (moved records (length pending) is)
+      (placed pending (length pending) is) ≡ record r {
+        pending = take (length r.pending - length is) r.pending ++ reverse hs;
       }
   roster_in =
-      roster_of-front limits records pending live hs linked few_in same_in
+      (λ i. roster_of limits (moved records (length pending) (order.slots i))
+      (placed pending (length pending) (order.slots i)))
+      ∙ roster_of-front limits records pending live hs linked few_in same_in
       ∙ (λ i. record (view i) {
-        pending = take (sym long_view i - length hs) (view i).pending ++ reverse hs;
+        pending = take (sym long_view i - sym as_many i) (view i).pending ++ reverse hs;
       })

@@ -14,7 +14,7 @@ use Rattle.ent_alloc.specs.Image.{word, long, magic, version, header_bytes}
 use Rattle.ent_alloc.specs.ImageRecords.{AreNumbers, AreServed}
 use Rattle.ent_alloc.specs.FirstFault.{Test, first_failing, first_fault, word_at, long_at, front_tests}
 use Rattle.ent_alloc.specs.FirstFault.{header_in, in_limits, in_counts, in_requests, header_tests}
-use Rattle.ent_alloc.specs.FirstFault.{slots_tests}
+use Rattle.ent_alloc.specs.FirstFault.{slots_tests, header_fault}
 use Rattle.ent_alloc.specs.declared.image.Header.{Header}
 use Rattle.ent_alloc.specs.declared.image_fault.ImageFault.{ImageFault}
 use Rattle.ent_alloc.specs.declared.image_fault.ImageFault.TheVariants.{Magic, Version, Length}
@@ -24,7 +24,7 @@ use Rattle.ent_alloc.proofs.ImageHeader.{letters, letters_are, header_then, numb
 use Rattle.ent_alloc.proofs.ImageHeader.{length-long, length-header_bytes}
 use Rattle.ent_alloc.proofs.ImageWords.{length-word}
 use Rattle.ent_alloc.proofs.ImageWordAt.{word_here, word_past, long_here, long_past}
-use Rattle.ent_alloc.proofs.FirstFailing.{passed, failed, failed_before, passed_before}
+use Rattle.ent_alloc.proofs.FirstFailing.{passed, failed, failed_before, passed_before, none_before}
 
 -- what is not true is false
 pub is_false : (b : Bool) → (b ≡ true → ⊥) → b ≡ false
@@ -159,16 +159,34 @@ module _ (h : Header) (rest : List ℕ) (fits : AreNumbers h) where
 abbrev pub later_tests : Header → ℕ → List ℕ → List Test
 later_tests h len slots = header_tests h len ++ slots_tests h.generations h.made h.waiting slots
 
-pub to_numbers : (bytes : List ℕ) (h : Header) (rest : List ℕ) → AreNumbers h
-    → bytes ≡ header_bytes h ++ rest → first_failing (front_tests bytes) ≡ None
-    → first_fault bytes ≡ first_failing (later_tests h (length bytes) rest)
-to_numbers bytes h rest fits is front =
-    let numbers : header_in bytes ≡ h = ap header_in is ∙ header_is_in h rest fits in
-    let left : drop 40 bytes ≡ rest =
-    ap (drop 40) is ∙ drop_at (header_bytes h) rest 40 (length-header_bytes h) in
-    passed_before (front_tests bytes)
-    (later_tests (header_in bytes) (length bytes) (drop 40 bytes)) front
-    ∙ (λ i. first_failing (later_tests (numbers i) (length bytes) (left i)))
+module _ (bytes : List ℕ) (h : Header) (rest : List ℕ) (fits : AreNumbers h)
+    (is : bytes ≡ header_bytes h ++ rest) (front : first_failing (front_tests bytes) ≡ None) where
+  numbers : header_in bytes ≡ h
+  numbers = ap header_in is ∙ header_is_in h rest fits
+
+  pub to_numbers : first_fault bytes ≡ first_failing (later_tests h (length bytes) rest)
+  to_numbers =
+      let left : drop 40 bytes ≡ rest =
+      ap (drop 40) is ∙ drop_at (header_bytes h) rest 40 (length-header_bytes h) in
+      passed_before (front_tests bytes)
+      (later_tests (header_in bytes) (length bytes) (drop 40 bytes)) front
+      ∙ (λ i. first_failing (later_tests (numbers i) (length bytes) (left i)))
+
+  pub no_header_fault : first_failing (header_tests h (length bytes)) ≡ None
+      → header_fault bytes ≡ None
+  no_header_fault passes =
+      passed_before (front_tests bytes) (header_tests (header_in bytes) (length bytes)) front
+      ∙ (λ i. first_failing (header_tests (numbers i) (length bytes))) ∙ passes
+
+-- what has no fault has none before its slots
+pub header_faultless : (bytes : List ℕ) → first_fault bytes ≡ None → header_fault bytes ≡ None
+header_faultless bytes is =
+    let h = header_in bytes in
+    let header = header_tests h (length bytes) in
+    let slots = slots_tests h.generations h.made h.waiting (drop 40 bytes) in
+    let front = none_before (front_tests bytes) (header ++ slots) is in
+    passed_before (front_tests bytes) header front
+    ∙ none_before header slots (sym (passed_before (front_tests bytes) (header ++ slots) front) ∙ is)
 
 -- a fault of the first ones
 pub front_fault : (bytes : List ℕ) (fault : ImageFault)
@@ -300,6 +318,16 @@ module _ (h : Header) (len : ℕ) (slots : List ℕ) where
         pub whole_length_fault : len ≢ 40 + 12 * h.made → later ≡ Some (Length (40 + 12 * h.made))
         whole_length_fault other = to_length
             ∙ failed whole_test for_slots (ne_eqb len (40 + 12 * h.made) other)
+
+        pub header_passes : len ≡ 40 + 12 * h.made → first_failing (header_tests h len) ≡ None
+        header_passes same =
+            passed (in_limits h, BadLimits)
+            ((in_counts h, Counts) ∷ ((in_requests h, Requests) ∷ (whole_test ∷ [])))
+            (limits_true h limits)
+            ∙ passed (in_counts h, Counts) ((in_requests h, Requests) ∷ (whole_test ∷ []))
+            (counts_true h few wait)
+            ∙ passed (in_requests h, Requests) (whole_test ∷ []) (requests_true h served)
+            ∙ passed whole_test [] (eq-eqb len (40 + 12 * h.made) same)
 
         pub to_slots : len ≡ 40 + 12 * h.made → later ≡ first_failing for_slots
         to_slots same = to_length ∙ passed whole_test for_slots (eq-eqb len (40 + 12 * h.made) same)

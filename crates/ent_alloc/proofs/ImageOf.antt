@@ -14,7 +14,7 @@ use Rattle.ent_alloc.specs.Sequential.{Allocator, available, top, is_old}
 use Rattle.ent_alloc.specs.Sound.{IsSound}
 use Rattle.ent_alloc.specs.Entities.{Entities, idle, allocator_of, entities_of, AreReserved}
 use Rattle.ent_alloc.specs.Image.{slot, slot_bytes, slots_bytes, AreSlots, HasImage, roster, header}
-use Rattle.ent_alloc.specs.Image.{header_bytes, image}
+use Rattle.ent_alloc.specs.Image.{header_bytes, image, kept_bytes}
 use Rattle.ent_alloc.specs.ImageRecords.{AreServed, AreNumbers}
 use Rattle.ent_alloc.specs.declared.image.Header.{Header}
 use Rattle.ent_alloc.proofs.PoolLaw.{length-taken}
@@ -24,7 +24,7 @@ use Rattle.ent_alloc.proofs.MeaningOfRequests.{settled_is}
 use Rattle.ent_alloc.proofs.ImageWords.{length-slot_bytes, length-pieces, piece, same_slot}
 use Rattle.ent_alloc.proofs.ImageSlots.{few, small, same_roster}
 use Rattle.ent_alloc.proofs.ImageSound.{roster_slots, idle_is, same_entities, slots_sound, roster_is}
-use Rattle.ent_alloc.proofs.ImageHeader.{same_header}
+use Rattle.ent_alloc.proofs.ImageHeader.{same_header, length-header_bytes}
 
 -- ---- slots
 
@@ -199,6 +199,17 @@ exact bytes (Err fault) found has refused e is same = elim (memory_or_not fault)
   | inl memory ↦ inr (ap Err memory)
   | inr other ↦ absurd (refused other e is same)
 ]
+
+-- it has no more bytes than those of its slots
+pub bounded : (bytes : List ℕ) (result : Result Entities ImageFault)
+    → IfOk result (λ e. image e ≡ bytes) → IfOk result HasImage
+    → IfOk result (λ e. 40 + kept_bytes e.allocator ≤ length bytes)
+bounded bytes (Ok e) found has =
+    let front = length-header_bytes (header e) in
+    let rest = length-slots_bytes (roster e) in
+    let joined = length-append (header_bytes (header e)) (slots_bytes (roster e)) in
+    omega (arith, ap length found, joined, front, rest, few_wait e has)
+bounded bytes (Err fault) found has = tt
 
 -- and has what the allocator had
 pub kept_by_image : (P : Entities → Type 0) (bytes : List ℕ) (result : Result Entities ImageFault)

@@ -1,7 +1,7 @@
 -- Records without the rows of their occupants: they point at the pending indexes as before, and stand
 -- for the same slots without rows.
-use Rattle.std.proofs.Common.{◌≡◌, ◌≢◌, refl, sym, ap, ◌∙◌, subst, ℕ, zero, suc, ◌+◌, ◌^◌, ◌<◌, ◌≤◌}
-use Rattle.std.proofs.Common.{List, [], ◌∷◌, length, map, get_or, Option, None, Some, arith, true, cond}
+use Rattle.std.proofs.Common.{◌≡◌, ◌≢◌, refl, sym, ap, ◌∙◌, subst, ℕ, ◌+◌}
+use Rattle.std.proofs.Common.{List, [], ◌∷◌, length, map, get_or, None, arith, cond}
 use Rattle.std.specs.List.{flat_map}
 use Rattle.std.specs.FinMap as maps
 use Rattle.std.specs.FinSet as sets
@@ -9,12 +9,11 @@ use Rattle.std.proofs.lemmas.Grind.{common_steps}
 use Rattle.std.proofs.lemmas.List.{length-map}
 use Rattle.std.proofs.lemmas.List.Folds.{flat_map-map}
 use Rattle.std.proofs.Math.ListN.{get_or-map as get_or_mapped}
-use Rattle.ent_handle.specs.Handle.{Handle, handle_cmp}
+use Rattle.ent_handle.specs.Handle.{Handle}
 use Rattle.ent_alloc.specs.Limits.{Limits}
-use Rattle.ent_alloc.specs.Roster.{Roster}
 use Rattle.ent_alloc.specs.Slots.{is_alive, row_of, record_at, no_slot, handle_at, occupants}
 use Rattle.ent_alloc.specs.Slots.{rows_from, with_row, roster_of, AreLinked}
-use Rattle.ent_alloc.specs.Image.{number_of, slots_bytes, AreSlots}
+use Rattle.ent_alloc.specs.Image.{slots_bytes, AreSlots}
 use Rattle.ent_alloc.specs.ImageRecords.{without_row, without_row_of, record_bytes, rowless_bytes}
 use Rattle.ent_alloc.specs.declared.slot_record.SlotRecord.{SlotRecord}
 use Rattle.ent_alloc.specs.declared.slot_record.Occupancy.{Occupancy}

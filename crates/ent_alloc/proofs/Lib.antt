@@ -52,3 +52,5 @@ pub mod ImageOf
 pub mod Fronts
 pub mod Waits
 pub mod FrontPools
+pub mod Portioned
+pub mod PortionPools

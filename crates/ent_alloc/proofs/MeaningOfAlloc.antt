@@ -12,7 +12,7 @@ use Rattle.ent_handle.specs.Handle.{Handle, handle_cmp, handle_cmp_total}
 use Rattle.ent_handle.specs.Handle.{handle_cmp-IsAntisymmetric}
 use Rattle.ent_alloc.specs.Roster.{Roster}
 use Rattle.ent_alloc.specs.declared.requests.Requests.{Requests}
-use Rattle.ent_alloc.specs.Sequential.{Allocator, fresh, after_alloc, following}
+use Rattle.ent_alloc.specs.Sequential.{Allocator, fresh, after_alloc}
 use Rattle.ent_alloc.specs.Sound.{IsSound}
 use Rattle.ent_alloc.specs.Entities.{idle, allocator_of, entities_of, HasRowsOfLiving}
 use Rattle.ent_alloc.proofs.FreshHandles.{fresh-next}
@@ -115,14 +115,3 @@ module _ (r : Roster) (requests : Requests) (s : Allocator) (rest : IsAtRest r r
       (rows-joined r.live (h ∷ []) r.rows rest.rows)
 
 -- ---- free
-
--- the roster after an occupant was taken out, and after the last one of its slot was
-abbrev pub freed_roster : Roster → Handle → Roster
-freed_roster r h = record r {
-  live = sets.remove r.live h;
-  rows = maps.remove r.rows h;
-  pending = r.pending ++ following h ∷ [];
-}
-
-abbrev pub retired_roster : Roster → Handle → Roster
-retired_roster r h = record r { live = sets.remove r.live h; rows = maps.remove r.rows h }

@@ -68,6 +68,11 @@ header_tests h len =
     ∷ (len == 40 + 12 * h.made, Length (40 + 12 * h.made))
     ∷ []
 
+-- the first fault that the bytes have before the slots, and it takes no memory to find it
+abbrev pub header_fault : List ℕ → Option ImageFault
+header_fault bytes =
+    first_failing (front_tests bytes ++ header_tests (header_in bytes) (length bytes))
+
 -- ---- the bytes after them
 
 -- the three words of a slot

@@ -1,6 +1,7 @@
 -- The front of the pool in another order, and for private contracts how the slots of its handles
 -- are written.
-use Rattle.std.specs.Prelude.{ℕ, ◌+◌, ◌-◌, zero, suc, List, [], ◌∷◌, ◌++◌, length, drop, slice_set}
+use Rattle.std.specs.Prelude.{◌≡◌, ℕ, ◌+◌, ◌-◌, zero, suc, List, [], ◌∷◌, ◌++◌, length, drop, slice_set}
+use Rattle.std.specs.Prelude.{map, IsPermutation}
 use Rattle.ent_handle.specs.Handle.{Handle}
 use Rattle.ent_alloc.specs.Sequential.{Allocator, top}
 use Rattle.ent_alloc.specs.Slots.{record_at}
@@ -24,14 +25,22 @@ abbrev pub new_waiting : ℕ → ℕ → List SlotRecord
 new_waiting position zero = []
 new_waiting position (suc count) = waiting_at 1 position ∷ new_waiting (position + 1) count
 
--- the slots of these handles wait below a top, that of the first one right below it
-abbrev pub placed : List ℕ → ℕ → List Handle → List ℕ
+-- these slots wait below a top, the first one right below it
+abbrev pub placed : List ℕ → ℕ → List ℕ → List ℕ
 placed pending top [] = pending
-placed pending top (h ∷ hs) = placed (slice_set pending (top - 1) h.index) (top - 1) hs
+placed pending top (i ∷ is) = placed (slice_set pending (top - 1) i) (top - 1) is
 
-abbrev pub moved : List SlotRecord → ℕ → List Handle → List SlotRecord
+abbrev pub moved : List SlotRecord → ℕ → List ℕ → List SlotRecord
 moved records top [] = records
-moved records top (h ∷ hs) =
-    moved
-    (slice_set records h.index (waiting_at (record_at records h.index).generation (top - 1)))
-    (top - 1) hs
+moved records top (i ∷ is) =
+    moved (slice_set records i (waiting_at (record_at records i).generation (top - 1))) (top - 1) is
+
+-- For private contracts: the slots of handles.
+abbrev pub slots_of : List Handle → List ℕ
+slots_of = map (λ (h : Handle). h.index)
+
+-- The slots are those of these handles in another order, which is that of the front.
+pub record AreSlotsOf (handles : List Handle) (order : List ℕ) : Type 0 where
+  pub front : List Handle
+  pub same : IsPermutation handles front
+  pub slots : order ≡ slots_of front

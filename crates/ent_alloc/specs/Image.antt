@@ -1,6 +1,6 @@
 -- The image of an allocator: the bytes that are written of it. It tells all of the allocator, and
 -- nothing of how it came to be so or where it lies in memory.
-use Rattle.std.specs.Prelude.{◌≡◌, ℕ, ◌+◌, ◌^◌, ◌<◌, ◌≤◌, ◌==◌, if◌then◌else◌, Option}
+use Rattle.std.specs.Prelude.{◌≡◌, ℕ, ◌+◌, ◌*◌, ◌^◌, ◌<◌, ◌≤◌, ◌==◌, if◌then◌else◌, Option}
 use Rattle.std.specs.Prelude.{None, Some, List, [], ◌∷◌, ◌++◌, length, reverse, filter, IsTrue}
 use Rattle.std.specs.List.{All, AllPairs, flat_map, range_with_len}
 use Rattle.std.specs.Int.{w32, w64, to_le_bytes}
@@ -9,7 +9,7 @@ use Rattle.std.specs.FinMap as map
 use Rattle.ent_handle.specs.Handle.{Handle}
 use Rattle.ent_alloc.specs.Limits.{AreLimits}
 use Rattle.ent_alloc.specs.Roster.{Roster}
-use Rattle.ent_alloc.specs.Sequential.{available, is_old, top}
+use Rattle.ent_alloc.specs.Sequential.{Allocator, available, is_old, top}
 use Rattle.ent_alloc.specs.Sound.{IsSound, IsWithin, AreApart}
 use Rattle.ent_alloc.specs.Entities.{Entities, HasRowsOfLiving}
 use Rattle.ent_alloc.specs.declared.image.Header.{Header}
@@ -120,6 +120,10 @@ numbers_bytes h = word h.slots
 -- forty bytes: what they are an image of, and the numbers
 unfoldable pub header_bytes : Header → List ℕ
 header_bytes h = magic ++ (word version ++ numbers_bytes h)
+
+-- so many bytes are kept in memory: eight of each slot, and four of each that waits
+abbrev pub kept_bytes : Allocator → ℕ
+kept_bytes s = 8 * s.made + 4 * top s
 
 abbrev pub image : Entities → List ℕ
 image e = header_bytes (header e) ++ slots_bytes (roster e)

@@ -10,6 +10,7 @@ pub mod Reserved
 pub mod Entities
 pub mod Prepared
 pub mod Front
+pub mod Portions
 pub mod Image
 pub mod ImageRecords
 pub mod FirstFault

@@ -1,11 +1,12 @@
 -- The slots of an allocator as its calls see them: who lives, what is kept with whom, and who waits
 -- to be given.
-use Rattle.std.specs.Prelude.{ℕ, List, refl}
+use Rattle.std.specs.Prelude.{ℕ, List, [], ◌∷◌, ◌++◌, refl}
 use Rattle.std.specs.Coded.{Coded, code_by, coded×, coded_ℕ, coded_list}
 use Rattle.std.specs.FinSet as set
 use Rattle.std.specs.FinMap as map
 use Rattle.ent_handle.specs.Handle.{Handle, handle_cmp, handle_code}
 use Rattle.ent_alloc.specs.Limits.{Limits, limits_code}
+use Rattle.ent_alloc.specs.Sequential.{following}
 
 -- pending lists the handles that old slots give next; the last is given first
 pub record Roster : Type 0 where
@@ -31,3 +32,15 @@ roster_code =
       made = p.1.1.1.1;
     })
     (λ _. refl)
+
+-- The handle's entity has left its slot, which waits after all others for its next occupant; or
+-- which had its last one, and is retired.
+abbrev pub freed_roster : Roster → Handle → Roster
+freed_roster r h = record r {
+  live = set.remove r.live h;
+  rows = map.remove r.rows h;
+  pending = r.pending ++ following h ∷ [];
+}
+
+abbrev pub retired_roster : Roster → Handle → Roster
+retired_roster r h = record r { live = set.remove r.live h; rows = map.remove r.rows h }

@@ -1,16 +1,20 @@
-//! The front of the pool in another order, and slots that are made for it.
-ghost use Rattle.std.specs.Prelude.{◌≡◌, ◌+◌, ◌-◌, ◌^◌, ◌<◌, ◌≤◌, ◌++◌, OnOk, OnErr, All};
+//! What was used of portions of the pool's front, and what is left of them.
+ghost use Rattle.std.specs.Prelude.{◌≡◌, ◌+◌, ◌-◌, ◌^◌, ◌<◌, ◌≤◌, ◌++◌, IfOk, OnOk, OnErr, All, Some};
 ghost use Rattle.std.specs.Prelude.{length, take, drop, reverse, vec_len, vec_capacity};
-ghost use Rattle.std.specs.Prelude.{IsPermutation};
+ghost use Rattle.std.specs.Prelude.{slice_get, min, ◌==◌, if◌then◌else◌};
 ghost use Rattle.std.specs.List.{range_with_len};
 ghost use Rattle.ent_alloc.specs.Sequential.{fresh as fresh_handles, top};
-ghost use Rattle.ent_alloc.specs.Entities.{HasRowsOfLiving};
-ghost use Rattle.ent_alloc.specs.Front.{new_waiting, placed, moved, with_front};
+ghost use Rattle.ent_alloc.specs.Entities.{HasRowsOfLiving, idle};
+ghost use Rattle.ent_alloc.specs.Front.{new_waiting, placed, moved, with_front, slots_of, AreSlotsOf};
+ghost use Rattle.ent_alloc.specs.Portions.{AreUsed, size_of, count_of, reach_of, used_of, left_of};
+ghost use Rattle.ent_alloc.specs.Portions.{front_of, after_portions, arranged};
 
 use crate::entities::Entities;
 use crate::packed_slot::PackedSlot;
+use crate::portion::Portion;
 use crate::slots::Slots;
-use ent_handle::{Handle, Memory};
+use ent_handle::Memory;
+use std::alloc::Global;
 
 /// Makes `count` slots, which wait after all others. There is room in both lists.
 fn make_waiting(records: &mut Vec<PackedSlot>, pending: &mut Vec<u32>, count: u32)
@@ -31,19 +35,19 @@ fn make_waiting(records: &mut Vec<PackedSlot>, pending: &mut Vec<u32>, count: u3
     }
 }
 
-/// Lets the slots of these handles wait after all others, that of the first one last.
-fn wait_last(records: &mut [PackedSlot], pending: &mut [u32], order: &[Handle])
-    requires made { All (λ h. h.index < length records.old) order.now }
+/// Lets these slots wait after all others, the first one last.
+fn wait_last(records: &mut [PackedSlot], pending: &mut [u32], order: &[u32])
+    requires made { All (λ i. i < length records.old) order.now }
     requires few { length order.now ≤ length pending.old }
     requires positions { length pending.old < 2 ^ 32 }
     ensures records { records.new ≡ moved records.old (length pending.old) order.now }
     ensures listed { pending.new ≡ placed pending.old (length pending.old) order.now }
 {
     let mut position = pending.len();
-    for handle in order {
+    for index in order {
         position -= 1;
-        pending[position] = handle.index();
-        let slot = &mut records[handle.index() as usize];
+        pending[position] = *index;
+        let slot = &mut records[*index as usize];
         *slot = PackedSlot::pending(slot.generation(), position as u32);
     }
 }
@@ -68,37 +72,189 @@ impl Slots {
         Ok(())
     }
 
-    /// Lets the slots that wait last wait in another order: that of the first of these handles
-    /// last.
-    pub(crate) fn wait_last(&mut self, order: &[Handle])
+    /// Lets the slots that wait last wait in another order: the first of these last.
+    pub(crate) fn wait_last(&mut self, order: &[u32])
         requires few { length order.now ≤ length self.old.pending }
-        requires same { IsPermutation
+        requires same { AreSlotsOf
             (drop (length self.old.pending - length order.now) self.old.pending) order.now }
-        ensures { self.new ≡ record self.old {
-          pending = take (length self.old.pending - length order.now) self.old.pending
-              ++ reverse order.now;
-        } }
+        ensures { let kept = length self.old.pending - length order.now in
+            (slots : AreSlotsOf (drop kept self.old.pending) order.now)
+            → self.new ≡ record self.old {
+              pending = take kept self.old.pending ++ reverse slots.front;
+            } }
     {
         wait_last(&mut self.records, &mut self.pending, order);
     }
+
+    /// The slot at a position of what there is to give if nothing is reserved.
+    fn slot_at(&self, position: u32) -> u32
+        requires { position < length (idle self.now) }
+        ensures { slice_get (slots_of (idle self.now)) position ≡ Some result }
+    {
+        let waiting = self.waiting();
+        if position < waiting {
+            self.pending_at((waiting - 1 - position) as usize).index()
+        } else {
+            self.made() + (position - waiting)
+        }
+    }
+
+    /// Appends `count` slots of what there is to give, from a position on. There is room for them.
+    fn append_slots(&self, order: &mut Vec<u32>, from: u32, count: u32)
+        requires within { from + count ≤ length (idle self.now) }
+        requires few { from + count < 2 ^ 32 }
+        requires room { vec_len order.old + count ≤ vec_capacity order.old }
+        ensures items { order.new.items
+            ≡ order.old.items ++ take count (drop from (slots_of (idle self.now))) }
+        ensures len { vec_len order.new ≡ vec_len order.old + count }
+        ensures capacity { vec_capacity order.old ≤ vec_capacity order.new }
+    {
+        let waiting = lesser(count, self.waiting().saturating_sub(from));
+        self.append_waiting(order, from, waiting);
+        for more in waiting..count {
+            order.push_reserved(self.slot_at(from + more));
+        }
+    }
+
+    /// The same of slots that wait.
+    fn append_waiting(&self, order: &mut Vec<u32>, from: u32, count: u32)
+        requires within { count ≤ length self.now.pending - from }
+        requires room { vec_len order.old + count ≤ vec_capacity order.old }
+        ensures items { order.new.items
+            ≡ order.old.items ++ take count (drop from (slots_of (idle self.now))) }
+        ensures len { vec_len order.new ≡ vec_len order.old + count }
+        ensures capacity { vec_capacity order.old ≤ vec_capacity order.new }
+    {
+        let end = self.pending.len().saturating_sub(from as usize);
+        append_turned(order, &self.pending[end - count as usize..end]);
+    }
+
+    /// Appends the slots of what was used.
+    fn append_used(&self, order: &mut Vec<u32>, portions: &[Portion])
+        requires used { AreUsed portions.now }
+        requires within { size_of portions.now ≤ length (idle self.now) }
+        requires few { size_of portions.now < 2 ^ 32 }
+        requires room { vec_len order.old + count_of portions.now ≤ vec_capacity order.old }
+        ensures items { order.new.items
+            ≡ order.old.items ++ used_of (slots_of (idle self.now)) portions.now }
+        ensures len { vec_len order.new ≡ vec_len order.old + count_of portions.now }
+        ensures capacity { vec_capacity order.old ≤ vec_capacity order.new }
+    {
+        let mut before = 0;
+        for portion in portions {
+            self.append_slots(order, before, portion.used);
+            before += portion.size;
+        }
+    }
+
+    /// Appends the slots of the first so many that are left.
+    fn append_left(&self, order: &mut Vec<u32>, portions: &[Portion], count: u32)
+        requires used { AreUsed portions.now }
+        requires within { size_of portions.now ≤ length (idle self.now) }
+        requires few { size_of portions.now < 2 ^ 32 }
+        requires enough { count_of portions.now + count ≤ size_of portions.now }
+        requires room { vec_len order.old + count ≤ vec_capacity order.old }
+        ensures items { order.new.items
+            ≡ order.old.items ++ take count (left_of (slots_of (idle self.now)) portions.now) }
+    {
+        let mut before = 0;
+        let mut more = count;
+        for portion in portions {
+            let count = lesser(portion.size - portion.used, more);
+            self.append_slots(order, before + portion.used, count);
+            more -= count;
+            before += portion.size;
+        }
+    }
+
+    /// The slots of what was used, and then of what is left before the last one that was used.
+    fn order_of(
+        &self,
+        alloc: Global,
+        portions: &[Portion],
+        count: u32,
+        reach: u32,
+    ) -> Result<Vec<u32>, Memory>
+        requires used { AreUsed portions.now }
+        requires within { size_of portions.now ≤ length (idle self.now) }
+        requires few { size_of portions.now < 2 ^ 32 }
+        requires count { count ≡ count_of portions.now }
+        requires reach { reach ≡ reach_of portions.now }
+        ensures { IfOk result (λ order.
+            order.items ≡ front_of (slots_of (idle self.now)) portions.now) }
+    {
+        let mut order = Vec::with_capacity(alloc, reach as usize)?;
+        self.append_used(&mut order, portions);
+        self.append_left(&mut order, portions, reach - count);
+        Ok(order)
+    }
+}
+
+/// Appends these in reverse order. There is room for them.
+fn append_turned(list: &mut Vec<u32>, items: &[u32])
+    requires { vec_len list.old + length items.now ≤ vec_capacity list.old }
+    ensures items { list.new.items ≡ list.old.items ++ reverse items.now }
+    ensures len { vec_len list.new ≡ vec_len list.old + length items.now }
+    ensures capacity { vec_capacity list.old ≤ vec_capacity list.new }
+{
+    // As one piece, so that no item takes a test for room.
+    let start = list.len();
+    list.extend_from_slice(items).unwrap();
+    list[start..].reverse();
+}
+
+fn lesser(m: u32, n: u32) -> u32
+    ensures { result ≡ min m n }
+{
+    if m <= n { m } else { n }
+}
+
+/// How many handles were used of these portions.
+fn count_of(portions: &[Portion]) -> u32
+    requires used { AreUsed portions.now }
+    requires few { size_of portions.now < 2 ^ 32 }
+    ensures { result ≡ count_of portions.now }
+{
+    let mut count = 0;
+    for portion in portions {
+        count += portion.used;
+    }
+    count
+}
+
+/// How many handles there are up to the last one that was used.
+fn reach_of(portions: &[Portion]) -> u32
+    requires used { AreUsed portions.now }
+    requires few { size_of portions.now < 2 ^ 32 }
+    ensures { result ≡ reach_of portions.now }
+{
+    let mut reach = 0;
+    let mut before = 0;
+    for portion in portions {
+        reach = reach_with(reach, before, portion.used);
+        before += portion.size;
+    }
+    reach
+}
+
+/// How far it is to the last handle that was used, with a portion that begins after so many.
+fn reach_with(reach: u32, before: u32, used: u32) -> u32
+    requires { before + used < 2 ^ 32 }
+    ensures { result ≡ (if used == 0 then reach else before + used) }
+{
+    if used == 0 { reach } else { before + used }
 }
 
 impl Entities {
-    /// Makes the pool begin with these handles, in this order. They are those that it begins with
-    /// already. Their slots are made, and wait.
-    ///
-    /// Nothing may have been requested since the last flush.
-    ///
-    /// # Errors
-    ///
-    /// [`Memory`] if there is no memory for new slots. Nothing has changed then. It is never
-    /// returned if so many old slots wait.
-    pub fn set_front(&mut self, front: &[Handle]) -> Result<(), Memory>
+    /// Makes the pool begin with the handles of these slots, in this order. They are those that it
+    /// begins with already.
+    fn set_front(&mut self, front: &[u32]) -> Result<(), Memory>
         requires flushed { self.old.allocator.asked ≡ 0 }
         requires few { length front.now ≤ length self.old.allocator.pool }
-        requires same { IsPermutation
-            (take (length front.now) self.old.allocator.pool) front.now }
-        ensures ok { OnOk result (self.new.allocator ≡ with_front self.old.allocator front.now) }
+        requires same { AreSlotsOf (take (length front.now) self.old.allocator.pool) front.now }
+        ensures ok { OnOk result
+            ((slots : AreSlotsOf (take (length front.now) self.old.allocator.pool) front.now)
+            → self.new.allocator ≡ with_front self.old.allocator slots.front) }
         ensures rows { self.new.rows ≡ self.old.rows }
         ensures rows_of_living { HasRowsOfLiving self.new }
         ensures err { OnErr result (self.new ≡ self.old) }
@@ -108,6 +264,61 @@ impl Entities {
         let more = (front.len() as u32).saturating_sub(waiting);
         self.slots.make_waiting(more)?;
         self.slots.wait_last(front);
+        Ok(())
+    }
+
+    /// Takes what was used of these portions, of which the first begins at the pool's front, and
+    /// each other one where the portion before it ends. What is left of them can be given again, in
+    /// the same order. The next flush brings to life what is taken.
+    ///
+    /// Nothing may have been requested since the last flush. It takes time for each portion. If
+    /// something is left before the last handle that was used, it also takes time and memory for
+    /// each handle up to that one, and makes the slots of the fresh ones among these.
+    ///
+    /// # Errors
+    ///
+    /// [`Memory`] if there is no memory for that. Nothing has changed then.
+    pub fn take_portions(&mut self, alloc: Global, portions: &[Portion]) -> Result<(), Memory>
+        requires flushed { self.old.allocator.asked ≡ 0 }
+        requires used { AreUsed portions.now }
+        requires within { size_of portions.now ≤ length self.old.allocator.pool }
+        ensures ok { OnOk result
+            (self.new.allocator ≡ after_portions self.old.allocator portions.now) }
+        ensures rows { self.new.rows ≡ self.old.rows }
+        ensures rows_of_living { HasRowsOfLiving self.new }
+        ensures err { OnErr result (self.new ≡ self.old) }
+        ensures memory { OnErr result (count_of portions.now < reach_of portions.now) }
+    {
+        // Its contract says that the state is sound.
+        let _cursor = self.cursor();
+        let _left = self.left();
+        let count = count_of(portions);
+        self.arrange(alloc, portions, count)?;
+        let _span = self.lower(count);
+        Ok(())
+    }
+
+    /// Makes the pool begin with what was used, if something is left before the last one of it.
+    fn arrange(&mut self, alloc: Global, portions: &[Portion], count: u32) -> Result<(), Memory>
+        requires flushed { self.old.allocator.asked ≡ 0 }
+        requires used { AreUsed portions.now }
+        requires within { size_of portions.now ≤ length self.old.allocator.pool }
+        requires few { size_of portions.now < 2 ^ 32 }
+        requires count { count ≡ count_of portions.now }
+        ensures ok { OnOk result (self.new.allocator ≡ arranged self.old.allocator portions.now) }
+        ensures rows { self.new.rows ≡ self.old.rows }
+        ensures rows_of_living { HasRowsOfLiving self.new }
+        ensures err { OnErr result (self.new ≡ self.old) }
+        ensures memory { OnErr result (count_of portions.now < reach_of portions.now) }
+    {
+        // Its contract says that rows are kept of the living alone.
+        let _cursor = self.cursor();
+        let reach = reach_of(portions);
+        if count == reach {
+            return Ok(());
+        }
+        let order = self.slots.order_of(alloc, portions, count, reach)?;
+        self.set_front(&order)?;
         Ok(())
     }
 }

@@ -1,7 +1,7 @@
 //! The slots of an image: what is written of their records.
 ghost use Rattle.std.specs.Prelude.{◌≡◌, ◌≢◌, ◌+◌, ◌-◌, ◌*◌, ◌^◌, ◌<◌, ◌≤◌, ◌++◌, IfSome, IfNone, IsTrue};
 ghost use Rattle.std.specs.Prelude.{ℕ, List, length, vec_len, vec_capacity, false, slice_index, IfOk};
-ghost use Rattle.std.specs.Prelude.{IfErr, OnOk, Some, None, replicate, if◌then◌else◌};
+ghost use Rattle.std.specs.Prelude.{IfErr, OnOk, OnErr, Some, None, replicate, if◌then◌else◌};
 ghost use Rattle.ent_alloc.specs.Slots.{is_alive, record_at};
 ghost use Rattle.ent_alloc.specs.Limits.{AreLimits};
 ghost use Rattle.ent_alloc.specs.Roster.{Roster};
@@ -211,7 +211,8 @@ fn vacant_position(pending: &[u32]) -> Option<usize>
 
 /// That many positions, at which no slot waits yet.
 fn vacant_positions(alloc: Global, count: u32) -> Result<Vec<u32>, AllocError>
-    ensures { IfOk result (λ positions. positions.items ≡ replicate count vacant) }
+    ensures items { IfOk result (λ positions. positions.items ≡ replicate count vacant) }
+    ensures memory { OnErr result (0 < count) }
 {
     let mut positions = Vec::with_capacity(alloc, count as usize)?;
     positions.resize(count as usize, VACANT)?;
@@ -236,6 +237,7 @@ pub(crate) fn read_slots(
 ) -> Result<SlotLists, ImageFault>
     requires long { length bytes.now ≡ 12 * made }
     requires few { made ≤ limits.slots }
+    requires wait { waiting ≤ made }
     ensures read { IfOk result (λ l. AreRead limits l.records.items l.pending.items l.live) }
     ensures limited { AreLimits limits }
     ensures made { IfOk result (λ l. length l.records.items ≡ made) }
@@ -250,6 +252,8 @@ pub(crate) fn read_slots(
         → first_failing (slots_tests limits.generations made waiting bytes.now) ≡ Some fault) }
     ensures faultless { OnOk result
         (first_failing (slots_tests limits.generations made waiting bytes.now) ≡ None) }
+    ensures memory { IfErr result (λ fault. fault ≡ ImageFault.Memory → 0 < made) }
+    ensures room { IfOk result (λ l. vec_capacity l.records ≡ made) }
 {
     let mut records = Vec::with_capacity(alloc, made as usize)?;
     let mut pending = vacant_positions(alloc, waiting)?;

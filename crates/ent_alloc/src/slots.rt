@@ -5,7 +5,7 @@ ghost use Rattle.std.specs.Prelude.{length, take, drop, pos, slice_get, vec_len,
 ghost use Rattle.std.specs.FinSet as set;
 ghost use Rattle.std.specs.FinMap as maps;
 ghost use Rattle.ent_alloc.specs.Limits.{AreLimits};
-ghost use Rattle.ent_alloc.specs.Sequential.{fresh as fresh_handles, following, next, stands_in};
+ghost use Rattle.ent_alloc.specs.Sequential.{fresh as fresh_handles, next, stands_in};
 ghost use Rattle.ent_alloc.specs.Slots.{lives, row_kept, waits_from};
 ghost use Rattle.ent_alloc.specs.Image.{slots_bytes, AreSlots};
 ghost use Rattle.ent_alloc.specs.FirstFault.{first_failing, slots_tests};
@@ -47,7 +47,7 @@ impl Model for Slots {
 }
 
 impl Slots {
-    ghost use Rattle.ent_alloc.specs.Roster.{Roster};
+    ghost use Rattle.ent_alloc.specs.Roster.{Roster, freed_roster, retired_roster};
 
     pub(crate) fn new(alloc: Global, limits: Limits) -> Self
         ensures value { result ≡ record {
@@ -265,19 +265,55 @@ impl Slots {
     }
 
     /// Takes the handle's entity out of its slot, which then waits after all others for the next
-    /// one, or is retired after the last one. The slot is looked up once.
+    /// one, or is retired after the last one.
     pub(crate) fn free(&mut self, handle: Handle) -> Result<Option<Handle>, FreeFault>
         ensures waits { OnOk result (handle.generation ≢ self.old.limits.generations
-            → self.new ≡ record self.old {
-              live = set.remove self.old.live handle;
-              rows = maps.remove self.old.rows handle;
-              pending = self.old.pending ++ following handle ∷ [];
-            }) }
+            → self.new ≡ freed_roster self.old handle) }
         ensures retired { OnOk result (handle.generation ≡ self.old.limits.generations
-            → self.new ≡ record self.old {
-              live = set.remove self.old.live handle;
-              rows = maps.remove self.old.rows handle;
-            }) }
+            → self.new ≡ retired_roster self.old handle) }
+        ensures next { IfOk result (λ following. following ≡ next self.old.limits handle) }
+        ensures lived { OnOk result (set.contains self.old.live handle ≡ true) }
+        ensures not_alive { IsErrOf result FreeFault.NotAlive
+            ↔ (set.contains self.old.live handle ≡ false) }
+        ensures needs_flush { result ≢ Err FreeFault.NeedsFlush }
+        ensures memory { IsErrOf result FreeFault.Memory
+            → handle.generation ≢ self.old.limits.generations }
+        ensures err { OnErr result (self.new ≡ self.old) }
+    {
+        if self.pending.len() < self.pending.capacity() {
+            self.leave(handle)
+        } else {
+            self.leave_growing(handle)
+        }
+    }
+
+    /// `leave`, if the list of the slots that wait has no room. It is apart, so that nothing is called
+    /// if there is room, and the compiler keeps all numbers in registers.
+    #[cold]
+    #[inline(never)]
+    fn leave_growing(&mut self, handle: Handle) -> Result<Option<Handle>, FreeFault>
+        ensures waits { OnOk result (handle.generation ≢ self.old.limits.generations
+            → self.new ≡ freed_roster self.old handle) }
+        ensures retired { OnOk result (handle.generation ≡ self.old.limits.generations
+            → self.new ≡ retired_roster self.old handle) }
+        ensures next { IfOk result (λ following. following ≡ next self.old.limits handle) }
+        ensures lived { OnOk result (set.contains self.old.live handle ≡ true) }
+        ensures not_alive { IsErrOf result FreeFault.NotAlive
+            ↔ (set.contains self.old.live handle ≡ false) }
+        ensures needs_flush { result ≢ Err FreeFault.NeedsFlush }
+        ensures memory { IsErrOf result FreeFault.Memory
+            → handle.generation ≢ self.old.limits.generations }
+        ensures err { OnErr result (self.new ≡ self.old) }
+    {
+        self.leave(handle)
+    }
+
+    /// `free`, with or without room in that list. The slot is looked up once.
+    fn leave(&mut self, handle: Handle) -> Result<Option<Handle>, FreeFault>
+        ensures waits { OnOk result (handle.generation ≢ self.old.limits.generations
+            → self.new ≡ freed_roster self.old handle) }
+        ensures retired { OnOk result (handle.generation ≡ self.old.limits.generations
+            → self.new ≡ retired_roster self.old handle) }
         ensures next { IfOk result (λ following. following ≡ next self.old.limits handle) }
         ensures lived { OnOk result (set.contains self.old.live handle ≡ true) }
         ensures not_alive { IsErrOf result FreeFault.NotAlive
@@ -307,7 +343,7 @@ impl Slots {
         }
         *slot = PackedSlot::pending(generation + 1, position);
         self.live -= 1;
-        Ok(Some(Handle::from_parts(index, generation + 1)))
+        Ok(handle.following())
     }
 
     /// The same slots once more.
@@ -368,6 +404,7 @@ impl Slots {
     ) -> Result<Slots, ImageFault>
         requires long { length bytes.now ≡ 12 * made }
         requires few { made ≤ limits.slots }
+        requires wait { waiting ≤ made }
         ensures found { IfOk result (λ r. slots_bytes r ≡ bytes.now) }
         ensures slots { IfOk result AreSlots }
         ensures limits { IfOk result (λ r. r.limits ≡ limits) }
@@ -380,6 +417,7 @@ impl Slots {
             → first_failing (slots_tests limits.generations made waiting bytes.now) ≡ Some fault) }
         ensures faultless { OnOk result
             (first_failing (slots_tests limits.generations made waiting bytes.now) ≡ None) }
+        ensures memory { IfErr result (λ fault. fault ≡ ImageFault.Memory → 0 < made) }
     {
         let SlotLists {
             records,

@@ -1,50 +1,29 @@
 -- What was used of the blocks: no handle twice, none that was alive, and a flush brings to life just
 -- these.
-use Rattle.std.proofs.Common.{◌≡◌, ◌≢◌, ◌⊎◌, ◌↔◌, inl, inr, sym, ap, subst, ◌∙◌, ◌≤◌, List}
+use Rattle.std.proofs.Common.{◌≡◌, ◌≢◌, ◌⊎◌, ◌↔◌, inl, inr, ap, subst, ◌≤◌, List}
 use Rattle.std.proofs.Common.{◌++◌, length, get_or, map, All, AllPairs, Contains}
 use Rattle.std.specs.List.{flat_map}
 use Rattle.ent_handle.specs.Handle.{Handle}
 use Rattle.ent_alloc.specs.Sequential.{Allocator, after_flush}
 use Rattle.ent_alloc.specs.Sound.{IsSound, AreApart, IsLive}
-use Rattle.ent_alloc.specs.Front.{with_front}
-use Rattle.ent_alloc.proofs.FrontPools.{with_front-sound}
+use Rattle.ent_alloc.specs.Portions.{AreUsed}
+use Rattle.ent_alloc.proofs.PortionPools.{after_portions-sound}
 use Rattle.ent_alloc.proofs.Flushes.{live-after_flush, live-stays, taken-lives}
 use Rattle.ent_alloc.proofs.ListLaws.{All-left, AllPairs-left}
 use Rattle.ent_alloc.proofs.Replies.{not_apart}
-use Rattle.ent_alloc.proofs.Soundness.{after_take-sound}
-use Rattle.ent_alloc.proofs.LaidOut.{flushed-laid_out}
-use Rattle.ent_blocks.specs.Blocks.{Block, used_of, dealt, unused, AreLaid, reach, cut, after_blocks}
-use Rattle.ent_blocks.proofs.Dealing.{order, order_long, order_same, closed_is}
-use Rattle.ent_blocks.proofs.Cutting.{laid_reach, cut_is, within_cut}
+use Rattle.ent_blocks.specs.Blocks.{Block, used_of, dealt, unused, AreLaid, portions_of, after_blocks}
+use Rattle.ent_blocks.proofs.Dealing.{closed_is, portions_within}
 
 module _ (s : Allocator) (blocks : List Block) (sound : IsSound s) (flushed : s.asked ≡ 0)
     (laid : AreLaid 0 (map unused blocks)) (within : dealt blocks ≤ length s.pool)
-    (reached : reach blocks ≤ dealt blocks) where
+    (fits : AreUsed (portions_of blocks)) where
   abbrev pub used : List Handle
   used = flat_map (used_of s.pool) blocks
 
-  -- the parts that are before the last one used
-  abbrev parts : List Block
-  parts = map (cut (reach blocks)) blocks
-
-  laid_parts : AreLaid 0 (map unused parts)
-  laid_parts = laid_reach blocks laid reached
-
-  within_parts : dealt parts ≤ length s.pool
-  within_parts = within_cut blocks laid reached (length s.pool) within
-
-  few : length (order s parts laid_parts within_parts) ≤ length s.pool
-  few = subst (λ n. n ≤ length s.pool) (sym (order_long s parts laid_parts within_parts))
-      within_parts
-
   pub after_blocks-sound : IsSound (after_blocks s blocks)
-  after_blocks-sound = subst IsSound
-      (closed_is s parts laid_parts within_parts (flushed-laid_out s sound flushed).taken flushed
-      ∙ cut_is s blocks laid reached)
-      (after_take-sound (with_front s (order s parts laid_parts within_parts))
-      (length (flat_map (used_of s.pool) parts))
-      (with_front-sound s (order s parts laid_parts within_parts) sound flushed few
-      (order_same s parts laid_parts within_parts)))
+  after_blocks-sound = subst IsSound (closed_is s blocks laid fits within)
+      (after_portions-sound s (portions_of blocks) sound flushed fits
+      (portions_within s blocks laid fits within))
 
   abbrev pub left : List Handle
   left = (after_blocks s blocks).aside ++ (after_blocks s blocks).pool

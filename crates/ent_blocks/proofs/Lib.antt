@@ -1,6 +1,5 @@
 pub mod Dealing
 pub mod Positions
-pub mod Cutting
 pub mod Given
 pub mod Accounts
 pub mod Phases

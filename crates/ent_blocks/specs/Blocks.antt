@@ -1,12 +1,14 @@
 -- Handles in blocks: the front of the pool is dealt to callers, and each is given the handles of
 -- its own block, in the pool's order, whatever the others do.
-use Rattle.std.specs.Prelude.{◌≡◌, ℕ, ◌+◌, ◌-◌, ◌^◌, ◌<◌, ◌≤◌, nat_le, ◌==◌, ◌&&◌, max, Bool}
+use Rattle.std.specs.Prelude.{◌≡◌, ℕ, ◌+◌, ◌-◌, ◌^◌, ◌<◌, ◌≤◌, nat_le, ◌==◌, ◌&&◌, Bool}
 use Rattle.std.specs.Prelude.{if◌then◌else◌, true, false, List, [], ◌∷◌, ◌++◌, length, take, drop, map, refl}
 use Rattle.std.specs.List.{flat_map, Contains}
 use Rattle.std.specs.Coded.{Coded, code_by, coded×, coded_ℕ, coded_list}
 use Rattle.std.specs.FinMap as maps
 use Rattle.ent_handle.specs.Handle.{Handle, handle_cmp, handle_code}
-use Rattle.ent_alloc.specs.Sequential.{Allocator, allocator_code, top}
+use Rattle.ent_alloc.specs.Sequential.{Allocator, allocator_code}
+use Rattle.ent_alloc.specs.Portions.{made_for}
+use Rattle.ent_alloc.specs.declared.portion.Portion.{Portion}
 use Rattle.ent_alloc.specs.Sound.{IsSound}
 
 -- A block of the pool: how many handles stand before it, how many it has, and how many of them were
@@ -42,22 +44,22 @@ blocks_from before left (n ∷ sizes) =
     record { before = before; size = lesser n left; used = 0 }
     ∷ blocks_from (before + lesser n left) (left - lesser n left) sizes
 
--- One past the last position of the pool that was used; 0 if none was.
-abbrev pub end_of : Block → ℕ
-end_of b = if b.used == 0 then 0 else b.before + b.used
+-- the blocks as portions of the pool's front, one after the other
+abbrev pub portion_of : Block → Portion
+portion_of b = record { size = b.size; used = b.used }
 
-abbrev pub reach : List Block → ℕ
-reach [] = 0
-reach (b ∷ blocks) = max (end_of b) (reach blocks)
+abbrev pub portions_of : List Block → List Portion
+portions_of = map portion_of
 
 -- Closing: what was used of the blocks is taken, in the order of the callers, and the pool is what
--- is left of them, and then what was not dealt: it keeps its own order. The slots up to the last
--- one that was used are made, so a fresh one below it that nobody used waits, with generation 1.
+-- is left of them, and then what was not dealt: it keeps its own order. Slots are made if something
+-- is left before the last handle that was used: those up to that one. So a fresh one of them that
+-- nobody used waits, with generation 1.
 abbrev pub after_blocks : Allocator → List Block → Allocator
 after_blocks s blocks = record s {
   taken = flat_map (used_of s.pool) blocks;
   pool = flat_map (rest_of s.pool) blocks ++ drop (dealt blocks) s.pool;
-  made = s.made + (reach blocks - top s);
+  made = s.made + made_for s (portions_of blocks);
   asked = length (flat_map (used_of s.pool) blocks);
 }
 
@@ -130,13 +132,6 @@ pub record AreDealt (s : Allocator) (blocks : List Block) : Type 0 where
   pub laid : AreLaid 0 blocks
   pub within : dealt blocks ≤ length s.pool
   pub few : dealt blocks < 2 ^ 32
-
--- For private contracts: the part of a block that lies before a position of the pool.
-abbrev pub cut : ℕ → Block → Block
-cut end b = record b {
-  before = lesser b.before end;
-  size = lesser (b.before + b.size) end - lesser b.before end;
-}
 
 abbrev pub block_code : Coded Block
 block_code =

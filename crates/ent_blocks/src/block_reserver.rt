@@ -1,3 +1,5 @@
+ghost use Rattle.std.specs.Prelude.{◌≡◌};
+
 use crate::blocks::Blocks;
 use crate::numbering::BlockNumbering;
 use crate::part::Part;
@@ -72,5 +74,18 @@ impl<J: BlockNumbering> BlockReserver<J> {
         ensures { IsTrue result ↔ (self.now.number ≡ blocks.now.number) }
     {
         self.number == blocks.number()
+    }
+}
+
+/// A reserver of the same block, with as many of its handles used. The two would give the same handles,
+/// so one of them has to be dropped: a frame makes one for a job, which is done once, and drops the
+/// other.
+pub fn again<J: BlockNumbering>(reserver: &BlockReserver<J>) -> BlockReserver<J>
+    ensures { result ≡ reserver.now }
+{
+    BlockReserver {
+        part: reserver.part.with_used(reserver.part.used()),
+        number: reserver.number,
+        of: PhantomData,
     }
 }

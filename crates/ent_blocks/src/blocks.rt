@@ -272,8 +272,10 @@ impl<J: BlockNumbering> Blocks<J> {
     /// is reserved: a flush brings it to life. What is left of the blocks can be given again, and
     /// comes before all that was not dealt.
     ///
-    /// The slots up to the last one that was used are made. So a new one that nobody used is made
-    /// only if a later one was used, and waits with generation 1.
+    /// If the blocks are used up, one after the other, it takes time for each block alone. If
+    /// something is left before the last handle that was used, it takes time and memory for each
+    /// handle up to that one, and makes their slots: a new one that nobody used waits, with
+    /// generation 1.
     ///
     /// ```
     /// use forgeni::Entities;

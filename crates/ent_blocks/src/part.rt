@@ -1,4 +1,4 @@
-use crate::opening::lesser;
+use ent_alloc::Portion;
 use std::marker::Model;
 
 /// The block of one caller, and how many of its handles are used.
@@ -24,7 +24,7 @@ impl Model for Part {
 
 impl Part {
     ghost use Rattle.std.specs.Prelude.{◌≡◌, ◌+◌, ◌-◌, ◌^◌, ◌<◌, ◌≤◌};
-    ghost use Rattle.ent_blocks.specs.Blocks.{after_use, cut, end_of, is_same};
+    ghost use Rattle.ent_blocks.specs.Blocks.{after_use, portion_of, is_same};
 
     /// A block of `size` handles, of which none is used, after the first `before` of the pool.
     pub(crate) fn new(before: u32, size: u32) -> Self
@@ -74,30 +74,14 @@ impl Part {
     {
         self.used += n;
     }
-    /// One past the position of the last handle that was used; 0 if none was.
-    pub(crate) fn used_end(&self) -> u32
-        requires { self.now.before + self.now.size < 2 ^ 32 }
-        ensures value { result ≡ end_of self.now }
-        ensures within { result ≤ self.now.before + self.now.size }
-    {
-        if self.used == 0 {
-            0
-        } else {
-            self.before + self.used
-        }
-    }
 
-    /// The part of the block that lies before a position of the pool: none of it, if the block
-    /// begins there or after it.
-    pub(crate) fn cut(&self, end: u32) -> Self
-        requires few { self.now.before + self.now.size < 2 ^ 32 }
-        requires used { end_of self.now ≤ end }
-        ensures { result ≡ cut end self.now }
+    /// The block as a portion of what there is to give.
+    pub(crate) fn portion(&self) -> Portion
+        ensures value { result ≡ portion_of self.now }
+        ensures used { self.now.used ≤ self.now.size }
     {
-        let before = lesser(self.before, end);
-        Part {
-            before,
-            size: lesser(self.before + self.size, end) - before,
+        Portion {
+            size: self.size,
             used: self.used,
         }
     }

@@ -1,10 +1,10 @@
 //! What a block gives: its next handle, or the next ones.
 ghost use Rattle.std.specs.Prelude.{◌≡◌, ◌+◌, ◌<◌, ◌≤◌, ◌++◌, ◌^◌, OnOk, OnErr, IfErr, length};
+ghost use Rattle.std.specs.Prelude.{Some, slice_get};
 ghost use Rattle.std.specs.Prelude.{take, vec_len, vec_capacity};
 ghost use Rattle.ent_alloc.specs.Sequential.{reply_from, listed, listed_alone};
 ghost use Rattle.ent_blocks.specs.Blocks.{rest_of, after_use};
 
-use crate::closing::handle_at;
 use crate::part::Part;
 use ent_alloc::{Entities, Reserved, Space, Span};
 use ent_handle::Handle;
@@ -60,4 +60,17 @@ pub(crate) fn append(handles: &mut Vec<Handle>, given: Reserved<'_>)
     for handle in given {
         handles.push_reserved(handle);
     }
+}
+
+/// The handle at a position of the pool, from its front.
+fn handle_at(entities: &Entities, position: u32) -> Handle
+    requires flushed { entities.now.allocator.asked ≡ 0 }
+    requires within { position < length entities.now.allocator.pool }
+    ensures { slice_get entities.now.allocator.pool position ≡ Some result }
+{
+    let high = entities.cursor() - i64::from(position);
+    let Ok(handle) = entities.reply_one(high) else {
+        unreachable!()
+    };
+    handle
 }

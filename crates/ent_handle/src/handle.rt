@@ -1,5 +1,5 @@
 ghost use Rattle.std.specs.Prelude.{◌≡◌, ◌+◌, ◌-◌, ◌*◌, ◌^◌, ◌<◌, ◌≤◌, ◌↔◌, ◌≢◌, IsSome, IfSome};
-ghost use Rattle.std.specs.Prelude.{IfNone};
+ghost use Rattle.std.specs.Prelude.{IfNone, Some};
 ghost use Rattle.std.proofs.Common.{rules};
 ghost use Rattle.std.specs.Cmp.{partial_order_from_own_ties};
 ghost use Rattle.std.specs.Cmp.Rules.{comparing};
@@ -127,6 +127,18 @@ impl Handle {
         ensures { result ≡ self.generation }
     {
         (self.bits.get() >> 32) as u32
+    }
+
+    /// The handle of the slot's next occupant: of the same index, and of the next generation, which
+    /// has to be in range. It tests nothing when it runs.
+    ///
+    /// It is never `None`. As an `Option` its bits need no test for 0, which would stand for `None`.
+    pub fn following(self) -> Option<Self>
+        requires { IsHandle (record self { generation = self.generation + 1 }) }
+        ensures { result ≡ Some (record self { generation = self.generation + 1 }) }
+    {
+        let bits = NonZeroU64::new(self.bits.get() + (1 << 32))?;
+        Some(Handle { bits })
     }
 
     /// Both numbers in one: the generation times 2^32, plus the index.

@@ -11,6 +11,7 @@ use crate::reserves::Reserves;
 use ent_alloc::{Entities, ReserveError, State};
 use ent_handle::{Handle, Memory};
 use std::alloc::Global;
+use std::fmt;
 use std::marker::Model;
 use std::vec::IntoIter;
 
@@ -125,5 +126,13 @@ impl<C: Drop> Log<C> {
         self.entries.reserve(1)?;
         self.entries.push_reserved(Entry::Command(command));
         Ok(())
+    }
+}
+
+/// Its entries.
+impl<C: fmt::Debug> fmt::Debug for Log<C> {
+    fn fmt<W: fmt::Write>(&self, f: &mut fmt::Formatter<W>) -> fmt::Result {
+        let entries = self.entries();
+        write!(f, "{entries:?}")
     }
 }

@@ -19,10 +19,9 @@ use Rattle.ent_log.specs.declared.entry.Entry.{Entry}
 use Rattle.ent_log.specs.declared.entry.Entry.TheVariants.{Spawn, Command}
 use Rattle.ent_log.specs.Logs.{spawned_in, spawned_by}
 use Rattle.ent_log.specs.Spawning.{returned}
-use Rattle.ent_runner.specs.Crew.{HasGained}
 use Rattle.ent_log_runner.specs.declared.lent.Lent.{Lent}
 use Rattle.ent_log_runner.specs.Lending.{RepliesOne, ReservesOne}
-use Rattle.ent_log_runner.specs.Logging.{Extends, IsReady, LogGains, Filled}
+use Rattle.ent_log_runner.specs.Logging.{HasGained, Extends, IsReady, LogGains, Filled}
 
 abbrev gained_nothing : (r : Record) → HasGained r r
 gained_nothing r = record { number = refl; reservations = []; entries = sym (append-nil r.entries) }

@@ -1,3 +1,5 @@
 pub mod Gaining
 pub mod Logged
 pub mod Reserved
+pub mod Nothing
+pub mod Extending

@@ -1,11 +1,13 @@
 -- What a crew did whose jobs are systems that fill logs, and the history of its reservers.
 use Rattle.std.proofs.Common.{◌≡◌, ℕ, zero, suc, ◌+◌, ◌<◌, List, [], ◌∷◌, length, map}
-use Rattle.std.proofs.Common.{get_or, refl, ap, ◌∙◌, arith, subst, Some, inl, inr, ◌⊎◌, ⊎_elim}
+use Rattle.std.proofs.Common.{get_or, refl, ap, ◌∙◌, ◌++◌, ◌-◌, arith, subst, Some, inl, inr, ◌⊎◌, ⊎_elim}
 use Rattle.std.specs.Prelude.{slice_get, ◌==◌}
 use Rattle.std.specs.List.{All, AllPairs, flat_map, range_with_len}
 use Rattle.std.specs.List.Sorted.{IsPermutation}
 use Rattle.std.proofs.lemmas.Fn.{FoldsTo-push}
 use Rattle.std.proofs.lemmas.Option.{slice_get_within, slice_get-get_or, get_or_from_slice_get}
+use Rattle.std.proofs.lemmas.List.{length-append, get_or_push}
+use Rattle.std.proofs.lemmas.List.Quantifiers.{all_pairs_push}
 use Rattle.std.proofs.lemmas.List.Elements.{All-nil, All-cons, All-map}
 use Rattle.std.proofs.lemmas.List.FromFn.{get_or-range_with_len, length-range_with_len}
 use Rattle.std.proofs.lemmas.List.Sorted.{All-permutation}
@@ -47,6 +49,13 @@ opened_at start workers opens opened_are k less =
     let same : 0 + k ≡ k = omega arith in
     rw opened_are (opened_get start 0 workers k less ∙ ap (λ n. Some (opened start n)) same)
 
+last_pushed : {X : Type 0} (xs : List X) (y : X)
+    → slice_get (xs ++ y ∷ []) (length (xs ++ y ∷ []) - 1) ≡ Some y
+last_pushed xs y =
+    let long = length-append xs (y ∷ []) in
+    slice_get-get_or (xs ++ y ∷ []) _ y (omega arith)
+    ∙ ap Some (get_or_push xs y y _ (omega arith))
+
 -- what holds of the jobs of each worker, holds of each job
 pub everywhere : (P : ℕ → Type 0) (total : ℕ) (ran : List (List ℕ))
     → IsPermutation (flat_map (λ mine. mine) ran) (range_with_len 0 total)
@@ -59,6 +68,12 @@ everywhere P total ran once each n less =
     subst P (get_or-range_with_len 0 total n 0 less ∙ same)
     (there n 0 (omega (arith, length-range_with_len 0 total)))
 
+-- what a system may do as a job
+abbrev pub Logs : {C S : Type 0} → (S → List (Entry C) → Type 0) → List S → ℕ → Record
+    → List (Entry C) → Record → Type 0
+Logs may systems n before log after =
+    LogGains before log after × SystemMayLog may systems n log
+
 module _ {C : Type 0} where
   pub log_is : (logs : List (List (Entry C))) (n : ℕ) (log : List (Entry C))
       → slice_get logs n ≡ Some log → log_at logs n ≡ log
@@ -70,7 +85,7 @@ module _ {C : Type 0} where
   weaker R E go logs a [] b did = did
   weaker R E go logs a (n ∷ mine) b (j, (q, at, does), rest) = (
     j,
-    (q, at, record { gains = does.gains; may_it = go n a q j does.may_it }),
+    (q, at, go n a q j does),
     weaker R E go logs j mine b rest,
   )
 
@@ -85,10 +100,7 @@ module _ {C : Type 0} where
       (weaker R E go logs a did.earlier did.between did.ended) (
         last.0,
         last.1,
-        record {
-          gains = last.2.gains;
-          may_it = left did.last did.between last.0 b last.2.may_it;
-        },
+        left did.last did.between last.0 b last.2,
       ))
 
   module _ (logs : List (List (Entry C))) (P : ℕ → List (Entry C) → Type 0) where
@@ -100,14 +112,14 @@ module _ {C : Type 0} where
     all_gain a [] b same = subst (LogGains a []) same (log_gains_nothing a)
     all_gain a (n ∷ mine) b (j, (q, at, does), rest) =
         log_gains_then a j b (log_at logs n) (entries_by logs mine)
-        (rw (log_is logs n q at) does.may_it.0) (all_gain j mine b rest)
+        (rw (log_is logs n q at) does.0) (all_gain j mine b rest)
 
     all_hold : (a : Record) (mine : List ℕ) (b : Record) → DidAll Gain logs a mine b
         → All (λ n. P n (log_at logs n)) mine
     all_hold a [] b same = All-nil (λ n. P n (log_at logs n))
     all_hold a (n ∷ mine) b (j, (q, at, does), rest) =
         All-cons (λ n. P n (log_at logs n)) n mine
-        (rw (log_is logs n q at) does.may_it.1) (all_hold j mine b rest)
+        (rw (log_is logs n q at) does.1) (all_hold j mine b rest)
 
   module _ (start after : Allocator) (workers : ℕ) (opens records : List Record)
       (opened_are : opens ≡ opened_records start 0 workers) (many : length opens ≡ workers)
@@ -190,17 +202,11 @@ module _ {C : Type 0} where
           all_hold logs P (opened start k) mine r.0 (did_at k mine r.0 at r.1))
 
     module _ {S : Type 0} (may leave : S → List (Entry C) → Type 0) (systems : List S) where
-      abbrev pub May : ℕ → Record → List (Entry C) → Record → Type 0
-      May n a log b = LogGains a log b × SystemMayLog may systems n log
-
-      abbrev pub Leave : ℕ → Record → List (Entry C) → Record → Type 0
-      Leave n a log b = LogGains a log b × SystemMayLog leave systems n log
-
       abbrev Either : ℕ → Record → List (Entry C) → Record → Type 0
       Either n a log b = LogGains a log b × SystemMayHaveLogged may leave systems n log
 
       pub logged : (logs : List (List (Entry C)))
-          → AreDone May (length systems) opens logs records
+          → AreDone (Logs may systems) (length systems) opens logs records
           → HaveLogged may systems workers start logs after
       logged logs done = record {
         run = run_is (λ n log. SystemMayLog may systems n log) (length systems) logs done.ran
@@ -211,14 +217,29 @@ module _ {C : Type 0} where
       }
 
       either : (logs : List (List (Entry C))) (a : Record) (mine : List ℕ) (b : Record)
-          → DidAll May logs a mine b ⊎ DidUntil May Leave logs a mine b
+          → DidAll (Logs may systems) logs a mine b ⊎ DidUntil (Logs may systems) (Logs leave systems) logs a mine b
           → DidAll Either logs a mine b
-      either logs a mine b (inl did) = weaker May Either (λ n c q d one. (one.0, inl one.1))
+      either logs a mine b (inl did) = weaker (Logs may systems) Either (λ n c q d one. (one.0, inl one.1))
           logs a mine b did
-      either logs a mine b (inr did) = until_weaker May Leave Either
+      either logs a mine b (inr did) = until_weaker (Logs may systems) (Logs leave systems) Either
           (λ n c q d one. (one.0, inl one.1)) (λ n c q d one. (one.0, inr one.1)) logs a mine b did
 
-      pub broken_off : AreBrokenOff May Leave (length systems) opens records
+      -- A worker ran a system after another one only if that one had ended.
+      in_turn : (logs : List (List (Entry C))) (a : Record) (mine : List ℕ) (b : Record)
+          → DidAll (Logs may systems) logs a mine b
+          ⊎ DidUntil (Logs may systems) (Logs leave systems) logs a mine b
+          → AllPairs (λ earlier later. SystemMayLog may systems earlier (log_at logs earlier)) mine
+      in_turn logs a mine b (inl did) =
+          let all = all_hold logs (λ n log. SystemMayLog may systems n log) a mine b did in
+          λ i j d less within. all i d (omega (arith, less, within))
+      in_turn logs a mine b (inr did) =
+          let all = all_hold logs (λ n log. SystemMayLog may systems n log) a did.earlier
+          did.between did.ended in
+          rw did.numbers_are
+          (all_pairs_push (λ earlier later. SystemMayLog may systems earlier (log_at logs earlier))
+          did.earlier did.last (λ i j d less within. all i d (omega (arith, less, within))) all)
+
+      pub broken_off : AreBrokenOff (Logs may systems) (Logs leave systems) (length systems) opens records
           → IsBrokenOff may leave systems workers start after
       unfolding run_is
       broken_off done =
@@ -236,17 +257,23 @@ module _ {C : Type 0} where
             each_system = each_holds (λ n log. SystemMayHaveLogged may leave systems n log)
                 done.count done.outputs done.ran done.each_worker done.once done.rising
                 done.each_output did;
+            ended = λ k mine at.
+                let less = slice_get_within done.ran k mine at in
+                let teams : length done.ran ≡ workers = done.each_worker ∙ many in
+                let r = at_within records k (omega (arith, teams, long)) in
+                let before = opened_at start workers opens opened_are k (omega (arith, teams)) in
+                in_turn done.outputs (opened start k) mine r.0
+                (done.did k mine (opened start k) r.0 at before r.1);
             why = ⊎_elim (λ s.
-                let until = s.7 in
-                let last = until.stopped in
+                let did = s.7 in
                 inl (
-                  until.last,
-                  omega (
-                    arith,
-                    slice_get_within done.outputs until.last last.0 last.1,
-                    done.each_output,
-                  ),
-                  rw (log_is done.outputs until.last last.0 last.1) last.2.may_it.1,
+                  s.0,
+                  s.1,
+                  did.last,
+                  s.4,
+                  rw did.numbers_are (last_pushed did.earlier did.last),
+                  rw (log_is done.outputs did.last did.stopped.0 did.stopped.1)
+                      did.stopped.2.1,
                 )) inr done.why;
             busy = done.busy;
           }

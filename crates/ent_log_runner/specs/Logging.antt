@@ -1,13 +1,19 @@
 -- A system's log as it is filled: the entries so far, and the reserver that was lent.
-use Rattle.std.specs.Prelude.{◌≡◌, List, ◌++◌, All}
+use Rattle.std.specs.Prelude.{◌≡◌, List, ◌++◌, map, All}
 use Rattle.ent_shared.specs.declared.record.Reservation.{Reservation}
+use Rattle.ent_shared.specs.declared.record.RecordEntry.TheVariants.{Own}
 use Rattle.ent_shared.specs.declared.record.Record.{Record}
 use Rattle.ent_shared.specs.Order.{handles_given}
 use Rattle.ent_shared.specs.Phase.{Shared, Reserver, IsOf}
 use Rattle.ent_log.specs.declared.entry.Entry.{Entry}
 use Rattle.ent_log.specs.Logs.{spawned_in}
-use Rattle.ent_runner.specs.Crew.{HasGained}
 use Rattle.ent_log_runner.specs.declared.commands.LogCommands.{LogCommands}
+
+-- The reserver has made these reservations more, and has met nobody.
+pub record HasGained (before after : Record) : Type 0 where
+  pub number : after.number ≡ before.number
+  pub reservations : List Reservation
+  pub entries : after.entries ≡ before.entries ++ map Own reservations
 
 abbrev pub Filled : Type 0 → Type 0
 Filled C = LogCommands (List (Entry C))

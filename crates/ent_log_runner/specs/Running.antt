@@ -1,5 +1,5 @@
 -- Systems that fill logs: they run on workers, each with a log of its own, over one shared allocator.
-use Rattle.std.specs.Prelude.{◌≡◌, ℕ, ◌<◌, ◌≤◌, ◌==◌, ◌⊎◌, List, [], length, filter}
+use Rattle.std.specs.Prelude.{◌≡◌, ℕ, ◌<◌, ◌≤◌, ◌==◌, ◌-◌, ◌⊎◌, List, [], length, filter}
 use Rattle.std.specs.Prelude.{slice_get, slice_index_or, Some}
 use Rattle.std.specs.List.{All, AllPairs, flat_map, range_with_len}
 use Rattle.std.specs.List.Sorted.{IsPermutation}
@@ -61,6 +61,14 @@ module _ {C : Type 0} where
     pub each_system : (n : ℕ) (system : S) → slice_get systems n ≡ Some system
         → may system (log_at logs n)
 
+  -- The system that one of these workers ran last ran out of memory, and left its log so.
+  abbrev pub HasStopped : {S : Type 0} → (S → List (Entry C) → Type 0) → List S
+      → List (List (Entry C)) → List (List ℕ) → Type 0
+  HasStopped leave systems logs ran =
+      (worker : ℕ) × (mine : List ℕ) × (last : ℕ) × (slice_get ran worker ≡ Some mine)
+      × (slice_get mine (length mine - 1) ≡ Some last)
+      × SystemMayLog leave systems last (log_at logs last)
+
   -- Some systems have run, at least one if there are any, and the workers stopped. A log is what the
   -- system had entered when it ended or stopped.
   pub record IsBrokenOff {S : Type 0} (may leave : S → List (Entry C) → Type 0) (systems : List S)
@@ -71,8 +79,10 @@ module _ {C : Type 0} where
     pub logs : List (List (Entry C))
     pub run : HaveRun workers count before logs after
     pub each_system : (n : ℕ) → n < count → SystemMayHaveLogged may leave systems n (log_at logs n)
+    -- A worker ran a system after another one only if that one had ended.
+    pub ended : (worker : ℕ) (mine : List ℕ) → slice_get run.ran worker ≡ Some mine
+        → AllPairs (λ earlier later. SystemMayLog may systems earlier (log_at logs earlier)) mine
     -- Why: a system ran out of memory, or some are left that no worker has room for. If some are
-    -- left, each worker has run at least one.
-    pub why : ((n : ℕ) × (n < count) × SystemMayLog leave systems n (log_at logs n))
-        ⊎ (count < length systems)
+    -- left, each worker has run at least one, for whose log it had room from the beginning.
+    pub why : HasStopped leave systems logs run.ran ⊎ (count < length systems)
     pub busy : count < length systems → All (λ mine. 0 < length mine) run.ran

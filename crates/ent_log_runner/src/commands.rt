@@ -11,24 +11,25 @@ use ent_handle::{Handle, Memory};
 use ent_log::{Entry, Log};
 use ent_shared::{Reserver, Shared};
 use std::alloc::Global;
+use std::fmt;
 
 /// Fills the log of one system, with a reserver that is lent to it.
 ///
 /// A spawn reserves its handle at once, so a system knows what it will have spawned. `L` is the log
 /// that is filled, a [`Log`] of the caller's type of commands.
 #[derive(Drop)]
-pub struct LogCommands<'s, 'r, L> {
-    reserver: &'r mut Reserver,
-    shared: &'s Shared,
+pub struct LogCommands<'a, L> {
+    reserver: &'a mut Reserver,
+    shared: &'a Shared,
     log: L,
 }
 
-impl<'s, 'r, C> LogCommands<'s, 'r, Log<C>> {
+impl<'a, C> LogCommands<'a, Log<C>> {
     ghost use Rattle.ent_log_runner.specs.Logging.{IsReady, Extends, log_of, reserver_of, shared_of};
     ghost use Rattle.ent_log_runner.specs.Lending.{RepliesOne};
 
     /// Begins with an empty log. The reserver is one of those that came with the allocator.
-    pub fn new(alloc: Global, shared: &'s Shared, reserver: &'r mut Reserver) -> Self
+    pub fn new(alloc: Global, shared: &'a Shared, reserver: &'a mut Reserver) -> Self
         requires { IsOf shared.now reserver.old }
         ensures same { result.reserver.ghost_name ≡ reserver.entry.ghost_name }
         ensures reserver { reserver_of result ≡ reserver.old }
@@ -80,7 +81,7 @@ impl<'s, 'r, C> LogCommands<'s, 'r, Log<C>> {
     }
 }
 
-impl<L> LogCommands<'_, '_, L> {
+impl<L> LogCommands<'_, L> {
     /// Gives the log back, and the reserver to its owner.
     pub fn finish(self) -> L
         ensures reserver { self.exit.0.now ≡ self.entry.reserver.now }
@@ -95,7 +96,7 @@ impl<L> LogCommands<'_, '_, L> {
     }
 }
 
-impl<C: Drop> LogCommands<'_, '_, Log<C>> {
+impl<C: Drop> LogCommands<'_, Log<C>> {
     ghost use Rattle.ent_log_runner.specs.Logging.{IsReady, Extends, log_of, reserver_of};
 
     /// Adds a command, which the sync point hands on in its turn.
@@ -111,6 +112,14 @@ impl<C: Drop> LogCommands<'_, '_, Log<C>> {
         ensures ok { OnOk result (log_of self.new ≡ log_of self.old ++ Command command ∷ []) }
         ensures err { OnErr result (log_of self.new ≡ log_of self.old) }
     {
-        self.log.push(command)
+        Log::push(&mut self.log, command)
+    }
+}
+
+/// The log so far.
+impl<L: fmt::Debug> fmt::Debug for LogCommands<'_, L> {
+    fn fmt<W: fmt::Write>(&self, f: &mut fmt::Formatter<W>) -> fmt::Result {
+        let log = &self.log;
+        write!(f, "{log:?}")
     }
 }

@@ -24,7 +24,8 @@ use std::thread::Threads;
 /// [`SyncPoint::begin`](ent_log::SyncPoint::begin) doesn't refuse it.
 ///
 /// There have to be 1 to 64 workers and at most 65,536 systems. No handle may have been requested
-/// since the allocator's last flush, not even by a request that was refused.
+/// since the allocator's last flush, not even by a request that was refused. If there are no
+/// systems, nothing takes memory.
 ///
 /// # Errors
 ///
@@ -55,12 +56,16 @@ where
     ensures reserved { IfOk result (λ logs. first_unreserved entities.new.allocator
         (spawned_in (entries_of logs.items)) ≡ None) }
     ensures memory { IsErrOf result LogFault.Memory → entities.new ≡ entities.old }
+    ensures memory_some { IsErrOf result LogFault.Memory → 0 < length systems.now }
     ensures lost { IsErrOf result LogFault.Lost → IsBrokenOff S.may_log S.may_leave systems.now
         workers entities.old.allocator entities.new.allocator }
 
     // So late, memory runs out only in a system, or in workers that have run one.
     ensures lost_some { IsErrOf result LogFault.Lost → 0 < length systems.now }
 {
+    if systems.is_empty() {
+        return Ok(Vec::new(alloc));
+    }
     let Ok(crew) = Crew::new(alloc, systems.len(), workers) else {
         return Err(LogFault::Memory);
     };
@@ -72,8 +77,12 @@ where
             return Err(LogFault::Memory);
         }
     };
-    let stage = LogStage { alloc, systems };
-    let logs = crew.work(rt, &shared, &mut reservers, &stage);
+    let stage = LogStage {
+        alloc,
+        shared: &shared,
+        systems,
+    };
+    let logs = crew.work(rt, &mut reservers, &stage);
     *entities = shared.close(reservers);
     let Some(logs) = logs else {
         return Err(LogFault::Lost);

@@ -1,5 +1,6 @@
 //! Systems that fill logs are the jobs of a crew.
 ghost use Rattle.std.specs.Prelude.{length};
+ghost use Rattle.ent_shared.specs.Phase.{IsOf};
 ghost use Rattle.ent_log_runner.specs.Logging.{LogGains};
 ghost use Rattle.ent_log_runner.specs.Running.{SystemMayLog};
 
@@ -13,28 +14,26 @@ use std::alloc::Global;
 
 /// The systems that fill logs together.
 #[derive(Drop)]
-pub(crate) struct LogStage<'s, S> {
+pub(crate) struct LogStage<'a, 's, S> {
     pub(crate) alloc: Global,
+    pub(crate) shared: &'a Shared,
     pub(crate) systems: &'s [S],
 }
 
-impl<C, S: LogSystem<C>> Jobs<Log<C>> for LogStage<'_, S> {
+impl<C, S: LogSystem<C>> Jobs<Log<C>, Reserver> for LogStage<'_, '_, S> {
     ghost count = { λ stage. length stage.systems.now };
 
-    ghost may_do = { λ stage number before log after. LogGains before log after
+    ghost may_have = { λ stage reserver. IsOf stage.shared.now reserver };
+
+    ghost may_do = { λ stage number before log after. LogGains before.own log after.own
         × SystemMayLog S.may_log stage.systems.now number log };
 
-    ghost may_leave = { λ stage number before log after. LogGains before log after
+    ghost may_leave = { λ stage number before log after. LogGains before.own log after.own
         × SystemMayLog S.may_leave stage.systems.now number log };
 
     /// Runs the system of this number. Its log has what it entered, also if it stopped.
-    fn run(
-        &self,
-        number: usize,
-        shared: &Shared,
-        reserver: &mut Reserver,
-    ) -> (Log<C>, Result<(), Memory>) {
-        let mut commands = LogCommands::new(self.alloc, shared, reserver);
+    fn run(&self, number: usize, reserver: &mut Reserver) -> (Log<C>, Result<(), Memory>) {
+        let mut commands = LogCommands::new(self.alloc, self.shared, reserver);
         let ran = self.systems[number].run(self.alloc, &mut commands);
         (commands.finish(), ran)
     }

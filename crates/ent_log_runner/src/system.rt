@@ -24,7 +24,7 @@ pub trait LogSystem<C> {
     ///
     /// `Memory`, if the system ran out of memory. All logs are then dropped, and what the systems
     /// had reserved stays reserved.
-    fn run(&self, alloc: Global, commands: &mut LogCommands<'_, '_, Log<C>>) -> Result<(), Memory>
+    fn run(&self, alloc: Global, commands: &mut LogCommands<'_, Log<C>>) -> Result<(), Memory>
         requires { IsReady commands.old }
         ensures extends { Extends commands.old commands.new }
         ensures may { log_of commands.old ≡ []

@@ -14,8 +14,6 @@ use Rattle.std.proofs.lemmas.List.Sorted.{All-permutation, IsPermutation-reverse
 use Rattle.std.proofs.lemmas.List.FromFn.{length-range_with_len}
 use Rattle.std.proofs.lemmas.List.Elements.{All-head, All-map}
 use Rattle.ent_alloc.proofs.ListLaws.{All-left}
-use Rattle.ent_shared.specs.declared.record.Record.{Record}
-use Rattle.ent_shared.specs.Phase.{Shared, Reserver, IsOf, records_of}
 use Rattle.ent_runner.specs.Claims.{Claims, Claimer, AreFirst, IsClaimerOf}
 use Rattle.ent_runner.specs.Collecting.{outputs_put}
 use Rattle.ent_runner.specs.Crew.{AreDone, AreBrokenOff, DidAll, DidUntil}
@@ -233,12 +231,12 @@ module _ {O : Type 0} where
   outputs_back count n done start new empty n_is put = search (rules, length_put, written_back)
 
   -- what all workers together have done
-  module _ (may leave : ℕ → Record → O → Record → Type 0) (shared : Shared) (claims : Claims)
-      (before after : List Reserver) (team : List (Worker O))
-      (worked : HaveAllWorked may leave shared claims before after team) where
-    worked_at : (k : ℕ) (w : Worker O) (a b : Reserver) → slice_get team k ≡ Some w
+  module _ {L : Type 0} (may leave : ℕ → L → O → L → Type 0) (may_have : L → Type 0)
+      (claims : Claims) (before after : List L) (team : List (Worker O))
+      (worked : HaveAllWorked may leave may_have claims before after team) where
+    worked_at : (k : ℕ) (w : Worker O) (a b : L) → slice_get team k ≡ Some w
         → slice_get before k ≡ Some a → slice_get after k ≡ Some b
-        → HasWorked may leave shared claims a b w
+        → HasWorked may leave may_have claims a b w
     worked_at k w a b at_w at_a at_b =
         rw (
           sym (get_or_from_slice_get before k a a at_a),
@@ -247,22 +245,22 @@ module _ {O : Type 0} where
         )
         (worked.each k a b w (slice_get_within before k a at_a))
 
-    pub stay : All (IsOf shared) after
+    pub stay : All may_have after
     stay k d within =
-        let less : k < length before = omega (arith, worked.reservers) in
+        let less : k < length before = omega (arith, worked.lent) in
         let a = at_within before k less in
         let w = at_within team k (omega (arith, worked.count)) in
-        (worked_at k w.0 a.0 (get_or after k d) w.1 a.1 (slice_get-get_or after k d within)).reserver
+        (worked_at k w.0 a.0 (get_or after k d) w.1 a.1 (slice_get-get_or after k d within)).lent
 
     pub all_claimed : All (HasClaimed claims) team
     all_claimed k d within =
         let less : k < length before = omega (arith, worked.count) in
         let a = at_within before k less in
-        let b = at_within after k (omega (arith, worked.reservers)) in
+        let b = at_within after k (omega (arith, worked.lent)) in
         has_claimed (get_or team k d) a.0 b.0
         (worked_at k (get_or team k d) a.0 b.0 (slice_get-get_or team k d within) a.1 b.1)
       where
-        has_claimed : (w : Worker O) (a b : Reserver) → HasWorked may leave shared claims a b w
+        has_claimed : (w : Worker O) (a b : L) → HasWorked may leave may_have claims a b w
             → HasClaimed claims w
         has_claimed w a b has = record {
           claimer = has.claimer;
@@ -286,8 +284,8 @@ module _ {O : Type 0} where
         (λ k d within. let has = all_claimed k d within in rw has.claimed has.claimer.rises)
 
     long_ran : length (map (λ (w : Worker O). numbers_of w.done.items) team)
-        ≡ length (records_of before)
-    long_ran = length-map team _ ∙ (worked.count ∙ sym (length-map before (λ (r : Reserver). r.own)))
+        ≡ length before
+    long_ran = length-map team _ ∙ worked.count
 
     module _ (outputs : List O) (at : All (λ (d : Done O). slice_get outputs d.number
         ≡ Some d.output) (all_done team)) where
@@ -298,7 +296,7 @@ module _ {O : Type 0} where
           slice_get outputs d.number ≡ Some d.output) (λ (w : Worker O). w.done.items) team at) at_w
 
       -- a worker that has ended, and one whose last job stopped
-      until : (a b : Record) (w : Worker O) → All (λ (d : Done O). slice_get outputs d.number
+      until : (a b : L) (w : Worker O) → All (λ (d : Done O). slice_get outputs d.number
           ≡ Some d.output) w.done.items → HasStoppedAt may leave a w.done.items b
           → DidUntil may leave outputs a (numbers_of w.done.items) b
       until a b w own s =
@@ -326,29 +324,29 @@ module _ {O : Type 0} where
           front xs x all = All-left (λ (d : Done O). slice_get outputs d.number ≡ Some d.output) xs
               (x ∷ []) all
 
-      ended_by : (k : ℕ) (w : Worker O) (a b : Reserver) → slice_get team k ≡ Some w
+      ended_by : (k : ℕ) (w : Worker O) (a b : L) → slice_get team k ≡ Some w
           → slice_get before k ≡ Some a → slice_get after k ≡ Some b → w.stopped ≡ false
-          → DidAll may outputs a.own (numbers_of w.done.items) b.own
-      ended_by k w a b at_w at_a at_b going = kept_all may outputs a.own w.done.items b.own
+          → DidAll may outputs a (numbers_of w.done.items) b
+      ended_by k w a b at_w at_a at_b going = kept_all may outputs a w.done.items b
           (own_at k w at_w) ((worked_at k w a b at_w at_a at_b).ended going)
 
-      stopped_by : (k : ℕ) (w : Worker O) (a b : Reserver) → slice_get team k ≡ Some w
+      stopped_by : (k : ℕ) (w : Worker O) (a b : L) → slice_get team k ≡ Some w
           → slice_get before k ≡ Some a → slice_get after k ≡ Some b → w.stopped ≡ true
-          → DidUntil may leave outputs a.own (numbers_of w.done.items) b.own
-      stopped_by k w a b at_w at_a at_b stopped = until a.own b.own w (own_at k w at_w)
+          → DidUntil may leave outputs a (numbers_of w.done.items) b
+      stopped_by k w a b at_w at_a at_b stopped = until a b w (own_at k w at_w)
           ((worked_at k w a b at_w at_a at_b).stopped stopped)
 
-      either_by : (k : ℕ) (w : Worker O) (a b : Reserver) → slice_get team k ≡ Some w
+      either_by : (k : ℕ) (w : Worker O) (a b : L) → slice_get team k ≡ Some w
           → slice_get before k ≡ Some a → slice_get after k ≡ Some b → (stopped : Bool)
-          → w.stopped ≡ stopped → DidAll may outputs a.own (numbers_of w.done.items) b.own
-          ⊎ DidUntil may leave outputs a.own (numbers_of w.done.items) b.own
+          → w.stopped ≡ stopped → DidAll may outputs a (numbers_of w.done.items) b
+          ⊎ DidUntil may leave outputs a (numbers_of w.done.items) b
       either_by k w a b at_w at_a at_b false is = inl (ended_by k w a b at_w at_a at_b is)
       either_by k w a b at_w at_a at_b true is = inr (stopped_by k w a b at_w at_a at_b is)
 
     pub are_done : (first : HaveDoneFirst claims.numbers team)
         → All (λ (w : Worker O). w.stopped ≡ false) team → (outputs : List O)
         → map Some outputs ≡ by_number claims.numbers team
-        → AreDone may claims.numbers (records_of before) outputs (records_of after)
+        → AreDone may claims.numbers before outputs after
     are_done first going outputs each =
         let all = all_ran claims.numbers team first outputs each in
         let once : IsPermutation (numbers_of (all_done team)) (range_with_len 0 claims.numbers) =
@@ -361,15 +359,13 @@ module _ {O : Type 0} where
           count = long claims.numbers (all_done team) once outputs each;
           did = λ k mine a b at_mine at_a at_b.
               let w = mapped_at (λ (w : Worker O). numbers_of w.done.items) team k mine at_mine in
-              let r = mapped_at (λ (r : Reserver). r.own) before k a at_a in
-              let s = mapped_at (λ (r : Reserver). r.own) after k b at_b in
-              rw (sym w.2, sym r.2, sym s.2) (ended_by outputs
-              (outputs_at claims.numbers (all_done team) once outputs each) k w.0 r.0 s.0 w.1 r.1
-              s.1 (each_of_all (λ (w : Worker O). w.stopped ≡ false) team k w.0 going w.1));
+              rw (sym w.2) (ended_by outputs
+              (outputs_at claims.numbers (all_done team) once outputs each) k w.0 a b w.1 at_a at_b
+              (each_of_all (λ (w : Worker O). w.stopped ≡ false) team k w.0 going w.1));
         }
 
     pub are_broken_off : HaveDoneFirst claims.numbers team → IsLostFor claims.numbers team
-        → AreBrokenOff may leave claims.numbers (records_of before) (records_of after)
+        → AreBrokenOff may leave claims.numbers before after
     are_broken_off first lost =
         let there = unwrapped (by_number first.count team)
         (full first.count (all_done team) first.once) in
@@ -387,10 +383,7 @@ module _ {O : Type 0} where
           each_output = long first.count (all_done team) first.once outputs there.1;
           did = λ k mine a b at_mine at_a at_b.
               let w = mapped_at (λ (w : Worker O). numbers_of w.done.items) team k mine at_mine in
-              let r = mapped_at (λ (r : Reserver). r.own) before k a at_a in
-              let s = mapped_at (λ (r : Reserver). r.own) after k b at_b in
-              rw (sym w.2, sym r.2, sym s.2) (either_by outputs at k w.0 r.0 s.0 w.1 r.1 s.1
-              w.0.stopped refl);
+              rw (sym w.2) (either_by outputs at k w.0 a b w.1 at_a at_b w.0.stopped refl);
           why = why first outputs at lost;
           busy = λ less. All-map (λ mine. 0 < length mine)
               (λ (w : Worker O). numbers_of w.done.items) team
@@ -401,24 +394,23 @@ module _ {O : Type 0} where
         why : (first : HaveDoneFirst claims.numbers team) (outputs : List O)
             → All (λ (d : Done O). slice_get outputs d.number ≡ Some d.output) (all_done team)
             → IsLostFor claims.numbers team
-            → ((worker : ℕ) × (mine : List ℕ) × (a : Record) × (b : Record)
+            → ((worker : ℕ) × (mine : List ℕ) × (a : L) × (b : L)
             × (slice_get (map (λ (w : Worker O). numbers_of w.done.items) team) worker ≡ Some mine)
-            × (slice_get (records_of before) worker ≡ Some a)
-            × (slice_get (records_of after) worker ≡ Some b)
+            × (slice_get before worker ≡ Some a) × (slice_get after worker ≡ Some b)
             × DidUntil may leave outputs a mine b) ⊎ (first.count < claims.numbers)
         why first outputs at (inl (k, w, within, at_k, stopped)) =
             let at_w = slice_get-get_or team k w within ∙ ap Some at_k in
             let less : k < length before = omega (arith, worked.count) in
             let a = at_within before k less in
-            let b = at_within after k (omega (arith, worked.reservers)) in
+            let b = at_within after k (omega (arith, worked.lent)) in
             inl (
               k,
               numbers_of w.done.items,
-              a.0.own,
-              b.0.own,
+              a.0,
+              b.0,
               get_mapped (λ (w : Worker O). numbers_of w.done.items) team k w at_w,
-              get_mapped (λ (r : Reserver). r.own) before k a.0 a.1,
-              get_mapped (λ (r : Reserver). r.own) after k b.0 b.1,
+              a.1,
+              b.1,
               stopped_by outputs at k w a.0 b.0 at_w a.1 b.1 stopped,
             )
         why first outputs at (inr less) =
@@ -432,14 +424,12 @@ module _ {O : Type 0} where
         (was : List (Option O)) (same : was ≡ by_number claims.numbers team) where
       pub done_of : All (λ (w : Worker O). w.stopped ≡ false) team
           → IfSome got (λ outputs. map Some outputs.items ≡ was)
-          → IfSome got (λ outputs. AreDone may claims.numbers (records_of before) outputs.items
-          (records_of after))
+          → IfSome got (λ outputs. AreDone may claims.numbers before outputs.items after)
       done_of going all = some_weaker got (λ outputs each. are_done first going outputs.items
           (each ∙ same)) all
 
       pub lost_of : IfNone got (Any (λ (output : Option O). output ≡ None) was)
-          → IfNone got (AreBrokenOff may leave claims.numbers (records_of before)
-          (records_of after))
+          → IfNone got (AreBrokenOff may leave claims.numbers before after)
       lost_of lacks = none_weaker got (λ lacking. are_broken_off first
           (inr (some_left claims.numbers team first (rw same at lacking)))) lacks
 

@@ -63,7 +63,7 @@ last_pushed xs y =
     ∙ ap Some (get_or_push xs y y _ (omega arith))
 
 -- what holds of the jobs of each worker, holds of each job
-everywhere : (P : ℕ → Type 0) (total : ℕ) (ran : List (List ℕ))
+pub everywhere : (P : ℕ → Type 0) (total : ℕ) (ran : List (List ℕ))
     → IsPermutation (flat_map (λ mine. mine) ran) (range_with_len 0 total)
     → ((k : ℕ) (mine : List ℕ) → slice_get ran k ≡ Some mine → All P mine) → (n : ℕ) → n < total
     → P n
@@ -84,7 +84,7 @@ weaker : (R E : ℕ → Record → List Command → Record → Type 0) → ((n :
 weaker R E go queues a [] b did = did
 weaker R E go queues a (n ∷ mine) b (j, (q, at, does), rest) = (
   j,
-  (q, at, record { gains = does.gains; may_it = go n a q j does.may_it }),
+  (q, at, go n a q j does),
   weaker R E go queues j mine b rest,
 )
 
@@ -100,10 +100,7 @@ until_weaker R L E go left queues a mine b did =
     (weaker R E go queues a did.earlier did.between did.ended) (
       last.0,
       last.1,
-      record {
-        gains = last.2.gains;
-        may_it = left did.last did.between last.0 b last.2.may_it;
-      },
+      left did.last did.between last.0 b last.2,
     ))
 
 queue_is : (queues : List (List Command)) (n : ℕ) (q : List Command) → slice_get queues n ≡ Some q
@@ -121,7 +118,7 @@ module _ (queues : List (List Command)) (P : ℕ → List Command → Type 0) wh
   all_gain a [] b same = subst (Gains a []) same (gains_nothing a)
   all_gain a (n ∷ mine) b (j, (q, at, does), rest) =
       gains_then a j b (queue_at queues n) (commands_of queues mine)
-      (rw (queue_is queues n q at) does.may_it.0) (all_gain j mine b rest)
+      (rw (queue_is queues n q at) does.0) (all_gain j mine b rest)
 
   all_hold : (a : Record) (mine : List ℕ) (b : Record)
       → DidAll (λ n before queue after. Gains before queue after × P n queue) queues a mine b
@@ -129,7 +126,7 @@ module _ (queues : List (List Command)) (P : ℕ → List Command → Type 0) wh
   all_hold a [] b same = All-nil (λ n. P n (queue_at queues n))
   all_hold a (n ∷ mine) b (j, (q, at, does), rest) =
       All-cons (λ n. P n (queue_at queues n)) n mine
-      (rw (queue_is queues n q at) does.may_it.1) (all_hold j mine b rest)
+      (rw (queue_is queues n q at) does.1) (all_hold j mine b rest)
 
 -- what the workers gained, and their histories
 module _ (before : World) (workers : ℕ) (records : List Record) (queues : List (List Command))
@@ -302,7 +299,7 @@ module _ {S : Type 0} (may : S → View → List Command → Type 0) (systems : 
                 did.last,
                 s.4,
                 rw did.numbers_are (last_pushed did.earlier did.last),
-                rw (queue_is queues did.last did.stopped.0 did.stopped.1) did.stopped.2.may_it.1,
+                rw (queue_is queues did.last did.stopped.0 did.stopped.1) did.stopped.2.1,
               )) inr done.why;
           busy = done.busy;
         }

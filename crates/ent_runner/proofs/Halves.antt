@@ -4,18 +4,16 @@ use Rattle.std.proofs.Common.{⊎_elim, sym, refl}
 use Rattle.std.proofs.lemmas.Bool.{cases_lt}
 use Rattle.std.proofs.lemmas.List.{length-append, get_or_append_left, get_or-append_right}
 use Rattle.ent_alloc.proofs.ListLaws.{All-left, All-right}
-use Rattle.ent_shared.specs.declared.record.Record.{Record}
-use Rattle.ent_shared.specs.Phase.{Shared, Reserver, IsOf}
 use Rattle.ent_runner.specs.Claims.{Claims, IsClaimerOf}
 use Rattle.ent_runner.specs.declared.worker.Worker.{Worker}
 use Rattle.ent_runner.specs.Worker.{HaveAllWorked, AreReady, IsNewWorker}
 
-module _ {O : Type 0} (may leave : ℕ → Record → O → Record → Type 0) (shared : Shared)
+module _ {O L : Type 0} (may leave : ℕ → L → O → L → Type 0) (may_have : L → Type 0)
     (claims : Claims) where
-  abbrev HaveDone : List Reserver → List Reserver → List (Worker O) → Type 0
-  HaveDone before after team = HaveAllWorked may leave shared claims before after team
+  abbrev HaveDone : List L → List L → List (Worker O) → Type 0
+  HaveDone before after team = HaveAllWorked may leave may_have claims before after team
 
-  joined : (first first' second second' : List Reserver) (front back : List (Worker O))
+  joined : (first first' second second' : List L) (front back : List (Worker O))
       → HaveDone first first' front → HaveDone second second' back
       → HaveDone (first ++ second) (first' ++ second') (front ++ back)
   joined first first' second second' front back one other = record {
@@ -26,31 +24,31 @@ module _ {O : Type 0} (may leave : ℕ → Record → O → Record → Type 0) (
       one.count,
       other.count,
     );
-    reservers = omega (
+    lent = omega (
       arith,
       length-append first' second',
       length-append first second,
-      one.reservers,
-      other.reservers,
+      one.lent,
+      other.lent,
     );
     each = λ k d e f less. ⊎_elim
         (λ (here : k < length first).
         rw (
           get_or_append_left first second d k here,
-          get_or_append_left first' second' e k (omega (arith, one.reservers)),
+          get_or_append_left first' second' e k (omega (arith, one.lent)),
           get_or_append_left front back f k (omega (arith, one.count)),
         ) (one.each k d e f here))
         (λ (there : length first ≤ k).
         rw (
           get_or-append_right first second (length first) k d refl there,
-          get_or-append_right first' second' (length first) k e one.reservers there,
+          get_or-append_right first' second' (length first) k e one.lent there,
           get_or-append_right front back (length first) k f one.count there,
         )
         (other.each (k - length first) d e f (omega (arith, length-append first second))))
         (cases_lt k (length first));
   }
 
-  pub both_worked : (first first' second second' before : List Reserver)
+  pub both_worked : (first first' second second' before : List L)
       (front back : List (Worker O)) → first ++ second ≡ before
       → HaveDone first first' front → HaveDone second second' back
       → HaveDone before (first' ++ second') (front ++ back)
@@ -58,26 +56,26 @@ module _ {O : Type 0} (may leave : ℕ → Record → O → Record → Type 0) (
       rw (sym parts) (joined first first' second second' front back one other)
 
   -- Each part of the workers is ready, if all are and neither part is empty.
-  pub front_ready : (first second reservers : List Reserver) (front back team : List (Worker O))
-      → first ++ second ≡ reservers → front ++ back ≡ team → 0 < length front
-      → length first ≡ length front → AreReady shared claims reservers team
-      → AreReady shared claims first front
-  front_ready first second reservers front back team reservers_are team_is some same ready = record {
+  pub front_ready : (first second lent : List L) (front back team : List (Worker O))
+      → first ++ second ≡ lent → front ++ back ≡ team → 0 < length front
+      → length first ≡ length front → AreReady may_have claims lent team
+      → AreReady may_have claims first front
+  front_ready first second lent front back team lent_is team_is some same ready = record {
     some = some;
     count = same;
-    own = All-left (IsOf shared) first second (rw reservers_are ready.own);
+    own = All-left may_have first second (rw lent_is ready.own);
     each = All-left (λ (w : Worker O). IsClaimerOf claims w.claimer × IsNewWorker w) front back
         (rw team_is ready.each);
   }
 
-  pub back_ready : (first second reservers : List Reserver) (front back team : List (Worker O))
-      → first ++ second ≡ reservers → front ++ back ≡ team → 0 < length back
-      → length second ≡ length back → AreReady shared claims reservers team
-      → AreReady shared claims second back
-  back_ready first second reservers front back team reservers_are team_is some same ready = record {
+  pub back_ready : (first second lent : List L) (front back team : List (Worker O))
+      → first ++ second ≡ lent → front ++ back ≡ team → 0 < length back
+      → length second ≡ length back → AreReady may_have claims lent team
+      → AreReady may_have claims second back
+  back_ready first second lent front back team lent_is team_is some same ready = record {
     some = some;
     count = same;
-    own = All-right (IsOf shared) first second (rw reservers_are ready.own);
+    own = All-right may_have first second (rw lent_is ready.own);
     each = All-right (λ (w : Worker O). IsClaimerOf claims w.claimer × IsNewWorker w) front back
         (rw team_is ready.each);
   }

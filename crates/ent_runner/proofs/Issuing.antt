@@ -6,15 +6,7 @@ use Rattle.ent_shared.specs.declared.record.Record.{Record}
 use Rattle.ent_queue.specs.Command.{Command}
 use Rattle.ent_queue.specs.Reserving.{Gains}
 use Rattle.ent_world.specs.OpenWorld.{View}
-use Rattle.ent_runner.specs.Crew.{HasGained}
 use Rattle.ent_runner.specs.Frame.{SystemMayIssue}
-
-pub gained : (a : Record) (q : List Command) (b : Record) → Gains a q b → HasGained a b
-gained a q b g = record {
-  number = g.number;
-  reservations = g.reservations;
-  entries = g.entries;
-}
 
 module _ {S A E : Type 0} (may : S → View → List Command → Type 0) (systems : List S) (view : View)
     (n : ℕ) (d : S) (a b : Record) (queue finished : List Command) (same : finished ≡ queue)

@@ -16,4 +16,7 @@ pub mod ListedBirths
 pub mod Conducting
 pub mod Working
 pub mod Halves
+pub mod Lending
+pub mod EachOutput
 pub mod Disbanding
+pub mod NoSystems

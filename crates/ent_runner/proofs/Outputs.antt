@@ -10,7 +10,6 @@ use Rattle.std.proofs.lemmas.List.{length-replicate, length-map, get_or-replicat
 use Rattle.std.proofs.lemmas.List.Elements.{All-head, All-tail}
 use Rattle.std.proofs.lemmas.List.Sums.{sum_by-cons}
 use Rattle.std.proofs.lemmas.List.Sorted.{sum_by-IsPermutation, All-permutation, IsPermutation-sym}
-use Rattle.ent_shared.specs.declared.record.Record.{Record}
 use Rattle.ent_runner.specs.declared.worker.Done.{Done}
 use Rattle.ent_runner.specs.Collecting.{outputs_put}
 use Rattle.ent_runner.specs.Crew.{DidAll}
@@ -104,9 +103,9 @@ module _ {O : Type 0} where
       let rest = unwrapped os (All-tail IsSome (Some x) os all) in
       (x ∷ rest.0, ap (λ ys. Some x ∷ ys) rest.1)
 
-  module _ (may : ℕ → Record → O → Record → Type 0) (outputs : List O) where
+  module _ {L : Type 0} (may : ℕ → L → O → L → Type 0) (outputs : List O) where
     -- jobs that were kept with their outputs are those with their outputs at their numbers
-    pub kept_all : (a : Record) (done : List (Done O)) (b : Record)
+    pub kept_all : (a : L) (done : List (Done O)) (b : L)
         → All (λ (d : Done O). slice_get outputs d.number ≡ Some d.output) done
         → HaveEnded may a done b → DidAll may outputs a (numbers_of done) b
     kept_all a [] b at ended = ended

@@ -4,10 +4,8 @@ use Rattle.std.proofs.Common.{is_err, false, true≢false}
 use Rattle.std.specs.Prelude.{Result, Ok, Err, OnOk, OnErr}
 use Rattle.std.proofs.lemmas.Fn.{FoldsTo-push}
 use Rattle.std.proofs.lemmas.List.{map-append}
-use Rattle.ent_shared.specs.declared.record.Record.{Record}
 use Rattle.ent_runner.specs.declared.record.ClaimRecord.{ClaimRecord as Claimed}
 use Rattle.ent_runner.specs.declared.worker.Done.{Done}
-use Rattle.ent_runner.specs.Crew.{HasGained}
 use Rattle.ent_runner.specs.Worker.{numbers_of, DoesKept, HaveEnded, HasStoppedAt}
 
 module _ {O : Type 0} where
@@ -16,26 +14,25 @@ module _ {O : Type 0} where
       → numbers_of next ≡ more
   numbers_more done next d claims more pushed same claimed = search (rules, map-append)
 
-  module _ (may leave : ℕ → Record → O → Record → Type 0) where
+  module _ {L : Type 0} (may leave : ℕ → L → O → L → Type 0) where
     -- one job more
-    pub ended_more : (a b c : Record) (done next : List (Done O)) (d : Done O)
-        → HaveEnded may a done b → HasGained b c → may d.number b d.output c
-        → next ≡ done ++ d ∷ [] → HaveEnded may a next c
-    ended_more a b c done next d ended gains may_it pushed =
-        rw pushed (FoldsTo-push (DoesKept may) a done b d c ended
-        (record { gains = gains; may_it = may_it }))
+    pub ended_more : (a b c : L) (done next : List (Done O)) (d : Done O)
+        → HaveEnded may a done b → may d.number b d.output c → next ≡ done ++ d ∷ []
+        → HaveEnded may a next c
+    ended_more a b c done next d ended may_it pushed =
+        rw pushed (FoldsTo-push (DoesKept may) a done b d c ended may_it)
 
     -- and one more, which stopped
-    pub stopped_at : (a b c : Record) (done next : List (Done O)) (d : Done O)
-        → HaveEnded may a done b → HasGained b c → leave d.number b d.output c
-        → next ≡ done ++ d ∷ [] → HasStoppedAt may leave a next c
-    stopped_at a b c done next d ended gains left pushed = record {
+    pub stopped_at : (a b c : L) (done next : List (Done O)) (d : Done O)
+        → HaveEnded may a done b → leave d.number b d.output c → next ≡ done ++ d ∷ []
+        → HasStoppedAt may leave a next c
+    stopped_at a b c done next d ended left pushed = record {
       earlier = done;
       last = d;
       done_are = pushed;
       between = b;
       ended = ended;
-      stopped = record { gains = gains; may_it = left };
+      stopped = left;
     }
 
 pub of_ok : {A E : Type 0} (X : Type 0) (r : Result A E) (a : A) → r ≡ Ok a → OnOk r X → X

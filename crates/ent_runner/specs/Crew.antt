@@ -1,61 +1,45 @@
--- What a crew does: jobs with numbers, each with a reserver that is lent to it and with one output.
-use Rattle.std.specs.Prelude.{◌≡◌, ℕ, ◌<◌, ◌≤◌, List, [], ◌∷◌, ◌++◌, length, map, slice_get, Some}
+-- What a crew does: jobs with numbers, each with what its worker lends to it, and with one output.
+use Rattle.std.specs.Prelude.{◌≡◌, ℕ, ◌<◌, ◌≤◌, List, [], ◌∷◌, ◌++◌, length, slice_get, Some}
 use Rattle.std.specs.Prelude.{◌⊎◌}
 use Rattle.std.specs.List.{All, AllPairs, FoldsTo, flat_map, range_with_len}
 use Rattle.std.specs.List.Sorted.{IsPermutation}
-use Rattle.ent_shared.specs.declared.record.Reservation.{Reservation}
-use Rattle.ent_shared.specs.declared.record.RecordEntry.TheVariants.{Own}
-use Rattle.ent_shared.specs.declared.record.Record.{Record}
 
 -- for how many jobs there is room, and how many workers do them
 pub record Crew : Type 0 where
   pub jobs : ℕ
   pub workers : ℕ
 
--- The reserver has made these reservations more, and has met nobody.
-pub record HasGained (before after : Record) : Type 0 where
-  pub number : after.number ≡ before.number
-  pub reservations : List Reservation
-  pub entries : after.entries ≡ before.entries ++ map Own reservations
-
--- what holds of each worker: the numbers of its jobs, its reserver's record before and after
-abbrev pub OfEach : List (List ℕ) → List Record → List Record
-    → (List ℕ → Record → Record → Type 0) → Type 0
-OfEach ran before after P = (worker : ℕ) (mine : List ℕ) (a b : Record)
+-- what holds of each worker: the numbers of its jobs, and what it lends, before and after
+abbrev pub OfEach : {L : Type 0} → List (List ℕ) → List L → List L → (List ℕ → L → L → Type 0)
+    → Type 0
+OfEach {L} ran before after P = (worker : ℕ) (mine : List ℕ) (a b : L)
     → slice_get ran worker ≡ Some mine → slice_get before worker ≡ Some a
     → slice_get after worker ≡ Some b → P mine a b
 
-module _ {O : Type 0} where
-  -- A job of this number, which may do so, left this output and this reserver.
-  pub record Does (may : ℕ → Record → O → Record → Type 0) (number : ℕ) (before : Record)
-      (output : O) (after : Record) : Type 0 where
-    pub gains : HasGained before after
-    pub may_it : may number before output after
-
-  -- the same of the job of this number, whose output is the one at its number
-  abbrev pub DoesAt : (ℕ → Record → O → Record → Type 0) → List O → Record → ℕ → Record → Type 0
+module _ {O L : Type 0} where
+  -- what the job of this number may do, whose output is the one at its number
+  abbrev pub DoesAt : (ℕ → L → O → L → Type 0) → List O → L → ℕ → L → Type 0
   DoesAt may outputs before number after =
-      (output : O) × (slice_get outputs number ≡ Some output) × Does may number before output after
+      (output : O) × (slice_get outputs number ≡ Some output) × may number before output after
 
   -- these jobs were done, one after the other
-  abbrev pub DidAll : (ℕ → Record → O → Record → Type 0) → List O → Record → List ℕ → Record
-      → Type 0
+  abbrev pub DidAll : (ℕ → L → O → L → Type 0) → List O → L → List ℕ → L → Type 0
   DidAll may outputs before numbers after = FoldsTo (DoesAt may outputs) before numbers after
 
   -- These jobs were done, one after the other, and the last one ran out of memory.
-  pub record DidUntil (may leave : ℕ → Record → O → Record → Type 0) (outputs : List O)
-      (before : Record) (numbers : List ℕ) (after : Record) : Type 0 where
+  pub record DidUntil (may leave : ℕ → L → O → L → Type 0) (outputs : List O)
+      (before : L) (numbers : List ℕ) (after : L) : Type 0 where
     pub earlier : List ℕ
     pub last : ℕ
     pub numbers_are : numbers ≡ earlier ++ last ∷ []
-    pub between : Record
+    pub between : L
     pub ended : DidAll may outputs before earlier between
     pub stopped : DoesAt leave outputs between last after
 
-  -- Workers whose reservers had these records have done all jobs, each once, and have these records
-  -- now. The outputs are in the order of the jobs.
-  pub record AreDone (may : ℕ → Record → O → Record → Type 0) (jobs : ℕ) (before : List Record)
-      (outputs : List O) (after : List Record) : Type 0 where
+  -- Workers that lent this have done all jobs, each once, and have that back. The outputs are in the
+  -- order of the jobs.
+  pub record AreDone (may : ℕ → L → O → L → Type 0) (jobs : ℕ) (before : List L)
+      (outputs : List O) (after : List L) : Type 0 where
     -- for each worker the jobs that it did
     pub ran : List (List ℕ)
     pub each_worker : length ran ≡ length before
@@ -65,8 +49,8 @@ module _ {O : Type 0} where
     pub did : OfEach ran before after (λ mine a b. DidAll may outputs a mine b)
 
   -- The workers have done some of the jobs, and stopped.
-  pub record AreBrokenOff (may leave : ℕ → Record → O → Record → Type 0) (jobs : ℕ)
-      (before after : List Record) : Type 0 where
+  pub record AreBrokenOff (may leave : ℕ → L → O → L → Type 0) (jobs : ℕ)
+      (before after : List L) : Type 0 where
     -- for each worker the jobs that it did: together they are the first ones, each once, and at
     -- least one if there are any
     pub ran : List (List ℕ)
@@ -85,7 +69,7 @@ module _ {O : Type 0} where
     -- Why: the last job of a worker ran out of memory, or some are left that no worker has room
     -- for. If some are left, each worker has done at least one, for whose output it had room from
     -- the beginning.
-    pub why : ((worker : ℕ) × (mine : List ℕ) × (a : Record) × (b : Record)
+    pub why : ((worker : ℕ) × (mine : List ℕ) × (a : L) × (b : L)
         × (slice_get ran worker ≡ Some mine) × (slice_get before worker ≡ Some a)
         × (slice_get after worker ≡ Some b) × DidUntil may leave outputs a mine b)
         ⊎ (count < jobs)

@@ -4,10 +4,7 @@ use Rattle.std.specs.Prelude.{true, false, Option, ◌⊎◌, vec_len, vec_capac
 use Rattle.std.proofs.Common.{Vec, Global}
 use Rattle.std.specs.List.{All, Any, FoldsTo, flat_map, range_with_len}
 use Rattle.std.specs.List.Sorted.{IsPermutation}
-use Rattle.ent_shared.specs.declared.record.Record.{Record}
-use Rattle.ent_shared.specs.Phase.{Shared, Reserver, IsOf}
 use Rattle.ent_runner.specs.Claims.{Claims, Claimer, IsClaimerOf}
-use Rattle.ent_runner.specs.Crew.{Does}
 use Rattle.ent_runner.specs.declared.worker.Done.{Done}
 use Rattle.ent_runner.specs.declared.worker.Worker.{Worker}
 
@@ -36,53 +33,53 @@ module _ {O : Type 0} where
   IsThrough w = (w.claimer.own.ended ≡ true)
       ⊎ ((0 < length w.done.items) × (vec_capacity w.done ≤ vec_len w.done))
 
-  -- one job, as it was kept
-  abbrev pub DoesKept : (ℕ → Record → O → Record → Type 0) → Record → Done O → Record → Type 0
-  DoesKept may before d after = Does may d.number before d.output after
+  module _ {L : Type 0} where
+    -- one job, as it was kept
+    abbrev pub DoesKept : (ℕ → L → O → L → Type 0) → L → Done O → L → Type 0
+    DoesKept may before d after = may d.number before d.output after
 
-  -- these jobs were done, one after the other
-  abbrev pub HaveEnded : (ℕ → Record → O → Record → Type 0) → Record → List (Done O) → Record
-      → Type 0
-  HaveEnded may before done after = FoldsTo (DoesKept may) before done after
+    -- these jobs were done, one after the other
+    abbrev pub HaveEnded : (ℕ → L → O → L → Type 0) → L → List (Done O) → L → Type 0
+    HaveEnded may before done after = FoldsTo (DoesKept may) before done after
 
-  -- and the last one stopped
-  pub record HasStoppedAt (may leave : ℕ → Record → O → Record → Type 0) (before : Record)
-      (done : List (Done O)) (after : Record) : Type 0 where
-    pub earlier : List (Done O)
-    pub last : Done O
-    pub done_are : done ≡ earlier ++ last ∷ []
-    pub between : Record
-    pub ended : HaveEnded may before earlier between
-    pub stopped : DoesKept leave between last after
+    -- and the last one stopped
+    pub record HasStoppedAt (may leave : ℕ → L → O → L → Type 0) (before : L)
+        (done : List (Done O)) (after : L) : Type 0 where
+      pub earlier : List (Done O)
+      pub last : Done O
+      pub done_are : done ≡ earlier ++ last ∷ []
+      pub between : L
+      pub ended : HaveEnded may before earlier between
+      pub stopped : DoesKept leave between last after
 
-  -- It has done all that it claimed, until none was left, or there was no room for another output,
-  -- or the last of them stopped. Its reserver was this one, and is that one now.
-  pub record HasWorked (may leave : ℕ → Record → O → Record → Type 0) (shared : Shared)
-      (claims : Claims) (before after : Reserver) (w : Worker O) : Type 0 where
-    pub reserver : IsOf shared after
-    pub claimer : IsClaimerOf claims w.claimer
-    pub claimed : numbers_of w.done.items ≡ w.claimer.own.claims
-    pub ended : w.stopped ≡ false → HaveEnded may before.own w.done.items after.own
-    pub through : w.stopped ≡ false → IsThrough w
-    pub stopped : w.stopped ≡ true → HasStoppedAt may leave before.own w.done.items after.own
+    -- It has done all that it claimed, until none was left, or there was no room for another output,
+    -- or the last of them stopped. It lent this, and has that now.
+    pub record HasWorked (may leave : ℕ → L → O → L → Type 0) (may_have : L → Type 0)
+        (claims : Claims) (before after : L) (w : Worker O) : Type 0 where
+      pub lent : may_have after
+      pub claimer : IsClaimerOf claims w.claimer
+      pub claimed : numbers_of w.done.items ≡ w.claimer.own.claims
+      pub ended : w.stopped ≡ false → HaveEnded may before w.done.items after
+      pub through : w.stopped ≡ false → IsThrough w
+      pub stopped : w.stopped ≡ true → HasStoppedAt may leave before w.done.items after
 
-  -- These workers can begin, each with a reserver of its own: there is at least one, and each has
-  -- claimed and done nothing yet.
-  pub record AreReady (shared : Shared) (claims : Claims) (reservers : List Reserver)
-      (team : List (Worker O)) : Type 0 where
-    pub some : 0 < length team
-    pub count : length reservers ≡ length team
-    pub own : All (IsOf shared) reservers
-    pub each : All (λ (w : Worker O). IsClaimerOf claims w.claimer × IsNewWorker w) team
+    -- These workers can begin, each with something to lend of its own: there is at least one, and
+    -- each has claimed and done nothing yet.
+    pub record AreReady (may_have : L → Type 0) (claims : Claims) (lent : List L)
+        (team : List (Worker O)) : Type 0 where
+      pub some : 0 < length team
+      pub count : length lent ≡ length team
+      pub own : All may_have lent
+      pub each : All (λ (w : Worker O). IsClaimerOf claims w.claimer × IsNewWorker w) team
 
-  -- Each of these workers has worked.
-  pub record HaveAllWorked (may leave : ℕ → Record → O → Record → Type 0) (shared : Shared)
-      (claims : Claims) (before after : List Reserver) (team : List (Worker O)) : Type 0 where
-    pub count : length team ≡ length before
-    pub reservers : length after ≡ length before
-    pub each : (k : ℕ) (d e : Reserver) (f : Worker O) → k < length before
-        → HasWorked may leave shared claims (slice_index_or before k d) (slice_index_or after k e)
-        (slice_index_or team k f)
+    -- Each of these workers has worked.
+    pub record HaveAllWorked (may leave : ℕ → L → O → L → Type 0) (may_have : L → Type 0)
+        (claims : Claims) (before after : List L) (team : List (Worker O)) : Type 0 where
+      pub count : length team ≡ length before
+      pub lent : length after ≡ length before
+      pub each : (k : ℕ) (d e : L) (f : Worker O) → k < length before
+          → HasWorked may leave may_have claims (slice_index_or before k d) (slice_index_or after k e)
+          (slice_index_or team k f)
 
   -- the same of one worker without what its jobs may do
   pub record HasClaimed (claims : Claims) (w : Worker O) : Type 0 where

@@ -2,7 +2,6 @@
 ghost use Rattle.std.specs.Prelude.{◌≡◌, ◌<◌, ◌≤◌, ◌^◌, [], length, map, reverse, replicate};
 ghost use Rattle.std.specs.Prelude.{All, Any, IfOk, IfSome, IfNone, None, true, false, flat_map};
 ghost use Rattle.std.specs.Prelude.{vec_capacity};
-ghost use Rattle.ent_shared.specs.Phase.{IsOf, records_of};
 ghost use Rattle.ent_runner.specs.Collecting.{outputs_put};
 ghost use Rattle.ent_runner.specs.Crew.{AreDone, AreBrokenOff};
 ghost use Rattle.ent_runner.specs.Worker.{IsRoomForOne};
@@ -13,7 +12,6 @@ use crate::collecting::{collect, put_all};
 use crate::jobs::Jobs;
 use crate::worker::{Site, Worker, run_all};
 use ent_handle::Memory;
-use ent_shared::{Reserver, Shared};
 use std::alloc::{AllocError, Global};
 use std::marker::Model;
 use std::thread::Threads;
@@ -71,35 +69,29 @@ impl<O: Drop> Crew<O> {
         })
     }
 
-    /// Does the jobs, each of them once: one worker for each reserver, which is lent to the jobs
-    /// that the worker does. The outputs are in the order of the jobs.
+    /// Does the jobs, each of them once: one worker for each element of `lent`, which is lent to the
+    /// jobs that the worker does. The outputs are in the order of the jobs.
     ///
     /// The workers run in threads of `rt`. If a thread can't be started, another one does its work.
     ///
     /// `None` means that memory ran out: a job returned `Memory`, or jobs are left and no worker
     /// has memory for the output of another one. All workers have ended then. The outputs are
-    /// dropped, and what the jobs reserved stays reserved.
-    pub fn work<R, J>(
-        self,
-        rt: &R,
-        shared: &Shared,
-        reservers: &mut [Reserver],
-        jobs: &J,
-    ) -> Option<Vec<O>>
+    /// dropped, and what the jobs did to what was lent stays done.
+    pub fn work<R, L, J>(self, rt: &R, lent: &mut [L], jobs: &J) -> Option<Vec<O>>
     where
         R: Threads + Sync,
         O: Send,
-        J: Jobs<O> + Sync,
+        L: Send,
+        J: Jobs<O, L> + Sync,
         requires jobs { J.count jobs.now ≡ self.jobs }
-        requires workers { length reservers.old ≡ self.workers }
-        requires own { All (IsOf shared.now) reservers.old }
-        ensures count { length reservers.new ≡ length reservers.old }
-        ensures own { All (IsOf shared.now) reservers.new }
+        requires workers { length lent.old ≡ self.workers }
+        requires lent { All (J.may_have jobs.now) lent.old }
+        ensures count { length lent.new ≡ length lent.old }
+        ensures lent { All (J.may_have jobs.now) lent.new }
         ensures done { IfSome result (λ outputs. AreDone (J.may_do jobs.now) self.jobs
-            (records_of reservers.old) outputs.items (records_of reservers.new)) }
+            lent.old outputs.items lent.new) }
         ensures broken_off { IfNone result (AreBrokenOff (J.may_do jobs.now)
-            (J.may_leave jobs.now) self.jobs (records_of reservers.old)
-            (records_of reservers.new)) }
+            (J.may_leave jobs.now) self.jobs lent.old lent.new) }
 
         // So late, memory runs out only in a job, or in workers that have done one.
         ensures some { IfNone result (0 < self.jobs) }
@@ -114,11 +106,10 @@ impl<O: Drop> Crew<O> {
         // More threads than jobs would find nothing to do.
         let threads = by_number.len();
         let site = Site {
-            shared,
             claims: &claims,
             jobs,
         };
-        run_all(rt, &site, &mut workers, reservers, threads);
+        run_all(rt, &site, &mut workers, lent, threads);
         let stopped = some_stopped(&workers);
         disband(workers, &mut claimers, &mut by_number);
         claims.close(claimers);

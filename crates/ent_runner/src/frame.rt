@@ -1,11 +1,12 @@
 //! A frame: workers run the systems while the world is open, and the sync point applies their
 //! queues.
-ghost use Rattle.std.specs.Prelude.{◌≡◌, ◌≢◌, ◌<◌, ◌≤◌, ◌^◌, length, List, IfOk, IsErrOf, OnOk};
+ghost use Rattle.std.specs.Prelude.{◌≡◌, ◌≢◌, ◌<◌, ◌≤◌, ◌^◌, [], length, List, IfOk, IsErrOf, OnOk};
 ghost use Rattle.ent_alloc.specs.History.{Call};
+ghost use Rattle.ent_alloc.specs.Sequential.{born};
 ghost use Rattle.ent_runner.specs.Frame.{Ends, EndsInOrder, IsBrokenOff, IsLost, StopsAt};
 ghost use Rattle.ent_runner.specs.Frame.{IfSyncStopped, IfStoppedAt, reserved_by};
 ghost use Rattle.ent_world.specs.Memory.{TakesMemoryAt};
-ghost use Rattle.ent_world.specs.Sync.{IsStop};
+ghost use Rattle.ent_world.specs.Sync.{sync, IsStop};
 
 use crate::crew::Crew;
 use crate::gate::Gate;
@@ -30,7 +31,8 @@ use std::thread::Threads;
 ///
 /// # Errors
 ///
-/// - [`FrameFault::Memory`] if memory was refused before any system ran. The world is as it was.
+/// - [`FrameFault::Memory`] if memory was refused before any system ran. The world is as it was. A
+///   frame without systems takes no memory.
 /// - [`FrameFault::Lost`] if a system returned `Memory`, or if systems are left and no worker has
 ///   memory for the queue of another one. No command was applied. What the systems that ran had
 ///   reserved stays reserved, and nothing else is: [`World::flush`] brings it to life.
@@ -60,6 +62,7 @@ where
         report.queues.items world.new report.sync.born.items report.sync.faults.items) }
     ensures flushed { OnOk result (world.new.allocator.asked ≡ 0) }
     ensures memory { IsErrOf result FrameFault.Memory → world.new ≡ world.old }
+    ensures memory_some { IsErrOf result FrameFault.Memory → 0 < length systems.now }
     ensures lost { IsErrOf result FrameFault.Lost → (history : List Call)
         × IsBrokenOff S.may_issue S.may_leave systems.now workers world.old history
         × (world.new ≡ reserved_by history world.old) }
@@ -85,6 +88,9 @@ where
         IsStop system command done queues) }
     ensures stop_flushed { IfStoppedAt result (λ _ _ _ _ _. world.new.allocator.asked ≡ 0) }
 {
+    if systems.is_empty() {
+        return Ok(without_systems(alloc, world));
+    }
     let Ok(crew) = Crew::new(alloc, systems.len(), workers) else {
         return Err(FrameFault::Memory);
     };
@@ -98,11 +104,12 @@ where
     };
     let stage = Stage {
         alloc,
+        shared: opened.shared(),
         view: opened.view(),
         systems,
         gate,
     };
-    let queues = crew.work(rt, opened.shared(), &mut reservers, &stage);
+    let queues = crew.work(rt, &mut reservers, &stage);
     *world = opened.close(reservers);
     let Some(queues) = queues else {
         return Err(FrameFault::Lost);
@@ -111,4 +118,18 @@ where
         Ok(sync) => Ok(FrameReport { queues, sync }),
         Err(fault) => Err(FrameFault::Sync { fault, queues }),
     }
+}
+
+/// The sync point of a frame without systems: nothing is born, and there is no command.
+fn without_systems(alloc: Global, world: &mut World) -> FrameReport
+    requires flushed { world.old.allocator.asked ≡ 0 }
+    ensures queues { result.queues.items ≡ [] }
+    ensures world { world.new ≡ (sync [] world.old).world }
+    ensures born { result.sync.born.items ≡ born world.old.allocator }
+    ensures faults { result.sync.faults.items ≡ (sync [] world.old).faults }
+    ensures flushed { world.new.allocator.asked ≡ 0 }
+{
+    let queues = Vec::new(alloc);
+    let sync = world.apply(&queues).unwrap();
+    FrameReport { queues, sync }
 }

@@ -1,6 +1,6 @@
 -- What a reservation returns.
 use Rattle.std.proofs.Common.{rules, ◌≡◌, ℕ, ℤ, pos, ◌-ℤ◌, List, [], length, take, ◌∙◌, arith, Ok}
-use Rattle.std.proofs.Common.{Err, ◌≤◌, ◌-◌, length-drop}
+use Rattle.std.proofs.Common.{Err, ◌≤◌, length-drop}
 use Rattle.std.proofs.lemmas.Grind.{common_steps}
 use Rattle.std.specs.Prelude.{Result, nat_le, true}
 use Rattle.std.proofs.lemmas.List.Sorted.{length_permutation}

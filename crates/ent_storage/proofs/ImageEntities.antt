@@ -1,5 +1,5 @@
 -- Entities, one by one: what is written of them tells them.
-use Rattle.std.proofs.Common.{rules, ◌≡◌, ◌≢◌, refl, sym, ap, ◌∙◌, subst, ℕ, zero, suc, ℤ, ◌+◌, ◌^◌}
+use Rattle.std.proofs.Common.{rules, ◌≡◌, ◌≢◌, refl, sym, ap, ◌∙◌, subst, ℕ, zero, suc, ℤ, ◌+◌, ◌*◌, ◌^◌}
 use Rattle.std.proofs.Common.{◌<◌, ◌≤◌, Bool, true, false, IsTrue, List, [], ◌∷◌, ◌++◌, length, arith}
 use Rattle.std.proofs.Common.{Option, None, Some, IsSomeAnd, is_some, Contains, inl, inr, ◌||◌}
 use Rattle.std.proofs.Common.{get_or}
@@ -18,7 +18,7 @@ use Rattle.ent_handle.specs.Component.{component_cmp, component_cmp_total, compo
 use Rattle.ent_handle.specs.Handle.{Handle, handle_cmp_total, handle_cmp-IsAntisymmetric}
 use Rattle.ent_storage.specs.EntityMap.{Entity, EntityMap, birth_of, value_of}
 use Rattle.ent_storage.specs.Image.{word, long, birth_bytes, value_bytes, values_bytes, component}
-use Rattle.ent_storage.specs.Image.{entity_bytes, is_held, width_below, width, IsBirth}
+use Rattle.ent_storage.specs.Image.{entity_bytes, entities_bytes, is_held, width_below, width, IsBirth}
 use Rattle.ent_storage.specs.Image.{IsStored, AreStored}
 use Rattle.ent_storage.proofs.ImageBytes.{length-word, length-long, same_words, same_longs}
 use Rattle.ent_storage.proofs.ImageValues.{AllFit, same_values}
@@ -123,6 +123,15 @@ same_entity n a b h xs ys is_a is_b same =
       values.1,
     )
 
+-- it has at least 16 bytes
+entity_least : (n : ℕ) (m : EntityMap) (h : Handle) → IsStored m h
+    → 16 ≤ length (entity_bytes n m h)
+entity_least n m h is =
+    let birth = birth_known m h is in
+    let all = ap length (entity_alone n m h birth.0 birth.1.0) in
+    let joined = length-append (birth_bytes birth.0) (values_bytes (value_of m h) n) in
+    omega (arith, all, joined, length-birth_bytes birth.0)
+
 -- what is written of an entity depends on it alone
 pub written_alike : (n : ℕ) (a b : EntityMap) (h : Handle) → map.get a h ≡ map.get b h
     → entity_bytes n a h ≡ entity_bytes n b h
@@ -157,6 +166,23 @@ all_alike n a b (h ∷ hs) each =
     let here = written_alike n a b h (each h (first_in h hs)) in
     let rest = all_alike n a b hs (λ g is. each g (later_in h g hs is)) in
     λ i. here i ++ rest i
+
+listed_least : (n : ℕ) (m : EntityMap) (hs : List Handle)
+    → ((h : Handle) → Contains hs h → IsStored m h)
+    → 16 * length hs ≤ length (flat_map (entity_bytes n m) hs)
+listed_least n m [] stored = omega arith
+listed_least n m (h ∷ hs) stored =
+    let here = entity_least n m h (stored h (first_in h hs)) in
+    let rest = listed_least n m hs (λ g is. stored g (later_in h g hs is)) in
+    let joined = length-append (entity_bytes n m h) (flat_map (entity_bytes n m) hs) in
+    omega (arith, here, rest, joined)
+
+pub entities_least : (m : EntityMap) (hs : List Handle) → AreStored m hs
+    → 4 + 16 * length hs ≤ length (entities_bytes m hs)
+entities_least m hs stored =
+    let rest = listed_least (width m hs) m hs stored.each in
+    let joined = length-append (word (width m hs)) (flat_map (entity_bytes (width m hs) m) hs) in
+    omega (arith, rest, joined, length-word (width m hs))
 
 one_of : (n : ℕ) (a b : EntityMap) (h : Handle) (hs : List Handle) → IsAlike n a b h
     → ((g : Handle) → Contains hs g → IsAlike n a b g) → (g : Handle) (k : ℕ) → k < length (h ∷ hs)

@@ -9,6 +9,7 @@ use Rattle.ent_handle.specs.declared.component.ComponentId.{ComponentId}
 use Rattle.ent_handle.specs.Handle.{Handle, handle_cmp_total, handle_cmp-IsAntisymmetric}
 use Rattle.ent_storage.specs.EntityMap.{Entity, EntityMap, value_of}
 use Rattle.ent_storage.specs.Image.{word, entity_bytes, entities_bytes, width, IsStored, AreStored}
+use Rattle.ent_storage.specs.FirstFault.{AreFirst}
 use Rattle.ent_storage.proofs.Keys.{same_or_apart}
 use Rattle.ent_storage.proofs.ImageBytes.{length-word, same_words}
 use Rattle.ent_storage.proofs.ImageEntities.{all_alike, same_listed, same_all, never_stored}
@@ -193,7 +194,7 @@ module _ (n : ℕ) (s : EntityMap) (hs : List Handle) (i : ℕ) (all : length hs
     (beyond : (h : Handle) → Contains (take i hs) h → (id : ComponentId) → n ≤ id.0
     → value_of s h id ≡ None)
     (only : (h : Handle) → IsTrue (map.contains_key s h) → Contains (take i hs) h) where
-  whole : take i hs ≡ hs
+  pub whole : take i hs ≡ hs
   whole = take_all i hs all
 
   pub stored_end : AreStored s hs
@@ -202,6 +203,27 @@ module _ (n : ℕ) (s : EntityMap) (hs : List Handle) (i : ℕ) (all : length hs
     only = subst (λ (xs : List Handle). (h : Handle) → IsTrue (map.contains_key s h)
         → Contains xs h) whole only;
   }
+
+  -- the bytes begin with all entities
+  abbrev pub all_first : n ≤ 256 → (bytes rest : List ℕ)
+      → bytes ≡ word n ++ (flat_map (entity_bytes n s) (take i hs) ++ rest)
+      → AreFirst hs bytes (length hs)
+  all_first few bytes rest so_far =
+      let same : take i hs ≡ take (length hs) hs = whole ∙ sym (take_all (length hs) hs (omega arith))
+      in record {
+        width = n;
+        few = few;
+        entities = s;
+        stored = subst (λ (xs : List Handle). (h : Handle) → Contains xs h → IsStored s h) same each;
+        beyond = subst (λ (xs : List Handle). (h : Handle) → Contains xs h → (id : ComponentId)
+            → n ≤ id.0 → value_of s h id ≡ None) same beyond;
+        left = rest;
+        spelled = so_far
+            ∙ ap (λ xs. word n ++ (flat_map (entity_bytes n s) xs ++ rest)) same;
+      }
+
+  pub wide : (places : List Handle) → places ≡ take i hs → width s places ≡ width s hs
+  wide places are = ap (width s) (are ∙ whole)
 
   module _ (m : EntityMap) (bytes rest : List ℕ) (fits : n < 2 ^ 32)
       (so_far : bytes ≡ word n ++ (flat_map (entity_bytes n s) (take i hs) ++ rest))

@@ -40,3 +40,4 @@ pub mod ImageWidth
 pub mod ImageRead
 pub mod ImageValues
 pub mod Sparse
+mod Written

@@ -1,10 +1,13 @@
 -- What contracts see of a map from handles.
 use Rattle.std.specs.Prelude.{◌≡◌, ℕ, ◌-◌, ◌^◌, ◌<◌, ◌≤◌, ◌==◌, ◌⊎◌, not, refl, Option, None, Some}
-use Rattle.std.specs.Prelude.{Result, Ok, Err}
+use Rattle.std.specs.Prelude.{Result, Ok, Err, cond, is_some, true}
+use Rattle.std.specs.Ordering.{eq_by_cmp}
+use Rattle.std.specs.Cmp.{eq_by_cmp_equiv}
+use Rattle.std.proofs.Common.{ap, ◌∙◌}
 use Rattle.std.specs.Option.{IsSome}
 use Rattle.std.specs.Coded.{Coded, code_by, coded×, coded_ℕ}
 use Rattle.std.specs.FinMap as map
-use Rattle.ent_handle.specs.Handle.{Handle, handle_cmp, handle_code}
+use Rattle.ent_handle.specs.Handle.{Handle, handle_cmp, handle_cmp_total, handle_code}
 use Rattle.ent_storage.specs.declared.handle_map.error.InsertError.{InsertError}
 use Rattle.ent_storage.specs.declared.handle_map.error.Uninserted.{Uninserted}
 
@@ -39,6 +42,10 @@ placeholder = record { index = 2 ^ 32 - 2; generation = 2 ^ 31 - 1 }
 abbrev pub IsBeyond : ℕ → Handle → Type 0
 IsBeyond limit h = (limit ≤ h.index) ⊎ (h ≡ placeholder)
 
+-- a handle is equal to itself
+pub same_handle : (h : Handle) → eq_by_cmp handle_cmp h h ≡ true
+same_handle h = (eq_by_cmp_equiv handle_cmp_total).refl h
+
 module _ {T : Type 0} where
   -- the values without that of the slot
   abbrev pub without_slot : HandleValues T → ℕ → HandleValues T
@@ -53,7 +60,14 @@ module _ {T : Type 0} where
   abbrev pub with_written : HandleMap T → Handle → T → HandleMap T
   with_written m h value = record m { values = map.insert m.values h value }
 
+  -- a handle that was given a value has one
+  pub some_written : (m : HandleMap T) (h : Handle) (value : T)
+      → IsSome (map.get (with_written m h value).values h)
+  some_written m h value =
+      ap is_some (map.get-insert handle_cmp_total m.values h value h
+      ∙ ap (λ same. cond same (Some value) (map.get m.values h)) (same_handle h))
+
   -- why a value was not inserted
-  abbrev pub error_of : Result (Option T) (Uninserted T) → Option InsertError
+  abbrev pub error_of : {A : Type 0} → Result A (Uninserted T) → Option InsertError
   error_of (Ok _) = None
   error_of (Err refused) = Some refused.error

@@ -13,8 +13,11 @@ pub mod Limit
 pub mod Generation
 pub mod Slots
 pub mod Lends
+pub mod Entry
 pub mod Retained
 pub mod Copies
 pub mod Image
+pub mod FirstFault
 pub mod SparseMap
+pub mod SparseEntry
 pub mod SparseLends

@@ -1,11 +1,12 @@
 -- What contracts see of a sparse map, and the two vectors that stand for it.
-use Rattle.std.specs.Prelude.{◌≡◌, ◌≢◌, ℕ, ◌+◌, ◌<◌, ◌≤◌, ◌^◌, ◌⊎◌, List, Some, length, slice_get, refl}
+use Rattle.std.specs.Prelude.{◌≡◌, ◌≢◌, ℕ, ◌<◌, ◌≤◌, ◌^◌, ◌⊎◌, List, Some, length, slice_get, refl}
 use Rattle.std.specs.Coded.{Coded, code_by, coded×, coded_ℕ}
-use Rattle.std.specs.Prelude.{Option, None}
+use Rattle.std.specs.Prelude.{Option, None, IsSome, cond, is_some}
+use Rattle.std.proofs.Common.{ap, ◌∙◌}
 use Rattle.std.specs.Bool.{⊤}
 use Rattle.std.specs.FinMap as map
-use Rattle.ent_handle.specs.Handle.{Handle, handle_cmp, handle_code}
-use Rattle.ent_storage.specs.HandleMap.{HandleValues}
+use Rattle.ent_handle.specs.Handle.{Handle, handle_cmp, handle_cmp_total, handle_code}
+use Rattle.ent_storage.specs.HandleMap.{HandleValues, same_handle}
 
 -- the values, for how many values there is room, for how many slots, and how many may have values
 pub record SparseMap (T : Type 0) : Type 0 where
@@ -50,6 +51,13 @@ module _ {T : Type 0} where
   -- the map after a write to the value of a handle
   abbrev pub with_written_in : SparseMap T → Handle → T → SparseMap T
   with_written_in m h value = record m { values = map.insert m.values h value }
+
+  -- a handle that was given a value has one
+  pub some_written : (m : SparseMap T) (h : Handle) (value : T)
+      → IsSome (map.get (with_written_in m h value).values h)
+  some_written m h value =
+      ap is_some (map.get-insert handle_cmp_total m.values h value h
+      ∙ ap (λ same. cond same (Some value) (map.get m.values h)) (same_handle h))
 
   -- the second value is a clone of the first one, or there is neither
   abbrev pub IsClonedOption : (T → T → Type 0) → Option T → Option T → Type 0

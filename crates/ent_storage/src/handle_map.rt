@@ -11,15 +11,17 @@ ghost use Rattle.ent_storage.specs.Retained.{Retains};
 ghost use Rattle.ent_storage.specs.Slots.{generation_of, slot_at, value_in};
 
 mod emptying;
+mod entry;
 mod error;
 mod generation;
 mod iter;
 mod keys;
 mod retaining;
-mod slot;
+pub(crate) mod slot;
 mod values;
 
 use crate::handle_map::emptying::move_values;
+pub use crate::handle_map::entry::{Entry, OccupiedEntry, VacantEntry};
 pub use crate::handle_map::error::{InsertError, Uninserted};
 pub use crate::handle_map::iter::Iter;
 pub use crate::handle_map::keys::Keys;
@@ -95,8 +97,8 @@ use std::mem;
 /// for how many slots there is room (`room`), and for how many slots there may be values (`limit`).
 #[derive(Drop)]
 pub struct HandleMap<T> {
-    slots: Vec<Slot<T>>,
-    len: usize,
+    pub(crate) slots: Vec<Slot<T>>,
+    pub(crate) len: usize,
     limit: Limit,
 }
 
@@ -373,6 +375,8 @@ impl<T> HandleMap<T> {
 }
 
 impl<T: Drop> HandleMap<T> {
+    ghost use Rattle.ent_storage.specs.Entry.{entry_handle, entry_map, entry_ref, entry_value};
+
     /// Gives the handle a value, and returns the one that it had. If an earlier occupant of the slot
     /// has one, that is dropped.
     ///
@@ -441,6 +445,42 @@ impl<T: Drop> HandleMap<T> {
         let before = mem::replace(&mut self.slots[index], Slot::of(handle, value));
         self.len += before.lacking();
         Ok(before.into_value(handle.generation()))
+    }
+
+    /// What the map has for the handle: a value, or none. What is done with the entry looks for the
+    /// handle once more.
+    ///
+    /// ```
+    /// use forgeni::handle_map::Entry;
+    /// use forgeni::{Entities, HandleMap};
+    ///
+    /// let mut entities = Entities::new();
+    /// let mut hits: HandleMap<u32> = HandleMap::new();
+    /// let [ball, cart] = [entities.alloc()?, entities.alloc()?];
+    /// for one in [ball, cart, ball] {
+    ///     *hits.entry(one).or_insert(0)? += 1;
+    /// }
+    /// hits.entry(cart).and_modify(|hits| *hits += 10).or_insert(1)?;
+    /// assert_eq!((hits[ball], hits[cart]), (2, 11));
+    ///
+    /// if let Entry::Occupied(entry) = hits.entry(ball) {
+    ///     assert_eq!(entry.remove(), 2);
+    /// }
+    /// assert!(!hits.contains(ball));
+    /// # Ok::<(), Box<dyn std::error::Error + Send + Sync>>(())
+    /// ```
+    #[must_use]
+    pub fn entry(&mut self, handle: Handle) -> Entry<'_, T>
+        ensures handle { entry_handle result ≡ handle }
+        ensures value { entry_value result ≡ map.get self.old.values handle }
+        ensures map { entry_map result ≡ self.old }
+        ensures same_map { (entry_ref result).ghost_name ≡ self.entry.ghost_name }
+    {
+        if self.contains(handle) {
+            Entry::Occupied(OccupiedEntry { map: self, handle })
+        } else {
+            Entry::Vacant(VacantEntry { map: self, handle })
+        }
     }
 
     /// Removes the value of the handle, and returns it if it had one. It takes constant time and no

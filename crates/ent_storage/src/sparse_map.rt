@@ -11,12 +11,14 @@ ghost use Rattle.ent_storage.specs.HandleMap.{no_limit, IsBeyond, without_slot, 
 ghost use Rattle.ent_storage.specs.SparseMap.{AreEntries, IsFullFor, IsPositioned, values_of};
 ghost use Rattle.ent_storage.specs.SparseMap.{AreCloned, IsEntryClone, IsFree};
 
+mod entry;
 mod iter;
 mod positions;
 
 use crate::handle_map::{InsertError, Uninserted, index_of};
 use crate::limit::Limit;
 use crate::lists::overwrite;
+pub use crate::sparse_map::entry::{Entry, OccupiedEntry, VacantEntry};
 pub use crate::sparse_map::iter::Iter;
 use crate::sparse_map::positions::{make_position, position_of};
 use ent_handle::{Handle, Memory};
@@ -59,10 +61,10 @@ use std::mem;
 /// (`room`), for how many slots (`slots`), and for how many slots there may be values (`limit`).
 #[derive(Drop)]
 pub struct SparseMap<T> {
-    entries: Vec<(Handle, T)>,
+    pub(crate) entries: Vec<(Handle, T)>,
     /// At a slot the position of its entry. It counts only if that entry is of the slot, so nothing
     /// is cleared when an entry goes.
-    positions: Vec<u32>,
+    pub(crate) positions: Vec<u32>,
     limit: Limit,
 }
 
@@ -267,6 +269,9 @@ impl<T> SparseMap<T> {
 }
 
 impl<T: Drop> SparseMap<T> {
+    ghost use Rattle.ent_storage.specs.SparseEntry.{entry_handle, entry_map, entry_ref};
+    ghost use Rattle.ent_storage.specs.SparseEntry.{entry_value};
+
     /// Gives the handle a value, and returns the one that it had. If an earlier occupant of the
     /// slot has one, that is dropped.
     ///
@@ -322,6 +327,42 @@ impl<T: Drop> SparseMap<T> {
             });
         }
         put(&mut self.entries, &mut self.positions, handle, value)
+    }
+
+    /// What the map has for the handle: a value, or none. What is done with the entry looks for the
+    /// handle once more.
+    ///
+    /// ```
+    /// use forgeni::sparse_map::Entry;
+    /// use forgeni::{Entities, SparseMap};
+    ///
+    /// let mut entities = Entities::new();
+    /// let mut hits: SparseMap<u32> = SparseMap::new();
+    /// let [ball, cart] = [entities.alloc()?, entities.alloc()?];
+    /// for one in [ball, cart, ball] {
+    ///     *hits.entry(one).or_insert(0)? += 1;
+    /// }
+    /// hits.entry(cart).and_modify(|hits| *hits += 10).or_insert(1)?;
+    /// assert_eq!((hits[ball], hits[cart]), (2, 11));
+    ///
+    /// if let Entry::Occupied(entry) = hits.entry(ball) {
+    ///     assert_eq!(entry.remove(), 2);
+    /// }
+    /// assert!(!hits.contains(ball));
+    /// # Ok::<(), Box<dyn std::error::Error + Send + Sync>>(())
+    /// ```
+    #[must_use]
+    pub fn entry(&mut self, handle: Handle) -> Entry<'_, T>
+        ensures handle { entry_handle result ≡ handle }
+        ensures value { entry_value result ≡ map.get self.old.values handle }
+        ensures map { entry_map result ≡ self.old }
+        ensures same_map { (entry_ref result).ghost_name ≡ self.entry.ghost_name }
+    {
+        if self.contains(handle) {
+            Entry::Occupied(OccupiedEntry { map: self, handle })
+        } else {
+            Entry::Vacant(VacantEntry { map: self, handle })
+        }
     }
 
     /// Removes the value of the handle, and returns it if it had one. It takes constant time and no

@@ -1,16 +1,17 @@
 -- An image and the four bytes after it.
-use Rattle.std.proofs.Common.{◌≡◌, ◌≢◌, refl, sym, ap, ◌∙◌, ℕ, ◌^◌, ◌<◌, List, [], ◌++◌, length}
-use Rattle.std.proofs.Common.{arith, Result, Ok, Err, IfErr, IsErrAnd, ◌⊎◌, inr}
-use Rattle.std.proofs.lemmas.List.{length-append, append-nil}
+use Rattle.std.proofs.Common.{◌≡◌, ◌≢◌, refl, sym, ap, subst, ◌∙◌, ℕ, ◌+◌, ◌-◌, ◌^◌, ◌<◌, ◌≤◌, List, []}
+use Rattle.std.proofs.Common.{◌++◌, length, take}
+use Rattle.std.proofs.Common.{arith, Result, Ok, Err, IfOk, IfErr, IsErrAnd, ◌⊎◌, inr}
+use Rattle.std.proofs.lemmas.List.{length-append, append-nil, length-take-le, take_at}
 use Rattle.ent_storage.specs.Image.{word}
 use Rattle.ent_storage.proofs.ImageBytes.{length-word, same_words, same_parts}
 use Rattle.ent_world.specs.World.{World as WorldValue}
-use Rattle.ent_world.specs.Image.{HasImage}
+use Rattle.ent_world.specs.Image.{magic, image as world_image, least, HasImage}
 use Rattle.ent_world.specs.declared.image_fault.WorldImageFault.{WorldImageFault}
 use Rattle.ent_world.specs.declared.image_fault.WorldImageFault.TheVariants.{Memory}
-use Rattle.ent_world.proofs.ImageRead.{refused_is}
+use Rattle.ent_world.proofs.ImageRead.{refused_is, read_is, bounded as world_bounded}
 use Rattle.ent_total.specs.declared.world.World.{World}
-use Rattle.ent_total.specs.Image.{image}
+use Rattle.ent_total.specs.Image.{image, before_count}
 
 -- bytes that end with a number alike are alike
 pub same_ends : (xs ys : List ℕ) (m n : ℕ) → m < 2 ^ 32 → n < 2 ^ 32 → xs ++ word m ≡ ys ++ word n
@@ -36,6 +37,50 @@ pub handed : (result : Result World WorldImageFault) (fault : WorldImageFault)
     → (result ≡ Ok w) ⊎ (result ≡ Err Memory)
 handed (Ok x) fault is memory w = absurd is
 handed (Err y) fault is memory w = inr (ap Err (is ∙ memory))
+
+pub handed_on : (result : Result World WorldImageFault) (fault : WorldImageFault)
+    (P : WorldImageFault → Type 0) → IsErrAnd result (λ y. y ≡ fault) → P fault → IfErr result P
+handed_on (Ok x) fault P is holds = tt
+handed_on (Err y) fault P is holds = subst P (sym is) holds
+
+-- the bytes before the last four
+pub before_is : (bytes part : List ℕ) (spawned : ℕ) → bytes ≡ part ++ word spawned
+    → before_count bytes ≡ part
+before_is bytes part spawned is =
+    let all = ap length is ∙ length-append part (word spawned) in
+    let long : length part ≡ length bytes - 4 = omega (arith, all, length-word spawned) in
+    ap (take (length bytes - 4)) is ∙ take_at part (word spawned) (length bytes - 4) long
+
+-- and there are none
+pub none_before : (bytes : List ℕ) → length bytes < 4 → (rest : List ℕ)
+    → before_count bytes ≢ magic ++ rest
+none_before bytes short rest is =
+    let long = length-take-le (length bytes - 4) bytes (omega arith) in
+    let all = ap length is ∙ length-append magic rest in
+    omega (arith, all, long, short)
+
+-- an image of a world, and four bytes
+pub bounded : (bytes : List ℕ) (result : Result World WorldImageFault)
+    → IfOk result (λ w. image w.world w.spawned ≡ bytes) → IfOk result (λ w. HasImage w.world)
+    → IfOk result (λ w. least w.world + 4 ≤ length bytes)
+bounded bytes (Ok w) found has =
+    let world = world_bounded (world_image w.world) (Ok w.world) refl has in
+    let all = length-append (world_image w.world) (word w.spawned) in
+    omega (arith, ap length found, all, length-word w.spawned, world)
+bounded bytes (Err fault) found has = tt
+
+-- what is read has what the world had
+pub kept_by_image : (P : WorldValue → Type 0) (bytes : List ℕ) (number : ℕ)
+    (result : Result World WorldImageFault)
+    → ((w : WorldValue) (spawned : ℕ) → HasImage w → spawned < 2 ^ 32 → image w spawned ≡ bytes
+    → (result ≡ Ok (record { world = w; number = number; spawned = spawned }))
+    ⊎ (result ≡ Err Memory))
+    → (w : WorldValue) (spawned : ℕ) → HasImage w → spawned < 2 ^ 32 → image w spawned ≡ bytes
+    → P w → IfOk result (λ r. P r.world)
+kept_by_image P bytes number (Ok x) exact w spawned has fits is holds =
+    subst (λ (r : World). P r.world)
+    (sym (read_is x (of w number spawned) (exact w spawned has fits is))) holds
+kept_by_image P bytes number (Err fault) exact w spawned has fits is holds = tt
 
 -- what is exact refuses no image
 pub refused_from_exact : (bytes : List ℕ) (number : ℕ) (result : Result World WorldImageFault)

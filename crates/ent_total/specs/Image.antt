@@ -1,6 +1,6 @@
 -- The image of a world of the package: that of its world, and how many entities `spawn` made since
 -- the last flush.
-use Rattle.std.specs.Prelude.{ℕ, List, ◌++◌}
+use Rattle.std.specs.Prelude.{ℕ, ◌-◌, List, ◌++◌, length, take}
 use Rattle.ent_storage.specs.Image.{word}
 use Rattle.ent_world.specs.World.{World}
 use Rattle.ent_world.specs.Image.{image as world_image}
@@ -8,3 +8,7 @@ use Rattle.ent_world.specs.Image.{image as world_image}
 -- the image of the world, and the number in four bytes
 abbrev pub image : World → ℕ → List ℕ
 image w spawned = world_image w ++ word spawned
+
+-- the bytes of the world alone
+abbrev pub before_count : List ℕ → List ℕ
+before_count bytes = take (length bytes - 4) bytes

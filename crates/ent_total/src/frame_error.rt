@@ -1,9 +1,11 @@
 use crate::queues::Queues;
 use crate::stopped::Stopped;
+use std::error::Error;
+use std::fmt;
 
 /// Why a frame wasn't completed.
 #[non_exhaustive]
-#[derive(Drop)]
+#[derive(Drop, Debug)]
 pub enum FrameError {
     /// Handles were requested since the last flush. No system ran, and the world is as it was.
     NeedsFlush,
@@ -24,3 +26,19 @@ pub enum FrameError {
     /// [`Stopped::go_on`] does the rest.
     Stopped(Stopped),
 }
+
+impl fmt::Display for FrameError {
+    fn fmt<W: fmt::Write>(&self, f: &mut fmt::Formatter<W>) -> fmt::Result {
+        match self {
+            FrameError::NeedsFlush => f.write_str("a flush is needed first"),
+            FrameError::Workers => f.write_str("a frame has 1 to 64 workers"),
+            FrameError::Systems => f.write_str("a frame has at most 65,536 systems"),
+            FrameError::Memory => f.write_str("out of memory before any system ran"),
+            FrameError::Lost => f.write_str("out of memory while the systems ran"),
+            FrameError::Unapplied(_) => f.write_str("the sync point stopped: out of memory"),
+            FrameError::Stopped(stopped) => write!(f, "the sync point stopped: {stopped}"),
+        }
+    }
+}
+
+impl Error for FrameError {}

@@ -20,11 +20,11 @@ use ent_world::SyncFault;
 use std::alloc::Global;
 use std::thread::Threads;
 
-/// How many workers a frame may have.
-const WORKERS: usize = 64;
+/// How many workers may run systems.
+pub(crate) const WORKERS: usize = 64;
 
-/// How many systems a frame may have.
-const SYSTEMS: usize = 65_536;
+/// How many systems run together.
+pub(crate) const SYSTEMS: usize = 65_536;
 
 /// Runs each system once, on that many workers side by side, and then the sync point.
 ///

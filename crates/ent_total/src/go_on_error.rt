@@ -2,10 +2,12 @@ ghost use Rattle.std.specs.Prelude.{◌≡◌};
 ghost use Rattle.ent_total.specs.Applying.{stopped_in};
 
 use crate::stopped::Stopped;
+use std::error::Error;
+use std::fmt;
 
 /// Why a sync point that went on wasn't completed.
 #[non_exhaustive]
-#[derive(Drop)]
+#[derive(Drop, Debug)]
 pub enum GoOnError {
     /// It stopped in another world. Nothing has changed.
     OtherWorld(Stopped),
@@ -28,3 +30,15 @@ impl GoOnError {
         }
     }
 }
+
+impl fmt::Display for GoOnError {
+    fn fmt<W: fmt::Write>(&self, f: &mut fmt::Formatter<W>) -> fmt::Result {
+        match self {
+            GoOnError::OtherWorld(_) => f.write_str("the queues are of another world"),
+            GoOnError::NeedsFlush(_) => f.write_str("a flush is needed first"),
+            GoOnError::Stopped(stopped) => write!(f, "{stopped}"),
+        }
+    }
+}
+
+impl Error for GoOnError {}

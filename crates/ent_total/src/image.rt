@@ -1,10 +1,13 @@
 //! Worlds as bytes, and back.
 ghost use Rattle.std.specs.Prelude.{◌≡◌, ◌≢◌, ◌+◌, ◌^◌, ◌<◌, ◌≤◌, ◌++◌, ◌⊎◌, ℕ, length, Ok, Err};
-ghost use Rattle.std.specs.Prelude.{IfOk, IfErr, OnOk, OnErr, vec_len, vec_capacity};
+ghost use Rattle.std.specs.Prelude.{List, IfOk, IfErr, OnOk, OnErr, vec_len, vec_capacity};
 ghost use Rattle.ent_storage.specs.Image.{word};
 ghost use Rattle.ent_world.specs.World.{World as WorldValue};
-ghost use Rattle.ent_world.specs.Image.{most, HasImage};
-ghost use Rattle.ent_total.specs.Image.{image};
+ghost use Rattle.ent_handle.specs.Handle.{Handle};
+ghost use Rattle.ent_alloc.specs.Spent.{AreSpent};
+ghost use Rattle.ent_world.specs.Image.{most, least, HasImage};
+ghost use Rattle.ent_world.specs.FirstFault.{HasFault, MayTakeMemory};
+ghost use Rattle.ent_total.specs.Image.{image, before_count};
 
 use crate::world::World;
 use ent_handle::Memory;
@@ -73,10 +76,23 @@ pub fn read_world(alloc: Global, bytes: &[u8], number: u64) -> Result<World, Wor
         → (result ≡ Ok (record { world = w; number = number; spawned = spawned }))
         ⊎ (result ≡ Err WorldImageFault.Memory) }
 
-    // What is refused is the image of no world.
+    // What is refused is the image of no world. It is refused for the first fault of the bytes.
     ensures refused { IfErr result (λ fault. fault ≢ WorldImageFault.Memory
         → (w : WorldValue) (spawned : ℕ) → HasImage w → spawned < 2 ^ 32
         → image w spawned ≢ bytes.now) }
+    ensures fault { IfErr result (λ fault. fault ≢ WorldImageFault.Memory
+        → HasFault (before_count bytes.now) fault) }
+
+    // Memory is asked for only after the allocator's part was found faultless up to its slots, and
+    // only for slots. There are no more slots and entities than the bytes have.
+    ensures memory { IfErr result (λ fault. fault ≡ WorldImageFault.Memory
+        → MayTakeMemory (before_count bytes.now)) }
+    ensures bound { IfOk result (λ w. least w.world + 4 ≤ length bytes.now) }
+
+    // What was given before the image was written is not given again by what is read.
+    ensures given_once { (w : WorldValue) (spawned : ℕ) (given : List Handle) → HasImage w
+        → spawned < 2 ^ 32 → image w spawned ≡ bytes.now → AreSpent w.allocator given
+        → IfOk result (λ r. AreSpent r.world.allocator given) }
 {
     of_image(alloc, bytes, number)
 }
@@ -90,6 +106,10 @@ fn of_image(alloc: Global, bytes: &[u8], number: u64) -> Result<World, WorldImag
         → image w spawned ≡ bytes.now
         → (result ≡ Ok (record { world = w; number = number; spawned = spawned }))
         ⊎ (result ≡ Err WorldImageFault.Memory) }
+    ensures fault { IfErr result (λ fault. fault ≢ WorldImageFault.Memory
+        → HasFault (before_count bytes.now) fault) }
+    ensures memory { IfErr result (λ fault. fault ≡ WorldImageFault.Memory
+        → MayTakeMemory (before_count bytes.now)) }
 {
     if bytes.len() < COUNT {
         return Err(WorldImageFault::Magic);

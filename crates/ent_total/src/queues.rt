@@ -1,5 +1,6 @@
 ghost use Rattle.std.specs.Prelude.{◌≡◌, ◌≤◌, ◌^◌, ◌↔◌, [], IsTrue, length};
 
+use std::fmt;
 use std::marker::Model;
 
 /// The queues of a phase or of a frame, in the order of their effect, for one
@@ -62,5 +63,13 @@ impl Queues {
         ensures few { length self.now.queues ≤ 2 ^ 16 }
     {
         &self.queues
+    }
+}
+
+/// It shows how many there are, and says that there is more.
+impl fmt::Debug for Queues {
+    fn fmt<W: fmt::Write>(&self, f: &mut fmt::Formatter<W>) -> fmt::Result {
+        let len = self.len();
+        write!(f, "Queues {{ len: {len}, .. }}")
     }
 }

@@ -4,6 +4,7 @@ ghost use Rattle.ent_world.specs.Sync.{IsStop};
 use crate::queues::Queues;
 use crate::stop::Stop;
 use ent_world::SyncReport;
+use std::fmt;
 use std::marker::Model;
 
 /// A sync point that stopped because memory ran out at a command: where, what was done so far, and
@@ -79,5 +80,22 @@ impl Stopped {
             so_far: _,
         } = self;
         (queues, stop)
+    }
+}
+
+/// It says where it stopped.
+impl fmt::Display for Stopped {
+    fn fmt<W: fmt::Write>(&self, f: &mut fmt::Formatter<W>) -> fmt::Result {
+        let stop = self.stop;
+        write!(f, "{stop}")
+    }
+}
+
+/// It shows all but the queues, and says that there is more.
+impl fmt::Debug for Stopped {
+    fn fmt<W: fmt::Write>(&self, f: &mut fmt::Formatter<W>) -> fmt::Result {
+        let stop = self.stop;
+        let so_far = &self.so_far;
+        write!(f, "Stopped {{ stop: {stop:?}, so_far: {so_far:?}, .. }}")
     }
 }

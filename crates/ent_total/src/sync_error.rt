@@ -3,10 +3,12 @@ ghost use Rattle.ent_total.specs.Applying.{parts_of};
 
 use crate::queues::Queues;
 use crate::stopped::Stopped;
+use std::error::Error;
+use std::fmt;
 
 /// Why a sync point wasn't completed.
 #[non_exhaustive]
-#[derive(Drop)]
+#[derive(Drop, Debug)]
 pub enum SyncError {
     /// The queues are of a phase of another world. Nothing was done, and these are the queues.
     OtherWorld(Queues),
@@ -27,3 +29,15 @@ impl SyncError {
         }
     }
 }
+
+impl fmt::Display for SyncError {
+    fn fmt<W: fmt::Write>(&self, f: &mut fmt::Formatter<W>) -> fmt::Result {
+        match self {
+            SyncError::OtherWorld(_) => f.write_str("the queues are of another world"),
+            SyncError::Memory(_) => f.write_str("out of memory"),
+            SyncError::Stopped(stopped) => write!(f, "{stopped}"),
+        }
+    }
+}
+
+impl Error for SyncError {}

@@ -1,5 +1,5 @@
 -- What stands before the allocator's part of an image, byte by byte.
-use Rattle.std.proofs.Common.{rules, ◌≡◌, ◌≢◌, refl, sym, ap, ◌∙◌, ℕ, ◌+◌, ◌^◌, ◌<◌, List, ◌++◌, length}
+use Rattle.std.proofs.Common.{rules, ◌≡◌, ◌≢◌, refl, sym, ap, ◌∙◌, ℕ, ◌^◌, ◌<◌, List, ◌++◌, length}
 use Rattle.std.proofs.Common.{arith}
 use Rattle.std.proofs.lemmas.List.{length-append, append_assoc}
 use Rattle.ent_storage.specs.Image.{word, long}
@@ -86,3 +86,18 @@ part_missing number len bytes left fits_n fits_l less found phase part rest fits
 
 pub appended_4 : (o a b c d : List ℕ) → o ++ a ++ b ++ c ++ d ≡ o ++ (a ++ (b ++ (c ++ d)))
 appended_4 o a b c d = search (rules, append_assoc)
+
+-- ---- the letters
+
+pub begins : (bytes left : List ℕ) → bytes ≡ long letters ++ left → bytes ≡ magic ++ left
+begins bytes left is = is ∙ ap (λ ms. ms ++ left) letters_are
+
+pub short_letters : (bytes : List ℕ) → length bytes < 8 → (rest : List ℕ) → bytes ≢ magic ++ rest
+short_letters bytes short rest is =
+    let joined = ap length is ∙ length-append magic rest in omega (arith, short, joined)
+
+pub other_letters : (number : ℕ) (bytes left : List ℕ) → number < 2 ^ 64 → number ≢ letters
+    → bytes ≡ long number ++ left → (rest : List ℕ) → bytes ≢ magic ++ rest
+other_letters number bytes left fits other found rest is =
+    other (same_longs number letters left rest fits (omega arith)
+    (sym found ∙ is ∙ ap (λ ms. ms ++ rest) (sym letters_are))).0

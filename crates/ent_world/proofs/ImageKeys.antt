@@ -1,14 +1,13 @@
 -- A list of handles that rises by slot, and has just those of a map, has the keys of the map.
-use Rattle.std.proofs.Common.{rules, ◌≡◌, ◌≢◌, refl, sym, ap, subst, ◌∙◌, ℕ, zero, suc, ◌+◌, ◌<◌, Bool}
+use Rattle.std.proofs.Common.{rules, ◌≡◌, ◌≢◌, refl, sym, ap, subst, ◌∙◌, ℕ, suc, ◌<◌, Bool}
 use Rattle.std.proofs.Common.{true, false, T, ◌&&◌, List, [], ◌∷◌, map, length, get_or, arith, Contains}
-use Rattle.std.proofs.Common.{Option, None, Some, is_some, IsTrue, All, AllPairs, true≢false}
+use Rattle.std.proofs.Common.{Option, None, Some, is_some, IsTrue, AllPairs, true≢false}
 use Rattle.std.specs.List.{list_any}
 use Rattle.std.specs.Ordering.{eq_by_cmp, is_lt}
 use Rattle.std.specs.FinMap as maps
 use Rattle.std.specs.FinMap.{find, is_sorted}
 use Rattle.std.specs.FinMap.Entries.{below_all, same_entries, is_some-find}
 use Rattle.std.specs.FinSet as sets
-use Rattle.std.proofs.lemmas.Grind.{common_steps}
 use Rattle.std.proofs.lemmas.Map.Views.{Contains-from_any}
 use Rattle.ent_handle.specs.Handle.{Handle, handle_cmp, handle_cmp_total as total}
 use Rattle.ent_handle.specs.Handle.{handle_cmp-IsAntisymmetric as same}

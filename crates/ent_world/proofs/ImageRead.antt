@@ -1,10 +1,8 @@
 -- What the bytes of an image tell, and the world that is read of them.
-use Rattle.std.proofs.Common.{rules, ◌≡◌, ◌≢◌, refl, sym, ap, subst, ◌∙◌, ℕ, zero, suc, ◌+◌, ◌*◌, ◌^◌}
+use Rattle.std.proofs.Common.{◌≡◌, ◌≢◌, refl, sym, ap, subst, ◌∙◌, ℕ, suc, ◌+◌, ◌*◌, ◌^◌}
 use Rattle.std.proofs.Common.{◌<◌, ◌≤◌, Bool, true, false, List, [], ◌∷◌, ◌++◌, length, get_or, arith}
-use Rattle.std.proofs.Common.{Contains, Option, None, Some, is_some, IsTrue, AllPairs, All, Result, Ok}
-use Rattle.std.proofs.Common.{Err, IfErr, IsErrAnd, ◌⊎◌, inl, inr, slice_get}
-use Rattle.std.specs.List.{list_any}
-use Rattle.std.specs.Ordering.{eq_by_cmp}
+use Rattle.std.proofs.Common.{Contains, Option, None, Some, is_some, AllPairs, All, Result, Ok}
+use Rattle.std.proofs.Common.{Err, IfErr, IfOk, IsErrAnd, ◌⊎◌, inl, inr}
 use Rattle.std.specs.FinMap as map
 use Rattle.std.specs.FinSet as set
 use Rattle.std.proofs.lemmas.Grind.{common_steps}
@@ -13,26 +11,28 @@ use Rattle.std.proofs.lemmas.Option.{none-some}
 use Rattle.ent_handle.specs.Handle.{Handle, handle_cmp, handle_cmp_total as total}
 use Rattle.ent_handle.specs.Handle.{handle_cmp-IsAntisymmetric as same}
 use Rattle.ent_handle.specs.declared.birth.Birth.{Birth}
-use Rattle.ent_alloc.specs.Sequential.{stands_in}
+use Rattle.ent_alloc.specs.Sequential.{stands_in, top}
 use Rattle.ent_alloc.specs.Entities.{Entities as Allocator}
 use Rattle.ent_alloc.specs.Image.{image as allocator_image, HasImage as HasAllocatorImage, header, roster}
-use Rattle.ent_alloc.specs.Image.{header_bytes, slots_bytes}
+use Rattle.ent_alloc.specs.Image.{header_bytes as allocator_header, slots_bytes}
 use Rattle.ent_alloc.proofs.HandleSets.{Contains-from_stands_in, stands_in-from_Contains}
 use Rattle.ent_alloc.proofs.ImageHeader.{length-header_bytes}
-use Rattle.ent_alloc.proofs.ImageOf.{length-slots_bytes}
-use Rattle.ent_storage.specs.EntityMap.{Entity, EntityMap, newborn}
+use Rattle.ent_alloc.proofs.ImageOf.{length-slots_bytes, few_wait}
+use Rattle.ent_alloc.proofs.ImageSound.{roster_slots}
+use Rattle.ent_storage.specs.EntityMap.{Entity, EntityMap}
 use Rattle.ent_storage.specs.Image.{entities_bytes, AreStored, IsStored}
-use Rattle.ent_storage.proofs.ImageEntities.{never_stored}
+use Rattle.ent_storage.proofs.ImageEntities.{never_stored, entities_least}
 use Rattle.ent_storage.proofs.Keys.{apart}
-use Rattle.ent_world.specs.World.{World, IsWorld}
+use Rattle.ent_world.specs.World.{World}
 use Rattle.ent_world.specs.Rows.{Rows, AreRows, with_rows}
 use Rattle.ent_world.specs.Entering.{AreNew}
-use Rattle.ent_world.specs.Image.{allocator_of, living, framed, image, HasImage}
+use Rattle.ent_world.specs.Image.{allocator_of, living, header_bytes, framed, image, least, HasImage}
+use Rattle.ent_world.specs.FirstFault.{AreFramed}
 use Rattle.ent_world.specs.declared.image_fault.WorldImageFault.{WorldImageFault}
 use Rattle.ent_world.specs.declared.image_fault.WorldImageFault.TheVariants.{Magic, Version, Length}
 use Rattle.ent_world.specs.declared.image_fault.WorldImageFault.TheVariants.{Entities, Row, Storage}
 use Rattle.ent_world.specs.declared.image_fault.WorldImageFault.TheVariants.{Memory}
-use Rattle.ent_world.proofs.ImageHeader.{same_framed}
+use Rattle.ent_world.proofs.ImageHeader.{same_framed, length-header}
 use Rattle.ent_world.proofs.ImageKeys.{living_keys}
 use Rattle.ent_world.proofs.PlacedRows.{rows-empty, rows-born}
 use Rattle.ent_world.proofs.Room.{stands_at, place_of}
@@ -51,7 +51,7 @@ pub allocator_len : (e : Allocator) → length (allocator_image e) ≡ 40 + 12 *
 allocator_len e =
     let front = length-header_bytes (header e) in
     let rest = length-slots_bytes (roster e) in
-    let all = length-append (header_bytes (header e)) (slots_bytes (roster e)) in
+    let all = length-append (allocator_header (header e)) (slots_bytes (roster e)) in
     omega (arith, all, front, rest)
 
 pub allocator_short : (e : Allocator) → HasAllocatorImage e → length (allocator_image e) < 2 ^ 64
@@ -113,6 +113,11 @@ pub handed : (result : Result World WorldImageFault) (fault : WorldImageFault)
 handed (Ok x) fault is memory w = absurd is
 handed (Err y) fault is memory w = inr (ap Err (is ∙ memory))
 
+pub handed_on : (result : Result World WorldImageFault) (fault : WorldImageFault)
+    (P : WorldImageFault → Type 0) → IsErrAnd result (λ y. y ≡ fault) → P fault → IfErr result P
+handed_on (Ok x) fault P is holds = tt
+handed_on (Err y) fault P is holds = subst P (sym is) holds
+
 -- what is exact refuses no image
 pub refused_from_exact : (bytes : List ℕ) (result : Result World WorldImageFault)
     → ((w : World) → HasImage w → image w ≡ bytes → (result ≡ Ok w) ⊎ (result ≡ Err Memory))
@@ -120,6 +125,33 @@ pub refused_from_exact : (bytes : List ℕ) (result : Result World WorldImageFau
 refused_from_exact bytes (Ok x) exact = tt
 refused_from_exact bytes (Err fault) exact = λ other w has is.
     other (refused_is fault w (exact w has is))
+
+-- and keeps what the world had
+pub kept_by_image : (P : World → Type 0) (bytes : List ℕ) (result : Result World WorldImageFault)
+    → ((w : World) → HasImage w → image w ≡ bytes → (result ≡ Ok w) ⊎ (result ≡ Err Memory))
+    → (w : World) → HasImage w → image w ≡ bytes → P w → IfOk result P
+kept_by_image P bytes (Ok x) exact w has is holds =
+    subst P (sym (read_is x w (exact w has is))) holds
+kept_by_image P bytes (Err fault) exact w has is holds = tt
+
+-- an image has a slot's bytes for each slot, and at least 16 for each entity
+pub bounded : (bytes : List ℕ) (result : Result World WorldImageFault)
+    → IfOk result (λ w. image w ≡ bytes) → IfOk result HasImage
+    → IfOk result (λ w. least w ≤ length bytes)
+bounded bytes (Ok w) found has =
+    let part = allocator_image (allocator_of w) in
+    let rest = entities_bytes w.entities (living w) in
+    let whole = length-append (header_bytes w.phase (length part)) (part ++ rest) in
+    omega (
+      arith,
+      ap length found,
+      whole,
+      length-header w.phase (length part),
+      length-append part rest,
+      allocator_len (allocator_of w),
+      entities_least w.entities (living w) has.stored,
+    )
+bounded bytes (Err fault) found has = tt
 
 -- ---- the living handles
 
@@ -229,3 +261,25 @@ pub living_is : (m : EntityMap) (hs : List Handle) (live : set.FinSet handle_cmp
     → map.keys m ≡ hs
 living_is m hs live stored rising lists =
     living_keys m live hs rising lists (stored_living m hs stored live lists)
+
+-- who lives or waits has a slot, and its bytes
+pub slots_made : (e : Allocator) → HasAllocatorImage e → (hs : List Handle)
+    → set.from_list hs ≡ e.allocator.live → 0 < length hs + top e.allocator
+    → 40 < length (allocator_image e)
+slots_made e has [] lists some = omega (arith, allocator_len e, few_wait e has, some)
+slots_made e has (h ∷ hs) lists some =
+    let made = (roster_slots e has).live_made h
+    (all_live e.allocator.live (h ∷ hs) lists 0 h (omega arith)) in
+    omega (arith, allocator_len e, made)
+
+-- what the bytes are framed by
+abbrev pub framed_by : (bytes : List ℕ) (phase : ℕ) (part rest : List ℕ) → phase < 2 ^ 64
+    → length part < 2 ^ 64 → bytes ≡ framed phase part rest → AreFramed bytes
+framed_by bytes phase part rest fits_p fits is = record {
+  phase = phase;
+  part = part;
+  rest = rest;
+  phase_fits = fits_p;
+  len_fits = fits;
+  spelled = is;
+}

@@ -1,7 +1,7 @@
 -- What is written of a world's entities: the order in which they lie doesn't matter.
 use Rattle.std.proofs.Common.{◌≡◌, refl, sym, ap, subst, ◌∙◌, ℕ, ℤ, zero, suc, ◌<◌, ◌≤◌, Bool, true, false}
 use Rattle.std.proofs.Common.{◌||◌, List, [], ◌∷◌, length, get_or, arith, Contains, Option, None, Some}
-use Rattle.std.proofs.Common.{is_some, IfSome, IsSomeAnd, IsTrue, AllPairs, All, slice_get}
+use Rattle.std.proofs.Common.{is_some, IfSome, IsSomeAnd, AllPairs, All}
 use Rattle.std.specs.Prelude.{if◌then◌else◌}
 use Rattle.std.specs.List.{list_any}
 use Rattle.std.specs.Int.{w64}
@@ -14,7 +14,7 @@ use Rattle.ent_handle.specs.declared.component.ComponentId.{ComponentId}
 use Rattle.ent_alloc.specs.Sequential.{stands_in}
 use Rattle.ent_alloc.proofs.HandleSets.{Contains-from_stands_in, stands_in-from_Contains}
 use Rattle.ent_storage.specs.EntityMap.{EntityMap, birth_of, value_of}
-use Rattle.ent_storage.specs.Image.{is_held, width, width_below, IsBirth, IsStored, AreStored, component}
+use Rattle.ent_storage.specs.Image.{is_held, width, width_below, IsBirth, AreStored, component}
 use Rattle.ent_world.specs.Rows.{Rows, AreRows}
 use Rattle.ent_world.proofs.ImageKeys.{living_keys, in_map}
 use Rattle.ent_world.proofs.ImageRead.{same_answer, all_live}

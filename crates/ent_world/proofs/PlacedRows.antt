@@ -28,7 +28,7 @@ use Rattle.ent_world.specs.World.{AreLiving}
 use Rattle.ent_world.specs.Sync.{with_born}
 use Rattle.ent_world.specs.Entering.{AreNew, first_birth}
 use Rattle.ent_world.specs.Rows.{Rows, ArePlaces, AreRows, with_rows, with_moved}
-use Rattle.ent_world.proofs.Living.{one_less, same_keys-components}
+use Rattle.ent_world.proofs.Living.{same_keys-components}
 use Rattle.ent_world.proofs.Born.{born-new, living-after}
 use Rattle.ent_world.proofs.Numbered.{AreDistinct}
 use Rattle.ent_world.proofs.Room.{new_later, stands_at, place_of}

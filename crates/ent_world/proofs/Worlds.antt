@@ -1,5 +1,5 @@
 -- What is true of every world stays true: each step leaves a world.
-use Rattle.std.proofs.Common.{rules, ◌≡◌, sym, ap, ◌∙◌, ℕ, ◌-◌, true, List, [], ◌∷◌, slice_get}
+use Rattle.std.proofs.Common.{rules, ◌≡◌, sym, ap, ◌∙◌, ℕ, true, List, [], ◌∷◌, slice_get}
 use Rattle.std.proofs.Common.{Some}
 use Rattle.ent_handle.specs.declared.birth.Birth.{Birth}
 use Rattle.ent_handle.specs.Handle.{Handle}
@@ -16,7 +16,7 @@ use Rattle.ent_world.specs.Sync.{after_births}
 use Rattle.ent_world.proofs.Living.{keys-insert, keys-remove, keys-components, living-history}
 use Rattle.ent_world.proofs.Born.{living-after}
 use Rattle.ent_world.proofs.Kept.{after_queues-keeps}
-use Rattle.ent_world.proofs.GivenOnce.{IsFlushed, flushed-kept, history-sound}
+use Rattle.ent_world.proofs.GivenOnce.{flushed-kept, history-sound}
 
 -- what is reserved is born
 pub after_births-world : (queues : List (List Command)) (w : World) → IsWorld w

@@ -1,6 +1,6 @@
 -- The image of a world: the bytes that are written of it. It tells all of the world, and nothing of
 -- how it came to be so or where its entities lie in memory.
-use Rattle.std.specs.Prelude.{◌≡◌, ℕ, ◌+◌, ◌*◌, ◌^◌, ◌<◌, ◌≤◌, List, [], ◌∷◌, ◌++◌, length}
+use Rattle.std.specs.Prelude.{ℕ, ◌+◌, ◌*◌, ◌^◌, ◌<◌, ◌≤◌, List, [], ◌∷◌, ◌++◌, length}
 use Rattle.std.specs.FinMap as map
 use Rattle.std.specs.FinSet as set
 use Rattle.ent_handle.specs.Handle.{Handle}
@@ -40,6 +40,10 @@ image w = framed w.phase (allocator_image (allocator_of w)) (entities_bytes w.en
 -- so many bytes hold its image, whatever components its entities have
 abbrev pub most : World → ℕ
 most w = 72 + 12 * w.allocator.made + 2320 * set.len w.allocator.live
+
+-- and at least so many bytes are in it
+abbrev pub least : World → ℕ
+least w = 72 + 12 * w.allocator.made + 16 * length (living w)
 
 -- What is true of every world. Each of them has an image, and no two have the same.
 pub record HasImage (w : World) : Type 0 where

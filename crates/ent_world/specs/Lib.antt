@@ -1,5 +1,6 @@
 pub mod World
 pub mod Image
+pub mod FirstFault
 pub mod OpenWorld
 pub mod Effects
 pub mod Sync

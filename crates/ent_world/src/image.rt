@@ -7,13 +7,18 @@ ghost use Rattle.std.specs.Int.{w64};
 ghost use Rattle.std.specs.Int.RustNames.{FitsSigned};
 ghost use Rattle.std.specs.FinMap as map;
 ghost use Rattle.ent_handle.specs.declared.component.ComponentId.{ComponentId as Component};
+ghost use Rattle.ent_handle.specs.Handle.{Handle as HandleValue};
 ghost use Rattle.ent_alloc.specs.Entities.{Entities as Allocator};
 ghost use Rattle.ent_alloc.specs.Image.{image as allocator_image, HasImage as HasAllocatorImage};
+ghost use Rattle.ent_alloc.specs.FirstFault.{header_fault};
+ghost use Rattle.ent_alloc.specs.Spent.{AreSpent};
 ghost use Rattle.ent_storage.specs.EntityMap.{EntityMap, birth_of, value_of};
 ghost use Rattle.ent_storage.specs.Image.{entity_bytes, entities_bytes, IsBirth, AreStored};
 ghost use Rattle.ent_world.specs.World.{World as WorldValue, IsWorld};
 ghost use Rattle.ent_world.specs.Rows.{ArePlaces};
-ghost use Rattle.ent_world.specs.Image.{header_bytes, framed, image, most, HasImage};
+ghost use Rattle.ent_world.specs.Image.{header_bytes, framed, image, most, least, HasImage};
+ghost use Rattle.ent_world.specs.FirstFault.{HasFault, MayTakeMemory, IsPartFault, IsRowFault};
+ghost use Rattle.ent_world.specs.FirstFault.{IsRestFault};
 
 use crate::image_fault::WorldImageFault;
 use crate::rows::{place_of, set_rows};
@@ -58,6 +63,7 @@ fn read_header(bytes: &[u8]) -> Result<(u64, &[u8], &[u8]), WorldImageFault>
     ensures refused { OnErr result ((phase : ℕ) (part rest : List ℕ) → phase < 2 ^ 64
         → length part < 2 ^ 64 → bytes.now ≢ framed phase part rest) }
     ensures no_memory { IfErr result (λ fault. fault ≢ WorldImageFault.Memory) }
+    ensures fault { IfErr result (HasFault bytes.now) }
 {
     if bytes.len() < 8 {
         return Err(WorldImageFault::Magic);
@@ -119,6 +125,13 @@ fn read_allocator(alloc: Global, bytes: &[u8]) -> Result<Entities, WorldImageFau
     ensures has_image { IfOk result HasAllocatorImage }
     ensures exact { (e : Allocator) → HasAllocatorImage e → allocator_image e ≡ bytes.now
         → (result ≡ Ok e) ⊎ (result ≡ Err WorldImageFault.Memory) }
+    ensures fault { IfErr result (λ fault. fault ≢ WorldImageFault.Memory
+        → IsPartFault bytes.now fault) }
+    ensures header { OnOk result (header_fault bytes.now ≡ None) }
+    ensures memory { IfErr result (λ fault. fault ≡ WorldImageFault.Memory
+        → header_fault bytes.now ≡ None) }
+    ensures slots { IfErr result (λ fault. fault ≡ WorldImageFault.Memory
+        → 40 < length bytes.now) }
 {
     match Entities::read_image(alloc, bytes) {
         Ok(entities) => Ok(entities),
@@ -137,6 +150,10 @@ fn list_living(
     ensures bare { OnOk result (All (λ h. map.get entities.now.rows h ≡ None) handles.entry) }
     ensures rows { IfErr result (λ fault. fault ≢ WorldImageFault.Memory
         → entities.now.rows ≢ map.empty) }
+    ensures fault { IfErr result (λ fault. fault ≢ WorldImageFault.Memory
+        → IsRowFault entities.now.rows handles.entry fault) }
+    ensures memory { IfErr result (λ fault. fault ≡ WorldImageFault.Memory
+        → 0 < length handles.entry) }
 {
     let mut list = Vec::with_capacity(alloc, handles.len())?;
     for handle in handles {
@@ -168,6 +185,9 @@ fn read_storage(
     ensures refused { (m : EntityMap) → AreStored m handles.now
         → entities_bytes m handles.now ≡ bytes.now
         → IfErr result (λ fault. fault ≡ WorldImageFault.Memory) }
+    ensures fault { IfErr result (λ fault. fault ≢ WorldImageFault.Memory
+        → IsRestFault handles.now bytes.now fault) }
+    ensures memory { IfErr result (λ fault. fault ≡ WorldImageFault.Memory → 0 < room) }
 {
     match Storage::read_image(alloc, handles, room, bytes) {
         Ok(storage) => Ok(storage),
@@ -224,8 +244,8 @@ impl World {
     ///
     /// # Errors
     ///
-    /// Each but [`Memory`](WorldImageFault::Memory) says that no world has this image. `Memory` comes
-    /// if there is no memory for what the image has, whatever it is.
+    /// Each but [`Memory`](WorldImageFault::Memory) says that no world has this image, by the first fault
+    /// that the bytes have. `Memory` comes if there is no memory for the slots, whatever they are.
     pub fn read_image(alloc: Global, bytes: &[u8]) -> Result<Self, WorldImageFault>
         ensures found { IfOk result (λ w. image w ≡ bytes.now) }
         ensures has_image { IfOk result HasImage }
@@ -234,9 +254,22 @@ impl World {
         ensures exact { (w : WorldValue) → HasImage w → image w ≡ bytes.now
             → (result ≡ Ok w) ⊎ (result ≡ Err WorldImageFault.Memory) }
 
-        // What is refused is the image of no world.
+        // What is refused is the image of no world. It is refused for the first fault of the bytes.
         ensures refused { IfErr result (λ fault. fault ≢ WorldImageFault.Memory
             → (w : WorldValue) → HasImage w → image w ≢ bytes.now) }
+        ensures fault { IfErr result (λ fault. fault ≢ WorldImageFault.Memory
+            → HasFault bytes.now fault) }
+
+        // Memory is asked for only after the allocator's part was found faultless up to its slots, and
+        // only for slots. There are no more slots and entities than the bytes have.
+        ensures memory { IfErr result (λ fault. fault ≡ WorldImageFault.Memory
+            → MayTakeMemory bytes.now) }
+        ensures bound { IfOk result (λ w. least w ≤ length bytes.now) }
+
+        // What was given before the image was written is not given again by what is read.
+        ensures given_once { (w : WorldValue) (given : List HandleValue) → HasImage w
+            → image w ≡ bytes.now → AreSpent w.allocator given
+            → IfOk result (λ r. AreSpent r.allocator given) }
     {
         World::of_image(alloc, bytes)
     }
@@ -247,6 +280,10 @@ impl World {
         ensures has_image { IfOk result HasImage }
         ensures exact { (w : WorldValue) → HasImage w → image w ≡ bytes.now
             → (result ≡ Ok w) ⊎ (result ≡ Err WorldImageFault.Memory) }
+        ensures fault { IfErr result (λ fault. fault ≢ WorldImageFault.Memory
+            → HasFault bytes.now fault) }
+        ensures memory { IfErr result (λ fault. fault ≡ WorldImageFault.Memory
+            → MayTakeMemory bytes.now) }
     {
         let (phase, part, rest) = read_header(bytes)?;
         let mut entities = read_allocator(alloc, part)?;

@@ -9,6 +9,7 @@ use cli::{file_name, finish, refuse_file, refuse_words, words_after_name};
 use devices::{Counted, Muted, Noting, open_named};
 use std::alloc::AllocError;
 use std::cell::Cell;
+use std::env;
 use std::env::Env;
 use std::io::{Read, Write};
 use std::rt::Files;
@@ -41,9 +42,13 @@ where
     let mut output = Counted::new(Noting::new(output, &has_left));
     let mut errors = Counted::new(Muted::new(errors, &has_left));
     let mut progress = Teller::new(rt, Counted::new(terminal), tells);
-    let words = match words_after_name(rt) {
+    let words = match env::args(rt) {
         Ok(words) => words,
         Err(error) => return refuse_words(&error, &mut errors),
+    };
+    let words = match words_after_name(rt.alloc(), words) {
+        Ok(words) => words,
+        Err(AllocError) => return finish(&mut errors, Status::Memory.number()),
     };
     let name = match file_name(&words, |words| is_task(rt.alloc(), words)) {
         Ok(name) => name,

@@ -8,12 +8,12 @@ here=$(cd "$(dirname "$0")" && pwd)
 crate=$here/..
 rust=$here/../../../rust/forgeni
 [ -x "$crate/out/tracecheck" ] || (cd "$crate" && rt run </dev/null) >/dev/null 2>&1
-cargo build --offline --quiet --release --features programs --manifest-path "$rust/Cargo.toml"
+cargo build --offline --quiet --profile programs --features programs --manifest-path "$rust/Cargo.toml"
 echo "| Trace | Lines | Bytes | s | ns a line | Peak MiB | s by cargo | Ratio | Peak MiB by cargo |"
 echo "|---|---|---|---|---|---|---|---|---|"
 longest=${LONGEST:-100000000}
 row() {
-    [ "$2" -gt "$longest" ] || python3 "$here/measure.py" "$crate/out/tracecheck" "$rust/target/release/tracecheck" "$1" "$2"
+    [ "$2" -gt "$longest" ] || python3 "$here/measure.py" "$crate/out/tracecheck" "$rust/target/programs/tracecheck" "$1" "$2"
 }
 row threads 1000000
 # Memory grows with the longest run, and not with the trace.

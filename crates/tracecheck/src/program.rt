@@ -15,6 +15,7 @@ use devices::{Counted, Muted, Noting, Sink, Source, open_named};
 use std::alloc::{AllocError, Global};
 use std::cell::Cell;
 use std::convert::AsStr;
+use std::env;
 use std::env::Env;
 use std::io::{Read, Write};
 use std::rt::Files;
@@ -117,9 +118,13 @@ where
     let mut output = Counted::new(Noting::new(output, &has_left));
     let mut errors = Counted::new(Muted::new(errors, &has_left));
     let mut terminal = Counted::new(terminal);
-    let words = match words_after_name(rt) {
+    let words = match env::args(rt) {
         Ok(words) => words,
         Err(error) => return refuse_words(&error, &mut errors),
+    };
+    let words = match words_after_name(rt.alloc(), words) {
+        Ok(words) => words,
+        Err(AllocError) => return finish(&mut errors, Status::Memory.number()),
     };
     let name = match file_name(&words, |words| are_limits(rt.alloc(), words)) {
         Ok(name) => name,

@@ -154,6 +154,12 @@ impl Walk<'_> {
         if !self.source.has(at + 2, &["crate", ")"]) {
             return Err(self.source.fault(at, "an unknown form of visibility"));
         }
+        if forms::OPENED
+            .iter()
+            .any(|file| self.source.path.ends_with(file))
+        {
+            return Ok(());
+        }
         // Only right below the crate's module are its files what `super` says.
         let is_below =
             self.source.path.split("/src/").last().is_some_and(|file| {

@@ -37,6 +37,15 @@ pub const GHOST_MEMBERS: &[&str] = &[
     "view",
 ];
 
+/// Files in which `pub(crate)` stays, since the package's own `several` lends several values of a map at once. No contract can say what
+/// the map is after that.
+pub const OPENED: &[&str] = &[
+    "ent_storage/src/handle_map.rt",
+    "ent_storage/src/handle_map/generation.rt",
+    "ent_storage/src/handle_map/slot.rt",
+    "ent_storage/src/sparse_map.rt",
+];
+
 /// The words that begin a clause of a contract. A clause with a star is one too.
 pub const CLAUSES: &[&str] = &["requires", "ensures"];
 
@@ -506,9 +515,6 @@ pub fn compared(krate: &str, name: &str) -> Option<&'static Compared> {
 /// The traits that plain data has in the package, and that the kit can't derive for it: there a clone may fail.
 const OF_DATA: &[&str] = &["Clone", "PartialEq", "Eq", "Hash"];
 
-/// What an error has in the package that hands back queues: in the kit nobody shows these.
-const OF_ERRORS: &[&str] = &["Debug"];
-
 /// What a report has in the package: in the kit the clone of a list may fail.
 const OF_REPORTS: &[&str] = &["Clone", "PartialEq", "Eq"];
 
@@ -526,11 +532,6 @@ const DERIVES_MORE: &[(&str, &[&str], &[&str])] = &[
             "ReserveReply",
         ],
         OF_DATA,
-    ),
-    (
-        "ent_total",
-        &["FrameError", "GoOnError", "SyncError"],
-        OF_ERRORS,
     ),
     ("ent_world", &["SyncReport"], OF_REPORTS),
 ];
@@ -724,6 +725,7 @@ const MODULES: &[Module] = &[
     module("std::hash", "core::hash", &["Hash", "Hasher"]),
     module("std::mem", "core::mem", &["replace", "swap"]),
     module("std::num", "core::num", &["NonZeroU32", "NonZeroU64"]),
+    module("std::slice", "core::slice", &["Iter"]),
     module("std::sync", "crate::kit::sync", &["Arc"]),
     module(
         "std::thread",

@@ -65,6 +65,16 @@ pub(crate) fn phantoms(source: &Source<'_>, names: &Names) -> Vec<(String, Strin
         .collect()
 }
 
+/// The place after `+ Send + Sync`, if it is here: a ghost parameter of what threads share has it too.
+pub(crate) fn after_threads(source: &Source<'_>, at: usize) -> usize {
+    let threads = ["+", "Send", "+", "Sync"];
+    at + if source.has(at, &threads) {
+        threads.len()
+    } else {
+        0
+    }
+}
+
 /// What is ghost of the types of one source.
 #[derive(Default)]
 pub(crate) struct GhostTypes<'a> {
@@ -84,7 +94,7 @@ impl<'a> GhostTypes<'a> {
         for at in 0..source.len() {
             if types.is_ghost(source, at) {
                 if source.at(at + 1) == ":" && names.ghost_traits.contains(source.at(at + 2)) {
-                    types.take(source, at, at + 3);
+                    types.take(source, at, after_threads(source, at + 3));
                 } else {
                     types.take(source, at, at + 1);
                 }
@@ -129,8 +139,8 @@ impl<'a> GhostTypes<'a> {
                 continue;
             };
             for name in parameters_in(source, angles, close) {
-                let is_bound =
-                    source.at(name + 1) == ":" && [",", ">"].contains(&source.at(name + 3));
+                let end_of_bound = source.at(after_threads(source, name + 3));
+                let is_bound = source.at(name + 1) == ":" && [",", ">"].contains(&end_of_bound);
                 if is_bound && names.ghost_traits.contains(source.at(name + 2)) {
                     types.parameters.push((at..end, source.at(name)));
                 }

@@ -66,7 +66,11 @@ const MODULES: &[Module] = &[
     ),
     module("std::cell", "core::cell", &["Cell"]),
     module("std::convert", "crate::kit::programs::string", &["AsStr"]),
-    module("std::env", "crate::kit::programs::env", &["Env", "args"]),
+    module(
+        "std::env",
+        "crate::kit::programs::env",
+        &["Args", "Env", "args"],
+    ),
     module(
         "std::fmt::InlineText",
         "crate::kit::programs::inline_text::InlineText",
@@ -84,11 +88,7 @@ const MODULES: &[Module] = &[
             "Write",
         ],
     ),
-    module(
-        "std::fs",
-        "crate::kit::programs::fs",
-        &["File", "metadata"],
-    ),
+    module("std::fs", "crate::kit::programs::fs", &["File", "metadata"]),
     module("std::process", "std::process", &["ExitCode"]),
     module("std::rt", "crate::kit::programs::rt", &["Files"]),
     module(

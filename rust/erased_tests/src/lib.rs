@@ -18,10 +18,8 @@ mod made;
 #[rustfmt::skip]
 #[path = "../../forgeni/src/proved/mod.rs"]
 mod proved;
+#[allow(unused_imports, unused_macros)] // Only its impls are used here.
 #[path = "../../forgeni/src/shown.rs"]
 mod shown;
 mod side_by_side;
-#[allow(unused_imports)] // Only its impls are used here.
-#[path = "../../forgeni/src/sync.rs"]
-mod sync;
 mod values;

@@ -2,6 +2,7 @@
 
 use crate::errors::fails;
 use crate::numbers::next_number;
+use crate::proved::ent_block_runner::Unrun;
 use crate::proved::ent_blocks::open_in_blocks;
 use crate::shown::shows;
 use crate::Entities;
@@ -60,6 +61,8 @@ shows! {
 }
 
 fails! {
+    finish;
     Undealt: entities error;
     Unended: blocks reservers error;
+    Unrun: reservers error;
 }

@@ -58,12 +58,6 @@ impl<'a> IntoIterator for &'a Entities {
     }
 }
 
-impl Default for Entities {
-    fn default() -> Self {
-        Self::new()
-    }
-}
-
 shows! {
     Entities: len total top retired reserved;
     Living<'_>: len;

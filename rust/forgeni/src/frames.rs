@@ -1,18 +1,18 @@
-//! Frames: systems run on workers over one world, and the sync point applies what they issued.
+//! Frames: systems run on workers over one world or one allocator, and a sync point takes what they issued.
 
 use crate::proved::ent_runner::NoGate;
 use crate::proved::ent_total;
-use crate::{OutOfMemory, Report, System, SystemCommands, View, World};
+use crate::{Entities, Log, LogCommands, LogSystem, OutOfMemory, Report};
+use crate::{System, SystemCommands, View, World};
 use alloc::boxed::Box;
 use alloc::vec::Vec;
 use core::any::Any;
-use core::error::Error;
-use core::fmt;
 use std::panic::{catch_unwind, resume_unwind, AssertUnwindSafe};
 use std::sync::{Mutex, PoisonError};
 
 pub use crate::kit::thread::{StdThreads, Threads as Join};
-pub use crate::proved::ent_total::FrameError;
+pub use crate::proved::ent_block_runner::{run_in_blocks, RunError, Unrun};
+pub use crate::proved::ent_total::{FrameError, LogError};
 
 /// Runs each system once, on that many workers side by side, and then the sync point. It returns
 /// the report of the sync point.
@@ -93,7 +93,7 @@ pub fn run_frame<S: System + Sync>(
 /// [`run_frame`] on the threads of a [`Join`], such as a task pool. It starts no thread by itself. With
 /// the feature `rayon`, `Rayon` and `rayon::ThreadPool` are `Join`s.
 ///
-/// The workers are halved again and again, and each two halves are handed to the `Join`.
+/// Each call of the `Join` gets one worker and all others, or two halves if there are more than eight.
 ///
 /// ```
 /// use forgeni::{run_frame_on, Join, OutOfMemory, SystemCommands, View, World};
@@ -132,27 +132,120 @@ pub fn run_frame_on<J: Join + Sync, S: System + Sync>(
     systems: &[S],
     workers: usize,
 ) -> Result<Report, FrameError> {
+    guarded(join, systems, FrameError::Memory, |join, systems| {
+        Ok(ent_total::run_frame(join, world, systems, workers, &NoGate)?.sync)
+    })
+}
+
+/// Runs each system once, on that many workers side by side, 1 to 64, each with a [`Log`] of its own.
+/// The logs are in the order of the systems, whichever ended first, for a
+/// [`SyncPoint`](crate::SyncPoint) of the allocator. There may be 65,536 systems. If there is none,
+/// nothing takes memory.
+///
+/// Each worker takes the next system that isn't taken yet, until none is left. A spawn reserves at once,
+/// so which handle it returns depends on the workers. If a thread can't be started, another one does its
+/// work. One worker starts no thread.
+///
+/// Closures are systems, and so are those in a `Mutex` that change what they borrow:
+///
+/// ```
+/// use forgeni::{run_logs, Entities, Handle, HandleMap, LogCommands, OutOfMemory, SyncPoint};
+/// use forgeni::Entry::{Command, Spawn};
+/// use std::sync::Mutex;
+///
+/// type Systems<'a> = [Mutex<Box<dyn FnMut(&mut Names<'_>) -> Result<(), OutOfMemory> + Send + 'a>>; 2];
+/// type Names<'a> = LogCommands<'a, (Handle, &'static str)>;
+///
+/// let (mut entities, mut names, mut calls) = (Entities::new(), HandleMap::new(), 0);
+/// let systems: Systems<'_> = [
+///     Mutex::new(Box::new(|commands| match commands.spawn() {
+///         Ok(cart) => commands.push((cart, "cart")),
+///         // There may be none left.
+///         Err(refused) => refused.or_memory(),
+///     })),
+///     Mutex::new(Box::new(|_| Ok(calls += 1))),
+/// ];
+/// let mut logs = run_logs(&mut entities, &systems, 2)?;
+/// drop(systems);
+///
+/// let mut born = Vec::new();
+/// SyncPoint::begin(&mut entities, &mut logs, &mut born)?.apply(&mut entities, |_, entry| {
+///     if let Command((one, name)) = entry {
+///         names.insert(one, name).map_err(|refused| (entry, refused))?;
+///     }
+///     Ok(())
+/// })?;
+/// assert_eq!((names[born[0]], calls), ("cart", 1));
+/// # Ok::<(), Box<dyn std::error::Error>>(())
+/// ```
+///
+/// # Errors
+///
+/// - [`NeedsFlush`](LogError::NeedsFlush), [`Workers`](LogError::Workers),
+///   [`Systems`](LogError::Systems) and [`Memory`](LogError::Memory): no system ran, and the
+///   allocator is as it was.
+/// - [`Lost`](LogError::Lost): a system returned an error, or systems are left and no worker has memory
+///   for the log of another one. The logs are dropped. What the systems that ran had reserved stays
+///   reserved, and nothing else is: [`Entities::flush`] brings it to life.
+///
+/// # Panics
+///
+/// If a system panics, its panic is handed on when all workers have ended, and the allocator is as it is
+/// after [`Lost`](LogError::Lost). If several systems panic, the panic of the first one in the order of
+/// the systems is handed on.
+///
+/// # Aborts
+///
+/// As of [`run_frame`].
+pub fn run_logs<C: Send, S: LogSystem<C> + Sync>(
+    entities: &mut Entities,
+    systems: &[S],
+    workers: usize,
+) -> Result<Vec<Log<C>>, LogError> {
+    run_logs_on(&StdThreads, entities, systems, workers)
+}
+
+/// [`run_logs`] on the threads of a [`Join`], as [`run_frame_on`].
+///
+/// # Errors
+///
+/// The same as [`run_logs`].
+///
+/// # Panics
+///
+/// The same as [`run_logs`]. If no system panics but the `Join` does, its panic is handed on when all
+/// workers have ended. What they reserved stays reserved, and the logs are dropped.
+pub fn run_logs_on<J: Join + Sync, C: Send, S: LogSystem<C> + Sync>(
+    join: &J,
+    entities: &mut Entities,
+    systems: &[S],
+    workers: usize,
+) -> Result<Vec<Log<C>>, LogError> {
+    guarded(join, systems, LogError::Memory, |join, systems| {
+        ent_total::run_logs(join, entities, systems, workers)
+    })
+}
+
+/// Calls `run` with a `Join` and systems whose panics don't leave them, and hands the first panic on. If
+/// there is no memory to guard the systems, it returns that error.
+fn guarded<J, S, T, E>(
+    join: &J,
+    systems: &[S],
+    memory: E,
+    run: impl FnOnce(&Guarded<'_, J>, &[Guarded<'_, S>]) -> Result<T, E>,
+) -> Result<T, E> {
     let panics = Panics::default();
     let mut guarded = Vec::new();
     if guarded.try_reserve_exact(systems.len()).is_err() {
-        return Err(FrameError::Memory);
+        return Err(memory);
     }
     let numbered = systems.iter().enumerate();
-    guarded.extend(numbered.map(|(number, system)| Guarded {
-        guards: system,
-        number,
-        panics: &panics,
-    }));
-    let join = Guarded {
-        guards: join,
-        number: usize::MAX,
-        panics: &panics,
-    };
-    let ran = ent_total::run_frame(&join, world, &guarded, workers, &NoGate);
+    guarded.extend(numbered.map(|(number, system)| Guarded::of(system, number, &panics)));
+    let ran = run(&Guarded::of(join, usize::MAX, &panics), &guarded);
     if let Some(panic) = first(panics) {
         resume_unwind(panic);
     }
-    Ok(ran?.sync)
+    ran
 }
 
 /// What a panic was raised with.
@@ -177,7 +270,15 @@ struct Guarded<'a, T> {
     panics: &'a Panics,
 }
 
-impl<T> Guarded<'_, T> {
+impl<'a, T> Guarded<'a, T> {
+    fn of(guards: &'a T, number: usize, panics: &'a Panics) -> Self {
+        Self {
+            guards,
+            number,
+            panics,
+        }
+    }
+
     /// Calls the closure. If it panics, the panic is kept, and this is returned.
     fn run<R>(&self, run: impl FnOnce() -> R, panicked: R) -> R {
         // Nothing that a panic leaves half done is looked at: what was issued is dropped.
@@ -197,24 +298,15 @@ impl<S: System> System for Guarded<'_, S> {
     }
 }
 
+/// The same of a system that fills a log.
+impl<C, S: LogSystem<C>> LogSystem<C> for Guarded<'_, S> {
+    fn run(&self, commands: &mut LogCommands<'_, C>) -> Result<(), OutOfMemory> {
+        self.run(|| self.guards.run(commands), Err(OutOfMemory))
+    }
+}
+
 impl<J: Join> Join for Guarded<'_, J> {
     fn join(&self, first: &mut (dyn FnMut() + Send), second: &mut (dyn FnMut() + Send)) {
         self.run(|| self.guards.join(first, second), ());
     }
 }
-
-impl fmt::Display for FrameError {
-    fn fmt(&self, out: &mut fmt::Formatter<'_>) -> fmt::Result {
-        match self {
-            Self::NeedsFlush => out.write_str("a flush is needed first"),
-            Self::Workers => out.write_str("a frame has 1 to 64 workers"),
-            Self::Systems => out.write_str("a frame has at most 65,536 systems"),
-            Self::Memory => out.write_str("out of memory before any system ran"),
-            Self::Lost => out.write_str("out of memory while the systems ran"),
-            Self::Unapplied(_) => out.write_str("the sync point stopped: out of memory"),
-            Self::Stopped(stopped) => write!(out, "the sync point stopped: {stopped}"),
-        }
-    }
-}
-
-impl Error for FrameError {}

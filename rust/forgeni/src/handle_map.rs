@@ -1,11 +1,11 @@
 //! Values of any type, by handle. What is proved of them is in the contracts of [`HandleMap`]; here are
 //! the traits of std, and the calls that end the process when memory runs out, as those of `Vec` do.
 
+use crate::errors::fails;
 use crate::handle::Handle;
 use alloc::alloc::handle_alloc_error;
 use alloc::vec;
 use core::alloc::Layout;
-use core::error::Error;
 use core::fmt;
 use core::hash::{Hash, Hasher};
 use core::iter::FusedIterator;
@@ -13,9 +13,9 @@ use core::ops::{Index, IndexMut};
 
 use crate::proved::ent_storage::sparse_map::{Iter as SparseIter, SparseMap};
 
-pub use crate::proved::ent_storage::handle_map::{
-    HandleMap, InsertError, Iter, Keys, Uninserted, Values,
-};
+pub use crate::proved::ent_storage::handle_map::{Entry, HandleMap, InsertError, Iter, Keys};
+pub use crate::proved::ent_storage::handle_map::{OccupiedEntry, Uninserted, VacantEntry, Values};
+pub use crate::several::SlotsMut;
 
 /// Ends the process as `Vec` does: there is no memory for a value, and the caller can't return an error.
 #[cold]
@@ -27,11 +27,7 @@ fn out_of_memory<T>() -> ! {
 macro_rules! traits_of_a_map {
     ($Map:ident, $Iter:ident) => {
         impl<T> $Map<T> {
-            /// Calls `change` on each value once: by rising slot in a [`HandleMap`], and from the last entry to
-            /// the first in a [`SparseMap`].
-            ///
-            /// Use it in place of an `iter_mut`: a contract can't describe a map that lends several values at
-            /// once. [`get_mut`](Self::get_mut) lends one.
+            /// Calls `change` on each value once, in the order of [`iter`](Self::iter).
             ///
             /// ```
             /// use forgeni::{Handle, HandleMap};
@@ -48,10 +44,7 @@ macro_rules! traits_of_a_map {
             /// A panic of `change` is handed on. All values stay, changed as far as `change` had changed them.
             #[inline]
             pub fn for_each_mut(&mut self, mut change: impl FnMut(Handle, &mut T)) {
-                self.retain(|handle, value: &mut T| {
-                    change(handle, value);
-                    true
-                });
+                self.iter_mut().for_each(|(one, it)| change(one, it));
             }
 
             /// The value of the handle. If it has none, it is given the one that `make` returns.
@@ -77,10 +70,12 @@ macro_rules! traits_of_a_map {
                 handle: Handle,
                 make: impl FnOnce() -> T,
             ) -> Result<&mut T, Uninserted<T>> {
-                if !self.contains(handle) {
-                    self.insert(handle, make())?;
-                }
-                Ok(&mut self[handle])
+                self.entry(handle).or_insert_with(make)
+            }
+
+            /// The values, in the order of [`iter`](Self::iter), to be changed.
+            pub fn values_mut(&mut self) -> impl DoubleEndedIterator<Item = &mut T> {
+                self.iter_mut().map(|(_, it)| it)
             }
 
             /// The handles that have a value in this map and in another one, with both, in the order of this
@@ -240,27 +235,15 @@ impl<T: fmt::Debug> fmt::Debug for Values<'_, T> {
     }
 }
 
-/// Without the value, which need not be one that can be printed.
-impl<T> fmt::Debug for Uninserted<T> {
-    fn fmt(&self, out: &mut fmt::Formatter<'_>) -> fmt::Result {
-        out.debug_struct("Uninserted")
-            .field("error", &self.error)
-            .finish_non_exhaustive()
-    }
+// Without the value, which need not be one that can be printed.
+fails! {
+    finish_non_exhaustive;
+    Uninserted<T>: error;
 }
-
-impl<T> fmt::Display for Uninserted<T> {
-    fn fmt(&self, out: &mut fmt::Formatter<'_>) -> fmt::Result {
-        self.error.fmt(out)
-    }
-}
-
-impl<T> Error for Uninserted<T> {}
 
 impl<T: Hash> Hash for Uninserted<T> {
     fn hash<H: Hasher>(&self, state: &mut H) {
-        self.value.hash(state);
-        self.error.hash(state);
+        (&self.value, self.error).hash(state);
     }
 }
 

@@ -48,6 +48,7 @@ mod reservers;
 mod room;
 #[cfg(feature = "serde")]
 mod serde_impls;
+mod several;
 mod sharing;
 mod shown;
 pub mod sparse_map;
@@ -68,7 +69,9 @@ pub use entities::{Entities, Freed, Living, State};
 pub use errors::{Absent, AllocError, FreeError, ImageFault, OutOfMemory, Refused, ReserveError};
 pub use errors::{StorageImageFault, WorldImageFault};
 #[cfg(feature = "std")]
-pub use frames::{run_frame, run_frame_on, FrameError, Join, StdThreads};
+pub use frames::{run_frame, run_frame_on, run_in_blocks, run_logs, run_logs_on};
+#[cfg(feature = "std")]
+pub use frames::{FrameError, Join, LogError, RunError, StdThreads, Unrun};
 pub use handle::{Handle, ParseHandleError};
 pub use handle_map::{HandleMap, InsertError, Uninserted};
 pub use lent::Lent;
@@ -83,7 +86,9 @@ pub use sparse_map::SparseMap;
 pub use storage::{Bundle, Items, Storage, StorageError};
 pub use sync::{Fault, FaultKind, GoOnError, Queues, Report, Stop, Stopped, SyncError};
 #[cfg(feature = "std")]
-pub use system::{system, System, SystemCommands};
+pub use system::{system, BlockCommands, BlockSystem, LogCommands, LogSystem};
+#[cfg(feature = "std")]
+pub use system::{System, SystemCommands};
 pub use world::{
     CommandQueue, Commands, FinishError, OpenWorld, Unfinished, Unopened, View, World,
 };

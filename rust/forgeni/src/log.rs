@@ -19,12 +19,6 @@ impl<C> Default for Log<C> {
     }
 }
 
-impl<C: fmt::Debug> fmt::Debug for Log<C> {
-    fn fmt(&self, out: &mut fmt::Formatter<'_>) -> fmt::Result {
-        out.debug_list().entries(self.entries()).finish()
-    }
-}
-
 impl<C> fmt::Debug for SyncPoint<C> {
     fn fmt(&self, out: &mut fmt::Formatter<'_>) -> fmt::Result {
         out.debug_struct("SyncPoint").finish_non_exhaustive()

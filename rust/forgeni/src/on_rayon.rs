@@ -1,4 +1,7 @@
 //! Frames on the threads of rayon.
+//!
+//! The thread that calls `rayon::join` runs the first closure, and offers the second one to others. So the
+//! second one here, which offers more, is rayon's first.
 
 use crate::frames::Join;
 
@@ -9,12 +12,12 @@ pub struct Rayon;
 
 impl Join for Rayon {
     fn join(&self, first: &mut (dyn FnMut() + Send), second: &mut (dyn FnMut() + Send)) {
-        rayon::join(first, second);
+        rayon::join(second, first);
     }
 }
 
 impl Join for rayon::ThreadPool {
     fn join(&self, first: &mut (dyn FnMut() + Send), second: &mut (dyn FnMut() + Send)) {
-        rayon::ThreadPool::join(self, first, second);
+        rayon::ThreadPool::join(self, second, first);
     }
 }

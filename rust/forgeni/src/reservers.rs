@@ -1,11 +1,11 @@
 //! A pool of reservers, for threads that come and go.
 
+use crate::errors::fails;
 use crate::lent::Lent;
 use crate::sharing::Reserver;
 use crate::waiting::Waiting;
 use crate::OutOfMemory;
 use alloc::vec::Vec;
-use core::error::Error;
 use core::fmt;
 use core::sync::atomic::{AtomicUsize, Ordering};
 use std::sync::{Mutex, MutexGuard, PoisonError, TryLockError};
@@ -246,21 +246,11 @@ impl<I> Unpooled<I> {
     }
 }
 
-impl<I> fmt::Debug for Unpooled<I> {
-    fn fmt(&self, out: &mut fmt::Formatter<'_>) -> fmt::Result {
-        out.debug_struct("Unpooled")
-            .field("error", &self.error)
-            .finish_non_exhaustive()
-    }
+// Without the reservers, which need not be such that can be printed.
+fails! {
+    finish_non_exhaustive;
+    Unpooled<I>: error;
 }
-
-impl<I> fmt::Display for Unpooled<I> {
-    fn fmt(&self, out: &mut fmt::Formatter<'_>) -> fmt::Result {
-        self.error.fmt(out)
-    }
-}
-
-impl<I> Error for Unpooled<I> {}
 
 /// Drops the reservers, or what lends them.
 impl<I> From<Unpooled<I>> for OutOfMemory {

@@ -63,6 +63,7 @@ shows! {
 }
 
 fails! {
+    finish;
     Unshared: entities error;
     Unclosed: shared reservers error;
 }

@@ -4,6 +4,7 @@
 use crate::handle::Handle;
 use alloc::vec;
 
+pub use crate::proved::ent_storage::sparse_map::{Entry, OccupiedEntry, VacantEntry};
 pub use crate::proved::ent_storage::sparse_map::{Iter, SparseMap};
 
 impl<T> SparseMap<T> {

@@ -10,12 +10,6 @@ use core::iter::FusedIterator;
 pub use crate::proved::ent_queue::Bundle;
 pub use crate::proved::ent_storage::{Items, Storage, StorageFault as StorageError};
 
-impl Default for Storage {
-    fn default() -> Self {
-        Self::new()
-    }
-}
-
 shows! {
     Storage: len;
 }

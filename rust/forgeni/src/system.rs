@@ -1,12 +1,22 @@
 //! Systems of frames.
 
 use crate::shown::shows;
-use crate::{OutOfMemory, View};
+use crate::{Log, OutOfMemory, View};
 use alloc::boxed::Box;
 use alloc::sync::Arc;
+use std::sync::{Mutex, PoisonError};
 
+pub use crate::proved::ent_block_runner::{BlockCommands, BlockSystem};
+pub use crate::proved::ent_log_runner::LogSystem;
 pub use crate::proved::ent_queue::Commands as SystemCommands;
 pub use crate::proved::ent_runner::System;
+
+/// Fills the log of one system, and reserves by a reserver that is lent to it. `C` is the caller's type of
+/// commands.
+pub type LogCommands<'a, C> = crate::proved::ent_log_runner::LogCommands<'a, Log<C>>;
+
+/// What a system returns.
+type Ran = Result<(), OutOfMemory>;
 
 /// Returns the closure, as a [`System`]. The call lets Rust infer the types of its parameters:
 ///
@@ -22,19 +32,32 @@ pub use crate::proved::ent_runner::System;
 /// assert_eq!(world.len(), 1);
 /// # Ok::<(), forgeni::FrameError>(())
 /// ```
-pub fn system<F>(run: F) -> F
-where
-    F: Fn(&View<'_>, &mut SystemCommands<'_>) -> Result<(), OutOfMemory>,
-{
+pub fn system<F: Fn(&View<'_>, &mut SystemCommands<'_>) -> Ran>(run: F) -> F {
     run
 }
 
-impl<F> System for F
-where
-    F: Fn(&View<'_>, &mut SystemCommands<'_>) -> Result<(), OutOfMemory>,
-{
-    fn run(&self, view: &View<'_>, commands: &mut SystemCommands<'_>) -> Result<(), OutOfMemory> {
+impl<F: Fn(&View<'_>, &mut SystemCommands<'_>) -> Ran> System for F {
+    fn run(&self, view: &View<'_>, commands: &mut SystemCommands<'_>) -> Ran {
         self(view, commands)
+    }
+}
+
+impl<C, F: Fn(&mut LogCommands<'_, C>) -> Ran> LogSystem<C> for F {
+    fn run(&self, commands: &mut LogCommands<'_, C>) -> Ran {
+        self(commands)
+    }
+}
+
+impl<C, F: Fn(&mut BlockCommands<'_, C>) -> Ran> BlockSystem<C> for F {
+    fn run(&self, commands: &mut BlockCommands<'_, C>) -> Ran {
+        self(commands)
+    }
+}
+
+/// A system that changes what it borrows.
+impl<C, F: FnMut(&mut LogCommands<'_, C>) -> Ran> LogSystem<C> for Mutex<F> {
+    fn run(&self, commands: &mut LogCommands<'_, C>) -> Ran {
+        self.lock().unwrap_or_else(PoisonError::into_inner)(commands)
     }
 }
 
@@ -42,11 +65,7 @@ where
 macro_rules! systems_behind {
     ($([$($of:tt)*] $pointer:ty;)*) => {$(
         impl $($of)* System for $pointer {
-            fn run(
-                &self,
-                view: &View<'_>,
-                commands: &mut SystemCommands<'_>,
-            ) -> Result<(), OutOfMemory> {
+            fn run(&self, view: &View<'_>, commands: &mut SystemCommands<'_>) -> Ran {
                 (**self).run(view, commands)
             }
         }

@@ -64,41 +64,25 @@ impl Deref for HandleList {
     }
 }
 
-impl From<&[Handle]> for HandleList {
-    fn from(handles: &[Handle]) -> Self {
-        handles.to_vec().into()
-    }
+macro_rules! of_handles {
+    ($name:ident) => {
+        impl From<&[Handle]> for $name {
+            fn from(handles: &[Handle]) -> Self {
+                handles.to_vec().into()
+            }
+        }
+
+        impl<const N: usize> From<[Handle; N]> for $name {
+            fn from(handles: [Handle; N]) -> Self {
+                handles.to_vec().into()
+            }
+        }
+    };
 }
 
-impl<const N: usize> From<[Handle; N]> for HandleList {
-    fn from(handles: [Handle; N]) -> Self {
-        handles.to_vec().into()
-    }
-}
-
-impl From<&[Handle]> for FlushReply {
-    fn from(handles: &[Handle]) -> Self {
-        handles.to_vec().into()
-    }
-}
-
-impl<const N: usize> From<[Handle; N]> for FlushReply {
-    fn from(handles: [Handle; N]) -> Self {
-        handles.to_vec().into()
-    }
-}
-
-impl From<&[Handle]> for ReserveReply {
-    fn from(handles: &[Handle]) -> Self {
-        handles.to_vec().into()
-    }
-}
-
-impl<const N: usize> From<[Handle; N]> for ReserveReply {
-    fn from(handles: [Handle; N]) -> Self {
-        handles.to_vec().into()
-    }
-}
+of_handles!(HandleList);
+of_handles!(FlushReply);
+of_handles!(ReserveReply);
 
 impl From<Handle> for ReserveReply {
     fn from(handle: Handle) -> Self {

@@ -93,7 +93,8 @@ impl World {
     /// The bytes may come from anywhere. Each image that [`write_image`](Self::write_image) writes is
     /// read as the same world, which gives no handle that was given before. It refuses the queues of
     /// phases that were opened before: [`SyncError::OtherWorld`]. Bytes that are the image of no world
-    /// are refused.
+    /// are refused. The call takes at most eight bytes of memory for each byte, and 16 KiB. It takes none
+    /// before it has compared the number of slots with the length of the allocator's part.
     ///
     /// ```
     /// use forgeni::{World, WorldImageFault};
@@ -108,7 +109,8 @@ impl World {
     ///
     /// # Errors
     ///
-    /// Each but [`Memory`](WorldImageFault::Memory) says that no world has this image.
+    /// Each but [`Memory`](WorldImageFault::Memory) says that no world has this image, by the first fault
+    /// that the bytes have.
     ///
     /// [`SyncError::OtherWorld`]: crate::SyncError::OtherWorld
     pub fn read_image(bytes: &[u8]) -> Result<Self, WorldImageFault> {
@@ -157,12 +159,6 @@ impl World {
     }
 }
 
-impl Default for World {
-    fn default() -> Self {
-        Self::new()
-    }
-}
-
 impl Clone for View<'_> {
     fn clone(&self) -> Self {
         *self
@@ -180,6 +176,7 @@ shows! {
 }
 
 fails! {
+    finish;
     Unopened: world error;
     Unfinished: open queues error;
 }

@@ -5,8 +5,11 @@
 mod common;
 mod worlds;
 
+#[cfg(feature = "std")]
+mod block_frames;
 mod blocks;
 mod clones;
+mod entries;
 mod errors;
 #[cfg(feature = "std")]
 mod frames;
@@ -19,6 +22,8 @@ mod like_bevy;
 mod like_hecs;
 mod like_slotmap;
 mod limits;
+#[cfg(feature = "std")]
+mod log_systems;
 mod logs;
 mod model;
 mod panics;

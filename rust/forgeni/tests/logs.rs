@@ -154,6 +154,26 @@ fn what_a_panicking_system_reserved_comes_to_life() {
     assert_eq!(drained(sync, &mut entities).len(), 1);
 }
 
+/// A system that forgets its log: what it spawned comes to life, and its commands are gone.
+#[test]
+fn a_log_that_is_forgotten() {
+    let mut entities = Entities::new();
+    let mut logs = vec![Log::<Command>::new(), Log::new()];
+    let run = entities.phase(1, |_, reservers| {
+        for log in &mut logs {
+            let one = log.spawn(&mut reservers[0]).expect("a handle");
+            log.push(Despawn(one)).expect("memory");
+        }
+    });
+    assert_eq!(run, Ok(()));
+    std::mem::forget(logs.swap_remove(0));
+    let mut born = vec![];
+    let sync = SyncPoint::begin(&mut entities, &mut logs, &mut born).expect("reserved");
+    let second = [Entry::Spawn(born[1]), Entry::Command(Despawn(born[1]))];
+    assert_eq!(drained(sync, &mut entities), second);
+    assert_eq!((born.len(), entities.len()), (2, 2));
+}
+
 #[test]
 fn a_panic_of_the_closure_leaves_the_rest() {
     for panicking in 0..4 {

@@ -14,7 +14,7 @@ use forgeni::{
     OutOfMemory, Queues, Report, ReserveError, ShareError, SparseMap, State, Stop, Storage,
     StorageError, SyncError, SyncPoint, World, WorldImageFault,
 };
-use refusing::{held, refusing, Refusal};
+use refusing::{asked, held, most_held, refusing, Refusal};
 use std::rc::Rc;
 
 const HP: ComponentId = ComponentId(0);
@@ -163,6 +163,91 @@ fn an_image_of_a_world() {
         assert_eq!(seen(&again), seen(&world));
         refused
     });
+}
+
+/// Reads bytes as the image of an allocator. Returns how much memory was asked for.
+fn asked_for(image: &[u8]) -> usize {
+    asked(|| drop(Entities::read_image(image))).1
+}
+
+/// Each byte of an image changed in each bit, each byte cut off, and each word turned into a great
+/// number: no call asks for more than the slots have, and none for anything if there are no slots.
+#[test]
+fn no_image_of_an_allocator_takes_more_than_its_bytes() {
+    let mut image = vec![];
+    requested(30).write_image(&mut image).expect("memory");
+    assert_eq!(asked_for(&image), 30 * 8 + 10 * 4);
+
+    let within = |image: &[u8]| {
+        let most = image.len().saturating_sub(40);
+        assert!(asked_for(image) <= most, "{image:?}");
+    };
+    for at in 0..image.len() {
+        within(&image[..at]);
+        for bit in 0..8 {
+            let mut changed = image.clone();
+            changed[at] ^= 1 << bit;
+            within(&changed);
+        }
+    }
+    for (at, _) in image.iter().enumerate().step_by(4) {
+        for word in [0, 31, 1 << 30, 1 << 31, u32::MAX] {
+            let mut changed = image.clone();
+            changed[at..at + 4].copy_from_slice(&word.to_le_bytes());
+            within(&changed);
+        }
+    }
+
+    // As many slots as there may be, in forty bytes.
+    let most = [u32::MAX, (1 << 31) - 1, u32::MAX, 3, 0, 0, 0].map(u32::to_le_bytes);
+    let header = [&image[..12], most.as_flattened()].concat();
+    assert_eq!((header.len(), asked_for(&header)), (40, 0));
+}
+
+/// A world's lists have room for each slot that may get an entity, and those of a component for each
+/// place up to the last that has a value. So the most costly images have many components, which the
+/// last entities alone have.
+#[test]
+fn no_image_of_a_world_takes_more_than_eight_times_its_bytes() {
+    // What the lists of 256 components take beyond that, however short they are.
+    const COMPONENTS: isize = 16 << 10;
+    let all: Vec<_> = (0..=255).map(|id| (ComponentId(id), 1)).collect();
+    for count in [1, 100, 10_000] {
+        for (waiting, given, items) in [
+            (0, 0, &all[..0]),
+            (count, 0, &all[..0]),
+            (0, 1, &all[255..]),
+            (0, 1, &all[..]),
+            (0, 2, &all[..]),
+            (0, count, &all[..1]),
+            (0, count / 2, &all[..8]),
+        ] {
+            let image = image_of(count, waiting, given, items);
+            // With a fault at the very end too.
+            for bytes in [&image[..], &image[..image.len() - 1]] {
+                let (_, most) = most_held(|| drop(World::read_image(bytes)));
+                let bound = 8 * bytes.len() as isize + COMPONENTS;
+                let wide = items.len();
+                assert!(most <= bound, "{most}: {count} {waiting} {given} {wide}");
+            }
+        }
+    }
+}
+
+/// The image of a world of so many slots, the first of which wait. The last entities, so many, have
+/// these components.
+fn image_of(count: usize, waiting: usize, given: usize, items: &[(ComponentId, i64)]) -> Vec<u8> {
+    let mut world = World::new();
+    for left in (1..=count).rev() {
+        let items = if left <= given { items } else { &[] };
+        world.spawn(items).expect("memory");
+    }
+    for one in world.by_birth().expect("memory").iter().take(waiting) {
+        world.despawn(*one).expect("alive");
+    }
+    let mut image = vec![];
+    world.write_image(&mut image).expect("memory");
+    image
 }
 
 #[test]
@@ -587,6 +672,58 @@ fn calls_of_a_map() {
         assert!(capacity >= 1000);
         refused + also
     });
+}
+
+/// A vacant entry that is refused memory hands its value back, and the map is as it was. What lends values or moves
+/// them out takes no memory.
+#[test]
+fn entries_and_drains_of_maps() {
+    let none = Refusal::All { after: 0 };
+    for index in [100, 70_001] {
+        let one = handle(index, 2);
+        each_in_turn(|refusal| {
+            let mut map = HandleMap::new();
+            let (given, refused) = refusing(refusal, || map.entry(one).or_insert(7).map(|it| *it));
+            if let Err(back) = given {
+                assert!(refused > 0);
+                assert_eq!(back.into_parts(), (7, InsertError::Memory));
+                assert_eq!((map.len(), map.capacity(), map.get(one)), (0, 0, None));
+                assert_eq!(map.entry(one).or_insert(7), Ok(&mut 7));
+            }
+            assert_eq!((map.len(), map.get(one)), (1, Some(&7)));
+            let (done, unasked) = refusing(none, || {
+                *map.entry(one).and_modify(|it| *it += 1).or_insert(0)? += 1;
+                map.iter_mut().for_each(|(_, it)| *it += 1);
+                let [it] = map.get_disjoint_mut([one]).expect("it has one");
+                *it += 1;
+                let (_, mut above) = map.split_at_mut(9);
+                *above.get_mut(one).expect("it has one") += 1;
+                Ok::<_, forgeni::Uninserted<i32>>(map.drain().next())
+            });
+            assert_eq!((done, unasked), (Ok(Some((one, 12))), 0));
+            refused
+        });
+        each_in_turn(|refusal| {
+            let mut map = SparseMap::new();
+            let (given, refused) = refusing(refusal, || map.entry(one).or_insert(7).map(|it| *it));
+            if let Err(back) = given {
+                assert!(refused > 0);
+                assert_eq!(back.into_parts(), (7, InsertError::Memory));
+                assert_eq!((map.len(), map.get(one)), (0, None));
+                assert_eq!(map.entry(one).or_insert(7), Ok(&mut 7));
+            }
+            assert_eq!((map.len(), map.get(one)), (1, Some(&7)));
+            let (done, unasked) = refusing(none, || {
+                *map.entry(one).and_modify(|it| *it += 1).or_insert(0)? += 1;
+                map.iter_mut().for_each(|(_, it)| *it += 1);
+                let [it] = map.get_disjoint_mut([one]).expect("it has one");
+                *it += 1;
+                Ok::<_, forgeni::Uninserted<i32>>(map.drain().next())
+            });
+            assert_eq!((done, unasked), (Ok(Some((one, 11))), 0));
+            refused
+        });
+    }
 }
 
 /// A map with a value for each of the first slots.

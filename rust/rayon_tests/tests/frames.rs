@@ -1,8 +1,7 @@
 //! Frames on rayon's threads: the same as on threads of std, for any number of workers and threads.
 
-use forgeni::{
-    run_frame, run_frame_on, ComponentId, Join, OutOfMemory, Rayon, SystemCommands, View, World,
-};
+use forgeni::{run_frame, run_frame_on, run_logs_on, ComponentId, Entities, Entry, Join};
+use forgeni::{LogCommands, OutOfMemory, Rayon, SystemCommands, View, World};
 use rayon::{ThreadPool, ThreadPoolBuilder};
 use std::sync::Barrier;
 
@@ -102,4 +101,19 @@ fn a_system_panics() {
     assert_eq!((world.frame(), world.len()), (0, 0));
     world.flush().expect("memory");
     assert!((1..=4).contains(&world.len()));
+}
+
+/// Logs that systems fill on rayon's threads are in the order of the systems.
+#[test]
+fn systems_fill_logs() {
+    let system = |number: u32| move |commands: &mut LogCommands<'_, u32>| commands.push(number);
+    let systems: Vec<_> = (0..16).map(system).collect();
+    for workers in [1, 2, 4, 64] {
+        let mut entities = Entities::new();
+        let logs = run_logs_on(&Rayon, &mut entities, &systems, workers).expect("memory");
+        let all: Vec<_> = logs.iter().flat_map(|log| log.entries().to_vec()).collect();
+        assert_eq!(all, (0..16).map(Entry::Command).collect::<Vec<_>>());
+        let stopped = run_logs_on(&pool(2), &mut entities, &systems[..0], workers);
+        assert!(stopped.expect("nothing takes memory").is_empty());
+    }
 }

@@ -5,6 +5,7 @@ ghost use Rattle.std.specs.Iterator.SizeHint.{IsWithinCount};
 use crate::handle_map::slot::Slot;
 use ent_handle::Handle;
 use std::marker::Model;
+use std::slice;
 
 /// The handles and values of a map, by rising slot.
 ///
@@ -12,7 +13,7 @@ use std::marker::Model;
 #[derive(Drop)]
 #[must_use]
 pub struct Iter<'a, T> {
-    slots: &'a [Slot<T>],
+    slots: slice::Iter<'a, Slot<T>>,
     index: usize,
     left: usize,
 }
@@ -26,11 +27,12 @@ impl<'a, T> Model for Iter<'a, T> {
 
     ghost coded = { coded_list (coded× handle_code T.code) };
 
+    ghost use Rattle.std.specs.Slice.Iter.{iter_rest};
     ghost use Rattle.ent_storage.specs.Slots.{entries_from, AreCounted};
 
-    ghost view = { λ it. entries_from it.index it.slots.now };
+    ghost view = { λ it. entries_from it.index (iter_rest it.slots) };
 
-    ghost invariant = { λ it. AreCounted it.index it.slots.now it.left };
+    ghost invariant = { λ it. AreCounted it.index (iter_rest it.slots) it.left };
 }
 
 impl<'a, T> Iter<'a, T> {
@@ -42,7 +44,7 @@ impl<'a, T> Iter<'a, T> {
         ensures { result ≡ entries_from 0 slots.now }
     {
         Iter {
-            slots,
+            slots: slots.iter(),
             index: 0,
             left,
         }
@@ -53,7 +55,7 @@ impl<'a, T> Iter<'a, T> {
         ensures { result ≡ self.now }
     {
         Iter {
-            slots: self.slots,
+            slots: self.slots.as_slice().iter(),
             index: self.index,
             left: self.left,
         }
@@ -78,9 +80,8 @@ impl<'a, T> Iterator for Iter<'a, T> {
     ghost remaining = { item_count (λ rest. rest) };
 
     fn next(&mut self) -> Option<(Handle, &'a T)> {
-        while let Some((slot, rest)) = self.slots.split_first() {
+        while let Some(slot) = self.slots.next() {
             let index = self.index as u32;
-            self.slots = rest;
             self.index += 1;
             if let Slot::Occupied { generation, value } = slot {
                 self.left -= 1;
@@ -103,9 +104,8 @@ impl<'a, T> DoubleEndedIterator for Iter<'a, T> {
     ghost next_back_gives = { YieldsLastBy (λ item. (item.0, item.1.now)) (λ rest. rest) };
 
     fn next_back(&mut self) -> Option<(Handle, &'a T)> {
-        while let Some((slot, rest)) = self.slots.split_last() {
-            let index = (self.index + rest.len()) as u32;
-            self.slots = rest;
+        while let Some(slot) = self.slots.next_back() {
+            let index = (self.index + self.slots.len()) as u32;
             if let Slot::Occupied { generation, value } = slot {
                 self.left -= 1;
                 return Some((generation.handle(index), value));

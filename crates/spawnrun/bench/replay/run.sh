@@ -12,11 +12,11 @@ trap 'rm -rf "$out"' EXIT
 
 row() {
     python3 "$here/schedule.py" "$2" "$1" --outcomes "$out/outcomes" >"$out/schedule"
-    python3 "$here/measure.py" "$crate/out/spawnrun" "$rust/target/release/spawnrun" "$1" "$out/schedule" "$out/outcomes"
+    python3 "$here/measure.py" "$crate/out/spawnrun" "$rust/target/programs/spawnrun" "$1" "$out/schedule" "$out/outcomes"
 }
 
 [ -x "$crate/out/spawnrun" ] || (cd "$crate" && rt run -- replay </dev/null >"$out/log" 2>&1) || { tail -5 "$out/log"; exit 1; }
-cargo build --offline --quiet --release --features programs --manifest-path "$rust/Cargo.toml"
+cargo build --offline --quiet --profile programs --features programs --manifest-path "$rust/Cargo.toml"
 echo "| Schedule | Lines | Input bytes | Output bytes | ms | ns a line | Peak MiB | Peak bytes a line | ms by cargo | Ratio | Peak MiB by cargo |"
 echo "|---|---|---|---|---|---|---|---|---|---|---|"
 row mixed 10000

@@ -8,7 +8,7 @@ set -eu
 here=$(cd "$(dirname "$0")" && pwd)
 crate=$here/../..
 rust=$here/../../../../rust/forgeni
-by_cargo=$rust/target/release/spawnrun
+by_cargo=$rust/target/programs/spawnrun
 out=$(mktemp -d)
 trap 'rm -rf "$out"' EXIT
 
@@ -22,7 +22,7 @@ row() {
 
 echo '{"components":[],"frames":[]}' >"$out/empty"
 [ -x "$crate/out/spawnrun" ] || (cd "$crate" && rt run -- run <"$out/empty" >"$out/log" 2>&1) || { tail -5 "$out/log"; exit 1; }
-cargo build --offline --quiet --release --features programs --manifest-path "$rust/Cargo.toml"
+cargo build --offline --quiet --profile programs --features programs --manifest-path "$rust/Cargo.toml"
 echo "| Script | Workers | Commands | Input bytes | Output bytes | ms | ns a command | Peak MiB | Peak bytes a command | ms by cargo | Ratio | Peak MiB by cargo |"
 echo "|---|---|---|---|---|---|---|---|---|---|---|---|"
 row mixed 10000 1

@@ -2,7 +2,7 @@
 
 use super::{pieces, Audit};
 use crate::forms::PHANTOM;
-use crate::ghost_types::file_of_module;
+use crate::ghost_types::{after_threads, file_of_module};
 
 impl Audit<'_> {
     /// The end of what is ghost here since a trait is.
@@ -86,14 +86,15 @@ impl Audit<'_> {
         }
         let declares = |other: &usize| source.has(*other, &[source.at(at), ":"]);
         let is_bound = |at: usize| {
-            self.names.ghost_traits.contains(source.at(at + 2)) && source.at(at + 3) != "+"
+            self.names.ghost_traits.contains(source.at(at + 2))
+                && source.at(after_threads(source, at + 3)) != "+"
         };
         let mut all = (0..source.len()).filter(declares).peekable();
         if all.peek().is_none() || !all.all(is_bound) {
             return None;
         }
         Some(if source.at(at + 1) == ":" {
-            at + 3
+            after_threads(source, at + 3)
         } else {
             at + 1
         })

@@ -7,6 +7,7 @@ use crate::{Places, Run};
 /// What a slot map does.
 pub struct Slots {
     pub alloc_free: Option<Places>,
+    pub alloc_all: Option<Places>,
     pub fresh: Option<Places>,
     pub contains: Option<Places>,
     pub rising: Option<Places>,
@@ -18,6 +19,7 @@ pub struct Slots {
 #[cfg(not(slotmap))]
 pub const SLOTS: Slots = Slots {
     alloc_free: None,
+    alloc_all: None,
     fresh: None,
     contains: None,
     rising: None,
@@ -46,6 +48,7 @@ mod slots {
 
     pub const SLOTS: Slots = Slots {
         alloc_free: Some(places!(alloc_free)),
+        alloc_all: Some(places!(alloc_all)),
         fresh: Some(places!(fresh)),
         contains: Some(places!(contains)),
         rising: Some(places!(rising)),
@@ -105,6 +108,23 @@ mod slots {
             (0..COUNT).fold(0, |sum, _| {
                 let key = black_box(&mut slots).insert(());
                 slots.remove(key).expect("alive");
+                sum ^ key.data().as_ffi()
+            })
+        })
+    }
+
+    fn alloc_all<const PLACE: usize>() -> Run {
+        shift::<PLACE>();
+        let (mut slots, mut keys) = full();
+        for key in keys.drain(..) {
+            slots.remove(key).expect("alive");
+        }
+        timed(|| {
+            for _ in 0..COUNT {
+                keys.push(black_box(&mut slots).insert(()));
+            }
+            keys.iter().fold(0, |sum, key| {
+                slots.remove(*key).expect("alive");
                 sum ^ key.data().as_ffi()
             })
         })

@@ -15,6 +15,13 @@ pub fn lines() {
         slots.alloc_free,
     );
     line(
+        "`alloc`, then `free`, of all slots",
+        COUNT,
+        places!(alloc_all),
+        places!(plain_alloc_all),
+        slots.alloc_all,
+    );
+    line(
         "`alloc` of new slots",
         COUNT,
         places!(fresh),
@@ -99,7 +106,7 @@ fn plain_full() -> (plain::Entities, Vec<plain::Handle>) {
 /// An allocator whose slots were all used once and wait.
 fn used() -> Entities {
     let (mut entities, all) = full();
-    free_all(&mut entities, all);
+    free_all(&mut entities, &all);
     entities
 }
 
@@ -109,9 +116,9 @@ fn plain_used() -> plain::Entities {
     entities
 }
 
-fn free_all(entities: &mut Entities, all: Vec<Handle>) -> u64 {
-    all.into_iter().fold(0, |sum, one| {
-        let freed = entities.free(one).expect("alive");
+fn free_all(entities: &mut Entities, all: &[Handle]) -> u64 {
+    all.iter().fold(0, |sum, one| {
+        let freed = entities.free(*one).expect("alive");
         sum ^ freed.next.map_or(0, Handle::to_bits)
     })
 }
@@ -144,6 +151,30 @@ fn plain_alloc_free<const PLACE: usize>() -> Run {
             entities.free(one).ok().expect("alive");
             sum ^ one.to_bits()
         })
+    })
+}
+
+fn alloc_all<const PLACE: usize>() -> Run {
+    shift::<PLACE>();
+    let mut entities = used();
+    let mut all = Vec::with_capacity(COUNT as usize);
+    timed(|| {
+        for _ in 0..COUNT {
+            all.push(black_box(&mut entities).alloc().expect("room"));
+        }
+        free_all(&mut entities, &all)
+    })
+}
+
+fn plain_alloc_all<const PLACE: usize>() -> Run {
+    shift::<PLACE>();
+    let mut entities = plain_used();
+    let mut all = Vec::with_capacity(COUNT as usize);
+    timed(|| {
+        for _ in 0..COUNT {
+            all.push(black_box(&mut entities).alloc().ok().expect("room"));
+        }
+        plain_free_all(&mut entities, &all)
     })
 }
 
@@ -283,7 +314,7 @@ fn requests<const PLACE: usize>() -> Run {
         });
         let mut born = Vec::new();
         entities.flush(&mut born).expect("memory");
-        sum ^ free_all(&mut entities, born)
+        sum ^ free_all(&mut entities, &born)
     })
 }
 
@@ -309,7 +340,7 @@ fn phase<const PLACE: usize>() -> Run {
         let mut entities = shared.close(reservers).expect("closed");
         let mut born = Vec::new();
         entities.flush(&mut born).expect("memory");
-        sum ^ free_all(&mut entities, born)
+        sum ^ free_all(&mut entities, &born)
     })
 }
 
@@ -336,7 +367,7 @@ fn bulks<const PLACE: usize>() -> Run {
         let mut entities = shared.close(reservers).expect("closed");
         let mut born = Vec::new();
         entities.flush(&mut born).expect("memory");
-        sum ^ free_all(&mut entities, born)
+        sum ^ free_all(&mut entities, &born)
     })
 }
 

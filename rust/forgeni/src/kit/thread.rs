@@ -2,13 +2,14 @@
 //!
 //! The contracts are those of the kit's `core/src/thread.rt` and `thread/lent.rt`.
 
-/// Who runs the two halves of a frame's work side by side: threads of std ([`StdThreads`]), rayon, or a
+/// Who runs the two parts of a frame's work side by side: threads of std ([`StdThreads`]), rayon, or a
 /// task pool of the caller's.
 ///
-/// Of the two nothing is trusted but that they may be called from another thread: a half that `join`
-/// doesn't call is called after it, and a half that it calls again does nothing then.
+/// Of the two nothing is trusted but that they may be called from another thread: a part that `join`
+/// doesn't call is called after it, and a part that it calls again does nothing then.
 pub trait Threads {
-    /// Calls both, side by side if it can, and returns when both have returned.
+    /// Calls both, side by side if it can, and returns when both have returned. It is best to call the second
+    /// one in this thread at once: if there are more than two workers, that one calls `join` again.
     fn join(&self, first: &mut (dyn FnMut() + Send), second: &mut (dyn FnMut() + Send));
 }
 
@@ -18,8 +19,8 @@ impl<J: Threads + ?Sized> Threads for &J {
     }
 }
 
-/// A new thread of std for one of two halves, which ends with the frame. Without the feature `std` one
-/// half runs after the other.
+/// A new thread of std for one of two parts, which ends with the frame. Without the feature `std` one
+/// part runs after the other.
 #[derive(Clone, Copy, Debug, Default)]
 pub struct StdThreads;
 
@@ -87,7 +88,7 @@ mod tests {
         assert_eq!((both, left, right), (('l', "r"), 1, 1));
     }
 
-    /// Calls the halves as many times as these numbers say, the second one first.
+    /// Calls the parts as many times as these numbers say, the second one first.
     struct Calls(usize, usize);
 
     impl Threads for Calls {

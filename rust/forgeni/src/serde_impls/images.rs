@@ -7,45 +7,30 @@ use core::fmt;
 use serde::de::{Deserialize, Deserializer, Error, SeqAccess, Visitor};
 use serde::ser::{Error as _, Serialize, Serializer};
 
-/// As the bytes that [`write_image`](Entities::write_image) writes. JSON has a list of numbers for them.
-impl Serialize for Entities {
-    fn serialize<S: Serializer>(&self, serializer: S) -> Result<S::Ok, S::Error> {
-        let mut image = Vec::new();
-        self.write_image(&mut image).map_err(S::Error::custom)?;
-        serializer.serialize_bytes(&image)
-    }
+macro_rules! is_its_image {
+    ($name:ident, $expected:literal) => {
+        /// As the bytes that [`write_image`](Self::write_image) writes. JSON has a list of numbers for them.
+        impl Serialize for $name {
+            fn serialize<S: Serializer>(&self, serializer: S) -> Result<S::Ok, S::Error> {
+                let mut image = Vec::new();
+                self.write_image(&mut image).map_err(S::Error::custom)?;
+                serializer.serialize_bytes(&image)
+            }
+        }
+
+        /// Reads the bytes, or a list of them, as [`read_image`](Self::read_image) does. What it refuses is
+        /// an error.
+        impl<'de> Deserialize<'de> for $name {
+            fn deserialize<D: Deserializer<'de>>(deserializer: D) -> Result<Self, D::Error> {
+                let (expected, read) = ($expected, Self::read_image);
+                deserializer.deserialize_bytes(ImageVisitor { expected, read })
+            }
+        }
+    };
 }
 
-/// As the bytes that [`write_image`](World::write_image) writes. JSON has a list of numbers for them.
-impl Serialize for World {
-    fn serialize<S: Serializer>(&self, serializer: S) -> Result<S::Ok, S::Error> {
-        let mut image = Vec::new();
-        self.write_image(&mut image).map_err(S::Error::custom)?;
-        serializer.serialize_bytes(&image)
-    }
-}
-
-/// Reads the bytes, or a list of them, as [`read_image`](Entities::read_image) does. What it refuses is
-/// an error.
-impl<'de> Deserialize<'de> for Entities {
-    fn deserialize<D: Deserializer<'de>>(deserializer: D) -> Result<Self, D::Error> {
-        deserializer.deserialize_bytes(ImageVisitor {
-            expected: "the bytes of an allocator's image",
-            read: Entities::read_image,
-        })
-    }
-}
-
-/// Reads the bytes, or a list of them, as [`read_image`](World::read_image) does. What it refuses is
-/// an error.
-impl<'de> Deserialize<'de> for World {
-    fn deserialize<D: Deserializer<'de>>(deserializer: D) -> Result<Self, D::Error> {
-        deserializer.deserialize_bytes(ImageVisitor {
-            expected: "the bytes of a world's image",
-            read: World::read_image,
-        })
-    }
-}
+is_its_image!(Entities, "the bytes of an allocator's image");
+is_its_image!(World, "the bytes of a world's image");
 
 struct ImageVisitor<T, F> {
     expected: &'static str,

@@ -27,6 +27,7 @@ thread_local! {
     static REFUSED: Cell<usize> = const { Cell::new(0) };
     static BLOCKS: Cell<isize> = const { Cell::new(0) };
     static BYTES: Cell<isize> = const { Cell::new(0) };
+    static MOST: Cell<isize> = const { Cell::new(0) };
     static ASKED: Cell<usize> = const { Cell::new(0) };
 }
 
@@ -47,6 +48,14 @@ pub fn held<T>(work: impl FnOnce() -> T) -> (T, isize) {
     (done, BYTES.get() - before)
 }
 
+/// Does this, and returns how many bytes more this thread had at some time meanwhile than before, at the most.
+pub fn most_held<T>(work: impl FnOnce() -> T) -> (T, isize) {
+    let before = BYTES.get();
+    MOST.set(before);
+    let done = work();
+    (done, MOST.get() - before)
+}
+
 /// Does this, and returns how many bytes this thread asked for meanwhile, whether it gave them back or not. A
 /// block that grows counts again, with its whole new size.
 pub fn asked<T>(work: impl FnOnce() -> T) -> (T, usize) {
@@ -58,6 +67,7 @@ pub fn asked<T>(work: impl FnOnce() -> T) -> (T, usize) {
 /// Counts a block that has `more` bytes more than before, for which `asked` bytes were asked for.
 fn count(more: isize, asked: usize) {
     BYTES.set(BYTES.get() + more);
+    MOST.set(MOST.get().max(BYTES.get()));
     ASKED.set(ASKED.get() + asked);
 }
 
@@ -113,7 +123,9 @@ unsafe impl GlobalAlloc for Refusing {
         if is_refused() {
             return std::ptr::null_mut();
         }
-        count(size as isize - layout.size() as isize, size);
+        // The old block may be there until the new one is filled.
+        count(size as isize, size);
+        count(-(layout.size() as isize), 0);
         // SAFETY: as the caller of this.
         unsafe { System.realloc(block, layout, size) }
     }

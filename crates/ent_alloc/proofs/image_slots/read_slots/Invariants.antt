@@ -11,5 +11,5 @@ invariant-loop-slot l = record {
   waiting : length l.pending.items ≡ l.waiting;
   few : l.live ≤ l.slot-index;
   bytes : l.bytes ≡ flat_map record_bytes l.records.items ++ drop (12 * l.slot-index) l.bytes;
-  room : l.made ≤ vec_capacity l.records;
+  room : vec_capacity l.records ≡ l.made;
 }

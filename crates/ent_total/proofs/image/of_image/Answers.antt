@@ -1,10 +1,11 @@
-use Rattle.std.proofs.Common.{rules, ◌∙◌, ap, sym, arith, length, Ok, inl}
+use Rattle.std.proofs.Common.{rules, ◌∙◌, ap, sym, subst, arith, length, Ok, inl, List, ℕ}
 use Rattle.std.proofs.lemmas.List.{length-append}
 use Rattle.ent_storage.specs.Image.{word}
 use Rattle.ent_storage.proofs.ImageBytes.{length-word}
 use Rattle.ent_world.specs.Image.{image as world_image}
+use Rattle.ent_world.specs.FirstFault.{HasFault, MayTakeMemory}
 use Rattle.ent_world.proofs.ImageRead.{read_is, refused_is}
-use Rattle.ent_total.proofs.ImageEnd.{of, same_ends, handed}
+use Rattle.ent_total.proofs.ImageEnd.{of, same_ends, handed, handed_on, before_is, none_before}
 use Rattle.ent_total.proofs.image.of_image.Goals as goal
 
 pub returns-then-bytes-lt-COUNT-clause-exact : goal.returns-then-bytes-lt-COUNT-clause-exact
@@ -33,3 +34,26 @@ returns-clause-exact c w spawned has fits is =
     (is ∙ cut.ensures) in
     let read = read_is c.in_ok-world.world w (c.in_ok-world.ensures.exact w has same.0) in
     inl (λ i. Ok (of (read i) c.args.number (sym same.1 i)))
+
+-- ---- the first fault, and memory
+
+pub returns-then-bytes-lt-COUNT-clause-fault : goal.returns-then-bytes-lt-COUNT-clause-fault
+returns-then-bytes-lt-COUNT-clause-fault c other =
+    none_before c.args.bytes.now c.if-bytes-lt-COUNT.true
+
+pub returns-in_err-world-clause-fault : goal.returns-in_err-world-clause-fault
+returns-in_err-world-clause-fault c =
+    let cut = c.split_count-spawned in
+    let fault = c.in_err-world.field-0.0 in
+    handed_on c.from_residual.result fault _ c.from_residual.ensures.1 (λ other.
+    subst (λ (bytes : List ℕ). HasFault bytes fault)
+    (sym (before_is c.args.bytes.now cut.result.0.now cut.result.1 cut.ensures))
+    (c.in_err-world.ensures.fault other))
+
+pub returns-in_err-world-clause-memory : goal.returns-in_err-world-clause-memory
+returns-in_err-world-clause-memory c =
+    let cut = c.split_count-spawned in
+    handed_on c.from_residual.result c.in_err-world.field-0.0 _ c.from_residual.ensures.1 (λ is.
+    subst MayTakeMemory
+    (sym (before_is c.args.bytes.now cut.result.0.now cut.result.1 cut.ensures))
+    (c.in_err-world.ensures.memory is))

@@ -1,10 +1,11 @@
-use Rattle.std.proofs.Common.{◌≡◌, ◌+◌, ◌≤◌, ◌++◌, ◌∷◌, [], ◌∙◌, ap, sym, subst, arith, All, length, ℕ, None}
-use Rattle.std.proofs.Common.{Option, Some, is_some, true, false, List}
+use Rattle.std.proofs.Common.{◌≡◌, ◌++◌, ◌∷◌, [], ◌∙◌, ap, sym, subst, arith, All, length, None}
+use Rattle.std.proofs.Common.{refl}
 use Rattle.std.specs.FinMap as map
 use Rattle.std.proofs.lemmas.Grind.{common_steps}
 use Rattle.std.proofs.lemmas.List.{append_assoc}
-use Rattle.std.proofs.lemmas.List.Elements.{All-cons}
+use Rattle.std.proofs.lemmas.List.Elements.{All-cons, All-append}
 use Rattle.ent_handle.specs.Handle.{Handle, handle_cmp}
+use Rattle.ent_world.specs.declared.image_fault.WorldImageFault.TheVariants.{Row}
 use Rattle.ent_world.proofs.image.list_living.Goals as goal
 
 pub returns-then-is_some-clause-rows : goal.returns-then-is_some-clause-rows
@@ -34,4 +35,32 @@ loop-handle-preserved c =
           ∙ append_assoc c.loop-handle.list.items (h ∷ []) left
           ∙ ap (c.loop-handle.list.items ++◌) (sym step) ∙ loop.items;
       bare = λ all. loop.bare (subst (All IsBare) (sym step) (All-cons IsBare h left bare all));
+      before = subst (All IsBare) (sym c.push_reserved.ensures.items)
+          (All-append IsBare c.loop-handle.list.items (h ∷ []) loop.before
+          (All-cons IsBare h [] bare (λ k d lt. absurd (omega arith))));
+    }
+
+pub returns-then-is_some-clause-fault : goal.returns-then-is_some-clause-fault
+returns-then-is_some-clause-fault c other =
+    let loop = c.loop-handle.invariant in
+    let h = c.in-Some.handle in
+    let step : c.loop-handle.handle-iterator ≡ h ∷ c.next.new.self = c.in-Some.ensures.steps in
+    record {
+      index = h.index;
+      named = ap Row c.index.ensures;
+      first = record {
+        before = c.loop-handle.list.items;
+        handle = h;
+        after = c.next.new.self;
+        listed = sym loop.items ∙ ap (c.loop-handle.list.items ++◌) step;
+        bare = loop.before;
+        has_row = grind (
+          arith,
+          common_steps,
+          c.row.ensures.value,
+          c.is_some.ensures,
+          c.if-is_some.true,
+        );
+        slot = refl;
+      };
     }

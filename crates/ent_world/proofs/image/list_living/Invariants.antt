@@ -9,4 +9,5 @@ invariant-loop-handle l = record {
   items : l.list.items ++ l.handle-iterator ≡ l.fn.handles;
   bare : All (λ h. map.get l.entities.rows h ≡ None) l.handle-iterator
       → All (λ h. map.get l.entities.rows h ≡ None) l.fn.handles;
+  before : All (λ h. map.get l.entities.rows h ≡ None) l.list.items;
 }

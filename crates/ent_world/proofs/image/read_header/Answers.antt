@@ -1,9 +1,8 @@
-use Rattle.std.proofs.Common.{rules, ◌≡◌, ◌++◌, ap, sym, ◌∙◌, arith, length}
+use Rattle.std.proofs.Common.{rules, ◌≡◌, ◌++◌, sym, ◌∙◌, arith, length, inl, inr}
 use Rattle.std.proofs.lemmas.List.{take-append-drop}
 use Rattle.ent_storage.specs.Image.{word, long}
-use Rattle.ent_world.specs.Image.{version, header_bytes}
-use Rattle.ent_world.proofs.ImageHeader.{letters, header_is, too_short, other_magic, other_version}
-use Rattle.ent_world.proofs.ImageHeader.{part_missing}
+use Rattle.ent_world.proofs.ImageHeader.{header_is, too_short, other_magic, other_version}
+use Rattle.ent_world.proofs.ImageHeader.{part_missing, begins, short_letters, other_letters}
 use Rattle.ent_world.proofs.image.read_header.Goals as goal
 
 pub returns-then-bytes-lt8-clause-refused : goal.returns-then-bytes-lt8-clause-refused
@@ -54,3 +53,66 @@ returns-clause-found c =
     ∙ (λ k. long phase ++ (c.read_long-len.ensures.bytes
     ∙ (λ n. long (long_is n) ++ cut n)) k)) j)) i))
     ∙ sym (header_is phase (length part) (part ++ rest))
+
+-- ---- the first fault
+
+pub returns-then-bytes-lt8-clause-fault : goal.returns-then-bytes-lt8-clause-fault
+returns-then-bytes-lt8-clause-fault c =
+    short_letters c.args.bytes.now (omega (arith, c.if-bytes-lt8.true))
+
+pub returns-then-magic-ne-MAGIC-clause-fault : goal.returns-then-magic-ne-MAGIC-clause-fault
+returns-then-magic-ne-MAGIC-clause-fault c =
+    other_letters c.read_long-magic.result.0 c.args.bytes.now c.read_long-magic.result.1.now
+    (search rules) c.if-magic-ne-MAGIC.true c.read_long-magic.ensures.bytes
+
+pub returns-then-bytes-lt-HEADER-clause-fault : goal.returns-then-bytes-lt-HEADER-clause-fault
+returns-then-bytes-lt-HEADER-clause-fault c =
+    let left = c.read_long-magic.result.1.now in (
+      (
+        left,
+        begins c.args.bytes.now left (c.read_long-magic.ensures.bytes
+            ∙ (λ i. long (c.if-magic-ne-MAGIC.false i) ++ left)),
+      ),
+      inl (omega (arith, c.if-bytes-lt-HEADER.true)),
+    )
+
+pub returns-then-version-ne-VERSION-clause-fault :
+    goal.returns-then-version-ne-VERSION-clause-fault
+returns-then-version-ne-VERSION-clause-fault c =
+    let left = c.read_word-version.result.1.now in
+    let number = c.read_word-version.result.0 in (
+      omega (arith, c.if-bytes-lt-HEADER.false),
+      search rules,
+      c.if-version-ne-VERSION.true,
+      (
+        left,
+        begins c.args.bytes.now (word number ++ left) (c.read_long-magic.ensures.bytes
+            ∙ (λ i. long (c.if-magic-ne-MAGIC.false i) ++ c.read_word-version.ensures.bytes i)),
+      ),
+    )
+
+pub returns-then-rest-len-clause-fault : goal.returns-then-rest-len-clause-fault
+returns-then-rest-len-clause-fault c =
+    let phase = c.read_long-phase.result.0 in
+    let len = c.read_long-len.result.0 in
+    let left = c.read_long-len.result.1.now in
+    let first = c.read_long-magic.result.1.now in (
+      (
+        first,
+        begins c.args.bytes.now first (c.read_long-magic.ensures.bytes
+            ∙ (λ i. long (c.if-magic-ne-MAGIC.false i) ++ first)),
+      ),
+      inr (record {
+        phase = phase;
+        len = len;
+        rest = left;
+        phase_fits = search rules;
+        len_fits = search rules;
+        short = omega (arith, c.if-rest-len.true);
+        spelled = (c.read_long-magic.ensures.bytes
+            ∙ (λ i. long (c.if-magic-ne-MAGIC.false i) ++ (c.read_word-version.ensures.bytes
+            ∙ (λ j. word (c.if-version-ne-VERSION.false j) ++ (c.read_long-phase.ensures.bytes
+            ∙ (λ k. long phase ++ c.read_long-len.ensures.bytes k)) j)) i))
+            ∙ sym (header_is phase len left);
+      }),
+    )

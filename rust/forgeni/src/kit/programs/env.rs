@@ -11,15 +11,18 @@ use std::vec::{IntoIter, Vec};
 /// The right to read the words.
 pub trait Env {}
 
+/// The words.
+pub type Args = IntoIter<String>;
+
 /// The contract: all words in their order, the program's name first; or `InvalidData` if one is no UTF-8, or
 /// `OutOfMemory` if there is no memory for the list of them.
 ///
 /// The words themselves are in memory that Rust's std takes, and it ends the program if that is refused.
-pub fn args(_rt: &impl Env) -> io::Result<impl Iterator<Item = String>> {
+pub fn args(_rt: &impl Env) -> io::Result<Args> {
     texts(std::env::args_os())
 }
 
-fn texts(words: impl ExactSizeIterator<Item = OsString>) -> io::Result<IntoIter<String>> {
+fn texts(words: impl ExactSizeIterator<Item = OsString>) -> io::Result<Args> {
     let mut texts = Vec::with_capacity_fallibly(words.len())?;
     for word in words {
         let text = word.into_string().map_err(|_| io::ErrorKind::InvalidData)?;

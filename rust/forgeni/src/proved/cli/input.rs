@@ -18,7 +18,12 @@ use crate::kit::alloc::AllocError;
 ///
 /// ```text
 /// requires { F.IsAlwaysCallable is_line }
-/// ensures { IfOk result (λ name. is_some name ≡ true → 0 < length words.now) }
+/// ensures named { IfOk result (λ name. IfSome name (λ name.
+///     NamesFile (FnReturnsAt F.Fn is_line) string_bytes words.now name.now)) }
+/// ensures none { result ≡ Ok None
+///     → NamesNone (FnReturnsAt F.Fn is_line) string_bytes words.now }
+/// ensures memory { IfErr result (λ error.
+///     IsUnknown (FnReturnsAt F.Fn is_line) words.now error) }
 /// ```
 ///
 /// </details>

@@ -3,21 +3,29 @@
 //! The words that a program was started with.
 
 use alloc::vec::Vec;
-use crate::kit::programs::rt::AllocGlobal;
 use crate::kit::programs::string::String;
 use crate::kit::vec::CollectIn;
-use crate::kit::programs::env::Env;
-use crate::kit::programs::env;
-use std::io;
+use crate::kit::alloc::AllocError;
+use crate::kit::programs::env::Args;
 
-/// The words after the program's name.
+/// The words after the program's name, of all that the program was started with.
 ///
 /// # Errors
 ///
-/// A word is no UTF-8, memory ran out, or the system doesn't give the words.
+/// Memory ran out.
+///
+/// <details><summary>Contract</summary>
+///
+/// In the words of the folder `specs/` of crate `cli`:
+///
+/// ```text
+/// ensures { IfOk result (λ others. others.items ≡ after_name (into_iter_items words)) }
+/// ```
+///
+/// </details>
 #[inline]
-pub fn words_after_name(rt: &(impl Env + AllocGlobal)) -> io::Result<Vec<String>> {
-    let mut words = env::args(rt)?;
-    let _ = words.next();
-    Ok(words.collect_in()?)
+pub fn words_after_name(words: Args) -> Result<Vec<String>, AllocError> {
+    let mut words = words;
+    let _name = words.next();
+    words.collect_in()
 }

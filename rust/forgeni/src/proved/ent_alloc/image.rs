@@ -113,6 +113,7 @@ fn read_header(bytes: &[u8]) -> Result<(Header, &[u8]), ImageFault>
     //     → bytes.now ≢ header_bytes h ++ rest) }
     // ensures fault { IfErr result (λ fault. first_failing (front_tests bytes.now) ≡ Some fault) }
     // ensures faultless { OnOk result (first_failing (front_tests bytes.now) ≡ None) }
+    // ensures no_memory { IfErr result (λ fault. fault ≢ ImageFault.Memory) }
 {
     if bytes.len() < 8 {
         return Err(ImageFault::Magic);
@@ -223,8 +224,9 @@ impl Entities {
     ///
     /// The bytes may come from anywhere. Each image that [`write_image`](Self::write_image) writes is
     /// read as the same allocator, which gives no handle that was given before. Bytes that are the
-    /// image of no allocator are refused. The call takes at most 16 bytes of memory for the 12 of a
-    /// slot, and none before it has compared the number of slots with the length.
+    /// image of no allocator are refused. The call takes 8 bytes of memory for each slot and 4 for each
+    /// that waits, which is no more than the slots have in the image. It takes none before it has
+    /// compared the number of slots with the length.
     ///
     /// # Errors
     ///
@@ -261,6 +263,14 @@ impl Entities {
     ///     → first_fault bytes.now ≡ Some fault) }
     /// ensures faultless { OnOk result (first_fault bytes.now ≡ None) }
     ///
+    /// // Memory is asked for only after all before the slots was found faultless, the number of bytes
+    /// // too, and only if there are slots. What is kept has no more bytes than the slots.
+    /// ensures memory { IfErr result (λ fault. fault ≡ ImageFault.Memory
+    ///     → header_fault bytes.now ≡ None) }
+    /// ensures slots { IfErr result (λ fault. fault ≡ ImageFault.Memory
+    ///     → 40 < length bytes.now) }
+    /// ensures bound { IfOk result (λ e. 40 + kept_bytes e.allocator ≤ length bytes.now) }
+    ///
     /// // The image of an allocator is read as this allocator, unless memory runs out.
     /// ensures exact { (e : Entities) → HasImage e → image e ≡ bytes.now
     ///     → (result ≡ Ok e) ⊎ (result ≡ Err ImageFault.Memory) }
@@ -287,6 +297,10 @@ impl Entities {
         // ensures fault { IfErr result (λ fault. fault ≢ ImageFault.Memory
         //     → first_fault bytes.now ≡ Some fault) }
         // ensures faultless { OnOk result (first_fault bytes.now ≡ None) }
+        // ensures memory { IfErr result (λ fault. fault ≡ ImageFault.Memory
+        //     → header_fault bytes.now ≡ None) }
+        // ensures slots { IfErr result (λ fault. fault ≡ ImageFault.Memory
+        //     → 40 < length bytes.now) }
     {
         let (header, slots) = read_header(bytes)?;
         let Some(limits) = Limits::new(header.slots, header.generations) else {

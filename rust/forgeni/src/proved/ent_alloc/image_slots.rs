@@ -214,7 +214,8 @@ fn vacant_position(pending: &[u32]) -> Option<usize>
 /// That many positions, at which no slot waits yet.
 #[inline]
 fn vacant_positions(count: u32) -> Result<Vec<u32>, AllocError>
-    // ensures { IfOk result (λ positions. positions.items ≡ replicate count vacant) }
+    // ensures items { IfOk result (λ positions. positions.items ≡ replicate count vacant) }
+    // ensures memory { OnErr result (0 < count) }
 {
     let mut positions = Vec::with_capacity_fallibly(count as usize)?;
     positions.resize_fallibly(count as usize, VACANT)?;
@@ -238,6 +239,7 @@ pub(super) fn read_slots(
 ) -> Result<SlotLists, ImageFault>
     // requires long { length bytes.now ≡ 12 * made }
     // requires few { made ≤ limits.slots }
+    // requires wait { waiting ≤ made }
     // ensures read { IfOk result (λ l. AreRead limits l.records.items l.pending.items l.live) }
     // ensures limited { AreLimits limits }
     // ensures made { IfOk result (λ l. length l.records.items ≡ made) }
@@ -252,6 +254,8 @@ pub(super) fn read_slots(
     //     → first_failing (slots_tests limits.generations made waiting bytes.now) ≡ Some fault) }
     // ensures faultless { OnOk result
     //     (first_failing (slots_tests limits.generations made waiting bytes.now) ≡ None) }
+    // ensures memory { IfErr result (λ fault. fault ≡ ImageFault.Memory → 0 < made) }
+    // ensures room { IfOk result (λ l. vec_capacity l.records ≡ made) }
 {
     let mut records = Vec::with_capacity_fallibly(made as usize)?;
     let mut pending = vacant_positions(waiting)?;

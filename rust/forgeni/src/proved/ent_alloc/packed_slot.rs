@@ -133,10 +133,13 @@ impl PackedSlot {
         // ensures value { result ≡ self.now.generation }
         // ensures within { HasGeneration self.now }
     {
-        // Both are read first, so that the choice takes no branch.
-        let number = self.number;
         let generation = self.mark & (NOBODY - 1);
-        if generation == 0 { number } else { generation }
+        if generation == 0 {
+            // It is at least 1. The compiler learns so that the bits of a handle are never 0.
+            self.number.max(1)
+        } else {
+            generation
+        }
     }
 
     /// The slot's occupancy.

@@ -128,8 +128,10 @@ impl Entities {
         // ensures { let here = self.now.allocator in
         //     listed_alone result ≡ reply_from here.made (pool_at here high) 1 }
     {
-        if high > 0 {
-            return Ok(self.slots.pending_at(high as usize - 1));
+        // A caller's floor is this position too.
+        let position = high - 1;
+        if position >= 0 {
+            return Ok(self.slots.pending_at(position as usize));
         }
         let index = u64::from(self.slots.made()) + (-high) as u64;
         if index < u64::from(self.slots.limits().slots()) {

@@ -94,3 +94,24 @@ impl BlockReserver {
         self.number == blocks.number()
     }
 }
+
+/// A reserver of the same block, with as many of its handles used. The two would give the same handles,
+/// so one of them has to be dropped: a frame makes one for a job, which is done once, and drops the
+/// other.
+///
+/// <details><summary>Contract</summary>
+///
+/// In the words of the folder `specs/` of crate `ent_blocks`:
+///
+/// ```text
+/// ensures { result ≡ reserver.now }
+/// ```
+///
+/// </details>
+#[inline]
+pub fn again(reserver: &BlockReserver) -> BlockReserver {
+    BlockReserver {
+        part: reserver.part.with_used(reserver.part.used()),
+        number: reserver.number,
+    }
+}

@@ -16,7 +16,7 @@ mod undealt;
 mod unended;
 
 pub use block_error::BlockError;
-pub use block_reserver::BlockReserver;
+pub use block_reserver::{BlockReserver, again};
 pub use block_size::BlockSize;
 pub use blocks::Blocks;
 pub use opening::{Deal, open_in_blocks};

@@ -1,6 +1,6 @@
 // Made of crates/ent_blocks/src/part.rt by rust/erase. It isn't edited by hand.
 
-use crate::proved::ent_blocks::opening::lesser;
+use crate::proved::ent_alloc::Portion;
 
 /// The block of one caller, and how many of its handles are used.
 pub(super) struct Part {
@@ -64,32 +64,15 @@ impl Part {
     {
         self.used += n;
     }
-    /// One past the position of the last handle that was used; 0 if none was.
-    #[inline]
-    pub(super) fn used_end(&self) -> u32
-        // requires { self.now.before + self.now.size < 2 ^ 32 }
-        // ensures value { result ≡ end_of self.now }
-        // ensures within { result ≤ self.now.before + self.now.size }
-    {
-        if self.used == 0 {
-            0
-        } else {
-            self.before + self.used
-        }
-    }
 
-    /// The part of the block that lies before a position of the pool: none of it, if the block
-    /// begins there or after it.
+    /// The block as a portion of what there is to give.
     #[inline]
-    pub(super) fn cut(&self, end: u32) -> Self
-        // requires few { self.now.before + self.now.size < 2 ^ 32 }
-        // requires used { end_of self.now ≤ end }
-        // ensures { result ≡ cut end self.now }
+    pub(super) fn portion(&self) -> Portion
+        // ensures value { result ≡ portion_of self.now }
+        // ensures used { self.now.used ≤ self.now.size }
     {
-        let before = lesser(self.before, end);
-        Part {
-            before,
-            size: lesser(self.before + self.size, end) - before,
+        Portion {
+            size: self.size,
             used: self.used,
         }
     }

@@ -4,7 +4,6 @@
 
 use alloc::vec::Vec;
 use crate::kit::vec::FallibleVec;
-use crate::proved::ent_blocks::closing::handle_at;
 use crate::proved::ent_blocks::part::Part;
 use crate::proved::ent_alloc::{Entities, Reserved, Space, Span};
 use crate::proved::ent_handle::Handle;
@@ -63,4 +62,18 @@ pub(super) fn append(handles: &mut Vec<Handle>, given: Reserved<'_>)
     for handle in given {
         handles.push_reserved(handle);
     }
+}
+
+/// The handle at a position of the pool, from its front.
+#[inline]
+fn handle_at(entities: &Entities, position: u32) -> Handle
+    // requires flushed { entities.now.allocator.asked ≡ 0 }
+    // requires within { position < length entities.now.allocator.pool }
+    // ensures { slice_get entities.now.allocator.pool position ≡ Some result }
+{
+    let high = entities.cursor() - i64::from(position);
+    let Ok(handle) = entities.reply_one(high) else {
+        unreachable!()
+    };
+    handle
 }

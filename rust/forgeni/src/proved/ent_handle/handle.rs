@@ -122,6 +122,19 @@ impl Handle {
         (self.bits.get() >> 32) as u32
     }
 
+    /// The handle of the slot's next occupant: of the same index, and of the next generation, which
+    /// has to be in range. It tests nothing when it runs.
+    ///
+    /// It is never `None`. As an `Option` its bits need no test for 0, which would stand for `None`.
+    #[inline]
+    pub(crate) fn following(self) -> Option<Self>
+        // requires { IsHandle (record self { generation = self.generation + 1 }) }
+        // ensures { result ≡ Some (record self { generation = self.generation + 1 }) }
+    {
+        let bits = NonZeroU64::new(self.bits.get() + (1 << 32))?;
+        Some(Handle { bits })
+    }
+
     /// Both numbers in one: the generation times 2^32, plus the index.
     ///
     /// ```

@@ -6,6 +6,7 @@ use crate::proved::ent_log::entry::Entry;
 use crate::proved::ent_log::reserves::Reserves;
 use crate::proved::ent_alloc::{Entities, ReserveError, State};
 use crate::proved::ent_handle::{Handle, Memory};
+use core::fmt;
 use alloc::vec::IntoIter;
 
 /// What one system spawns and commands, in the order of issue. `C` is the caller's type of commands.
@@ -147,5 +148,14 @@ impl<C> Log<C> {
         self.entries.reserve_fallibly(1)?;
         self.entries.push_reserved(Entry::Command(command));
         Ok(())
+    }
+}
+
+/// Its entries.
+impl<C: fmt::Debug> fmt::Debug for Log<C> {
+    #[inline]
+    fn fmt(&self, f: &mut fmt::Formatter<'_>) -> fmt::Result {
+        let entries = self.entries();
+        write!(f, "{entries:?}")
     }
 }

@@ -10,7 +10,6 @@ use crate::proved::ent_runner::collecting::{collect, put_all};
 use crate::proved::ent_runner::jobs::Jobs;
 use crate::proved::ent_runner::worker::{Site, Worker, run_all};
 use crate::proved::ent_handle::Memory;
-use crate::proved::ent_shared::{Reserver, Shared};
 use crate::kit::alloc::AllocError;
 use crate::kit::thread::Threads;
 
@@ -55,36 +54,30 @@ impl<O> Crew<O> {
         })
     }
 
-    /// Does the jobs, each of them once: one worker for each reserver, which is lent to the jobs
-    /// that the worker does. The outputs are in the order of the jobs.
+    /// Does the jobs, each of them once: one worker for each element of `lent`, which is lent to the
+    /// jobs that the worker does. The outputs are in the order of the jobs.
     ///
     /// The workers run in threads of `rt`. If a thread can't be started, another one does its work.
     ///
     /// `None` means that memory ran out: a job returned `Memory`, or jobs are left and no worker
     /// has memory for the output of another one. All workers have ended then. The outputs are
-    /// dropped, and what the jobs reserved stays reserved.
+    /// dropped, and what the jobs did to what was lent stays done.
     #[inline]
-    pub(crate) fn work<R, J>(
-        self,
-        rt: &R,
-        shared: &Shared,
-        reservers: &mut [Reserver],
-        jobs: &J,
-    ) -> Option<Vec<O>>
+    pub(crate) fn work<R, L, J>(self, rt: &R, lent: &mut [L], jobs: &J) -> Option<Vec<O>>
     where
         R: Threads + Sync,
         O: Send,
-        J: Jobs<O> + Sync,
+        L: Send,
+        J: Jobs<O, L> + Sync,
         // requires jobs { J.count jobs.now ≡ self.jobs }
-        // requires workers { length reservers.old ≡ self.workers }
-        // requires own { All (IsOf shared.now) reservers.old }
-        // ensures count { length reservers.new ≡ length reservers.old }
-        // ensures own { All (IsOf shared.now) reservers.new }
+        // requires workers { length lent.old ≡ self.workers }
+        // requires lent { All (J.may_have jobs.now) lent.old }
+        // ensures count { length lent.new ≡ length lent.old }
+        // ensures lent { All (J.may_have jobs.now) lent.new }
         // ensures done { IfSome result (λ outputs. AreDone (J.may_do jobs.now) self.jobs
-        //     (records_of reservers.old) outputs.items (records_of reservers.new)) }
+        //     lent.old outputs.items lent.new) }
         // ensures broken_off { IfNone result (AreBrokenOff (J.may_do jobs.now)
-        //     (J.may_leave jobs.now) self.jobs (records_of reservers.old)
-        //     (records_of reservers.new)) }
+        //     (J.may_leave jobs.now) self.jobs lent.old lent.new) }
 
         // So late, memory runs out only in a job, or in workers that have done one.
         // ensures some { IfNone result (0 < self.jobs) }
@@ -99,11 +92,10 @@ impl<O> Crew<O> {
         // More threads than jobs would find nothing to do.
         let threads = by_number.len();
         let site = Site {
-            shared,
             claims: &claims,
             jobs,
         };
-        run_all(rt, &site, &mut workers, reservers, threads);
+        run_all(rt, &site, &mut workers, lent, threads);
         let stopped = some_stopped(&workers);
         disband(workers, &mut claimers, &mut by_number);
         claims.close(claimers);

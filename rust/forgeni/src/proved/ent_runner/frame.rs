@@ -3,6 +3,7 @@
 //! A frame: workers run the systems while the world is open, and the sync point applies their
 //! queues.
 
+use alloc::vec::Vec;
 use crate::proved::ent_runner::crew::Crew;
 use crate::proved::ent_runner::gate::Gate;
 use crate::proved::ent_runner::report::{FrameFault, FrameReport};
@@ -25,7 +26,8 @@ use crate::kit::thread::Threads;
 ///
 /// # Errors
 ///
-/// - [`FrameFault::Memory`] if memory was refused before any system ran. The world is as it was.
+/// - [`FrameFault::Memory`] if memory was refused before any system ran. The world is as it was. A
+///   frame without systems takes no memory.
 /// - [`FrameFault::Lost`] if a system returned `Memory`, or if systems are left and no worker has
 ///   memory for the queue of another one. No command was applied. What the systems that ran had
 ///   reserved stays reserved, and nothing else is: [`World::flush`] brings it to life.
@@ -55,6 +57,7 @@ where
     //     report.queues.items world.new report.sync.born.items report.sync.faults.items) }
     // ensures flushed { OnOk result (world.new.allocator.asked ≡ 0) }
     // ensures memory { IsErrOf result FrameFault.Memory → world.new ≡ world.old }
+    // ensures memory_some { IsErrOf result FrameFault.Memory → 0 < length systems.now }
     // ensures lost { IsErrOf result FrameFault.Lost → (history : List Call)
     //     × IsBrokenOff S.may_issue S.may_leave systems.now workers world.old history
     //     × (world.new ≡ reserved_by history world.old) }
@@ -80,6 +83,9 @@ where
     //     IsStop system command done queues) }
     // ensures stop_flushed { IfStoppedAt result (λ _ _ _ _ _. world.new.allocator.asked ≡ 0) }
 {
+    if systems.is_empty() {
+        return Ok(without_systems(world));
+    }
     let Ok(crew) = Crew::new(systems.len(), workers) else {
         return Err(FrameFault::Memory);
     };
@@ -92,11 +98,12 @@ where
         }
     };
     let stage = Stage {
+        shared: opened.shared(),
         view: opened.view(),
         systems,
         gate,
     };
-    let queues = crew.work(rt, opened.shared(), &mut reservers, &stage);
+    let queues = crew.work(rt, &mut reservers, &stage);
     *world = opened.close(reservers);
     let Some(queues) = queues else {
         return Err(FrameFault::Lost);
@@ -105,4 +112,19 @@ where
         Ok(sync) => Ok(FrameReport { queues, sync }),
         Err(fault) => Err(FrameFault::Sync { fault, queues }),
     }
+}
+
+/// The sync point of a frame without systems: nothing is born, and there is no command.
+#[inline]
+fn without_systems(world: &mut World) -> FrameReport
+    // requires flushed { world.old.allocator.asked ≡ 0 }
+    // ensures queues { result.queues.items ≡ [] }
+    // ensures world { world.new ≡ (sync [] world.old).world }
+    // ensures born { result.sync.born.items ≡ born world.old.allocator }
+    // ensures faults { result.sync.faults.items ≡ (sync [] world.old).faults }
+    // ensures flushed { world.new.allocator.asked ≡ 0 }
+{
+    let queues = Vec::new();
+    let sync = world.apply(&queues).unwrap();
+    FrameReport { queues, sync }
 }

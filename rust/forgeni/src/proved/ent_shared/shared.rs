@@ -179,8 +179,10 @@ impl Shared {
         if reserver.left == 0 {
             return Err(Refused::Quota { left: 0 });
         }
+        // It is read once: after the atomic step the compiler would read it again.
+        let left = reserver.left - 1;
         let high = word::reserve(&self.word, &mut reserver.badge, 1);
-        reserver.left -= 1;
+        reserver.left = left;
         let handle = self.entities.reply_one(high)?;
         reserver.floor = high - 1;
         Ok(handle)

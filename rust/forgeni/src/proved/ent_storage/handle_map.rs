@@ -3,17 +3,19 @@
 //! A map from handles to values of any type, at most one for each slot.
 
 mod emptying;
+mod entry;
 mod error;
 mod generation;
 mod iter;
 mod keys;
 mod retaining;
-mod slot;
+pub(crate) mod slot;
 mod values;
 
 use alloc::vec::Vec;
 use crate::kit::vec::FallibleVec;
 use crate::proved::ent_storage::handle_map::emptying::move_values;
+pub use crate::proved::ent_storage::handle_map::entry::{Entry, OccupiedEntry, VacantEntry};
 pub use crate::proved::ent_storage::handle_map::error::{InsertError, Uninserted};
 pub use crate::proved::ent_storage::handle_map::iter::Iter;
 pub use crate::proved::ent_storage::handle_map::keys::Keys;
@@ -86,8 +88,8 @@ use core::mem;
 /// Contracts see a finite map from handles to values (`values`), how many slots there are (`slots`),
 /// for how many slots there is room (`room`), and for how many slots there may be values (`limit`).
 pub struct HandleMap<T> {
-    slots: Vec<Slot<T>>,
-    len: usize,
+    pub(crate) slots: Vec<Slot<T>>,
+    pub(crate) len: usize,
     limit: Limit,
 }
 
@@ -575,6 +577,51 @@ impl<T> HandleMap<T> {
         Ok(before.into_value(handle.generation()))
     }
 
+    /// What the map has for the handle: a value, or none. What is done with the entry looks for the
+    /// handle once more.
+    ///
+    /// ```
+    /// use forgeni::handle_map::Entry;
+    /// use forgeni::{Entities, HandleMap};
+    ///
+    /// let mut entities = Entities::new();
+    /// let mut hits: HandleMap<u32> = HandleMap::new();
+    /// let [ball, cart] = [entities.alloc()?, entities.alloc()?];
+    /// for one in [ball, cart, ball] {
+    ///     *hits.entry(one).or_insert(0)? += 1;
+    /// }
+    /// hits.entry(cart).and_modify(|hits| *hits += 10).or_insert(1)?;
+    /// assert_eq!((hits[ball], hits[cart]), (2, 11));
+    ///
+    /// if let Entry::Occupied(entry) = hits.entry(ball) {
+    ///     assert_eq!(entry.remove(), 2);
+    /// }
+    /// assert!(!hits.contains(ball));
+    /// # Ok::<(), Box<dyn std::error::Error + Send + Sync>>(())
+    /// ```
+    ///
+    /// <details><summary>Contract</summary>
+    ///
+    /// In the words of the folder `specs/` of crate `ent_storage`:
+    ///
+    /// ```text
+    /// ensures handle { entry_handle result ≡ handle }
+    /// ensures value { entry_value result ≡ map.get self.old.values handle }
+    /// ensures map { entry_map result ≡ self.old }
+    /// ensures same_map { (entry_ref result).ghost_name ≡ self.entry.ghost_name }
+    /// ```
+    ///
+    /// </details>
+    #[must_use]
+    #[inline]
+    pub fn entry(&mut self, handle: Handle) -> Entry<'_, T> {
+        if self.contains(handle) {
+            Entry::Occupied(OccupiedEntry { map: self, handle })
+        } else {
+            Entry::Vacant(VacantEntry { map: self, handle })
+        }
+    }
+
     /// Removes the value of the handle, and returns it if it had one. It takes constant time and no
     /// memory.
     ///
@@ -836,7 +883,7 @@ fn generation_in<T>(slots: &[Slot<T>], index: usize) -> u32
 
 /// Which slot a handle is of. It says too that there is such a slot.
 #[inline]
-pub(super) fn index_of(handle: Handle) -> usize
+pub(crate) fn index_of(handle: Handle) -> usize
     // ensures value { result ≡ handle.index }
     // ensures in_range { result < 2 ^ 32 - 1 }
 {

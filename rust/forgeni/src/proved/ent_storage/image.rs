@@ -168,6 +168,15 @@ impl Storage {
         // ensures refused { IfErr result (λ fault. fault ≢ StorageImageFault.Memory
         //     → (m : EntityMap) → AreStored m handles.now
         //     → entities_bytes m handles.now ≢ bytes.now) }
+
+        // They are refused for the first part that can't be read.
+        // ensures fault { IfErr result (λ fault. fault ≢ StorageImageFault.Memory
+        //     → HasFault handles.now bytes.now fault) }
+
+        // Memory is asked for only after the width was found right, and only for entities.
+        // ensures memory { IfErr result (λ fault. fault ≡ StorageImageFault.Memory → 0 < room) }
+        // ensures width { IfErr result (λ fault. fault ≡ StorageImageFault.Memory
+        //     → HasWidth bytes.now) }
     {
         if bytes.len() < 4 {
             return Err(StorageImageFault::Length);

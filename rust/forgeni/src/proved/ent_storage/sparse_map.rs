@@ -2,6 +2,7 @@
 
 //! A map from handles to values of any type, of which few handles have one.
 
+mod entry;
 mod iter;
 mod positions;
 
@@ -10,6 +11,7 @@ use crate::kit::vec::FallibleVec;
 use crate::proved::ent_storage::handle_map::{InsertError, Uninserted, index_of};
 use crate::proved::ent_storage::limit::Limit;
 use crate::proved::ent_storage::lists::overwrite;
+pub use crate::proved::ent_storage::sparse_map::entry::{Entry, OccupiedEntry, VacantEntry};
 pub use crate::proved::ent_storage::sparse_map::iter::Iter;
 use crate::proved::ent_storage::sparse_map::positions::{make_position, position_of};
 use crate::proved::ent_handle::{Handle, Memory};
@@ -50,10 +52,10 @@ use core::mem;
 /// Contracts see a finite map from handles to values (`values`), for how many values there is room
 /// (`room`), for how many slots (`slots`), and for how many slots there may be values (`limit`).
 pub struct SparseMap<T> {
-    entries: Vec<(Handle, T)>,
+    pub(crate) entries: Vec<(Handle, T)>,
     /// At a slot the position of its entry. It counts only if that entry is of the slot, so nothing
     /// is cleared when an entry goes.
-    positions: Vec<u32>,
+    pub(crate) positions: Vec<u32>,
     limit: Limit,
 }
 
@@ -436,6 +438,51 @@ impl<T> SparseMap<T> {
             });
         }
         put(&mut self.entries, &mut self.positions, handle, value)
+    }
+
+    /// What the map has for the handle: a value, or none. What is done with the entry looks for the
+    /// handle once more.
+    ///
+    /// ```
+    /// use forgeni::sparse_map::Entry;
+    /// use forgeni::{Entities, SparseMap};
+    ///
+    /// let mut entities = Entities::new();
+    /// let mut hits: SparseMap<u32> = SparseMap::new();
+    /// let [ball, cart] = [entities.alloc()?, entities.alloc()?];
+    /// for one in [ball, cart, ball] {
+    ///     *hits.entry(one).or_insert(0)? += 1;
+    /// }
+    /// hits.entry(cart).and_modify(|hits| *hits += 10).or_insert(1)?;
+    /// assert_eq!((hits[ball], hits[cart]), (2, 11));
+    ///
+    /// if let Entry::Occupied(entry) = hits.entry(ball) {
+    ///     assert_eq!(entry.remove(), 2);
+    /// }
+    /// assert!(!hits.contains(ball));
+    /// # Ok::<(), Box<dyn std::error::Error + Send + Sync>>(())
+    /// ```
+    ///
+    /// <details><summary>Contract</summary>
+    ///
+    /// In the words of the folder `specs/` of crate `ent_storage`:
+    ///
+    /// ```text
+    /// ensures handle { entry_handle result ≡ handle }
+    /// ensures value { entry_value result ≡ map.get self.old.values handle }
+    /// ensures map { entry_map result ≡ self.old }
+    /// ensures same_map { (entry_ref result).ghost_name ≡ self.entry.ghost_name }
+    /// ```
+    ///
+    /// </details>
+    #[must_use]
+    #[inline]
+    pub fn entry(&mut self, handle: Handle) -> Entry<'_, T> {
+        if self.contains(handle) {
+            Entry::Occupied(OccupiedEntry { map: self, handle })
+        } else {
+            Entry::Vacant(VacantEntry { map: self, handle })
+        }
     }
 
     /// Removes the value of the handle, and returns it if it had one. It takes constant time and no

@@ -2,6 +2,8 @@
 
 use crate::proved::ent_total::queues::Queues;
 use crate::proved::ent_total::stopped::Stopped;
+use core::error::Error;
+use core::fmt;
 
 /// Why a frame wasn't completed.
 #[non_exhaustive]
@@ -26,3 +28,20 @@ pub enum FrameError {
     /// [`Stopped::go_on`] does the rest.
     Stopped(Stopped),
 }
+
+impl fmt::Display for FrameError {
+    #[inline]
+    fn fmt(&self, f: &mut fmt::Formatter<'_>) -> fmt::Result {
+        match self {
+            FrameError::NeedsFlush => f.write_str("a flush is needed first"),
+            FrameError::Workers => f.write_str("a frame has 1 to 64 workers"),
+            FrameError::Systems => f.write_str("a frame has at most 65,536 systems"),
+            FrameError::Memory => f.write_str("out of memory before any system ran"),
+            FrameError::Lost => f.write_str("out of memory while the systems ran"),
+            FrameError::Unapplied(_) => f.write_str("the sync point stopped: out of memory"),
+            FrameError::Stopped(stopped) => write!(f, "the sync point stopped: {stopped}"),
+        }
+    }
+}
+
+impl Error for FrameError {}

@@ -12,11 +12,11 @@ use crate::proved::ent_runner::{FrameFault, FrameReport, Gate, System};
 use crate::proved::ent_world::SyncFault;
 use crate::kit::thread::Threads;
 
-/// How many workers a frame may have.
-const WORKERS: usize = 64;
+/// How many workers may run systems.
+pub(super) const WORKERS: usize = 64;
 
-/// How many systems a frame may have.
-const SYSTEMS: usize = 65_536;
+/// How many systems run together.
+pub(super) const SYSTEMS: usize = 65_536;
 
 /// Runs each system once, on that many workers side by side, and then the sync point.
 ///

@@ -1,6 +1,8 @@
 // Made of crates/ent_total/src/go_on_error.rt by rust/erase. It isn't edited by hand.
 
 use crate::proved::ent_total::stopped::Stopped;
+use core::error::Error;
+use core::fmt;
 
 /// Why a sync point that went on wasn't completed.
 #[non_exhaustive]
@@ -36,3 +38,16 @@ impl GoOnError {
         }
     }
 }
+
+impl fmt::Display for GoOnError {
+    #[inline]
+    fn fmt(&self, f: &mut fmt::Formatter<'_>) -> fmt::Result {
+        match self {
+            GoOnError::OtherWorld(_) => f.write_str("the queues are of another world"),
+            GoOnError::NeedsFlush(_) => f.write_str("a flush is needed first"),
+            GoOnError::Stopped(stopped) => write!(f, "{stopped}"),
+        }
+    }
+}
+
+impl Error for GoOnError {}

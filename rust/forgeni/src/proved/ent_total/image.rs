@@ -83,10 +83,23 @@ impl World {
 ///     → (result ≡ Ok (record { world = w; number = number; spawned = spawned }))
 ///     ⊎ (result ≡ Err WorldImageFault.Memory) }
 ///
-/// // What is refused is the image of no world.
+/// // What is refused is the image of no world. It is refused for the first fault of the bytes.
 /// ensures refused { IfErr result (λ fault. fault ≢ WorldImageFault.Memory
 ///     → (w : WorldValue) (spawned : ℕ) → HasImage w → spawned < 2 ^ 32
 ///     → image w spawned ≢ bytes.now) }
+/// ensures fault { IfErr result (λ fault. fault ≢ WorldImageFault.Memory
+///     → HasFault (before_count bytes.now) fault) }
+///
+/// // Memory is asked for only after the allocator's part was found faultless up to its slots, and
+/// // only for slots. There are no more slots and entities than the bytes have.
+/// ensures memory { IfErr result (λ fault. fault ≡ WorldImageFault.Memory
+///     → MayTakeMemory (before_count bytes.now)) }
+/// ensures bound { IfOk result (λ w. least w.world + 4 ≤ length bytes.now) }
+///
+/// // What was given before the image was written is not given again by what is read.
+/// ensures given_once { (w : WorldValue) (spawned : ℕ) (given : List Handle) → HasImage w
+///     → spawned < 2 ^ 32 → image w spawned ≡ bytes.now → AreSpent w.allocator given
+///     → IfOk result (λ r. AreSpent r.world.allocator given) }
 /// ```
 ///
 /// </details>
@@ -105,6 +118,10 @@ fn of_image(bytes: &[u8], number: u64) -> Result<World, WorldImageFault>
     //     → image w spawned ≡ bytes.now
     //     → (result ≡ Ok (record { world = w; number = number; spawned = spawned }))
     //     ⊎ (result ≡ Err WorldImageFault.Memory) }
+    // ensures fault { IfErr result (λ fault. fault ≢ WorldImageFault.Memory
+    //     → HasFault (before_count bytes.now) fault) }
+    // ensures memory { IfErr result (λ fault. fault ≡ WorldImageFault.Memory
+    //     → MayTakeMemory (before_count bytes.now)) }
 {
     if bytes.len() < COUNT {
         return Err(WorldImageFault::Magic);

@@ -1,6 +1,7 @@
 // Made of crates/ent_total/src/queues.rt by rust/erase. It isn't edited by hand.
 
 use alloc::vec::Vec;
+use core::fmt;
 
 /// The queues of a phase or of a frame, in the order of their effect, for one
 /// [`apply`](crate::proved::ent_total::World::apply) of the world whose phase it was.
@@ -68,5 +69,14 @@ impl Queues {
         // ensures few { length self.now.queues ≤ 2 ^ 16 }
     {
         &self.queues
+    }
+}
+
+/// It shows how many there are, and says that there is more.
+impl fmt::Debug for Queues {
+    #[inline]
+    fn fmt(&self, f: &mut fmt::Formatter<'_>) -> fmt::Result {
+        let len = self.len();
+        write!(f, "Queues {{ len: {len}, .. }}")
     }
 }

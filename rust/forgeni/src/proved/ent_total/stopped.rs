@@ -3,6 +3,7 @@
 use crate::proved::ent_total::queues::Queues;
 use crate::proved::ent_total::stop::Stop;
 use crate::proved::ent_world::SyncReport;
+use core::fmt;
 
 /// A sync point that stopped because memory ran out at a command: where, what was done so far, and
 /// the queues, which [`go_on`](Stopped::go_on) takes up from there.
@@ -83,5 +84,24 @@ impl Stopped {
             so_far: _,
         } = self;
         (queues, stop)
+    }
+}
+
+/// It says where it stopped.
+impl fmt::Display for Stopped {
+    #[inline]
+    fn fmt(&self, f: &mut fmt::Formatter<'_>) -> fmt::Result {
+        let stop = self.stop;
+        write!(f, "{stop}")
+    }
+}
+
+/// It shows all but the queues, and says that there is more.
+impl fmt::Debug for Stopped {
+    #[inline]
+    fn fmt(&self, f: &mut fmt::Formatter<'_>) -> fmt::Result {
+        let stop = self.stop;
+        let so_far = &self.so_far;
+        write!(f, "Stopped {{ stop: {stop:?}, so_far: {so_far:?}, .. }}")
     }
 }

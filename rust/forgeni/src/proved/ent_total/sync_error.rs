@@ -2,6 +2,8 @@
 
 use crate::proved::ent_total::queues::Queues;
 use crate::proved::ent_total::stopped::Stopped;
+use core::error::Error;
+use core::fmt;
 
 /// Why a sync point wasn't completed.
 #[non_exhaustive]
@@ -35,3 +37,16 @@ impl SyncError {
         }
     }
 }
+
+impl fmt::Display for SyncError {
+    #[inline]
+    fn fmt(&self, f: &mut fmt::Formatter<'_>) -> fmt::Result {
+        match self {
+            SyncError::OtherWorld(_) => f.write_str("the queues are of another world"),
+            SyncError::Memory(_) => f.write_str("out of memory"),
+            SyncError::Stopped(stopped) => write!(f, "{stopped}"),
+        }
+    }
+}
+
+impl Error for SyncError {}

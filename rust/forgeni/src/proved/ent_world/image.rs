@@ -48,6 +48,7 @@ fn read_header(bytes: &[u8]) -> Result<(u64, &[u8], &[u8]), WorldImageFault>
     // ensures refused { OnErr result ((phase : ℕ) (part rest : List ℕ) → phase < 2 ^ 64
     //     → length part < 2 ^ 64 → bytes.now ≢ framed phase part rest) }
     // ensures no_memory { IfErr result (λ fault. fault ≢ WorldImageFault.Memory) }
+    // ensures fault { IfErr result (HasFault bytes.now) }
 {
     if bytes.len() < 8 {
         return Err(WorldImageFault::Magic);
@@ -111,6 +112,13 @@ fn read_allocator(bytes: &[u8]) -> Result<Entities, WorldImageFault>
     // ensures has_image { IfOk result HasAllocatorImage }
     // ensures exact { (e : Allocator) → HasAllocatorImage e → allocator_image e ≡ bytes.now
     //     → (result ≡ Ok e) ⊎ (result ≡ Err WorldImageFault.Memory) }
+    // ensures fault { IfErr result (λ fault. fault ≢ WorldImageFault.Memory
+    //     → IsPartFault bytes.now fault) }
+    // ensures header { OnOk result (header_fault bytes.now ≡ None) }
+    // ensures memory { IfErr result (λ fault. fault ≡ WorldImageFault.Memory
+    //     → header_fault bytes.now ≡ None) }
+    // ensures slots { IfErr result (λ fault. fault ≡ WorldImageFault.Memory
+    //     → 40 < length bytes.now) }
 {
     match Entities::read_image(bytes) {
         Ok(entities) => Ok(entities),
@@ -129,6 +137,10 @@ fn list_living(
     // ensures bare { OnOk result (All (λ h. map.get entities.now.rows h ≡ None) handles.entry) }
     // ensures rows { IfErr result (λ fault. fault ≢ WorldImageFault.Memory
     //     → entities.now.rows ≢ map.empty) }
+    // ensures fault { IfErr result (λ fault. fault ≢ WorldImageFault.Memory
+    //     → IsRowFault entities.now.rows handles.entry fault) }
+    // ensures memory { IfErr result (λ fault. fault ≡ WorldImageFault.Memory
+    //     → 0 < length handles.entry) }
 {
     let mut list = Vec::with_capacity_fallibly(handles.len())?;
     for handle in handles {
@@ -160,6 +172,9 @@ fn read_storage(
     // ensures refused { (m : EntityMap) → AreStored m handles.now
     //     → entities_bytes m handles.now ≡ bytes.now
     //     → IfErr result (λ fault. fault ≡ WorldImageFault.Memory) }
+    // ensures fault { IfErr result (λ fault. fault ≢ WorldImageFault.Memory
+    //     → IsRestFault handles.now bytes.now fault) }
+    // ensures memory { IfErr result (λ fault. fault ≡ WorldImageFault.Memory → 0 < room) }
 {
     match Storage::read_image(handles, room, bytes) {
         Ok(storage) => Ok(storage),
@@ -225,8 +240,8 @@ impl World {
     ///
     /// # Errors
     ///
-    /// Each but [`Memory`](WorldImageFault::Memory) says that no world has this image. `Memory` comes
-    /// if there is no memory for what the image has, whatever it is.
+    /// Each but [`Memory`](WorldImageFault::Memory) says that no world has this image, by the first fault
+    /// that the bytes have. `Memory` comes if there is no memory for the slots, whatever they are.
     ///
     /// <details><summary>Contract</summary>
     ///
@@ -240,9 +255,22 @@ impl World {
     /// ensures exact { (w : WorldValue) → HasImage w → image w ≡ bytes.now
     ///     → (result ≡ Ok w) ⊎ (result ≡ Err WorldImageFault.Memory) }
     ///
-    /// // What is refused is the image of no world.
+    /// // What is refused is the image of no world. It is refused for the first fault of the bytes.
     /// ensures refused { IfErr result (λ fault. fault ≢ WorldImageFault.Memory
     ///     → (w : WorldValue) → HasImage w → image w ≢ bytes.now) }
+    /// ensures fault { IfErr result (λ fault. fault ≢ WorldImageFault.Memory
+    ///     → HasFault bytes.now fault) }
+    ///
+    /// // Memory is asked for only after the allocator's part was found faultless up to its slots, and
+    /// // only for slots. There are no more slots and entities than the bytes have.
+    /// ensures memory { IfErr result (λ fault. fault ≡ WorldImageFault.Memory
+    ///     → MayTakeMemory bytes.now) }
+    /// ensures bound { IfOk result (λ w. least w ≤ length bytes.now) }
+    ///
+    /// // What was given before the image was written is not given again by what is read.
+    /// ensures given_once { (w : WorldValue) (given : List HandleValue) → HasImage w
+    ///     → image w ≡ bytes.now → AreSpent w.allocator given
+    ///     → IfOk result (λ r. AreSpent r.allocator given) }
     /// ```
     ///
     /// </details>
@@ -258,6 +286,10 @@ impl World {
         // ensures has_image { IfOk result HasImage }
         // ensures exact { (w : WorldValue) → HasImage w → image w ≡ bytes.now
         //     → (result ≡ Ok w) ⊎ (result ≡ Err WorldImageFault.Memory) }
+        // ensures fault { IfErr result (λ fault. fault ≢ WorldImageFault.Memory
+        //     → HasFault bytes.now fault) }
+        // ensures memory { IfErr result (λ fault. fault ≡ WorldImageFault.Memory
+        //     → MayTakeMemory bytes.now) }
     {
         let (phase, part, rest) = read_header(bytes)?;
         let mut entities = read_allocator(part)?;

@@ -5,7 +5,8 @@ use crate::proved::ent_handle::Memory;
 use crate::proved::ent_storage::StorageImageFault;
 use crate::kit::alloc::AllocError;
 
-/// Why bytes were not read as the image of a world: the first fault that they have, in this order.
+/// Why bytes were not read as the image of a world: the first fault that they have, in this order. The
+/// version is looked at only if there are as many bytes as stand before the allocator's part.
 #[derive(Clone, Copy, Debug, PartialEq, Eq, Hash)]
 #[non_exhaustive]
 pub enum WorldImageFault {

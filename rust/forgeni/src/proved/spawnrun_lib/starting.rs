@@ -11,6 +11,7 @@ use crate::proved::cli::{file_name, finish, refuse_file, refuse_words, words_aft
 use crate::proved::devices::{Counted, Muted, Noting, open_named};
 use crate::kit::alloc::AllocError;
 use core::cell::Cell;
+use crate::kit::programs::env;
 use crate::kit::programs::env::Env;
 use std::io::{Read, Write};
 use crate::kit::programs::rt::Files;
@@ -53,9 +54,13 @@ where
     let mut output = Counted::new(Noting::new(output, &has_left));
     let mut errors = Counted::new(Muted::new(errors, &has_left));
     let mut progress = Teller::new(rt, Counted::new(terminal), tells);
-    let words = match words_after_name(rt) {
+    let words = match env::args(rt) {
         Ok(words) => words,
         Err(error) => return refuse_words(&error, &mut errors),
+    };
+    let words = match words_after_name(words) {
+        Ok(words) => words,
+        Err(AllocError) => return finish(&mut errors, Status::Memory.number()),
     };
     let name = match file_name(&words, |words| is_task(words)) {
         Ok(name) => name,

@@ -13,6 +13,7 @@ use crate::proved::devices::{Counted, Muted, Noting, Sink, Source, open_named};
 use crate::kit::alloc::AllocError;
 use core::cell::Cell;
 use crate::kit::programs::string::AsStr;
+use crate::kit::programs::env;
 use crate::kit::programs::env::Env;
 use std::io::{Read, Write};
 use crate::kit::programs::rt::Files;
@@ -133,9 +134,13 @@ where
     let mut output = Counted::new(Noting::new(output, &has_left));
     let mut errors = Counted::new(Muted::new(errors, &has_left));
     let mut terminal = Counted::new(terminal);
-    let words = match words_after_name(rt) {
+    let words = match env::args(rt) {
         Ok(words) => words,
         Err(error) => return refuse_words(&error, &mut errors),
+    };
+    let words = match words_after_name(words) {
+        Ok(words) => words,
+        Err(AllocError) => return finish(&mut errors, Status::Memory.number()),
     };
     let name = match file_name(&words, |words| are_limits(words)) {
         Ok(name) => name,

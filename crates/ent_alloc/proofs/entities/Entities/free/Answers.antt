@@ -7,9 +7,8 @@ use Rattle.ent_alloc.specs.Sequential.{after_free}
 use Rattle.ent_alloc.specs.Entities.{allocator_of, entities_of, HasRowsOfLiving}
 use Rattle.ent_alloc.proofs.Soundness.{after_free-sound}
 use Rattle.ent_alloc.proofs.Meaning.{allocator_is, IsAtRest, at_rest, closed, StandFor}
-use Rattle.ent_alloc.proofs.MeaningOfAlloc.{freed_roster, retired_roster}
 use Rattle.ent_alloc.proofs.RowsOfLiving.{AreOf, rows-removed}
-use Rattle.ent_alloc.specs.Roster.{Roster}
+use Rattle.ent_alloc.specs.Roster.{Roster, freed_roster, retired_roster}
 use Rattle.ent_alloc.proofs.entities.Entities.free.Goals.{Else-needs_flush, In_ok-next}
 use Rattle.ent_alloc.proofs.entities.Entities.free.Goals as goal
 

@@ -13,6 +13,7 @@ use Rattle.ent_alloc.proofs.ImageOf.{image_is, numbers, top_as, handed_on}
 use Rattle.ent_alloc.specs.FirstFault.{first_fault, first_failing, slots_tests}
 use Rattle.ent_alloc.proofs.ImageHeader.{length-header_bytes}
 use Rattle.ent_alloc.proofs.ImageFront.{front_fault, to_numbers, later_tests, limits_fault}
+use Rattle.ent_alloc.proofs.ImageFront.{header_passes, no_header_fault}
 use Rattle.ent_alloc.proofs.ImageFront.{counts_fault, requests_fault, whole_length_fault, to_slots}
 use Rattle.ent_alloc.proofs.entities.Entities.of_image.Goals.{In_ok-header, In_ok-slots}
 use Rattle.ent_alloc.proofs.entities.Entities.of_image.Goals as goal
@@ -192,3 +193,37 @@ returns-clause-faultless c =
     (let whole = c.if-slots-header.false in omega (arith, long))
     ∙ ap (λ (l : Limits). first_failing (slots_tests l.generations h.made h.waiting slots))
     (sym limits) ∙ c.in_ok-slots.ensures.faultless
+
+-- ---- memory
+
+pub returns-in_err-header-clause-memory : goal.returns-in_err-header-clause-memory
+returns-in_err-header-clause-memory c =
+    handed_on c.from_residual.result c.in_err-header.field-0.0 _ c.from_residual.ensures.1
+    (λ is. absurd (c.in_err-header.ensures.no_memory is))
+
+pub returns-in_err-header-clause-slots : goal.returns-in_err-header-clause-slots
+returns-in_err-header-clause-slots c =
+    handed_on c.from_residual.result c.in_err-header.field-0.0 _ c.from_residual.ensures.1
+    (λ is. absurd (c.in_err-header.ensures.no_memory is))
+
+pub returns-in_err-slots-clause-memory : goal.returns-in_err-slots-clause-memory
+returns-in_err-slots-clause-memory c =
+    let bytes = c.args.bytes.now in
+    let h = c.in_ok-header.header in
+    let slots = c.in_ok-header.slots.now in
+    let header = c.in_ok-header.ensures in
+    let long = long_is (goal.at.returns-in_err-slots-clause-memory c).In_ok-header in
+    handed_on c.from_residual-in_err-slots.result c.in_err-slots.field-0.0 _
+    c.from_residual-in_err-slots.ensures.1 (λ _.
+    no_header_fault bytes h slots header.fits header.found header.faultless
+    (header_passes h (length bytes) slots (c.in-Some.ensures.in_range.0 refl) (omega arith)
+    (omega arith) c.in-Some-requests_of.ensures.some
+    (let whole = c.if-slots-header.false in omega (arith, long))))
+
+pub returns-in_err-slots-clause-slots : goal.returns-in_err-slots-clause-slots
+returns-in_err-slots-clause-slots c =
+    let long = long_is (goal.at.returns-in_err-slots-clause-slots c).In_ok-header in
+    let whole = c.if-slots-header.false in
+    handed_on c.from_residual-in_err-slots.result c.in_err-slots.field-0.0 _
+    c.from_residual-in_err-slots.ensures.1
+    (λ is. omega (arith, c.in_err-slots.ensures.memory is, long, whole))

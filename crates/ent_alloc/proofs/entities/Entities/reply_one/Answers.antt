@@ -16,8 +16,8 @@ lies c = search (rules, below_top, allocator_is)
 slots_is : (c : After-slots) → c.slots.result ≡ c.self.inside.slots.limits.slots
 slots_is c = c.slots.ensures ∙ ap (λ (l : Limits). l.slots) c.limits.ensures
 
-pub returns-then-high-gt0 : goal.returns-then-high-gt0
-returns-then-high-gt0 c = search (rules, lies, one_pending, allocator_is, ints)
+pub returns-then-position-ge0 : goal.returns-then-position-ge0
+returns-then-position-ge0 c = search (rules, lies, one_pending, allocator_is, ints)
 
 pub returns-then-index-from : goal.returns-then-index-from
 returns-then-index-from c =

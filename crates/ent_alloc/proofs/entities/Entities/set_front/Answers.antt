@@ -1,7 +1,7 @@
-use Rattle.std.proofs.Common.{◌≡◌, ◌-◌, ap, ◌∙◌, arith, length}
-use Rattle.ent_alloc.specs.Front.{with_front}
+use Rattle.std.proofs.Common.{rules, ◌≡◌, ◌-◌, ap, ◌∙◌, arith, length, take}
+use Rattle.ent_alloc.specs.Front.{with_front, AreSlotsOf}
 use Rattle.ent_alloc.proofs.Meaning.{allocator_is, StandFor}
-use Rattle.ent_alloc.proofs.FrontPools.{few_in, room_in, enough_in, waits_in, front_stands, grown}
+use Rattle.ent_alloc.proofs.FrontPools.{few_of, room_of, enough_of, waits_of, stands_of, grown}
 use Rattle.ent_alloc.proofs.entities.Entities.set_front.Goals.{After-wait_last-arg-1}
 use Rattle.ent_alloc.proofs.entities.Entities.set_front.Goals.{After-wait_last}
 use Rattle.ent_alloc.proofs.entities.Entities.set_front.Goals as goal
@@ -9,7 +9,7 @@ use Rattle.ent_alloc.proofs.entities.Entities.set_front.Goals as goal
 pub overflow_cast-front : goal.overflow_cast-front
 overflow_cast-front c =
     let e = c.self.inside in
-    let few = few_in e.slots e.requests c.args.self.now.allocator c.args.front.now c.self.invariant
+    let few = few_of e.slots e.requests c.args.self.now.allocator c.args.front.now c.self.invariant
     (allocator_is c.self.view_is) c.requires.flushed c.requires.few c.requires.same in
     omega (
       arith,
@@ -23,7 +23,7 @@ overflow_cast-front c =
 pub make_waiting-requires : goal.make_waiting-requires
 make_waiting-requires c =
     let e = c.self.inside in
-    let room = room_in e.slots e.requests c.args.self.now.allocator c.args.front.now c.self.invariant
+    let room = room_of e.slots e.requests c.args.self.now.allocator c.args.front.now c.self.invariant
     (allocator_is c.self.view_is) c.requires.flushed c.requires.few c.requires.same in
     omega (arith, room, c.waiting-waiting.ensures.value, c.saturating_sub-more.ensures)
 
@@ -39,7 +39,7 @@ grown_is c =
 pub wait_last-requires-clause-few : goal.wait_last-requires-clause-few
 wait_last-requires-clause-few c =
     let e = c.self.inside in
-    enough_in e.slots e.requests c.args.self.now.allocator c.args.front.now c.self.invariant
+    enough_of e.slots e.requests c.args.self.now.allocator c.args.front.now c.self.invariant
     (allocator_is c.self.view_is) c.requires.flushed c.requires.few c.requires.same
     c.make_waiting.new.self
     (grown_is (goal.at.wait_last-requires-clause-few c).After-wait_last-arg-1)
@@ -47,7 +47,7 @@ wait_last-requires-clause-few c =
 pub wait_last-requires-clause-same : goal.wait_last-requires-clause-same
 wait_last-requires-clause-same c =
     let e = c.self.inside in
-    waits_in e.slots e.requests c.args.self.now.allocator c.args.front.now c.self.invariant
+    waits_of e.slots e.requests c.args.self.now.allocator c.args.front.now c.self.invariant
     (allocator_is c.self.view_is) c.requires.flushed c.requires.few c.requires.same
     c.make_waiting.new.self
     (grown_is (goal.at.wait_last-requires-clause-same c).After-wait_last-arg-1)
@@ -55,21 +55,36 @@ wait_last-requires-clause-same c =
 -- what is left stands for the pool with this front
 left : (c : After-wait_last) → c.make_waiting.new.self
     ≡ grown c.self.inside.slots (length c.args.front.now - length c.self.inside.slots.pending)
+    → (slots : AreSlotsOf (take (length c.args.front.now) c.args.self.now.allocator.pool)
+    c.args.front.now)
     → StandFor c.wait_last.new.self c.self.inside.requests
-    (with_front c.args.self.now.allocator c.args.front.now)
-left c grown =
+    (with_front c.args.self.now.allocator slots.front)
+left c grows slots =
     let e = c.self.inside in
-    front_stands e.slots e.requests c.args.self.now.allocator c.args.front.now c.self.invariant
-    (allocator_is c.self.view_is) c.requires.flushed c.requires.few c.requires.same
-    c.make_waiting.new.self grown c.wait_last.new.self
-    c.wait_last.ensures
+    stands_of e.slots e.requests c.args.self.now.allocator c.args.front.now c.self.invariant
+    (allocator_is c.self.view_is) c.requires.flushed c.requires.few slots
+    c.make_waiting.new.self grows c.wait_last.new.self c.wait_last.ensures
 
 pub invariant_of-self-2 : goal.invariant_of-self-2
 invariant_of-self-2 c =
     let at = goal.at.invariant_of-self-2 c in
-    (left at.After-wait_last (grown_is at.After-wait_last-arg-1)).reserved
+    (left at.After-wait_last (grown_is at.After-wait_last-arg-1) c.requires.same).reserved
 
 pub returns-clause-ok : goal.returns-clause-ok
-returns-clause-ok c =
+returns-clause-ok c slots =
     let at = goal.at.returns-clause-ok c in
-    (left at.After-wait_last (grown_is at.After-wait_last-arg-1)).view
+    (left at.After-wait_last (grown_is at.After-wait_last-arg-1) slots).view
+
+pub returns-clause-rows : goal.returns-clause-rows
+returns-clause-rows c =
+    let e = c.self.inside in
+    let at = goal.at.returns-clause-rows c in
+    let is = c.wait_last.ensures (waits_of e.slots e.requests c.args.self.now.allocator
+    c.args.front.now c.self.invariant (allocator_is c.self.view_is) c.requires.flushed
+    c.requires.few c.requires.same c.make_waiting.new.self (grown_is at.After-wait_last-arg-1)) in
+    search (rules, is, c.in_ok-make_waiting.ensures.ok)
+
+pub returns-clause-rows_of_living : goal.returns-clause-rows_of_living
+returns-clause-rows_of_living c =
+    let at = goal.at.returns-clause-rows_of_living c in
+    (left at.After-wait_last (grown_is at.After-wait_last-arg-1) c.requires.same).reserved.rows

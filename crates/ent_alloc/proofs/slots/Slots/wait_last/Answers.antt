@@ -1,6 +1,5 @@
 use Rattle.std.proofs.Common.{rules, sym, ap, ◌∙◌, subst, ◌≡◌, ℕ, List, ◌<◌, length, All}
 use Rattle.std.proofs.lemmas.List.{with_items_is}
-use Rattle.ent_handle.specs.Handle.{Handle}
 use Rattle.ent_alloc.specs.declared.slot_record.SlotRecord.{SlotRecord}
 use Rattle.ent_alloc.specs.Front.{placed, moved}
 use Rattle.ent_alloc.proofs.Fronts.{slots_in, links_in, roster_in, length-moved, length-placed}
@@ -10,16 +9,16 @@ use Rattle.ent_alloc.proofs.slots.Slots.wait_last.Goals as goal
 pub wait_last-requires-clause-made : goal.wait_last-requires-clause-made
 wait_last-requires-clause-made c =
     let e = c.self.inside in
-    subst (λ (rs : List SlotRecord). All (λ (h : Handle). h.index < length rs) c.args.order.now)
+    subst (λ (rs : List SlotRecord). All (λ i. i < length rs) c.args.order.now)
     (sym c.deref_mut.ensures.value)
     (slots_in e.limits e.records.items e.pending.items e.live c.args.order.now c.args.self.now
     c.self.invariant c.self.view_is c.requires.few c.requires.same)
 
 -- what is written
 record AreWritten (records new_records : List SlotRecord) (pending new_pending : List ℕ)
-    (hs : List Handle) : Type 0 where
-  records_are : new_records ≡ moved records (length pending) hs
-  pending_are : new_pending ≡ placed pending (length pending) hs
+    (is : List ℕ) : Type 0 where
+  records_are : new_records ≡ moved records (length pending) is
+  pending_are : new_pending ≡ placed pending (length pending) is
 
 written : (c : After-wait_last) → AreWritten c.self.inside.records.items c.wait_last.new.records
     c.self.inside.pending.items c.wait_last.new.pending c.args.order.now
@@ -35,25 +34,25 @@ written c = record {
 pub invariant_of-self : goal.invariant_of-self
 invariant_of-self c =
     let e = c.self.inside in
-    let hs = c.args.order.now in
+    let is = c.args.order.now in
     let all = written (goal.at.invariant_of-self c).After-wait_last in
     let records = with_items_is e.records c.wait_last.new.records
-    (ap length all.records_are ∙ length-moved e.records.items (length e.pending.items) hs ∙ (search rules)) in
+    (ap length all.records_are ∙ length-moved e.records.items (length e.pending.items) is ∙ (search rules)) in
     let pending = with_items_is e.pending c.wait_last.new.pending
-    (ap length all.pending_are ∙ length-placed e.pending.items (length e.pending.items) hs ∙ (search rules)) in
+    (ap length all.pending_are ∙ length-placed e.pending.items (length e.pending.items) is ∙ (search rules)) in
     rw (records, pending, all.records_are, all.pending_are)
-    (links_in e.limits e.records.items e.pending.items e.live hs c.args.self.now
+    (links_in e.limits e.records.items e.pending.items e.live is c.args.self.now
     c.self.invariant c.self.view_is c.requires.few c.requires.same)
 
 pub returns : goal.returns
-returns c =
+returns c slots =
     let e = c.self.inside in
-    let hs = c.args.order.now in
+    let is = c.args.order.now in
     let all = written (goal.at.returns c).After-wait_last in
     let records = with_items_is e.records c.wait_last.new.records
-    (ap length all.records_are ∙ length-moved e.records.items (length e.pending.items) hs ∙ (search rules)) in
+    (ap length all.records_are ∙ length-moved e.records.items (length e.pending.items) is ∙ (search rules)) in
     let pending = with_items_is e.pending c.wait_last.new.pending
-    (ap length all.pending_are ∙ length-placed e.pending.items (length e.pending.items) hs ∙ (search rules)) in
+    (ap length all.pending_are ∙ length-placed e.pending.items (length e.pending.items) is ∙ (search rules)) in
     rw (records, pending, all.records_are, all.pending_are)
-    (roster_in e.limits e.records.items e.pending.items e.live hs c.args.self.now
-    c.self.invariant c.self.view_is c.requires.few c.requires.same)
+    (roster_in e.limits e.records.items e.pending.items e.live is c.args.self.now
+    c.self.invariant c.self.view_is c.requires.few slots)

@@ -1,9 +1,10 @@
-use Rattle.std.proofs.Common.{◌≡◌, ◌≢◌, ◌⊎◌, ◌↔◌, sym, ap, ◌∙◌, subst, ◌≤◌, arith, List}
+use Rattle.std.proofs.Common.{◌≡◌, ◌≢◌, ◌⊎◌, ◌↔◌, sym, ap, ◌∙◌, subst, arith, List}
 use Rattle.std.proofs.Common.{map, All, AllPairs, Contains}
 use Rattle.ent_handle.specs.Handle.{Handle}
 use Rattle.ent_alloc.specs.Sequential.{Allocator, after_flush}
 use Rattle.ent_alloc.specs.Sound.{IsLive}
-use Rattle.ent_blocks.specs.Blocks.{Block, Phase, dealt, unused, AreLaid, reach, after_blocks}
+use Rattle.ent_alloc.specs.Portions.{AreUsed}
+use Rattle.ent_blocks.specs.Blocks.{Block, Phase, dealt, unused, AreLaid, portions_of, after_blocks}
 use Rattle.ent_blocks.specs.Blocks.{accounted, blocks_of}
 use Rattle.ent_blocks.proofs.Accounts.{unused_accounted}
 use Rattle.ent_blocks.proofs.Phases.{closing}
@@ -51,16 +52,6 @@ take_used-requires-clause-within g c =
     ∙ (λ i. accounted (c.deref.ensures.value i) (blocks_of (c.deref-2.ensures.value i))) in
     omega (arith, ap dealt is, closes.within)
 
-pub take_used-requires-clause-few : goal.take_used-requires-clause-few
-take_used-requires-clause-few g c =
-    let s = c.self.inside.entities.allocator in
-    let all = accounted c.self.inside.parts.items (blocks_of c.args.reservers.items) in
-    let closes = closing s c.self.inside.parts.items (blocks_of c.args.reservers.items)
-    c.self.invariant.0 in
-    let is : c.deref-3.result.now ≡ all = c.deref-3.ensures.value ∙ c.in-Ok.ensures.ok
-    ∙ (λ i. accounted (c.deref.ensures.value i) (blocks_of (c.deref-2.ensures.value i))) in
-    omega (arith, ap dealt is, closes.few)
-
 pub returns-clause-distinct : goal.returns-clause-distinct
 returns-clause-distinct g c =
     let s = c.self.inside.entities.allocator in
@@ -70,13 +61,13 @@ returns-clause-distinct g c =
     let is : c.deref-3.result.now ≡ all = c.deref-3.ensures.value ∙ c.in-Ok.ensures.ok
     ∙ (λ i. accounted (c.deref.ensures.value i) (blocks_of (c.deref-2.ensures.value i))) in
     let inv = c.self.invariant.0 in
-    let reached : reach all ≤ dealt all =
-    subst (λ (bs : List Block). reach bs ≤ dealt bs) is c.take_used.ensures.reached in
+    let fits : AreUsed (portions_of all) =
+    subst (λ (bs : List Block). AreUsed (portions_of bs)) is c.in-Ok-take_used.ensures.used in
     let after : c.take_used.new.entities.allocator ≡ after_blocks s all =
     c.in-Ok-take_used.ensures.ok ∙ ap (after_blocks s) is in
     let start : s ≡ c.args.self.phase.start = ap (λ (p : Phase). p.phase.start) c.self.view_is in
     subst (λ (t : Allocator). AllPairs (λ g h. g ≢ h) t.taken) (sym after)
-    (used-distinct s all inv.sound inv.flushed closes.laid closes.within reached)
+    (used-distinct s all inv.sound inv.flushed closes.laid closes.within fits)
 
 pub returns-clause-not_live : goal.returns-clause-not_live
 returns-clause-not_live g c =
@@ -87,15 +78,15 @@ returns-clause-not_live g c =
     let is : c.deref-3.result.now ≡ all = c.deref-3.ensures.value ∙ c.in-Ok.ensures.ok
     ∙ (λ i. accounted (c.deref.ensures.value i) (blocks_of (c.deref-2.ensures.value i))) in
     let inv = c.self.invariant.0 in
-    let reached : reach all ≤ dealt all =
-    subst (λ (bs : List Block). reach bs ≤ dealt bs) is c.take_used.ensures.reached in
+    let fits : AreUsed (portions_of all) =
+    subst (λ (bs : List Block). AreUsed (portions_of bs)) is c.in-Ok-take_used.ensures.used in
     let after : c.take_used.new.entities.allocator ≡ after_blocks s all =
     c.in-Ok-take_used.ensures.ok ∙ ap (after_blocks s) is in
     let start : s ≡ c.args.self.phase.start = ap (λ (p : Phase). p.phase.start) c.self.view_is in
     subst (λ (u : Allocator). All (λ h. ¬ (IsLive u h)) c.take_used.new.entities.allocator.taken)
     start
     (subst (λ (t : Allocator). All (λ h. ¬ (IsLive s h)) t.taken) (sym after)
-    (used-not_live s all inv.sound inv.flushed closes.laid closes.within reached))
+    (used-not_live s all inv.sound inv.flushed closes.laid closes.within fits))
 
 pub returns-clause-brings_to_life : goal.returns-clause-brings_to_life
 returns-clause-brings_to_life g c =
@@ -106,8 +97,8 @@ returns-clause-brings_to_life g c =
     let is : c.deref-3.result.now ≡ all = c.deref-3.ensures.value ∙ c.in-Ok.ensures.ok
     ∙ (λ i. accounted (c.deref.ensures.value i) (blocks_of (c.deref-2.ensures.value i))) in
     let inv = c.self.invariant.0 in
-    let reached : reach all ≤ dealt all =
-    subst (λ (bs : List Block). reach bs ≤ dealt bs) is c.take_used.ensures.reached in
+    let fits : AreUsed (portions_of all) =
+    subst (λ (bs : List Block). AreUsed (portions_of bs)) is c.in-Ok-take_used.ensures.used in
     let after : c.take_used.new.entities.allocator ≡ after_blocks s all =
     c.in-Ok-take_used.ensures.ok ∙ ap (after_blocks s) is in
     let start : s ≡ c.args.self.phase.start = ap (λ (p : Phase). p.phase.start) c.self.view_is in
@@ -116,4 +107,4 @@ returns-clause-brings_to_life g c =
     ↔ (IsLive u h ⊎ Contains c.take_used.new.entities.allocator.taken h)) start
     (subst (λ (t : Allocator). (h : Handle) → IsLive (after_flush t) h
     ↔ (IsLive s h ⊎ Contains t.taken h)) (sym after)
-    (used-live s all inv.sound inv.flushed closes.laid closes.within reached))
+    (used-live s all inv.sound inv.flushed closes.laid closes.within fits))

@@ -73,11 +73,11 @@ close-requires-clause-own g c =
     let a = (goal.at.close-requires-clause-own g c).After-run_all in
     rw (c.disband.ensures.claimers, team g a) (claimers_own _ _ (claimed g a))
 
-pub returns-then-stopped-clause-own : goal.returns-then-stopped-clause-own
-returns-then-stopped-clause-own g c = stay _ _ _ _ _ _ _ c.run_all.ensures
+pub returns-then-stopped-clause-lent : goal.returns-then-stopped-clause-lent
+returns-then-stopped-clause-lent g c = stay _ _ _ _ _ _ _ c.run_all.ensures
 
-pub returns-clause-own : goal.returns-clause-own
-returns-clause-own g c = stay _ _ _ _ _ _ _ c.run_all.ensures
+pub returns-clause-lent : goal.returns-clause-lent
+returns-clause-lent g c = stay _ _ _ _ _ _ _ c.run_all.ensures
 
 pub returns-then-stopped-clause-broken_off : goal.returns-then-stopped-clause-broken_off
 returns-then-stopped-clause-broken_off g c =

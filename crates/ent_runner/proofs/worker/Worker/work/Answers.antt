@@ -10,12 +10,12 @@ loop-number-preserved g c =
     let done = c.reserve.ensures.items ∙ c.push_reserved.ensures.items in
     let r = c.run-output.ensures in
     record {
-      reserver = r.stays;
+      lent = r.stays;
       claimer = c.next.ensures.stays;
       claimed = numbers_more _ _ _ _ _ done i.claimed
           (claims_more c.loop-number.self.claimer.own _ _ c.in-Some.ensures.claims);
       ended = ended_more (g.J.Jobs.may_do c.args.site.now.jobs.now)
-          (g.J.Jobs.may_leave c.args.site.now.jobs.now) _ _ _ _ _ _ i.ended r.gains
+          (g.J.Jobs.may_leave c.args.site.now.jobs.now) _ _ _ _ _ _ i.ended
           (of_ok _ _ _ c.in_ok-ran.was r.does) done;
       stopped = i.stopped;
       room = omega (arith, room);
@@ -27,11 +27,11 @@ returns-then-is_err-clause-ended g c =
     let r = c.run-output.ensures in
     ended_more (g.J.Jobs.may_do c.args.site.now.jobs.now)
     (g.J.Jobs.may_leave c.args.site.now.jobs.now) _ _ _ _ _ _
-    c.loop-number.invariant.ended r.gains (of_ok _ _ _ c.in_ok-ran.was r.does) done
+    c.loop-number.invariant.ended (of_ok _ _ _ c.in_ok-ran.was r.does) done
 
 pub returns-in_err-ran-clause-stopped : goal.returns-in_err-ran-clause-stopped
 returns-in_err-ran-clause-stopped g c =
     let r = c.run-output.ensures in
     on_err c.from_residual.result (stopped_at (g.J.Jobs.may_do c.args.site.now.jobs.now)
-    (g.J.Jobs.may_leave c.args.site.now.jobs.now) _ _ _ _ _ _ c.loop-number.invariant.ended r.gains
+    (g.J.Jobs.may_leave c.args.site.now.jobs.now) _ _ _ _ _ _ c.loop-number.invariant.ended
     (of_err _ _ _ c.in_err-ran.was r.leaves) c.push_reserved.ensures.items)

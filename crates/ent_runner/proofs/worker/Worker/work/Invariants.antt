@@ -1,6 +1,5 @@
 use Rattle.std.proofs.Common.{◌≡◌, ◌-◌, ◌<◌, length}
 use Rattle.std.specs.Prelude.{vec_len, vec_capacity}
-use Rattle.ent_shared.specs.Phase.{IsOf}
 use Rattle.ent_runner.specs.Claims.{IsClaimerOf}
 use Rattle.ent_runner.specs.Worker.{numbers_of, HaveEnded}
 use Rattle.ent_runner.proofs.worker.Worker.work.Given as goal
@@ -8,11 +7,11 @@ use Rattle.ent_runner.proofs.worker.Worker.work.Given as goal
 -- so far it has done what it claimed
 abbrev pub invariant-loop-number : goal.invariant-loop-number
 invariant-loop-number g l = record {
-  reserver : IsOf l.site.shared.now l.reserver;
+  lent : g.J.Jobs.may_have l.site.jobs.now l.lent;
   claimer : IsClaimerOf l.site.claims.now l.self.claimer;
   claimed : numbers_of l.self.done.items ≡ l.self.claimer.own.claims;
-  ended : HaveEnded (g.J.Jobs.may_do l.site.jobs.now) l.initial.reserver.own l.self.done.items
-      l.reserver.own;
+  ended : HaveEnded (g.J.Jobs.may_do l.site.jobs.now) l.initial.lent l.self.done.items
+      l.lent;
   stopped : l.self.stopped ≡ l.initial.self.stopped;
   room : vec_len l.self.done < vec_capacity l.self.done;
 }

@@ -1,16 +1,20 @@
-use Rattle.std.proofs.Common.{rules, ◌≡◌, ◌<◌, ◌≤◌, ◌^◌, sym, ap, ◌∙◌, arith, length, ℕ, Option}
-use Rattle.std.proofs.Common.{is_some, false, None}
+use Rattle.std.proofs.Common.{rules, ◌≡◌, ◌<◌, ◌≤◌, ◌^◌, sym, ap, ◌∙◌, arith, length, ℕ, Option, subst}
+use Rattle.std.proofs.Common.{is_some, false, None, inl, inr, refl}
 use Rattle.std.specs.Prelude.{option_and_then}
 use Rattle.std.specs.FinMap as map
 use Rattle.std.proofs.lemmas.Bool.{false≢true}
+use Rattle.std.proofs.lemmas.List.{get_or_default, nil_from_length, length-take-le}
 use Rattle.std.proofs.lemmas.Grind.{common_steps}
 use Rattle.ent_handle.specs.declared.component.ComponentId.{ComponentId}
 use Rattle.ent_handle.specs.Handle.{Handle, handle_cmp}
-use Rattle.ent_storage.specs.EntityMap.{Entity, EntityMap, value_of}
+use Rattle.ent_storage.specs.EntityMap.{Entity as EntityValue, EntityMap, value_of}
 use Rattle.ent_storage.specs.Image.{IsStored}
+use Rattle.ent_storage.specs.FirstFault.{IsNoEntity, HasFault}
+use Rattle.ent_storage.specs.declared.image_fault.StorageImageFault.TheVariants.{Entity}
 use Rattle.ent_storage.proofs.ImageEntities.{stored_alike}
 use Rattle.ent_storage.proofs.ImageRead.{too_few, too_wide, damaged, bytes_more, each_more, only_more}
 use Rattle.ent_storage.proofs.ImageRead.{new_here, places_more, stored_end, nothing_left, is_read, width_told}
+use Rattle.ent_storage.proofs.ImageRead.{all_first, wide}
 use Rattle.ent_storage.proofs.storage.Storage.read_image.Goals as goal
 
 pub returns-then-bytes-lt4-clause-refused : goal.returns-then-bytes-lt4-clause-refused
@@ -71,7 +75,7 @@ loop-handle-preserved c =
       beyond = each_more n old hs i loop.each h lt is new free rest_same
           (λ (m : EntityMap) (g : Handle). (id : ComponentId) → n ≤ id.0
           → value_of m g id ≡ None)
-          (λ g same was id past. sym (ap (option_and_then (λ (e : Entity).
+          (λ g same was id past. sym (ap (option_and_then (λ (e : EntityValue).
           map.get e.components id)) same) ∙ was id past) loop.beyond beyond;
       only = only_more n old hs i loop.each h lt is new free rest_same loop.only;
       places = places_more n old hs i loop.each h lt is new free rest_same
@@ -109,3 +113,72 @@ returns-clause-exact c m stored same =
     is_read c.read_word-width.result.0 c.loop-handle.storage.entities c.args.handles.now
     c.loop-handle.handle-index c.loop-handle-test.false loop.each loop.beyond loop.only m
     c.args.bytes.now c.loop-handle.rest.now (search rules) loop.bytes stored same
+
+-- ---- the first fault
+
+pub returns-then-bytes-lt4-clause-fault : goal.returns-then-bytes-lt4-clause-fault
+returns-then-bytes-lt4-clause-fault c other = inl c.if-bytes-lt4.true
+
+pub returns-then-width-gt256-clause-fault : goal.returns-then-width-gt256-clause-fault
+returns-then-width-gt256-clause-fault c other = inl (
+  c.if-width-gt256.true,
+  search rules,
+  (c.read_word-width.result.1.now, c.read_word-width.ensures.bytes),
+)
+
+pub returns-in_default-clause-fault : goal.returns-in_default-clause-fault
+returns-in_default-clause-fault c other =
+    let loop = c.loop-handle.invariant in
+    let n = c.read_word-width.result.0 in
+    let hs = c.args.handles.now in
+    let i = c.loop-handle.handle-index in
+    let h = c.handle-item.result in
+    let left = c.loop-handle.rest.now in
+    let none = rw c.in_default.is at c.in_ok-left.ensures.none in
+    let at : c.len-place.result ≡ i = c.len-place.ensures.places ∙ ap length loop.places
+    ∙ length-take-le i hs (omega (arith, c.loop-handle-test.true)) in
+    subst (λ place. HasFault hs c.args.bytes.now (Entity place)) (sym at) (
+      c.loop-handle-test.true,
+      (
+        record {
+          width = n;
+          few = c.if-width-gt256.false;
+          entities = c.loop-handle.storage.entities;
+          stored = loop.each;
+          beyond = loop.beyond;
+          left = left;
+          spelled = loop.bytes;
+        },
+        λ d. subst (IsNoEntity n left)
+            (c.handle-item.is ∙ get_or_default hs i h d c.loop-handle-test.true) none,
+      ),
+    )
+
+pub returns-then-not-is_empty-clause-fault : goal.returns-then-not-is_empty-clause-fault
+returns-then-not-is_empty-clause-fault c other =
+    let loop = c.loop-handle.invariant in
+    inr (
+      all_first c.read_word-width.result.0 c.loop-handle.storage.entities c.args.handles.now
+          c.loop-handle.handle-index c.loop-handle-test.false loop.each loop.beyond loop.only
+          c.if-width-gt256.false c.args.bytes.now c.loop-handle.rest.now loop.bytes,
+      λ none. let zeros : length c.loop-handle.rest.now ≡ 0 = ap length none in
+          grind (arith, common_steps, zeros, c.is_empty.ensures, c.if-not-is_empty.true),
+    )
+
+pub returns-then-width-clause-fault : goal.returns-then-width-clause-fault
+returns-then-width-clause-fault c other =
+    let loop = c.loop-handle.invariant in
+    let n = c.read_word-width.result.0 in
+    let s = c.loop-handle.storage.entities in
+    let hs = c.args.handles.now in
+    let i = c.loop-handle.handle-index in
+    inr (
+      all_first n s hs i c.loop-handle-test.false loop.each loop.beyond loop.only
+          c.if-width-gt256.false c.args.bytes.now c.loop-handle.rest.now loop.bytes,
+      nil_from_length c.loop-handle.rest.now
+          (grind (arith, common_steps, c.is_empty.ensures, c.if-not-is_empty.false)),
+      refl,
+      λ same. c.if-width.true (c.width.ensures.value
+          ∙ wide n s hs i c.loop-handle-test.false loop.each loop.beyond loop.only
+          c.loop-handle.storage.places loop.places ∙ same),
+    )

@@ -1,4 +1,4 @@
-use Rattle.std.proofs.Common.{◌≡◌, ◌≤◌, ◌<◌, ◌∙◌, ap, sym, subst, arith, inl, Ok, List, AllPairs, ℕ, length, get_or, true, ◌^◌}
+use Rattle.std.proofs.Common.{◌≡◌, ◌≢◌, ◌+◌, ◌≤◌, ◌<◌, ◌∙◌, ap, sym, subst, arith, inl, Ok, List, AllPairs, ℕ, length, get_or, true, ◌^◌}
 use Rattle.std.specs.FinMap as map
 use Rattle.std.specs.FinSet as set
 use Rattle.ent_handle.specs.Handle.{Handle}
@@ -7,14 +7,17 @@ use Rattle.ent_alloc.specs.Sound.{IsSound}
 use Rattle.ent_alloc.specs.Entities.{Entities}
 use Rattle.ent_alloc.specs.Image.{image as allocator_image}
 use Rattle.ent_storage.specs.Image.{entities_bytes, AreStored}
-use Rattle.ent_world.specs.World.{World, IsWorld}
+use Rattle.ent_world.specs.World.{World}
 use Rattle.ent_world.specs.Rows.{AreRows, with_rows}
-use Rattle.ent_world.specs.Image.{allocator_of, framed, image, HasImage, living}
+use Rattle.ent_world.specs.Image.{allocator_of, framed, image, HasImage}
+use Rattle.ent_world.specs.FirstFault.{AreFramed, HaveAllocator, HasFault, MayTakeMemory}
+use Rattle.ent_storage.specs.FirstFault.{HasFault as HasStorageFault}
 use Rattle.ent_world.proofs.ImageRead.{allocator_has, AreParts, told, memory_from_not, read_is}
 use Rattle.ent_world.proofs.ImageRead.{refused_is, handed, listed, no_rows, stored_living, rows_read}
-use Rattle.ent_world.proofs.ImageRead.{all_live, living_is}
+use Rattle.ent_world.proofs.ImageRead.{all_live, living_is, handed_on, slots_made, framed_by}
 use Rattle.ent_world.proofs.world.World.of_image.Goals.{In_ok-phase, In_ok-entities, In_ok-handles}
 use Rattle.ent_world.proofs.world.World.of_image.Goals.{In_ok-storage}
+use Rattle.ent_world.proofs.ImageKeys.{rising_apart}
 use Rattle.ent_world.proofs.world.World.of_image.Goals as goal
 
 -- what the bytes tell of a world whose image they are
@@ -172,3 +175,114 @@ returns-clause-exact c w has is =
       phase = sym parts.phase_is i;
       entities = entities i;
     }))
+
+-- ---- the first fault, and memory
+
+abbrev parts_of : (c : In_ok-phase) → AreFramed c.args.bytes.now
+parts_of c = framed_by c.args.bytes.now c.in_ok-phase.phase c.in_ok-phase.part.now
+    c.in_ok-phase.rest.now c.in_ok-phase.ensures.phase c.in_ok-phase.ensures.fits
+    c.in_ok-phase.ensures.found
+
+pub returns-in_err-phase-clause-fault : goal.returns-in_err-phase-clause-fault
+returns-in_err-phase-clause-fault c =
+    handed_on c.from_residual.result c.in_err-phase.field-0.0 _ c.from_residual.ensures.1
+    (λ other. c.in_err-phase.ensures.fault)
+
+pub returns-in_err-phase-clause-memory : goal.returns-in_err-phase-clause-memory
+returns-in_err-phase-clause-memory c =
+    handed_on c.from_residual.result c.in_err-phase.field-0.0 _ c.from_residual.ensures.1
+    (λ is. absurd (c.in_err-phase.ensures.no_memory is))
+
+pub returns-in_err-entities-clause-fault : goal.returns-in_err-entities-clause-fault
+returns-in_err-entities-clause-fault c =
+    let at = goal.at.returns-in_err-entities-clause-fault c in
+    handed_on c.from_residual-in_err-entities.result c.in_err-entities.field-0.0 _
+    c.from_residual-in_err-entities.ensures.1 (λ other.
+    let fault = c.in_err-entities.ensures.fault other in
+    subst (HasFault c.args.bytes.now) (sym fault.named) (parts_of at.In_ok-phase, fault.first))
+
+pub returns-in_err-entities-clause-memory : goal.returns-in_err-entities-clause-memory
+returns-in_err-entities-clause-memory c =
+    let at = goal.at.returns-in_err-entities-clause-memory c in
+    handed_on c.from_residual-in_err-entities.result c.in_err-entities.field-0.0 _
+    c.from_residual-in_err-entities.ensures.1 (λ is. record {
+      parts = parts_of at.In_ok-phase;
+      faultless = c.in_err-entities.ensures.memory is;
+      slots = c.in_err-entities.ensures.slots is;
+    })
+
+abbrev parts_in : (c : In_ok-entities) → AreFramed c.args.bytes.now
+parts_in c = framed_by c.args.bytes.now c.in_ok-phase.phase c.in_ok-phase.part.now
+    c.in_ok-phase.rest.now c.in_ok-phase.ensures.phase c.in_ok-phase.ensures.fits
+    c.in_ok-phase.ensures.found
+
+-- the allocator that was read, and its living handles
+abbrev read_of : (c : In_ok-entities) (hs : List Handle) → AllPairs (λ g h. g.index < h.index) hs
+    → set.from_list hs ≡ c.in_ok-entities.entities.allocator.live → HaveAllocator c.args.bytes.now
+read_of c hs rises lives = record {
+  parts = parts_in c;
+  allocator = c.in_ok-entities.entities;
+  has_image = c.in_ok-entities.ensures.has_image;
+  part_is = c.in_ok-entities.ensures.found;
+  handles = hs;
+  rising = rises;
+  living = lives;
+}
+
+-- it has slots, if one lives or waits
+takes_memory : (c : In_ok-entities) (hs : List Handle)
+    → set.from_list hs ≡ c.in_ok-entities.entities.allocator.live
+    → 0 < length hs + top c.in_ok-entities.entities.allocator → MayTakeMemory c.args.bytes.now
+takes_memory c hs lives some = record {
+  parts = parts_in c;
+  faultless = c.in_ok-entities.ensures.header;
+  slots = subst (λ (part : List ℕ). 40 < length part) c.in_ok-entities.ensures.found
+      (slots_made c.in_ok-entities.entities c.in_ok-entities.ensures.has_image hs lives some);
+}
+
+pub returns-in_err-handles-clause-fault : goal.returns-in_err-handles-clause-fault
+returns-in_err-handles-clause-fault c =
+    let at = goal.at.returns-in_err-handles-clause-fault c in
+    handed_on c.from_residual-in_err-handles.result c.in_err-handles.field-0.0 _
+    c.from_residual-in_err-handles.ensures.1 (λ other.
+    let fault = c.in_err-handles.ensures.fault other in
+    subst (HasFault c.args.bytes.now) (sym fault.named) (
+      read_of at.In_ok-entities c.iter.result c.iter.ensures.rising c.iter.ensures.living,
+      fault.first,
+    ))
+
+pub returns-in_err-handles-clause-memory : goal.returns-in_err-handles-clause-memory
+returns-in_err-handles-clause-memory c =
+    let at = goal.at.returns-in_err-handles-clause-memory c in
+    handed_on c.from_residual-in_err-handles.result c.in_err-handles.field-0.0 _
+    c.from_residual-in_err-handles.ensures.1 (λ is.
+    takes_memory at.In_ok-entities c.iter.result c.iter.ensures.living
+    (omega (arith, c.in_err-handles.ensures.memory is)))
+
+pub returns-in_err-storage-clause-fault : goal.returns-in_err-storage-clause-fault
+returns-in_err-storage-clause-fault c =
+    let at = goal.at.returns-in_err-storage-clause-fault c in
+    handed_on c.from_residual-in_err-storage.result c.in_err-storage.field-0.0 _
+    c.from_residual-in_err-storage.ensures.1 (λ other.
+    let fault = c.in_err-storage.ensures.fault other in
+    subst (HasFault c.args.bytes.now) (sym fault.named) (
+      read_of at.In_ok-entities c.in_ok-handles.handles.items (rising at.In_ok-handles)
+          (lists at.In_ok-handles),
+      bare at.In_ok-handles,
+      subst (λ (hs : List Handle). HasStorageFault hs c.in_ok-phase.rest.now fault.why)
+          c.deref.ensures.value fault.first,
+    ))
+
+pub returns-in_err-storage-clause-memory : goal.returns-in_err-storage-clause-memory
+returns-in_err-storage-clause-memory c =
+    let at = goal.at.returns-in_err-storage-clause-memory c in
+    handed_on c.from_residual-in_err-storage.result c.in_err-storage.field-0.0 _
+    c.from_residual-in_err-storage.ensures.1 (λ is.
+    takes_memory at.In_ok-entities c.in_ok-handles.handles.items (lists at.In_ok-handles)
+    (omega (arith, c.in_err-storage.ensures.memory is, c.len.ensures, c.top.ensures)))
+
+pub read_storage-requires-clause-apart : goal.read_storage-requires-clause-apart
+read_storage-requires-clause-apart c =
+    let at = goal.at.read_storage-requires-clause-apart c in
+    subst (AllPairs (λ (g h : Handle). g ≢ h)) (sym c.deref.ensures.value)
+    (rising_apart c.in_ok-handles.handles.items (rising at.In_ok-handles))

@@ -1,4 +1,4 @@
-use Rattle.std.proofs.Common.{rules, ◌≡◌, ◌≢◌, refl, ◌<◌, ◌⊎◌, inl, inr, arith}
+use Rattle.std.proofs.Common.{rules, ◌≢◌, refl, ◌<◌, ◌⊎◌, inl, inr, arith}
 use Rattle.std.specs.FinMap as map
 use Rattle.ent_alloc.specs.Sequential.{Allocator, top}
 use Rattle.ent_alloc.specs.Sound.{IsSound}

@@ -1,9 +1,7 @@
 use Rattle.std.proofs.Common.{rules, ◌≡◌, ◌+◌, ◌*◌, ◌≤◌, ◌++◌, ◌∙◌, ap, sym, subst, arith, length}
 use Rattle.std.proofs.Common.{ℕ, zero, suc}
 use Rattle.std.specs.List.{flat_map}
-use Rattle.std.specs.FinMap as map
 use Rattle.std.specs.FinSet as set
-use Rattle.ent_handle.specs.Handle.{Handle}
 use Rattle.ent_alloc.specs.Entities.{without_rows}
 use Rattle.ent_alloc.specs.Image.{image as allocator_image}
 use Rattle.ent_storage.specs.Image.{word, width, entity_bytes}

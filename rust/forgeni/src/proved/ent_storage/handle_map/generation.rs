@@ -6,7 +6,7 @@ use core::num::NonZeroU32;
 /// A generation that a handle may have. It is not 0, so a slot needs no room to say that it is
 /// vacant.
 #[derive(Clone, Copy)]
-pub(super) struct Generation {
+pub(crate) struct Generation {
     number: NonZeroU32,
 }
 

@@ -2,13 +2,14 @@
 
 use crate::proved::ent_storage::handle_map::slot::Slot;
 use crate::proved::ent_handle::Handle;
+use core::slice;
 
 /// The handles and values of a map, by rising slot.
 ///
 /// [`HandleMap::iter`](super::HandleMap::iter) makes it. It borrows the map and copies nothing.
 #[must_use]
 pub struct Iter<'a, T> {
-    slots: &'a [Slot<T>],
+    slots: slice::Iter<'a, Slot<T>>,
     index: usize,
     left: usize,
 }
@@ -21,7 +22,7 @@ impl<'a, T> Iter<'a, T> {
         // ensures { result ≡ entries_from 0 slots.now }
     {
         Iter {
-            slots,
+            slots: slots.iter(),
             index: 0,
             left,
         }
@@ -33,7 +34,7 @@ impl<'a, T> Iter<'a, T> {
         // ensures { result ≡ self.now }
     {
         Iter {
-            slots: self.slots,
+            slots: self.slots.as_slice().iter(),
             index: self.index,
             left: self.left,
         }
@@ -52,9 +53,8 @@ impl<'a, T> Iterator for Iter<'a, T> {
 
     #[inline]
     fn next(&mut self) -> Option<(Handle, &'a T)> {
-        while let Some((slot, rest)) = self.slots.split_first() {
+        while let Some(slot) = self.slots.next() {
             let index = self.index as u32;
-            self.slots = rest;
             self.index += 1;
             if let Slot::Occupied { generation, value } = slot {
                 self.left -= 1;
@@ -77,9 +77,8 @@ impl<'a, T> Iterator for Iter<'a, T> {
 impl<'a, T> DoubleEndedIterator for Iter<'a, T> {
     #[inline]
     fn next_back(&mut self) -> Option<(Handle, &'a T)> {
-        while let Some((slot, rest)) = self.slots.split_last() {
-            let index = (self.index + rest.len()) as u32;
-            self.slots = rest;
+        while let Some(slot) = self.slots.next_back() {
+            let index = (self.index + self.slots.len()) as u32;
             if let Slot::Occupied { generation, value } = slot {
                 self.left -= 1;
                 return Some((generation.handle(index), value));

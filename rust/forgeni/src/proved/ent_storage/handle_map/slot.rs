@@ -8,7 +8,7 @@ use crate::kit::alloc::AllocError;
 
 /// What stands in a slot.
 #[derive(Clone, Copy)]
-pub(super) enum Slot<T> {
+pub(crate) enum Slot<T> {
     /// No value.
     Vacant,
     /// The value of the occupant of that generation.
@@ -29,7 +29,7 @@ impl<T> Slot<T> {
 
     /// The generation of the occupant that has the value. It is 0 if there is no value.
     #[inline]
-    pub(super) fn generation(&self) -> u32
+    pub(crate) fn generation(&self) -> u32
         // ensures { result ≡ generation_of self.now }
     {
         match self {
@@ -40,7 +40,7 @@ impl<T> Slot<T> {
 
     /// The handle of the occupant that has the value, if the slot is that of the index.
     #[inline]
-    pub(super) fn handle(&self, index: u32) -> Option<Handle>
+    pub(crate) fn handle(&self, index: u32) -> Option<Handle>
         // requires { index < 2 ^ 32 - 1 }
         // ensures { result ≡ handle_in self.now index }
     {
@@ -82,7 +82,7 @@ impl<T> Slot<T> {
 impl<T> Slot<T> {
     /// The value, if it is that of the generation. Any other one is dropped.
     #[inline]
-    pub(super) fn into_value(self, wanted: u32) -> Option<T>
+    pub(crate) fn into_value(self, wanted: u32) -> Option<T>
         // ensures { result ≡ value_under self wanted }
     {
         match self {
@@ -101,7 +101,7 @@ impl<T> Slot<T> {
 impl<T> Slot<T> {
     /// The value for writing. There has to be one.
     #[inline]
-    pub(super) fn value_mut(&mut self) -> &mut T
+    pub(crate) fn value_mut(&mut self) -> &mut T
         // requires { IsSome (any_value self.old) }
         // ensures* lends { sem 𝓛 (Lends (the_row T.row) T.row self.entry result
         //     (λ w. Slot.Occupied (generation_of self.old) w)) }

@@ -1,12 +1,13 @@
 use Rattle.std.proofs.Common.{◌≡◌, length}
+use Rattle.std.specs.Slice.Iter.{iter_rest}
 use Rattle.ent_storage.specs.Slots.{entries_from, AreCounted}
 use Rattle.ent_storage.proofs.handle_map.iter.IterDoubleEndedIterator.next_back.Given as goal
 
 -- only vacant slots were passed
 abbrev pub invariant-loop-slot : goal.invariant-loop-slot
 invariant-loop-slot g l =
-    AreCounted l.self-inside.index l.self-inside.slots.now l.self-inside.left
-    × (entries_from l.self-inside.index l.self-inside.slots.now ≡ l.fn.self)
+    AreCounted l.self-inside.index (iter_rest l.self-inside.slots) l.self-inside.left
+    × (entries_from l.self-inside.index (iter_rest l.self-inside.slots) ≡ l.fn.self)
 
 abbrev pub decreases-loop-slot : goal.decreases-loop-slot
-decreases-loop-slot g l = length l.self-inside.slots.now
+decreases-loop-slot g l = length (iter_rest l.self-inside.slots)

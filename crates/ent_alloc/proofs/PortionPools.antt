@@ -1,0 +1,166 @@
+-- Portions of a pool: the allocator whose pool begins with what was used, and what a request for it
+-- leaves.
+use Rattle.std.proofs.Common.{◌≡◌, ◌⊎◌, inl, inr, sym, ap, ◌∙◌, subst, ℕ, ◌+◌, ◌-◌, ◌≤◌}
+use Rattle.std.proofs.Common.{List, [], ◌++◌, length, take, drop, arith, IsPermutation, append_assoc}
+use Rattle.std.specs.Prelude.{◌≢◌}
+use Rattle.std.proofs.lemmas.Grind.{common_steps}
+use Rattle.std.proofs.lemmas.Bool.{cases_eq}
+use Rattle.std.proofs.lemmas.List.{length-append, take_at, drop_at, length-map, length-take-le}
+use Rattle.std.proofs.lemmas.List.{take-append-drop}
+use Rattle.std.proofs.lemmas.List.Sorted.{length_permutation}
+use Rattle.ent_handle.specs.Handle.{Handle}
+use Rattle.ent_alloc.specs.Roster.{Roster}
+use Rattle.ent_alloc.specs.Sequential.{Allocator, top, after_take}
+use Rattle.ent_alloc.specs.Entities.{idle, allocator_of, AreReserved}
+use Rattle.ent_alloc.specs.Front.{with_front, slots_of, AreSlotsOf}
+use Rattle.ent_alloc.specs.declared.portion.Portion.{Portion}
+use Rattle.ent_alloc.specs.declared.requests.Requests.{Requests}
+use Rattle.ent_alloc.specs.Portions.{used_of, left_of, size_of, count_of, reach_of, AreUsed}
+use Rattle.ent_alloc.specs.Portions.{front_of, made_for, after_portions, arranged}
+use Rattle.ent_alloc.proofs.Meaning.{rest_is}
+use Rattle.ent_alloc.specs.Sound.{IsSound}
+use Rattle.ent_alloc.proofs.FrontPools.{with_front-sound}
+use Rattle.ent_alloc.proofs.LaidOut.{flushed-laid_out}
+use Rattle.ent_alloc.proofs.Soundness.{after_take-sound}
+use Rattle.ent_alloc.proofs.Taken.{after_take-served}
+use Rattle.ent_alloc.proofs.Portioned.{front_same, behind_reach, used_is_front, left_is_behind}
+use Rattle.ent_alloc.proofs.Portioned.{count_within, reach_within, length-used, front-map}
+
+module _ (s : Allocator) (ps : List Portion) (fits : AreUsed ps)
+    (within : size_of ps ≤ length s.pool) where
+  abbrev front : List Handle
+  front = front_of s.pool ps
+
+  abbrev count : ℕ
+  count = count_of ps
+
+  abbrev reach : ℕ
+  reach = reach_of ps
+
+  reaches : reach ≤ length s.pool
+  reaches = omega (arith, reach_within ps fits)
+
+  same : IsPermutation (take reach s.pool) front
+  same = front_same s.pool ps fits within
+
+  front_long : length front ≡ reach
+  front_long = length_permutation (take reach s.pool) front same
+      ∙ length-take-le reach s.pool reaches
+
+  -- ---- the slots of the front
+
+  module _ (is : List ℕ) (are : is ≡ slots_of front) where
+    order_long : length is ≡ reach
+    order_long = ap length are ∙ length-map front (λ (h : Handle). h.index) ∙ front_long
+
+    pub order_few : length is ≤ length s.pool
+    order_few = omega (arith, order_long, reaches)
+
+    pub order_slots : AreSlotsOf (take (length is) s.pool) is
+    order_slots = record {
+      front = front;
+      same = subst (λ n. IsPermutation (take n s.pool) front) (sym order_long) same;
+      slots = are;
+    }
+
+    pub order_is : (s' : Allocator) → count ≢ reach
+        → ((slots : AreSlotsOf (take (length is) s.pool) is) → s' ≡ with_front s slots.front)
+        → s' ≡ arranged s ps
+    unfolding order_slots
+    order_is s' short each = each order_slots ∙ sym (moved_is short)
+      where
+        moved_is : count ≢ reach → arranged s ps ≡ with_front s front
+        moved_is short = grind (arith, common_steps)
+
+  -- ---- a request for what was used
+
+  enough : count ≤ reach
+  enough = count_within ps fits
+
+  us_long : length (used_of s.pool ps) ≡ count
+  us_long = length-used s.pool ps fits within
+
+  -- nothing is left before the last one that was used
+  front_taken : count ≡ reach → s.taken ≡ [] → s.asked ≡ 0
+      → after_take s count ≡ after_portions s ps
+  front_taken all none flushed =
+      let taken : s.taken ++ take count s.pool ≡ used_of s.pool ps =
+      ap (◌++ take count s.pool) none ∙ sym (used_is_front s.pool ps fits all within) in
+      let pool : drop count s.pool ≡ left_of s.pool ps =
+      sym (left_is_behind s.pool ps fits all within) in
+      let none_made : made_for s ps ≡ 0 = grind (arith, common_steps) in
+      let made : s.made ≡ s.made + made_for s ps = omega (arith, none_made) in
+      let asked : s.asked + count ≡ count = omega arith in
+      after_take-served s count (omega (arith, reaches, enough))
+      ∙ (λ i. record s { taken = taken i; pool = pool i; made = made i; asked = asked i })
+
+  -- the pool was arranged
+  moved_taken : count ≢ reach → s.taken ≡ [] → s.asked ≡ 0
+      → after_take (with_front s front) count ≡ after_portions s ps
+  moved_taken short none flushed =
+      let us = used_of s.pool ps in
+      let rs = take (reach - count) (left_of s.pool ps) in
+      let after = drop (length front) s.pool in
+      let whole : (us ++ rs) ++ after ≡ us ++ (rs ++ after) = append_assoc us rs after in
+      let long = length-append us (rs ++ after) in
+      let enough_in : count ≤ length ((us ++ rs) ++ after) = omega (arith, ap length whole, us_long) in
+      let lefts : rs ++ after ≡ left_of s.pool ps =
+      ap (λ n. rs ++ drop n s.pool) front_long
+      ∙ ap (rs ++◌) (sym (behind_reach s.pool ps fits within))
+      ∙ take-append-drop (reach - count) (left_of s.pool ps) in
+      let taken : s.taken ++ take count ((us ++ rs) ++ after) ≡ us =
+      (λ i. none i ++ take count (whole i)) ∙ take_at us (rs ++ after) count us_long in
+      let pool : drop count ((us ++ rs) ++ after) ≡ left_of s.pool ps =
+      ap (drop count) whole ∙ drop_at us (rs ++ after) count us_long ∙ lefts in
+      let made_is : made_for s ps ≡ reach - top s = grind (arith, common_steps) in
+      let made : s.made + (length front - top s) ≡ s.made + made_for s ps =
+      ap (λ n. s.made + (n - top s)) front_long ∙ ap (s.made +◌) (sym made_is) in
+      let asked : s.asked + count ≡ count = omega arith in
+      after_take-served (with_front s front) count enough_in
+      ∙ (λ i. record s { taken = taken i; pool = pool i; made = made i; asked = asked i })
+
+  pub portions_taken : s.taken ≡ [] → s.asked ≡ 0
+      → after_take (arranged s ps) count ≡ after_portions s ps
+  portions_taken none flushed = by_count (cases_eq count reach)
+    where
+      by_count : (count ≡ reach) ⊎ (count ≢ reach)
+          → after_take (arranged s ps) count ≡ after_portions s ps
+      by_count (inl all) =
+          let is : arranged s ps ≡ s = grind (arith, common_steps) in
+          ap (λ s. after_take s count) is ∙ front_taken all none flushed
+      by_count (inr short) =
+          let is : arranged s ps ≡ with_front s front = grind (arith, common_steps) in
+          ap (λ s. after_take s count) is ∙ moved_taken short none flushed
+
+  pub arranged_asked : (arranged s ps).asked ≡ s.asked
+  arranged_asked = grind (arith, common_steps)
+
+-- the slots of the front, as the vectors have them
+pub front_slots : (r : Roster) (requests : Requests) (s : Allocator) (is : List ℕ)
+    (ps : List Portion) → AreReserved r requests.asked requests.served
+    → allocator_of r requests.asked requests.served ≡ s → s.asked ≡ 0
+    → is ≡ front_of (slots_of (idle r)) ps → is ≡ slots_of (front_of s.pool ps)
+front_slots r requests s is ps reserved view flushed are =
+    let at_rest = rest_is r requests.asked requests.served s reserved view flushed in
+    are ∙ sym (front-map (λ (h : Handle). h.index) (idle r) ps)
+    ∙ ap (λ (s : Allocator). slots_of (front_of s.pool ps)) at_rest
+
+-- the allocator stays sound
+pub after_portions-sound : (s : Allocator) (ps : List Portion) → IsSound s → s.asked ≡ 0
+    → AreUsed ps → size_of ps ≤ length s.pool → IsSound (after_portions s ps)
+after_portions-sound s ps sound flushed fits within =
+    subst IsSound
+    (portions_taken s ps fits within (flushed-laid_out s sound flushed).taken flushed)
+    (after_take-sound (arranged s ps) (count_of ps) (by_count (cases_eq (count_of ps) (reach_of ps))))
+  where
+    by_count : (count_of ps ≡ reach_of ps) ⊎ (count_of ps ≢ reach_of ps) → IsSound (arranged s ps)
+    by_count (inl all) =
+        let is : arranged s ps ≡ s = grind (arith, common_steps) in subst IsSound (sym is) sound
+    by_count (inr short) =
+        let is : arranged s ps ≡ with_front s (front_of s.pool ps) = grind (arith, common_steps) in
+        let long = front_long s ps fits within in
+        subst IsSound (sym is)
+        (with_front-sound s (front_of s.pool ps) sound flushed
+        (omega (arith, long, reaches s ps fits within))
+        (subst (λ n. IsPermutation (take n s.pool) (front_of s.pool ps)) (sym long)
+        (same s ps fits within)))

@@ -1,0 +1,405 @@
+-- Portions of a list: where what was used of them ends, and what is left.
+use Rattle.std.proofs.Common.{◌≡◌, ◌⊎◌, inl, inr, refl, sym, ap, ◌∙◌, subst, ℕ, zero, suc, ◌+◌, ◌-◌}
+use Rattle.std.proofs.Common.{◌<◌, ◌≤◌, List, [], ◌∷◌, ◌++◌, length, take, drop, get_or, map, arith}
+use Rattle.std.proofs.Common.{IsPermutation, append_assoc}
+use Rattle.std.proofs.lemmas.Grind.{common_steps}
+use Rattle.std.proofs.Math.Seq.{take-add}
+use Rattle.std.proofs.lemmas.List.{take-append-drop, length-append, length-drop, drop-drop}
+use Rattle.std.proofs.lemmas.List.{length-take-le, append-nil, drop-append-le}
+use Rattle.std.proofs.Math.Seq.{take-append-add, drop-append-add}
+use Rattle.std.proofs.lemmas.List.Elements.{All-tail}
+use Rattle.std.proofs.lemmas.List.{drop_more, take_more, get_or-drop, take-append-le, drop-take}
+use Rattle.std.proofs.lemmas.List.{get_or_default}
+use Rattle.std.proofs.lemmas.Option.{get_or_from_slice_get}
+use Rattle.std.specs.Prelude.{min, slice_get, Some, ◌==◌, if◌then◌else◌}
+use Rattle.std.proofs.Math.Nat.{min-eq_left, min-eq_right}
+use Rattle.std.proofs.lemmas.Bool.{cases_lt}
+use Rattle.std.proofs.lemmas.List.Sorted.{IsPermutation-refl, IsPermutation-append_left}
+use Rattle.std.proofs.lemmas.List.Sorted.{IsPermutation-append_right, IsPermutation-append_comm}
+use Rattle.std.proofs.lemmas.List.Sorted.{IsPermutation-trans}
+use Rattle.ent_alloc.specs.declared.portion.Portion.{Portion}
+use Rattle.ent_alloc.specs.Portions.{used_of, left_of, size_of, count_of, reach_of, AreUsed, front_of}
+
+pub first_used : (p : Portion) (ps : List Portion) → AreUsed (p ∷ ps) → p.used ≤ p.size
+first_used p ps fits = fits 0 p (omega arith)
+
+pub others_used : (p : Portion) (ps : List Portion) → AreUsed (p ∷ ps) → AreUsed ps
+others_used p ps fits = All-tail (λ (p : Portion). p.used ≤ p.size) p ps fits
+
+-- ---- where what was used ends
+
+pub reach-none : (p : Portion) (ps : List Portion) → reach_of ps ≡ 0
+    → reach_of (p ∷ ps) ≡ p.used
+reach-none p ps none = grind (arith, common_steps)
+
+pub reach-some : (p : Portion) (ps : List Portion) → 0 < reach_of ps
+    → reach_of (p ∷ ps) ≡ p.size + reach_of ps
+reach-some p ps some = grind (arith, common_steps)
+
+none_or_some : (n : ℕ) → (n ≡ 0) ⊎ (0 < n)
+none_or_some zero = inl refl
+none_or_some (suc n) = inr (omega arith)
+
+pub count_within : (ps : List Portion) → AreUsed ps → count_of ps ≤ reach_of ps
+count_within [] fits = omega arith
+count_within (p ∷ ps) fits =
+    by_rest (none_or_some (reach_of ps)) (count_within ps (others_used p ps fits))
+  where
+    by_rest : (reach_of ps ≡ 0) ⊎ (0 < reach_of ps) → count_of ps ≤ reach_of ps
+        → count_of (p ∷ ps) ≤ reach_of (p ∷ ps)
+    by_rest (inl none) rest = omega (arith, reach-none p ps none)
+    by_rest (inr some) rest = omega (arith, reach-some p ps some, first_used p ps fits)
+
+pub reach_within : (ps : List Portion) → AreUsed ps → reach_of ps ≤ size_of ps
+reach_within [] fits = omega arith
+reach_within (p ∷ ps) fits =
+    by_rest (none_or_some (reach_of ps)) (reach_within ps (others_used p ps fits))
+  where
+    by_rest : (reach_of ps ≡ 0) ⊎ (0 < reach_of ps) → reach_of ps ≤ size_of ps
+        → reach_of (p ∷ ps) ≤ size_of (p ∷ ps)
+    by_rest (inl none) rest = omega (arith, reach-none p ps none, first_used p ps fits)
+    by_rest (inr some) rest = omega (arith, reach-some p ps some)
+
+-- ---- what was used, and what is left
+
+pub take_of_take : {X : Type 0} (n m : ℕ) (xs : List X) → n ≤ m → take n (take m xs) ≡ take n xs
+take_of_take zero m xs le = refl
+take_of_take (suc n) zero xs le = absurd (omega arith)
+take_of_take (suc n) (suc m) [] le = refl
+take_of_take (suc n) (suc m) (x ∷ xs) le = ap (x ∷◌) (take_of_take n m xs (omega arith))
+
+module _ {A : Type 0} where
+  pub used_none : (pool : List A) (ps : List Portion) → count_of ps ≡ 0 → used_of pool ps ≡ []
+  used_none pool [] none = refl
+  used_none pool (p ∷ ps) none =
+      let here : p.used ≡ 0 = omega arith in
+      let first : take p.used pool ≡ [] = ap (λ n. take n pool) here in
+      let others = used_none (drop p.size pool) ps (omega arith) in
+      λ i. first i ++ others i
+
+  pub left_none : (pool : List A) (ps : List Portion) → count_of ps ≡ 0 → left_of pool ps ≡ pool
+  left_none pool [] none = refl
+  left_none pool (p ∷ ps) none =
+      let here : p.used ≡ 0 = omega arith in
+      let first : drop p.used (take p.size pool) ≡ take p.size pool =
+      ap (λ n. drop n (take p.size pool)) here in
+      let others = left_none (drop p.size pool) ps (omega arith) in
+      (λ i. first i ++ others i) ∙ take-append-drop p.size pool
+
+  pub length-used : (pool : List A) (ps : List Portion) → AreUsed ps → size_of ps ≤ length pool
+      → length (used_of pool ps) ≡ count_of ps
+  length-used pool [] fits within = refl
+  length-used pool (p ∷ ps) fits within =
+      let here = first_used p ps fits in
+      let others = length-used (drop p.size pool) ps (others_used p ps fits)
+      (omega (arith, length-drop p.size pool)) in
+      omega (
+        arith,
+        length-append (take p.used pool) (used_of (drop p.size pool) ps),
+        length-take-le p.used pool (omega arith),
+      )
+
+  -- a portion's rest, and what comes behind it
+  module _ (p : Portion) (pool : List A) (fits : p.used ≤ p.size) (within : p.size ≤ length pool)
+    where
+      abbrev rest : List A
+      rest = drop p.used (take p.size pool)
+
+      length-rest : length rest ≡ p.size - p.used
+      length-rest = length-drop p.used (take p.size pool)
+          ∙ ap (λ n. n - p.used) (length-take-le p.size pool within)
+
+      rest_and_behind : rest ++ drop p.size pool ≡ drop p.used pool
+      rest_and_behind =
+          sym (drop-append-le p.used (take p.size pool) (drop p.size pool)
+          (omega (arith, length-take-le p.size pool within)))
+          ∙ ap (drop p.used) (take-append-drop p.size pool)
+
+      front_and_rest : take p.used pool ++ rest ≡ take p.size pool
+      front_and_rest = ap (◌++ rest) (sym (take_of_take p.used p.size pool fits))
+          ∙ take-append-drop p.used (take p.size pool)
+
+      rest_is : rest ≡ take (p.size - p.used) (drop p.used pool)
+      rest_is =
+          let whole : p.used + (p.size - p.used) ≡ p.size = omega arith in
+          ap (λ n. drop p.used (take n pool)) (sym whole) ∙ drop-take p.used (p.size - p.used) pool
+
+      -- as many as there are of a rest, and then of others
+      pub take_left : (more n : ℕ) (others : List A) → n ≡ min (p.size - p.used) more
+          → take more (rest ++ others) ≡ take n (drop p.used pool) ++ take (more - n) others
+      take_left more n others least = by_size (cases_lt more (p.size - p.used))
+        where
+          by_size : (more < p.size - p.used) ⊎ (p.size - p.used ≤ more)
+              → take more (rest ++ others) ≡ take n (drop p.used pool) ++ take (more - n) others
+          by_size (inl less) =
+              let n_is : n ≡ more = least ∙ min-eq_right (omega arith) in
+              let none : more - n ≡ 0 = omega arith in
+              take-append-le more rest others (omega (arith, length-rest))
+              ∙ ap (take more) rest_is
+              ∙ take_of_take more (p.size - p.used) (drop p.used pool) (omega arith)
+              ∙ ap (λ n. take n (drop p.used pool)) (sym n_is)
+              ∙ sym (append-nil (take n (drop p.used pool)))
+              ∙ ap (λ m. take n (drop p.used pool) ++ take m others) (sym none)
+          by_size (inr all) =
+              let n_is : n ≡ p.size - p.used = least ∙ min-eq_left all in
+              let sum : more ≡ length rest + (more - n) = omega (arith, length-rest) in
+              ap (λ m. take m (rest ++ others)) sum ∙ take-append-add rest others (more - n)
+              ∙ ap (◌++ take (more - n) others)
+              (rest_is ∙ ap (λ n. take n (drop p.used pool)) (sym n_is))
+
+  -- behind the last one that was used nothing has moved
+  pub behind_reach : (pool : List A) (ps : List Portion) → AreUsed ps → size_of ps ≤ length pool
+      → drop (reach_of ps - count_of ps) (left_of pool ps) ≡ drop (reach_of ps) pool
+  behind_reach pool [] fits within = refl
+  behind_reach pool (p ∷ ps) fits within =
+      by_rest (none_or_some (reach_of ps)) (behind_reach (drop p.size pool) ps
+      (others_used p ps fits) (omega (arith, length-drop p.size pool)))
+    where
+      here : p.used ≤ p.size
+      here = first_used p ps fits
+
+      few : count_of ps ≤ reach_of ps
+      few = count_within ps (others_used p ps fits)
+
+      by_rest : (reach_of ps ≡ 0) ⊎ (0 < reach_of ps)
+          → drop (reach_of ps - count_of ps) (left_of (drop p.size pool) ps)
+          ≡ drop (reach_of ps) (drop p.size pool)
+          → drop (reach_of (p ∷ ps) - count_of (p ∷ ps)) (left_of pool (p ∷ ps))
+          ≡ drop (reach_of (p ∷ ps)) pool
+      by_rest (inl none) others =
+          let reach = reach-none p ps none in
+          let none_used : count_of ps ≡ 0 = omega (arith, few) in
+          let start : reach_of (p ∷ ps) - count_of (p ∷ ps) ≡ 0 = omega arith in
+          ap (λ n. drop n (left_of pool (p ∷ ps))) start
+          ∙ ap (rest p pool here (omega arith) ++◌) (left_none (drop p.size pool) ps none_used)
+          ∙ rest_and_behind p pool here (omega arith)
+          ∙ ap (λ n. drop n pool) (sym reach)
+      by_rest (inr some) others =
+          let reach = reach-some p ps some in
+          let long = length-rest p pool here (omega arith) in
+          let start : reach_of (p ∷ ps) - count_of (p ∷ ps)
+          ≡ length (rest p pool here (omega arith)) + (reach_of ps - count_of ps) =
+          omega (arith, few, here) in
+          ap (λ n. drop n (left_of pool (p ∷ ps))) start
+          ∙ drop-append-add (rest p pool here (omega arith)) (left_of (drop p.size pool) ps)
+          (reach_of ps - count_of ps)
+          ∙ others ∙ drop-drop (reach_of ps) p.size pool
+          ∙ ap (λ n. drop n pool) (sym reach)
+
+  -- they are what the list begins with, in another order
+  pub front_same : (pool : List A) (ps : List Portion) → AreUsed ps → size_of ps ≤ length pool
+      → IsPermutation (take (reach_of ps) pool) (front_of pool ps)
+  front_same pool [] fits within = IsPermutation-refl []
+  front_same pool (p ∷ ps) fits within =
+      by_rest (none_or_some (reach_of ps)) (front_same (drop p.size pool) ps
+      (others_used p ps fits) (omega (arith, length-drop p.size pool)))
+    where
+      here : p.used ≤ p.size
+      here = first_used p ps fits
+
+      few : count_of ps ≤ reach_of ps
+      few = count_within ps (others_used p ps fits)
+
+      by_rest : (reach_of ps ≡ 0) ⊎ (0 < reach_of ps)
+          → IsPermutation (take (reach_of ps) (drop p.size pool)) (front_of (drop p.size pool) ps)
+          → IsPermutation (take (reach_of (p ∷ ps)) pool) (front_of pool (p ∷ ps))
+      by_rest (inl none) others =
+          let none_used : count_of ps ≡ 0 = omega (arith, few) in
+          let start : reach_of (p ∷ ps) - count_of (p ∷ ps) ≡ 0 =
+          omega (arith, reach-none p ps none) in
+          let us : used_of (drop p.size pool) ps ≡ [] =
+          used_none (drop p.size pool) ps none_used in
+          let all : front_of pool (p ∷ ps) ≡ take (reach_of (p ∷ ps)) pool =
+          (λ i. (take p.used pool ++ us i) ++ take (start i) (left_of pool (p ∷ ps)))
+          ∙ append-nil (take p.used pool ++ []) ∙ append-nil (take p.used pool)
+          ∙ ap (λ n. take n pool) (sym (reach-none p ps none)) in
+          subst (IsPermutation (take (reach_of (p ∷ ps)) pool)) (sym all)
+          (IsPermutation-refl (take (reach_of (p ∷ ps)) pool))
+      by_rest (inr some) others =
+          let r = rest p pool here (omega arith) in
+          let u = take p.used pool in
+          let pool' = drop p.size pool in
+          let us = used_of pool' ps in
+          let rs = take (reach_of ps - count_of ps) (left_of pool' ps) in
+          let reach = reach-some p ps some in
+          let start : reach_of (p ∷ ps) - count_of (p ∷ ps)
+          ≡ length r + (reach_of ps - count_of ps) =
+          omega (arith, few, here, length-rest p pool here (omega arith)) in
+          let lefts : take (reach_of (p ∷ ps) - count_of (p ∷ ps)) (left_of pool (p ∷ ps)) ≡ r ++ rs =
+          ap (λ n. take n (left_of pool (p ∷ ps))) start
+          ∙ take-append-add r (left_of pool' ps) (reach_of ps - count_of ps) in
+          let front : take (reach_of (p ∷ ps)) pool ≡ (u ++ r) ++ take (reach_of ps) pool' =
+          ap (λ n. take n pool) reach ∙ take-add p.size (reach_of ps) pool
+          ∙ ap (◌++ take (reach_of ps) pool') (sym (front_and_rest p pool here (omega arith))) in
+          let first : IsPermutation ((u ++ r) ++ take (reach_of ps) pool') ((u ++ r) ++ (us ++ rs)) =
+          IsPermutation-append_right (u ++ r) (take (reach_of ps) pool') (us ++ rs) others in
+          let middle : IsPermutation ((r ++ us) ++ rs) ((us ++ r) ++ rs) =
+          IsPermutation-append_left rs (r ++ us) (us ++ r) (IsPermutation-append_comm r us) in
+          let second : IsPermutation (u ++ ((r ++ us) ++ rs)) (u ++ ((us ++ r) ++ rs)) =
+          IsPermutation-append_right u ((r ++ us) ++ rs) ((us ++ r) ++ rs) middle in
+          let from : (u ++ r) ++ (us ++ rs) ≡ u ++ ((r ++ us) ++ rs) =
+          append_assoc u r (us ++ rs) ∙ ap (u ++◌) (sym (append_assoc r us rs)) in
+          let to : u ++ ((us ++ r) ++ rs) ≡ (u ++ us) ++ (r ++ rs) =
+          ap (u ++◌) (append_assoc us r rs) ∙ sym (append_assoc u us (r ++ rs)) in
+          let whole : (u ++ us) ++ (r ++ rs) ≡ front_of pool (p ∷ ps) =
+          ap ((u ++ us) ++◌) (sym lefts) in
+          subst (λ xs. IsPermutation xs (front_of pool (p ∷ ps))) (sym front)
+          (subst (IsPermutation ((u ++ r) ++ take (reach_of ps) pool')) whole
+          (IsPermutation-trans ((u ++ r) ++ take (reach_of ps) pool') ((u ++ r) ++ (us ++ rs))
+          ((u ++ us) ++ (r ++ rs)) first
+          (subst (λ xs. IsPermutation xs ((u ++ us) ++ (r ++ rs))) (sym from)
+          (subst (λ xs. IsPermutation (u ++ ((r ++ us) ++ rs)) xs) to second))))
+
+  -- if nothing is left before the last one that was used, they are what the list begins with
+  pub used_is_front : (pool : List A) (ps : List Portion) → AreUsed ps
+      → count_of ps ≡ reach_of ps → size_of ps ≤ length pool
+      → used_of pool ps ≡ take (count_of ps) pool
+  used_is_front pool [] fits all within = refl
+  used_is_front pool (p ∷ ps) fits all within =
+      by_rest (none_or_some (reach_of ps))
+      (λ whole. used_is_front (drop p.size pool) ps (others_used p ps fits) whole
+      (omega (arith, length-drop p.size pool)))
+    where
+      here : p.used ≤ p.size
+      here = first_used p ps fits
+
+      few : count_of ps ≤ reach_of ps
+      few = count_within ps (others_used p ps fits)
+
+      by_rest : (reach_of ps ≡ 0) ⊎ (0 < reach_of ps)
+          → (count_of ps ≡ reach_of ps
+          → used_of (drop p.size pool) ps ≡ take (count_of ps) (drop p.size pool))
+          → used_of pool (p ∷ ps) ≡ take (count_of (p ∷ ps)) pool
+      by_rest (inl none) others =
+          let none_used : count_of ps ≡ 0 = omega (arith, few) in
+          let sum : p.used ≡ p.used + count_of ps = omega arith in
+          ap (take p.used pool ++◌) (used_none (drop p.size pool) ps none_used)
+          ∙ append-nil (take p.used pool) ∙ ap (λ n. take n pool) sum
+      by_rest (inr some) others =
+          let reach = reach-some p ps some in
+          let full : p.used ≡ p.size = omega (arith, few, here) in
+          let sum : p.size + count_of ps ≡ p.used + count_of ps = omega arith in
+          (λ i. take (full i) pool ++ others (omega (arith, few, here)) i)
+          ∙ sym (take-add p.size (count_of ps) pool)
+          ∙ ap (λ n. take n pool) sum
+
+  pub left_is_behind : (pool : List A) (ps : List Portion) → AreUsed ps
+      → count_of ps ≡ reach_of ps → size_of ps ≤ length pool
+      → left_of pool ps ≡ drop (count_of ps) pool
+  left_is_behind pool ps fits all within =
+      let none : 0 ≡ reach_of ps - count_of ps = omega arith in
+      ap (λ n. drop n (left_of pool ps)) none
+      ∙ behind_reach pool ps fits within ∙ ap (λ n. drop n pool) (sym all)
+
+-- ---- one portion more
+
+pub count_size : (ps : List Portion) → AreUsed ps → count_of ps ≤ size_of ps
+count_size ps fits = omega (arith, count_within ps fits, reach_within ps fits)
+
+-- what stands past the last one
+abbrev pub no_portion : Portion
+no_portion = record { size = 0; used = 0 }
+
+pub portion_is : (ps : List Portion) (k : ℕ) → k < length ps
+    → get_or ps k no_portion ≡ get_or ps k (get_or ps k no_portion)
+portion_is ps k lt = sym (get_or_default ps k (get_or ps k no_portion) no_portion lt)
+
+module _ (ps : List Portion) (k : ℕ) (p : Portion) (lt : k < length ps) (is : p ≡ get_or ps k p)
+  where
+    pub portion_more : drop k ps ≡ p ∷ drop (k + 1) ps
+    portion_more = drop_more ps k p lt ∙ ap (λ (x : Portion). x ∷ drop (k + 1) ps) (sym is)
+
+    pub size_more : size_of (drop k ps) ≡ p.size + size_of (drop (k + 1) ps)
+    size_more = ap size_of portion_more
+
+    pub count_more : count_of (drop k ps) ≡ p.used + count_of (drop (k + 1) ps)
+    count_more = ap count_of portion_more
+
+    pub used_at : AreUsed ps → p.used ≤ p.size
+    used_at fits = subst (λ (x : Portion). x.used ≤ x.size) (sym is) (fits k p lt)
+
+    pub reach_more : (end before : ℕ) → (if reach_of (drop (k + 1) ps) == 0
+        then (if p.used == 0 then end else before + p.used)
+        else (before + p.size) + reach_of (drop (k + 1) ps))
+        ≡ (if reach_of (drop k ps) == 0 then end else before + reach_of (drop k ps))
+    reach_more end before =
+        joined (reach_of (drop (k + 1) ps))
+        ∙ ap (λ n. if n == 0 then end else before + n) (sym (ap reach_of portion_more))
+      where
+        joined : (r : ℕ) → (if r == 0 then (if p.used == 0 then end else before + p.used)
+            else (before + p.size) + r)
+            ≡ (if (if r == 0 then p.used else p.size + r) == 0 then end
+            else before + (if r == 0 then p.used else p.size + r))
+        joined r = grind (arith, common_steps)
+
+    module _ {A : Type 0} (pool : List A) (before : ℕ) where
+      pub used_more : used_of (drop before pool) (drop k ps)
+          ≡ take p.used (drop before pool) ++ used_of (drop (before + p.size) pool) (drop (k + 1) ps)
+      used_more = ap (used_of (drop before pool)) portion_more
+          ∙ ap (λ xs. take p.used (drop before pool) ++ used_of xs (drop (k + 1) ps))
+          (drop-drop p.size before pool)
+
+      pub left_more : (more n : ℕ) → n ≡ min (p.size - p.used) more → p.used ≤ p.size
+          → before + p.size ≤ length pool
+          → take more (left_of (drop before pool) (drop k ps))
+          ≡ take n (drop (before + p.used) pool)
+          ++ take (more - n) (left_of (drop (before + p.size) pool) (drop (k + 1) ps))
+      left_more more n least fits within =
+          let others = left_of (drop (before + p.size) pool) (drop (k + 1) ps) in
+          let long : p.size ≤ length (drop before pool) = omega (arith, length-drop before pool) in
+          ap (λ ps. take more (left_of (drop before pool) ps)) portion_more
+          ∙ ap (λ xs. take more (drop p.used (take p.size (drop before pool))
+          ++ left_of xs (drop (k + 1) ps))) (drop-drop p.size before pool)
+          ∙ take_left p (drop before pool) fits long more n others least
+          ∙ ap (λ xs. take n xs ++ take (more - n) others) (drop-drop p.used before pool)
+
+-- one more of what begins at a position
+pub list_more : {X : Type 0} (pool : List X) (from more : ℕ) (x : X)
+    → slice_get pool (from + more) ≡ Some x → from + more < length pool
+    → take (more + 1) (drop from pool) ≡ take more (drop from pool) ++ x ∷ []
+list_more pool from more x at below =
+    take_more (drop from pool) more x (omega (arith, length-drop from pool))
+    ∙ ap (λ y. take more (drop from pool) ++ y ∷ [])
+    (get_or-drop from pool more x ∙ get_or_from_slice_get pool (from + more) x x at)
+
+-- ---- a list of which each element is mapped
+
+module _ {A B : Type 0} (f : A → B) where
+  pub map-append : (xs ys : List A) → map f (xs ++ ys) ≡ map f xs ++ map f ys
+  map-append [] ys = refl
+  map-append (x ∷ xs) ys = ap (f x ∷◌) (map-append xs ys)
+
+  map-take : (n : ℕ) (xs : List A) → map f (take n xs) ≡ take n (map f xs)
+  map-take zero xs = refl
+  map-take (suc n) [] = refl
+  map-take (suc n) (x ∷ xs) = ap (f x ∷◌) (map-take n xs)
+
+  map-drop : (n : ℕ) (xs : List A) → map f (drop n xs) ≡ drop n (map f xs)
+  map-drop zero xs = refl
+  map-drop (suc n) [] = refl
+  map-drop (suc n) (x ∷ xs) = map-drop n xs
+
+  used-map : (pool : List A) (ps : List Portion) → map f (used_of pool ps)
+      ≡ used_of (map f pool) ps
+  used-map pool [] = refl
+  used-map pool (p ∷ ps) =
+      map-append (take p.used pool) (used_of (drop p.size pool) ps)
+      ∙ (λ i. map-take p.used pool i ++ used-map (drop p.size pool) ps i)
+      ∙ ap (λ xs. take p.used (map f pool) ++ used_of xs ps) (map-drop p.size pool)
+
+  left-map : (pool : List A) (ps : List Portion) → map f (left_of pool ps)
+      ≡ left_of (map f pool) ps
+  left-map pool [] = refl
+  left-map pool (p ∷ ps) =
+      map-append (drop p.used (take p.size pool)) (left_of (drop p.size pool) ps)
+      ∙ (λ i. (map-drop p.used (take p.size pool) ∙ ap (drop p.used) (map-take p.size pool)) i
+      ++ left-map (drop p.size pool) ps i)
+      ∙ ap (λ xs. drop p.used (take p.size (map f pool)) ++ left_of xs ps) (map-drop p.size pool)
+
+  pub front-map : (pool : List A) (ps : List Portion) → map f (front_of pool ps)
+      ≡ front_of (map f pool) ps
+  front-map pool ps =
+      let n = reach_of ps - count_of ps in
+      map-append (used_of pool ps) (take n (left_of pool ps))
+      ∙ (λ i. used-map pool ps i
+      ++ (map-take n (left_of pool ps) ∙ ap (take n) (left-map pool ps)) i)

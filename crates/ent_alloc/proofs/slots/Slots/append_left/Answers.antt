@@ -1,0 +1,73 @@
+use Rattle.std.proofs.Common.{◌≡◌, sym, ap, ◌∙◌, ◌+◌, ◌-◌, ◌≤◌, ◌++◌, [], length, get_or, take}
+use Rattle.std.proofs.Common.{drop, arith, append_assoc}
+use Rattle.std.proofs.Math.ListN.{drop_of_length-le}
+use Rattle.std.proofs.lemmas.List.{length-map, append-nil}
+use Rattle.std.proofs.lemmas.List.Elements.{All-drop}
+use Rattle.ent_handle.specs.Handle.{Handle}
+use Rattle.ent_alloc.specs.declared.portion.Portion.{Portion}
+use Rattle.ent_alloc.specs.Entities.{idle}
+use Rattle.ent_alloc.specs.Front.{slots_of}
+use Rattle.ent_alloc.specs.Portions.{left_of, size_of, count_of}
+use Rattle.ent_alloc.proofs.Portioned.{size_more, count_more, left_more, used_at, count_size}
+use Rattle.ent_alloc.proofs.Portioned.{no_portion, portion_is}
+use Rattle.ent_alloc.proofs.slots.Slots.append_left.Goals as goal
+
+pub loop-portion-preserved : goal.loop-portion-preserved
+loop-portion-preserved c =
+    let ps = c.args.portions.now in
+    let k = c.loop-portion.portion-index in
+    let lt = c.loop-portion-test.true in
+    let p = get_or ps k no_portion in
+    let is = portion_is ps k lt in
+    let fits = used_at ps k p lt is c.requires.used in
+    let size = size_more ps k p lt is in
+    let count = count_more ps k p lt is in
+    let slots = slots_of (idle c.args.self.now) in
+    let before = c.loop-portion.before in
+    let all = length-map (idle c.args.self.now) (λ (h : Handle). h.index) in
+    let within : before + p.size ≤ length slots =
+    omega (arith, size, all, c.loop-portion.invariant.at, c.requires.within) in
+    let n = c.lesser-count.result in
+    let more = left_more ps k p lt is slots before c.loop-portion.more n c.lesser-count.ensures fits
+    within in
+    let others = take (c.loop-portion.more - n) (left_of (drop (before + p.size) slots)
+    (drop (k + 1) ps)) in
+    let given = take n (drop (before + p.used) slots) in
+    let order = c.loop-portion.order.items in
+    let rest = count_size (drop (k + 1) ps)
+    (All-drop (λ (p : Portion). p.used ≤ p.size) (k + 1) ps c.requires.used) in
+    record {
+      items = ap (◌++ others) c.append_slots.ensures.items ∙ append_assoc order given others
+          ∙ ap (order ++◌) (sym more) ∙ c.loop-portion.invariant.items;
+      at = omega (arith, size, c.loop-portion.invariant.at);
+      enough = omega (
+        arith,
+        size,
+        count,
+        rest,
+        fits,
+        c.lesser-count.ensures,
+        c.loop-portion.invariant.enough,
+      );
+      room = omega (
+        arith,
+        c.lesser-count.ensures,
+        c.append_slots.ensures.len,
+        c.append_slots.ensures.capacity,
+        c.loop-portion.invariant.room,
+      );
+    }
+
+pub returns : goal.returns
+returns c =
+    let ps = c.args.portions.now in
+    let k = c.loop-portion.portion-index in
+    let none : drop k ps ≡ [] = drop_of_length-le ps c.loop-portion-test.false in
+    let nothing : c.loop-portion.more ≡ 0 =
+    omega (arith, ap count_of none, ap size_of none, c.loop-portion.invariant.enough) in
+    let order = c.loop-portion.order.items in
+    let others = left_of (drop c.loop-portion.before (slots_of (idle c.args.self.now))) (drop k ps) in
+    record {
+      items = sym (append-nil order) ∙ ap (λ n. order ++ take n others) (sym nothing)
+          ∙ c.loop-portion.invariant.items;
+    }

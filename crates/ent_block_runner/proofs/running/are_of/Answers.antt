@@ -1,0 +1,10 @@
+use Rattle.std.proofs.Common.{arith, refl, ◌≡◌, All}
+use Rattle.std.proofs.lemmas.List.{take_all}
+use Rattle.ent_blocks.specs.Blocks.{Reserver}
+use Rattle.ent_block_runner.proofs.running.are_of.Goals as goal
+
+pub returns : goal.returns
+returns g c =
+    let all : All (λ (r : Reserver). r.number ≡ c.args.blocks.now.number) c.args.reservers.now =
+    rw (take_all c.loop-reserver.reserver-index c.args.reservers.now (omega arith)) at c.loop-reserver.invariant in
+    (λ _. all, λ _. refl)

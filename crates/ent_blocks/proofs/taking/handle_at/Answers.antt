@@ -1,0 +1,10 @@
+use Rattle.std.proofs.Common.{arith}
+use Rattle.std.proofs.lemmas.Int.{ints}
+use Rattle.ent_blocks.proofs.Positions.{one_there}
+use Rattle.ent_blocks.proofs.taking.handle_at.Goals as goal
+
+pub returns : goal.returns
+returns c =
+    one_there c.args.entities.now.allocator c.cursor.ensures.sound c.requires.flushed
+    c.args.position _ (omega (arith, ints)) c.reply_one.result c.requires.within
+    c.reply_one.ensures c.in-Ok.handle c.in-Ok.is

@@ -1,0 +1,96 @@
+-- Workers who have nothing to do, and a frame without systems.
+use Rattle.std.proofs.Common.{rules, ◌≡◌, ℕ, zero, suc, ◌<◌, List, [], ◌∷◌, length, refl, sym, subst}
+use Rattle.std.proofs.Common.{ap, arith, Result, Ok, Err, Some}
+use Rattle.std.specs.Prelude.{replicate, slice_get, IsErrOf, IsOk}
+use Rattle.std.specs.List.{All, AllPairs, flat_map, range_with_len}
+use Rattle.std.specs.List.Sorted.{IsPermutation}
+use Rattle.std.proofs.lemmas.List.{length-replicate}
+use Rattle.std.proofs.lemmas.List.Elements.{All-nil, All-replicate}
+use Rattle.std.proofs.lemmas.List.Sorted.{IsPermutation-refl}
+use Rattle.ent_alloc.proofs.LaidOut.{flushed-laid_out}
+use Rattle.ent_alloc.specs.Sequential.{born}
+use Rattle.ent_alloc.specs.History.{Call}
+use Rattle.ent_handle.specs.Handle.{Handle}
+use Rattle.ent_queue.specs.Command.{Command}
+use Rattle.ent_world.specs.World.{World, IsWorld}
+use Rattle.ent_world.specs.OpenWorld.{View}
+use Rattle.ent_world.specs.Sync.{sync, IsStop, IfStopped, stops_in}
+use Rattle.ent_world.specs.declared.fault.Fault.{Fault}
+use Rattle.ent_world.specs.declared.fault.SyncFault.{SyncFault}
+use Rattle.ent_world.specs.declared.fault.SyncFault.TheVariants as stop
+use Rattle.ent_world.specs.declared.fault.SyncReport.{SyncReport}
+use Rattle.ent_runner.specs.Frame.{IsFrame, IsWork, Ends, EndsInOrder}
+use Rattle.ent_runner.proofs.Lists.{each_of_all}
+
+abbrev pub no_jobs : List ℕ
+no_jobs = []
+
+flat_none : (workers : ℕ) → flat_map (λ (mine : List ℕ). mine) (replicate workers no_jobs) ≡ []
+flat_none zero = refl
+flat_none (suc workers) = flat_none workers
+
+-- together they do no jobs, each once
+pub none_once : (workers : ℕ) → IsPermutation (flat_map (λ (mine : List ℕ). mine)
+    (replicate workers no_jobs)) no_jobs
+none_once workers = subst (λ all. IsPermutation all no_jobs) (sym (flat_none workers))
+    (IsPermutation-refl no_jobs)
+
+none_rise : AllPairs (λ m n. m < n) no_jobs
+none_rise i j d less within = absurd (omega arith)
+
+pub all_rise : (workers : ℕ) → All (AllPairs (λ m n. m < n)) (replicate workers no_jobs)
+all_rise workers = All-replicate (AllPairs (λ m n. m < n)) workers no_jobs none_rise
+
+pub is_none : (workers worker : ℕ) (mine : List ℕ) → slice_get (replicate workers no_jobs) worker
+    ≡ Some mine → mine ≡ no_jobs
+is_none workers worker mine at =
+    each_of_all (λ (mine : List ℕ). mine ≡ no_jobs) (replicate workers no_jobs) worker mine
+    (All-replicate (λ (mine : List ℕ). mine ≡ no_jobs) workers no_jobs refl) at
+
+no_frame : {S : Type 0} (may : S → View → List Command → Type 0) (workers : ℕ) (before : World)
+    → IsFrame may [] workers before [] []
+no_frame may workers before = record {
+  legal = tt;
+  callers = All-nil (λ (call : Call). call.caller < workers);
+  ran = replicate workers no_jobs;
+  each_worker = length-replicate workers no_jobs;
+  once = none_once workers;
+  work = λ worker mine at. rw (is_none workers worker mine at) (record {
+    rising = none_rise;
+    calls = refl;
+    within = tt;
+  });
+  count = refl;
+  each_system = λ n system at. absurd (cc);
+}
+
+pub ends_none : {S : Type 0} (may : S → View → List Command → Type 0) (systems : List S)
+    (workers : ℕ) (before : World) (queues : List (List Command)) (after : World)
+    (births : List Handle) (faults : List Fault) → length systems ≡ 0 → queues ≡ []
+    → after ≡ (sync [] before).world → births ≡ born before.allocator
+    → faults ≡ (sync [] before).faults → Ends may systems workers before queues after births faults
+ends_none may [] workers before queues after births faults none no_queues world came fault =
+    rw no_queues (record {
+      history = [];
+      frame = no_frame may workers before;
+      world = world;
+      born_are = came;
+      faults_are = fault;
+    })
+ends_none may (system ∷ systems) workers before queues after births faults none no_queues world came
+    fault = absurd (omega arith)
+
+-- a sync point of nothing asks for no memory
+pub applies_none : (result : Result SyncReport SyncFault) (before after : World)
+    → before.allocator.asked ≡ 0 → IsWorld after → (IsErrOf result stop.FlushMemory → after ≡ before)
+    → (IsErrOf result stop.FlushMemory → 0 < length before.allocator.taken)
+    → IfStopped result (λ system command done _. IsStop system command done []) → IsOk result
+applies_none (Ok report) before after flushed world kept taken stops = refl
+applies_none (Err stop.FlushMemory) before after flushed world kept taken stops =
+    let sound = (subst IsWorld (kept refl) world).sound in
+    let none = (flushed-laid_out before.allocator sound flushed).taken in
+    absurd (omega (arith, ap length none, taken refl))
+applies_none (Err (stop.Memory zero command done so_far)) before after flushed world kept taken stops =
+    absurd (omega arith)
+applies_none (Err (stop.Memory (suc system) command done so_far)) before after flushed world kept taken
+    stops = absurd (omega arith)

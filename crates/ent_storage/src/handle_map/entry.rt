@@ -1,0 +1,220 @@
+ghost use Rattle.std.specs.Prelude.{◌≡◌, Some, None, IsSome, IsOk, IfOk, IfErr, unwrap_or};
+ghost use Rattle.std.specs.Borrow.{sem};
+ghost use Rattle.std.specs.FinMap as finite;
+ghost use Rattle.std.specs.Map.Calls.{ModifiesValue};
+ghost use Rattle.std.specs.Option.{UnwrapsOrElse};
+ghost use Rattle.ent_storage.specs.HandleMap.{error_of};
+
+use crate::handle_map::{HandleMap, Uninserted};
+use ent_handle::Handle;
+use std::mem;
+
+/// What a map has for one handle: a value, or none.
+///
+/// [`HandleMap::entry`](super::HandleMap::entry) makes it, and an example is there.
+#[derive(Drop)]
+pub enum Entry<'a, T> {
+    /// The handle has a value.
+    Occupied(OccupiedEntry<'a, T>),
+    /// The handle has no value.
+    Vacant(VacantEntry<'a, T>),
+}
+
+/// A handle that has a value, with its map.
+#[derive(Drop)]
+pub struct OccupiedEntry<'a, T> {
+    pub(super) map: &'a mut HandleMap<T>,
+    pub(super) handle: Handle,
+    ghost present: { IsSome (finite.get map.now.values handle) },
+}
+
+/// A handle that has no value, with its map.
+#[derive(Drop)]
+pub struct VacantEntry<'a, T> {
+    pub(super) map: &'a mut HandleMap<T>,
+    pub(super) handle: Handle,
+}
+
+impl<'a, T: Drop> Entry<'a, T> {
+    ghost use Rattle.ent_storage.specs.Entry.{entry_handle, entry_map, entry_ref, entry_value};
+    ghost use Rattle.ent_storage.specs.Entry.{entry_lends, Gives, IsRefusal};
+
+    /// The handle.
+    #[must_use]
+    pub fn handle(&self) -> Handle
+        ensures { result ≡ entry_handle self.now }
+    {
+        match self {
+            Entry::Occupied(entry) => entry.handle(),
+            Entry::Vacant(entry) => entry.handle(),
+        }
+    }
+
+    /// The value of the handle. If it has none, it is given this one.
+    ///
+    /// # Errors
+    ///
+    /// [`Uninserted`] has the value, as [`HandleMap::insert`] hands it back.
+    pub fn or_insert(self, value: T) -> Result<&'a mut T, Uninserted<T>>
+        ensures* writes_back { sem 𝓛 (entry_lends T.row self.entry result) }
+        ensures value { IfOk result (λ x. x.now ≡ unwrap_or (entry_value self.entry) value) }
+        ensures occupied { IsSome (entry_value self.entry) → IsOk result }
+        ensures refused { entry_value self.entry ≡ None
+            → IsRefusal (entry_map self.entry) (entry_handle self.entry) (error_of result) }
+        ensures back { IfErr result (λ refused. refused.value ≡ value) }
+    {
+        match self {
+            Entry::Occupied(entry) => Ok(entry.into_mut()),
+            Entry::Vacant(entry) => entry.insert(value),
+        }
+    }
+
+    /// The value of the handle. If it has none, it is given the one that `make` returns.
+    ///
+    /// # Errors
+    ///
+    /// [`Uninserted`] has the value that `make` returned.
+    ///
+    /// # Panics
+    ///
+    /// A panic of `make` is handed on. Nothing has changed.
+    pub fn or_insert_with<F: FnOnce() -> T>(self, make: F) -> Result<&'a mut T, Uninserted<T>>
+        requires { F.IsAlwaysCallable make }
+        ensures* writes_back { sem 𝓛 (entry_lends T.row self.entry result) }
+        ensures value { IfOk result (λ x.
+            UnwrapsOrElse (entry_value self.entry) (F.post make) x.now) }
+        ensures occupied { IsSome (entry_value self.entry) → IsOk result }
+        ensures refused { entry_value self.entry ≡ None
+            → IsRefusal (entry_map self.entry) (entry_handle self.entry) (error_of result) }
+        ensures back { IfErr result (λ refused. F.post make refused.value) }
+    {
+        match self {
+            Entry::Occupied(occupied) => Ok(occupied.into_mut()),
+            Entry::Vacant(vacant) => vacant.insert(make()),
+        }
+    }
+
+    /// Calls `change` on the value, if the handle has one.
+    ///
+    /// # Panics
+    ///
+    /// A panic of `change` is handed on. The value stays, as far as `change` had changed it.
+    #[must_use]
+    pub fn and_modify<F: FnOnce(&mut T)>(self, change: F) -> Entry<'a, T>
+        requires { F.IsAlwaysCallable change }
+        ensures same_map { (entry_ref result).ghost_name ≡ (entry_ref self.entry).ghost_name }
+        ensures handle { entry_handle result ≡ entry_handle self.entry }
+        ensures value { ModifiesValue F.FnOnce change (entry_value self.entry) (entry_value result) }
+        ensures gives { (w : T) (m : _) → Gives result w m → Gives self.entry w m }
+    {
+        match self {
+            Entry::Occupied(mut entry) => {
+                change(entry.get_mut());
+                Entry::Occupied(entry)
+            }
+            Entry::Vacant(entry) => Entry::Vacant(entry),
+        }
+    }
+}
+
+impl<'a, T: Drop> OccupiedEntry<'a, T> {
+    ghost use Rattle.std.specs.FinMap as finite;
+    ghost use Rattle.ent_storage.specs.Entry.{Occupied, entry_handle, entry_map, entry_value};
+    ghost use Rattle.ent_storage.specs.Entry.{occupied_lends, lends_in, with_value, IsWritten};
+
+    /// The handle.
+    #[must_use]
+    pub fn handle(&self) -> Handle
+        ensures { result ≡ entry_handle (Occupied self.now) }
+    {
+        self.handle
+    }
+
+    /// The value.
+    #[must_use]
+    pub fn get(&self) -> &T
+        ensures { entry_value (Occupied self.now) ≡ Some result.now }
+    {
+        let Some(value) = self.map.get(self.handle) else {
+            unreachable!()
+        };
+        value
+    }
+
+    /// The value, to be changed.
+    #[must_use]
+    pub fn get_mut(&mut self) -> &mut T
+        ensures* writes_back { sem 𝓛 (lends_in T.row self.entry result) }
+        ensures value { entry_value (Occupied self.old) ≡ Some result.now }
+        ensures written { (w : T) → IsWritten self.old w (with_value self.old w) }
+    {
+        let handle = self.handle;
+        self.map.value_mut(handle)
+    }
+
+    /// The value, to be changed for as long as the map is lent.
+    #[must_use]
+    pub fn into_mut(self) -> &'a mut T
+        ensures* writes_back { sem 𝓛 (occupied_lends T.row self.entry result) }
+        ensures value { entry_value (Occupied self.entry) ≡ Some result.now }
+    {
+        let map = self.map;
+        map.value_mut(self.handle)
+    }
+
+    /// Gives the handle another value, and returns the one that it had.
+    pub fn insert(&mut self, value: T) -> T
+        ensures before { entry_value (Occupied self.old) ≡ Some result }
+        ensures written { IsWritten self.old value self.new }
+    {
+        mem::replace(self.get_mut(), value)
+    }
+
+    /// Removes the value, and returns it.
+    pub fn remove(self) -> T
+        ensures value { entry_value (Occupied self.entry) ≡ Some result }
+        ensures map { self.exit.0.now ≡ record (entry_map (Occupied self.entry)) {
+          values = finite.remove (entry_map (Occupied self.entry)).values
+              (entry_handle (Occupied self.entry));
+        } }
+    {
+        let handle = self.handle;
+        let Some(value) = self.map.remove(handle) else {
+            unreachable!()
+        };
+        value
+    }
+}
+
+impl<'a, T: Drop> VacantEntry<'a, T> {
+    ghost use Rattle.ent_storage.specs.Entry.{Vacant, entry_handle, entry_lends, entry_map};
+    ghost use Rattle.ent_storage.specs.Entry.{IsRefusal};
+
+    /// The handle.
+    #[must_use]
+    pub fn handle(&self) -> Handle
+        ensures { result ≡ entry_handle (Vacant self.now) }
+    {
+        self.handle
+    }
+
+    /// Gives the handle its value. If an earlier occupant of the slot has one, that is dropped.
+    ///
+    /// # Errors
+    ///
+    /// [`Uninserted`] has the value, as [`HandleMap::insert`] hands it back.
+    pub fn insert(self, value: T) -> Result<&'a mut T, Uninserted<T>>
+        ensures* writes_back { sem 𝓛 (entry_lends T.row (Vacant self.entry) result) }
+        ensures value { IfOk result (λ x. x.now ≡ value) }
+        ensures refused { IsRefusal (entry_map (Vacant self.entry))
+            (entry_handle (Vacant self.entry)) (error_of result) }
+        ensures back { IfErr result (λ refused. refused.value ≡ value) }
+    {
+        let VacantEntry { map, handle } = self;
+        match map.insert(handle, value) {
+            Ok(_) => {}
+            Err(refused) => return Err(refused),
+        }
+        Ok(map.value_mut(handle))
+    }
+}

@@ -1,0 +1,80 @@
+//! Systems fill logs, side by side.
+ghost use Rattle.std.specs.Prelude.{◌≡◌, ◌≢◌, ◌<◌, ◌≤◌, ◌^◌, ◌↔◌, ◌⊎◌, length};
+ghost use Rattle.std.specs.Prelude.{IfOk, IfErr, IsErrOf, None};
+ghost use Rattle.ent_log.specs.Logs.{entries_of, spawned_in, first_unreserved};
+ghost use Rattle.ent_log_runner.specs.Running.{HaveLogged, IsBrokenOff};
+
+use crate::framing::{SYSTEMS, WORKERS};
+use crate::log_error::LogError;
+use ent_alloc::Entities;
+use ent_log::Log;
+use ent_log_runner::{LogFault, LogSystem};
+use std::alloc::Global;
+use std::thread::Threads;
+
+/// Runs each system once, on that many workers side by side, each with a log of its own. The logs
+/// are in the order of the systems, whatever the order in which they ended, and
+/// [`SyncPoint::begin`](ent_log::SyncPoint::begin) takes them.
+///
+/// A worker takes the next system that nobody has taken yet, until none is left. If a thread can't
+/// be started, another one does its work. One worker starts no thread.
+///
+/// # Errors
+///
+/// It is the first of these that holds.
+///
+/// - [`LogError::NeedsFlush`], [`LogError::Workers`], [`LogError::Systems`], [`LogError::Memory`]:
+///   no system ran, and the allocator is as it was.
+/// - [`LogError::Lost`]: a system returned an error, or systems are left and no worker has memory
+///   for the log of another one. The logs are dropped. What the systems that ran had reserved stays
+///   reserved, and nothing else is: [`Entities::flush`] brings it to life.
+pub fn run_logs<R, C, S>(
+    rt: &R,
+    alloc: Global,
+    entities: &mut Entities,
+    systems: &[S],
+    workers: usize,
+) -> Result<Vec<Log<C>>, LogError>
+where
+    R: Threads + Sync,
+    C: Drop + Send,
+    S: LogSystem<C> + Sync,
+    ensures ok { IfOk result (λ logs. HaveLogged S.may_log systems.now workers
+        entities.old.allocator logs.items entities.new.allocator) }
+    ensures rows { entities.new.rows ≡ entities.old.rows }
+
+    // The handles of all spawns are reserved.
+    ensures reserved { IfOk result (λ logs. first_unreserved entities.new.allocator
+        (spawned_in (entries_of logs.items)) ≡ None) }
+
+    ensures needs_flush { IsErrOf result LogError.NeedsFlush
+        ↔ (0 < entities.old.allocator.asked) }
+    ensures no_crew { IsErrOf result LogError.Workers
+        ↔ ((entities.old.allocator.asked ≡ 0) × ((workers ≡ 0) ⊎ (64 < workers))) }
+    ensures too_many { IsErrOf result LogError.Systems
+        ↔ ((entities.old.allocator.asked ≡ 0) × (0 < workers) × (workers ≤ 64)
+        × (2 ^ 16 < length systems.now)) }
+    ensures memory_some { IsErrOf result LogError.Memory → 0 < length systems.now }
+    ensures nothing { IfErr result (λ error. error ≢ LogError.Lost
+        → entities.new ≡ entities.old) }
+
+    // What is left of a run that was broken off.
+    ensures lost { IsErrOf result LogError.Lost → IsBrokenOff S.may_log S.may_leave systems.now
+        workers entities.old.allocator entities.new.allocator }
+    ensures lost_some { IsErrOf result LogError.Lost → 0 < length systems.now }
+{
+    if entities.needs_flush() {
+        return Err(LogError::NeedsFlush);
+    }
+    if workers == 0 || workers > WORKERS {
+        return Err(LogError::Workers);
+    }
+    if systems.len() > SYSTEMS {
+        return Err(LogError::Systems);
+    }
+    match ent_log_runner::run_logs(rt, alloc, entities, systems, workers) {
+        Ok(logs) => Ok(logs),
+        Err(LogFault::Memory) => Err(LogError::Memory),
+        Err(LogFault::Lost) => Err(LogError::Lost),
+    }
+}

@@ -1,0 +1,47 @@
+// Made of crates/ent_block_runner/src/run_error.rt by rust/erase. It isn't edited by hand.
+
+use alloc::vec::Vec;
+use crate::proved::ent_blocks::BlockReserver;
+
+/// Why systems filled no logs.
+#[derive(Clone, Copy, Debug, PartialEq, Eq, Hash)]
+#[non_exhaustive]
+pub enum RunError {
+    /// The number of workers isn't one from 1 to 64.
+    Workers,
+    /// There are more than 65,536 systems.
+    Systems,
+    /// There isn't one reserver for each system.
+    Reservers,
+    /// One of the reservers is of another phase.
+    OtherPhase,
+    /// Memory ran out before any system ran.
+    Memory,
+    /// A system returned `Memory`, or systems are left and no worker has memory for the log of
+    /// another one. The logs and the reservers are dropped.
+    Lost,
+}
+
+impl core::fmt::Display for RunError {
+    fn fmt(&self, f: &mut core::fmt::Formatter<'_>) -> core::fmt::Result {
+        match self {
+            RunError::Workers => write!(f, "a frame has 1 to 64 workers"),
+            RunError::Systems => write!(f, "a frame has at most 65,536 systems"),
+            RunError::Reservers => write!(f, "each system has one reserver"),
+            RunError::OtherPhase => write!(f, "a reserver is of another phase"),
+            RunError::Memory => write!(f, "out of memory before any system ran"),
+            RunError::Lost => write!(f, "out of memory while the systems ran"),
+        }
+    }
+}
+
+impl core::error::Error for RunError {}
+
+/// Systems that filled no logs.
+pub struct Unrun {
+    /// The reservers that were handed in, as they were. None, if systems ran:
+    /// [`Blocks::close_lost`](crate::proved::ent_blocks::Blocks::close_lost) ends the phase without them.
+    pub reservers: Vec<BlockReserver>,
+    /// Why no logs were filled.
+    pub error: RunError,
+}

@@ -1,0 +1,33 @@
+// Made of crates/ent_log_runner/src/system.rt by rust/erase. It isn't edited by hand.
+
+use crate::proved::ent_log_runner::commands::LogCommands;
+use crate::proved::ent_handle::Memory;
+use crate::proved::ent_log::Log;
+
+/// A system that fills a log. `C` is the caller's type of commands.
+///
+/// One value of it may run on any worker.
+pub trait LogSystem<C> {
+    /// Runs it once.
+    ///
+    /// # Errors
+    ///
+    /// `Memory`, if the system ran out of memory. All logs are then dropped, and what the systems
+    /// had reserved stays reserved.
+    ///
+    /// <details><summary>Contract</summary>
+    ///
+    /// In the words of the folder `specs/` of crate `ent_log_runner`:
+    ///
+    /// ```text
+    /// requires { IsReady commands.old }
+    /// ensures extends { Extends commands.old commands.new }
+    /// ensures may { log_of commands.old ≡ []
+    ///     → OnOk result (may_log self.now (log_of commands.new)) }
+    /// ensures leaves { log_of commands.old ≡ []
+    ///     → OnErr result (may_leave self.now (log_of commands.new)) }
+    /// ```
+    ///
+    /// </details>
+    fn run(&self, commands: &mut LogCommands<'_, Log<C>>) -> Result<(), Memory>;
+}

@@ -1,0 +1,309 @@
+// Made of crates/ent_storage/src/handle_map/entry.rt by rust/erase. It isn't edited by hand.
+
+use crate::proved::ent_storage::handle_map::{HandleMap, Uninserted};
+use crate::proved::ent_handle::Handle;
+use core::mem;
+
+/// What a map has for one handle: a value, or none.
+///
+/// [`HandleMap::entry`](super::HandleMap::entry) makes it, and an example is there.
+pub enum Entry<'a, T> {
+    /// The handle has a value.
+    Occupied(OccupiedEntry<'a, T>),
+    /// The handle has no value.
+    Vacant(VacantEntry<'a, T>),
+}
+
+/// A handle that has a value, with its map.
+pub struct OccupiedEntry<'a, T> {
+    pub(super) map: &'a mut HandleMap<T>,
+    pub(super) handle: Handle,
+}
+
+/// A handle that has no value, with its map.
+pub struct VacantEntry<'a, T> {
+    pub(super) map: &'a mut HandleMap<T>,
+    pub(super) handle: Handle,
+}
+
+impl<'a, T> Entry<'a, T> {
+    /// The handle.
+    ///
+    /// <details><summary>Contract</summary>
+    ///
+    /// In the words of the folder `specs/` of crate `ent_storage`:
+    ///
+    /// ```text
+    /// ensures { result ≡ entry_handle self.now }
+    /// ```
+    ///
+    /// </details>
+    #[must_use]
+    #[inline]
+    pub fn handle(&self) -> Handle {
+        match self {
+            Entry::Occupied(entry) => entry.handle(),
+            Entry::Vacant(entry) => entry.handle(),
+        }
+    }
+
+    /// The value of the handle. If it has none, it is given this one.
+    ///
+    /// # Errors
+    ///
+    /// [`Uninserted`] has the value, as [`HandleMap::insert`] hands it back.
+    ///
+    /// <details><summary>Contract</summary>
+    ///
+    /// In the words of the folder `specs/` of crate `ent_storage`:
+    ///
+    /// ```text
+    /// ensures* writes_back { sem 𝓛 (entry_lends T.row self.entry result) }
+    /// ensures value { IfOk result (λ x. x.now ≡ unwrap_or (entry_value self.entry) value) }
+    /// ensures occupied { IsSome (entry_value self.entry) → IsOk result }
+    /// ensures refused { entry_value self.entry ≡ None
+    ///     → IsRefusal (entry_map self.entry) (entry_handle self.entry) (error_of result) }
+    /// ensures back { IfErr result (λ refused. refused.value ≡ value) }
+    /// ```
+    ///
+    /// </details>
+    #[inline]
+    pub fn or_insert(self, value: T) -> Result<&'a mut T, Uninserted<T>> {
+        match self {
+            Entry::Occupied(entry) => Ok(entry.into_mut()),
+            Entry::Vacant(entry) => entry.insert(value),
+        }
+    }
+
+    /// The value of the handle. If it has none, it is given the one that `make` returns.
+    ///
+    /// # Errors
+    ///
+    /// [`Uninserted`] has the value that `make` returned.
+    ///
+    /// # Panics
+    ///
+    /// A panic of `make` is handed on. Nothing has changed.
+    ///
+    /// <details><summary>Contract</summary>
+    ///
+    /// In the words of the folder `specs/` of crate `ent_storage`:
+    ///
+    /// ```text
+    /// requires { F.IsAlwaysCallable make }
+    /// ensures* writes_back { sem 𝓛 (entry_lends T.row self.entry result) }
+    /// ensures value { IfOk result (λ x.
+    ///     UnwrapsOrElse (entry_value self.entry) (F.post make) x.now) }
+    /// ensures occupied { IsSome (entry_value self.entry) → IsOk result }
+    /// ensures refused { entry_value self.entry ≡ None
+    ///     → IsRefusal (entry_map self.entry) (entry_handle self.entry) (error_of result) }
+    /// ensures back { IfErr result (λ refused. F.post make refused.value) }
+    /// ```
+    ///
+    /// </details>
+    #[inline]
+    pub fn or_insert_with<F: FnOnce() -> T>(self, make: F) -> Result<&'a mut T, Uninserted<T>> {
+        match self {
+            Entry::Occupied(occupied) => Ok(occupied.into_mut()),
+            Entry::Vacant(vacant) => vacant.insert(make()),
+        }
+    }
+
+    /// Calls `change` on the value, if the handle has one.
+    ///
+    /// # Panics
+    ///
+    /// A panic of `change` is handed on. The value stays, as far as `change` had changed it.
+    ///
+    /// <details><summary>Contract</summary>
+    ///
+    /// In the words of the folder `specs/` of crate `ent_storage`:
+    ///
+    /// ```text
+    /// requires { F.IsAlwaysCallable change }
+    /// ensures same_map { (entry_ref result).ghost_name ≡ (entry_ref self.entry).ghost_name }
+    /// ensures handle { entry_handle result ≡ entry_handle self.entry }
+    /// ensures value { ModifiesValue F.FnOnce change (entry_value self.entry) (entry_value result) }
+    /// ensures gives { (w : T) (m : _) → Gives result w m → Gives self.entry w m }
+    /// ```
+    ///
+    /// </details>
+    #[must_use]
+    #[inline]
+    pub fn and_modify<F: FnOnce(&mut T)>(self, change: F) -> Entry<'a, T> {
+        match self {
+            Entry::Occupied(mut entry) => {
+                change(entry.get_mut());
+                Entry::Occupied(entry)
+            }
+            Entry::Vacant(entry) => Entry::Vacant(entry),
+        }
+    }
+}
+
+impl<'a, T> OccupiedEntry<'a, T> {
+    /// The handle.
+    ///
+    /// <details><summary>Contract</summary>
+    ///
+    /// In the words of the folder `specs/` of crate `ent_storage`:
+    ///
+    /// ```text
+    /// ensures { result ≡ entry_handle (Occupied self.now) }
+    /// ```
+    ///
+    /// </details>
+    #[must_use]
+    #[inline]
+    pub fn handle(&self) -> Handle {
+        self.handle
+    }
+
+    /// The value.
+    ///
+    /// <details><summary>Contract</summary>
+    ///
+    /// In the words of the folder `specs/` of crate `ent_storage`:
+    ///
+    /// ```text
+    /// ensures { entry_value (Occupied self.now) ≡ Some result.now }
+    /// ```
+    ///
+    /// </details>
+    #[must_use]
+    #[inline]
+    pub fn get(&self) -> &T {
+        let Some(value) = self.map.get(self.handle) else {
+            unreachable!()
+        };
+        value
+    }
+
+    /// The value, to be changed.
+    ///
+    /// <details><summary>Contract</summary>
+    ///
+    /// In the words of the folder `specs/` of crate `ent_storage`:
+    ///
+    /// ```text
+    /// ensures* writes_back { sem 𝓛 (lends_in T.row self.entry result) }
+    /// ensures value { entry_value (Occupied self.old) ≡ Some result.now }
+    /// ensures written { (w : T) → IsWritten self.old w (with_value self.old w) }
+    /// ```
+    ///
+    /// </details>
+    #[must_use]
+    #[inline]
+    pub fn get_mut(&mut self) -> &mut T {
+        let handle = self.handle;
+        self.map.value_mut(handle)
+    }
+
+    /// The value, to be changed for as long as the map is lent.
+    ///
+    /// <details><summary>Contract</summary>
+    ///
+    /// In the words of the folder `specs/` of crate `ent_storage`:
+    ///
+    /// ```text
+    /// ensures* writes_back { sem 𝓛 (occupied_lends T.row self.entry result) }
+    /// ensures value { entry_value (Occupied self.entry) ≡ Some result.now }
+    /// ```
+    ///
+    /// </details>
+    #[must_use]
+    #[inline]
+    pub fn into_mut(self) -> &'a mut T {
+        let map = self.map;
+        map.value_mut(self.handle)
+    }
+
+    /// Gives the handle another value, and returns the one that it had.
+    ///
+    /// <details><summary>Contract</summary>
+    ///
+    /// In the words of the folder `specs/` of crate `ent_storage`:
+    ///
+    /// ```text
+    /// ensures before { entry_value (Occupied self.old) ≡ Some result }
+    /// ensures written { IsWritten self.old value self.new }
+    /// ```
+    ///
+    /// </details>
+    #[inline]
+    pub fn insert(&mut self, value: T) -> T {
+        mem::replace(self.get_mut(), value)
+    }
+
+    /// Removes the value, and returns it.
+    ///
+    /// <details><summary>Contract</summary>
+    ///
+    /// In the words of the folder `specs/` of crate `ent_storage`:
+    ///
+    /// ```text
+    /// ensures value { entry_value (Occupied self.entry) ≡ Some result }
+    /// ensures map { self.exit.0.now ≡ record (entry_map (Occupied self.entry)) {
+    ///   values = finite.remove (entry_map (Occupied self.entry)).values
+    ///       (entry_handle (Occupied self.entry));
+    /// } }
+    /// ```
+    ///
+    /// </details>
+    #[inline]
+    pub fn remove(self) -> T {
+        let handle = self.handle;
+        let Some(value) = self.map.remove(handle) else {
+            unreachable!()
+        };
+        value
+    }
+}
+
+impl<'a, T> VacantEntry<'a, T> {
+    /// The handle.
+    ///
+    /// <details><summary>Contract</summary>
+    ///
+    /// In the words of the folder `specs/` of crate `ent_storage`:
+    ///
+    /// ```text
+    /// ensures { result ≡ entry_handle (Vacant self.now) }
+    /// ```
+    ///
+    /// </details>
+    #[must_use]
+    #[inline]
+    pub fn handle(&self) -> Handle {
+        self.handle
+    }
+
+    /// Gives the handle its value. If an earlier occupant of the slot has one, that is dropped.
+    ///
+    /// # Errors
+    ///
+    /// [`Uninserted`] has the value, as [`HandleMap::insert`] hands it back.
+    ///
+    /// <details><summary>Contract</summary>
+    ///
+    /// In the words of the folder `specs/` of crate `ent_storage`:
+    ///
+    /// ```text
+    /// ensures* writes_back { sem 𝓛 (entry_lends T.row (Vacant self.entry) result) }
+    /// ensures value { IfOk result (λ x. x.now ≡ value) }
+    /// ensures refused { IsRefusal (entry_map (Vacant self.entry))
+    ///     (entry_handle (Vacant self.entry)) (error_of result) }
+    /// ensures back { IfErr result (λ refused. refused.value ≡ value) }
+    /// ```
+    ///
+    /// </details>
+    #[inline]
+    pub fn insert(self, value: T) -> Result<&'a mut T, Uninserted<T>> {
+        let VacantEntry { map, handle } = self;
+        match map.insert(handle, value) {
+            Ok(_) => {}
+            Err(refused) => return Err(refused),
+        }
+        Ok(map.value_mut(handle))
+    }
+}
