@@ -28,6 +28,7 @@ const SYSTEMS: usize = 65_536;
 /// started, another one does its work. One worker starts no thread.
 ///
 /// ```
+/// # #[cfg(feature = "std")] {
 /// use forgeni::{run_in_blocks, BlockCommands, Entities, StdThreads, SyncPoint};
 ///
 /// let spawn = |commands: &mut BlockCommands<'_, String>| match commands.spawn() {
@@ -41,6 +42,7 @@ const SYSTEMS: usize = 65_536;
 /// let _sync = SyncPoint::begin(&mut entities, &mut logs, &mut born)?;
 /// born.sort_unstable();
 /// assert_eq!(born.iter().map(|one| one.index()).collect::<Vec<_>>(), [0, 64]);
+/// # }
 /// # Ok::<(), Box<dyn std::error::Error + Send + Sync>>(())
 /// ```
 ///
