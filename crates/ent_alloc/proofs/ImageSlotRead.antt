@@ -2,10 +2,11 @@
 use Rattle.std.proofs.Common.{◌≡◌, ◌≢◌, refl, ◌∷◌, sym, ap, ◌∙◌, ℕ, ◌^◌, ◌<◌, false, List, [], ◌++◌}
 use Rattle.std.proofs.Common.{length, Option, None, Some, IfSome, IfNone, append-nil, arith}
 use Rattle.ent_alloc.specs.Limits.{Limits, AreLimits}
-use Rattle.ent_alloc.specs.Image.{word, slot_bytes, kind_of, number_of}
+use Rattle.ent_alloc.specs.Image.{word, long, slot_bytes, kind_of, number_of}
 use Rattle.ent_alloc.specs.ImageRecords.{kept, record_bytes, IsWritten}
 use Rattle.ent_alloc.specs.FirstFault.{is_slot, word_at}
 use Rattle.ent_alloc.specs.declared.slot_record.SlotRecord.{SlotRecord}
+use Rattle.ent_alloc.specs.declared.slot_record.Occupancy.TheVariants.{Alive}
 use Rattle.ent_alloc.proofs.ImageRefused.{slot_in_words, not_written}
 use Rattle.ent_alloc.proofs.ImageWordAt.{first_word, second_word, third_word}
 
@@ -49,3 +50,16 @@ module _ (bytes : List ℕ) (g k n : ℕ) (rest : List ℕ)
         let second = ap (λ bs. word_at bs 4) words ∙ second_word g k n rest hk in
         let third = ap (λ bs. word_at bs 8) words ∙ third_word g k n rest hn in
         (λ i. is_slot limits.generations (first i) (second i) (third i)) ∙ not)
+
+-- the words of a living occupant without a row, as one number
+one_and_zero : long 1 ≡ word 1 ++ word 0
+unfolding long word
+one_and_zero = refl
+
+pub living_bytes : (bytes : List ℕ) (g n : ℕ) (rest more : List ℕ) → bytes ≡ word g ++ rest
+    → rest ≡ long n ++ more → n ≡ 1 → length more ≡ 0
+    → bytes ≡ record_bytes (record { generation = g; occupancy = Alive })
+unfolding slot_bytes
+living_bytes bytes g n rest more first second one none =
+    first ∙ ap (word g ++◌) (second ∙ (λ i. long (one i) ++ no_more more none i)
+    ∙ append-nil (long 1) ∙ one_and_zero)

@@ -13,7 +13,7 @@ ghost use Rattle.ent_alloc.specs.declared.image.Header.{Header};
 
 use crate::entities::Entities;
 use crate::image_fault::ImageFault;
-use crate::image_slots::{SLOT, read_word, write_word};
+use crate::image_slots::{SLOT, read_long, read_word, write_word};
 use crate::limits::Limits;
 use crate::requests::Requests;
 use crate::slots::Slots;
@@ -49,23 +49,6 @@ fn write_long(out: &mut Vec<u8>, number: u64)
     ensures capacity { vec_capacity out.old ≤ vec_capacity out.new }
 {
     let _ = out.extend_from_slice(&number.to_le_bytes());
-}
-
-/// The number in eight bytes.
-fn long_in(bytes: [u8; 8]) -> u64
-    ensures { bytes ≡ long result }
-{
-    u64::from_le_bytes(bytes)
-}
-
-/// The number in the first eight bytes, and the bytes after them.
-fn read_long(bytes: &[u8]) -> (u64, &[u8])
-    requires { 8 ≤ length bytes.now }
-    ensures bytes { bytes.now ≡ long result.0 ++ result.1.now }
-    ensures len { length bytes.now ≡ 8 + length result.1.now }
-{
-    let (first, rest) = bytes.split_first_chunk().unwrap();
-    (long_in(*first), rest)
 }
 
 /// Appends what stands before the slots. There is room for it.

@@ -6,7 +6,7 @@ ghost use Rattle.ent_alloc.specs.Slots.{is_alive, record_at};
 ghost use Rattle.ent_alloc.specs.Limits.{AreLimits};
 ghost use Rattle.ent_alloc.specs.Roster.{Roster};
 ghost use Rattle.std.specs.List.{flat_map};
-ghost use Rattle.ent_alloc.specs.Image.{word, kind_of, number_of, slot_bytes, slots_bytes, AreSlots};
+ghost use Rattle.ent_alloc.specs.Image.{word, long, kind_of, number_of, slot_bytes, slots_bytes, AreSlots};
 ghost use Rattle.ent_alloc.specs.ImageRecords.{kept, record_bytes, IsGeneration, IsWritten, CanWait};
 ghost use Rattle.ent_alloc.specs.ImageRecords.{with_waiting, vacant, AreRead};
 ghost use Rattle.ent_alloc.specs.ImageRecords.{without_row, rowless_bytes};
@@ -24,6 +24,9 @@ pub(crate) const SLOT: usize = 12;
 
 /// What a position has that no slot was read for yet.
 pub(crate) const VACANT: u32 = u32::MAX;
+
+/// The kind and the number of a living occupant without a row: 1 and 0, in eight bytes.
+const LIVING: u64 = 1;
 
 /// Appends a number in four bytes. There is room for them.
 #[tactic(auto, unfolding(crate::specs::Image::word))]
@@ -51,6 +54,23 @@ pub(crate) fn read_word(bytes: &[u8]) -> (u32, &[u8])
 {
     let (first, rest) = bytes.split_first_chunk().unwrap();
     (number_in(*first), rest)
+}
+
+/// The number in eight bytes.
+fn long_in(bytes: [u8; 8]) -> u64
+    ensures { bytes ≡ long result }
+{
+    u64::from_le_bytes(bytes)
+}
+
+/// The number in the first eight bytes, and the bytes after them.
+pub(crate) fn read_long(bytes: &[u8]) -> (u64, &[u8])
+    requires { 8 ≤ length bytes.now }
+    ensures bytes { bytes.now ≡ long result.0 ++ result.1.now }
+    ensures len { length bytes.now ≡ 8 + length result.1.now }
+{
+    let (first, rest) = bytes.split_first_chunk().unwrap();
+    (long_in(*first), rest)
 }
 
 /// The three words of a slot.
@@ -135,16 +155,19 @@ fn record_of(limits: Limits, generation: u32, kind: u32, number: u32) -> Option<
     ensures row { IfNone result (is_slot limits.generations generation kind number ≡ false) }
 {
     let within = 1 <= generation && generation <= limits.generations();
-    let occupancy = match kind {
-        0 if generation == 0 && number == 0 => {
+    if !within {
+        if generation == 0 && kind == 0 && number == 0 {
             return Some(SlotRecord {
                 generation: limits.generations(),
                 occupancy: Occupancy::Retired,
             });
         }
-        1 if within && number == 0 => Occupancy::Alive,
-        2 if within => Occupancy::AliveWithRow { row: number },
-        3 if within => Occupancy::Pending { position: number },
+        return None;
+    }
+    let occupancy = match kind {
+        1 if number == 0 => Occupancy::Alive,
+        2 => Occupancy::AliveWithRow { row: number },
+        3 => Occupancy::Pending { position: number },
         _ => return None,
     };
     Some(SlotRecord {
@@ -173,8 +196,8 @@ fn admit(pending: &mut [u32], slot: SlotRecord, index: u32) -> bool
     }
 }
 
-/// The slot that these bytes are; `None` if no slot within the limits is so written.
-fn read_slot(bytes: &[u8; SLOT], limits: Limits) -> Option<SlotRecord>
+/// The slot that these three words are; `None` if no slot within the limits is so written.
+fn read_words(bytes: &[u8; SLOT], limits: Limits) -> Option<SlotRecord>
     ensures bytes { IfSome result (λ s. bytes.now ≡ record_bytes s) }
     ensures within { IfSome result (λ s. IsGeneration limits s.generation) }
     ensures fits { IfSome result (λ s. number_of s.occupancy < 2 ^ 32) }
@@ -187,6 +210,31 @@ fn read_slot(bytes: &[u8; SLOT], limits: Limits) -> Option<SlotRecord>
     let (kind, rest) = read_word(rest);
     let (number, _) = read_word(rest);
     record_of(limits, generation, kind, number)
+}
+
+/// The slot that these bytes are; `None` if no slot within the limits is so written. Most slots have a
+/// living occupant without a row, so it looks for one first, with one comparison of its two words.
+fn read_slot(bytes: &[u8; SLOT], limits: Limits) -> Option<SlotRecord>
+    ensures bytes { IfSome result (λ s. bytes.now ≡ record_bytes s) }
+    ensures within { IfSome result (λ s. IsGeneration limits s.generation) }
+    ensures fits { IfSome result (λ s. number_of s.occupancy < 2 ^ 32) }
+    ensures none { IfNone result ((s : SlotRecord) → IsWritten limits s.generation s.occupancy
+        → bytes.now ≢ slot_bytes s) }
+    ensures row { IfNone result (is_slot limits.generations
+        (word_at bytes.now 0) (word_at bytes.now 4) (word_at bytes.now 8) ≡ false) }
+{
+    let (generation, rest) = read_word(bytes);
+    if generation < 1 || limits.generations() < generation {
+        return read_words(bytes, limits);
+    }
+    let (kind_and_number, _) = read_long(rest);
+    if kind_and_number == LIVING {
+        return Some(SlotRecord {
+            generation,
+            occupancy: Occupancy::Alive,
+        });
+    }
+    read_words(bytes, limits)
 }
 
 /// How many living entities have the slot: one or none.
@@ -217,6 +265,15 @@ fn vacant_positions(alloc: Global, count: u32) -> Result<Vec<u32>, AllocError>
     let mut positions = Vec::with_capacity(alloc, count as usize)?;
     positions.resize(count as usize, VACANT)?;
     Ok(positions)
+}
+
+/// The fault of a slot. It is apart, so that the compiler keeps no fault ready while it reads the slots.
+#[cold]
+#[inline(never)]
+fn slot_fault(index: u32) -> ImageFault
+    ensures { result ≡ ImageFault.Slot index }
+{
+    ImageFault::Slot { index }
 }
 
 /// What is read of the slots of an image.
@@ -262,10 +319,10 @@ pub(crate) fn read_slots(
     for slot in slots {
         let index = records.len() as u32;
         let Some(record) = read_slot(slot, limits) else {
-            return Err(ImageFault::Slot { index });
+            return Err(slot_fault(index));
         };
         if !admit(&mut pending, record, index) {
-            return Err(ImageFault::Slot { index });
+            return Err(slot_fault(index));
         }
         live += occupants_of(record);
         records.push_reserved(PackedSlot::of(record));

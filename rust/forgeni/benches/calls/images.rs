@@ -2,11 +2,16 @@
 //! words to a list with room, and beside what reads it a clone.
 
 use crate::clones::{micros, used, TakesOver, SIZES};
-use crate::timed;
+use crate::{counted, timed, Places};
 use forgeni::Entities;
 use std::hint::black_box;
 
 pub fn table() {
+    if counted::is_on() {
+        let (slots, _) = SIZES[0];
+        let sides: [Places; 2] = [[|| reads(SIZES[0].0)(); 8], [|| clones(SIZES[0].0)(); 8]];
+        return counted::run("`read_image`, a slot", slots, &sides);
+    }
     println!("| Slots | `write_image` | Loop | Ratio | `read_image` | `try_clone` | Ratio |");
     println!("|---|---|---|---|---|---|---|");
     for (slots, name) in SIZES {

@@ -1,40 +1,11 @@
-use Rattle.std.proofs.Common.{rules, ◌≡◌, ◌++◌, ap, ◌∙◌, length}
-use Rattle.ent_alloc.specs.Image.{word}
-use Rattle.ent_alloc.proofs.ImageSlotRead.{spelled, none_spelled, no_row}
-use Rattle.ent_alloc.proofs.image_slots.read_slot.Goals.{After-record_of}
+use Rattle.std.proofs.Common.{rules}
+use Rattle.ent_alloc.proofs.ImageSlotRead.{living_bytes}
 use Rattle.ent_alloc.proofs.image_slots.read_slot.Goals as goal
 
--- the three words, which are all
-in_words : (c : After-record_of) → c.args.bytes.now ≡ word c.read_word-generation.result.0
-    ++ (word c.read_word-kind.result.0 ++ (word c.read_word-number.result.0
-    ++ c.read_word-number.result.1.now))
-in_words c = c.read_word-generation.ensures.bytes ∙ ap (word c.read_word-generation.result.0 ++◌)
-    (c.read_word-kind.ensures.bytes ∙ ap (word c.read_word-kind.result.0 ++◌)
-    c.read_word-number.ensures.bytes)
-
-all : (c : After-record_of) → length c.read_word-number.result.1.now ≡ 0
-all c = search rules
-
-pub returns-clause-bytes : goal.returns-clause-bytes
-returns-clause-bytes c =
-    let after = (goal.at.returns-clause-bytes c).After-record_of in
-    spelled c.args.bytes.now c.read_word-generation.result.0 c.read_word-kind.result.0
-    c.read_word-number.result.0 c.read_word-number.result.1.now (in_words after) (all after)
-    c.record_of.result c.record_of.ensures.generation c.record_of.ensures.kind
-    c.record_of.ensures.number
-
-pub returns-clause-none : goal.returns-clause-none
-returns-clause-none c =
-    let after = (goal.at.returns-clause-none c).After-record_of in
-    none_spelled c.args.bytes.now c.read_word-generation.result.0 c.read_word-kind.result.0
-    c.read_word-number.result.0 c.read_word-number.result.1.now (in_words after) (all after)
-    c.args.limits c.record_of.ensures.limited (search rules) (search rules) (search rules)
-    c.record_of.result c.record_of.ensures.none
-
-pub returns-clause-row : goal.returns-clause-row
-returns-clause-row c =
-    let after = (goal.at.returns-clause-row c).After-record_of in
-    no_row c.args.bytes.now c.read_word-generation.result.0 c.read_word-kind.result.0
-    c.read_word-number.result.0 c.read_word-number.result.1.now (in_words after) (all after)
-    c.args.limits c.record_of.ensures.limited (search rules) (search rules) (search rules)
-    c.record_of.result c.record_of.ensures.row
+pub returns-then-kind_and_number-eq-LIVING-clause-bytes :
+    goal.returns-then-kind_and_number-eq-LIVING-clause-bytes
+returns-then-kind_and_number-eq-LIVING-clause-bytes c =
+    living_bytes c.args.bytes.now c.read_word-generation.result.0
+    c.read_long-kind_and_number.result.0 c.read_word-generation.result.1.now
+    c.read_long-kind_and_number.result.1.now c.read_word-generation.ensures.bytes
+    c.read_long-kind_and_number.ensures.bytes c.if-kind_and_number-eq-LIVING.true (search rules)

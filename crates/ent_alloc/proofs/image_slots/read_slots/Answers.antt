@@ -50,6 +50,7 @@ returns-in_default-clause-fault c not_memory =
     (length-piece bytes c.args.made c.as_chunks.result.0.now index _ c.as_chunks.ensures.front
     c.as_chunks.ensures.front_len c.requires.long c.loop-slot-test.true)
     c.in_default.ensures.row (omega (arith, loop.made, lt)) ∙ ap (λ k. Some (Slot k)) at
+    ∙ ap Some (sym c.slot_fault.ensures)
 
 pub returns-then-not-admit-clause-refused : goal.returns-then-not-admit-clause-refused
 returns-then-not-admit-clause-refused c not_memory r are limits made waiting same =
@@ -99,6 +100,7 @@ returns-then-not-admit-clause-fault c not_memory =
     c.if-not-admit.true
     (subst (λ (ps : List ℕ). CanWait ps slot.occupancy) (sym c.deref_mut.ensures.value) can))
     (omega (arith, loop.made, lt)) ∙ ap (λ k. Some (Slot k)) at
+    ∙ ap Some (sym c.slot_fault-then-not-admit.ensures)
 
 pub loop-slot-preserved : goal.loop-slot-preserved
 loop-slot-preserved c =

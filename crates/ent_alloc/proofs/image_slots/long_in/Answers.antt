@@ -1,7 +1,7 @@
 use Rattle.std.proofs.Common.{rules, sym}
 use Rattle.std.proofs.lemmas.Nat.{le_bytes_8}
 use Rattle.ent_alloc.specs.Image.{long}
-use Rattle.ent_alloc.proofs.image.long_in.Goals as goal
+use Rattle.ent_alloc.proofs.image_slots.long_in.Goals as goal
 
 pub returns : goal.returns
 unfolding long
