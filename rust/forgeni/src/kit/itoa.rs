@@ -63,15 +63,18 @@ pub struct Decimal {
     start: usize,
 }
 
-/// The numbers from 00 to 99.
-const PAIRS: [[u8; 2]; 100] = {
-    let mut pairs = [[0; 2]; 100];
-    let mut number = 0;
-    while number < 100 {
-        pairs[number] = [b'0' + number as u8 / 10, b'0' + number as u8 % 10];
-        number += 1;
+/// The numbers below this one have at most eight digits.
+const WORD: u64 = 100_000_000;
+
+/// The least number of each count of digits, above 1.
+const LEAST: [u64; 20] = {
+    let mut least = [0; 20];
+    let mut digits = 1;
+    while digits < 20 {
+        least[digits] = 10_u64.pow(digits as u32);
+        digits += 1;
     }
-    pairs
+    least
 };
 
 impl Buffer {
@@ -93,52 +96,33 @@ impl Buffer {
 }
 
 impl Decimal {
-    /// The length of `18446744073709551615` and of `-9223372036854775808`.
-    const LENGTH: usize = 20;
+    /// Three words: `18446744073709551615` and `-9223372036854775808` have 20 bytes.
+    const LENGTH: usize = 24;
 
     // Where only the length is asked for, no digit is written then.
     #[inline(always)]
     fn set(&mut self, size: u64, is_negative: bool) {
-        let (mut at, mut size) = (Decimal::LENGTH, size);
-        while size > u64::from(u32::MAX) {
-            at -= 4;
-            self.put_four(at, (size % 10_000) as u32);
-            size /= 10_000;
-        }
-        let mut left = size as u32;
-        while left >= 10_000 {
-            at -= 4;
-            self.put_four(at, left % 10_000);
-            left /= 10_000;
-        }
-        if left >= 100 {
-            at -= 2;
-            self.put_two(at, left % 100);
-            left /= 100;
-        }
-        if left >= 10 {
-            at -= 2;
-            self.put_two(at, left);
+        self.start = Decimal::LENGTH - digits_of(size);
+        // Most generations are so small.
+        if size < 10 {
+            self.bytes[Decimal::LENGTH - 1] = b'0' + size as u8;
+        } else if size < WORD {
+            self.put_eight(16, size);
         } else {
-            at -= 1;
-            self.bytes[at] = b'0' + left as u8;
+            self.put_eight(16, size % WORD);
+            self.put_eight(8, size / WORD % WORD);
+            self.put_eight(0, size / WORD / WORD);
         }
         if is_negative {
-            at -= 1;
-            self.bytes[at] = b'-';
+            self.start -= 1;
+            self.bytes[self.start] = b'-';
         }
-        self.start = at;
     }
 
     #[inline(always)]
-    fn put_four(&mut self, at: usize, number: u32) {
-        self.put_two(at, number / 100);
-        self.put_two(at + 2, number % 100);
-    }
-
-    #[inline(always)]
-    fn put_two(&mut self, at: usize, number: u32) {
-        [self.bytes[at], self.bytes[at + 1]] = PAIRS[number as usize];
+    fn put_eight(&mut self, at: usize, number: u64) {
+        let digits = eight_digits(number as u32);
+        self.bytes[at..at + 8].copy_from_slice(&digits.to_le_bytes());
     }
 
     #[inline]
@@ -161,6 +145,27 @@ impl Deref for Decimal {
     fn deref(&self) -> &str {
         core::str::from_utf8(self.as_bytes()).expect("digits are ASCII")
     }
+}
+
+/// How many digits a number has. A bit makes 0.301 of one.
+#[inline(always)]
+fn digits_of(number: u64) -> usize {
+    let bits = u64::BITS - (number | 1).leading_zeros();
+    let digits = ((bits * 1_233) >> 12) as usize;
+    digits + usize::from(number >= LEAST[digits])
+}
+
+/// The eight digits of a number below 10^8, zeros in front, as a text whose first byte is the lowest one. It has no
+/// branch, since the processor can't foresee how long a number is. Each line divides all parts of the word in two:
+/// `* 5_243 >> 19` is a division by 100 up to 9,999, and `* 103 >> 10` one by 10 up to 99.
+#[inline(always)]
+fn eight_digits(number: u32) -> u64 {
+    let fours = u64::from(number / 10_000) | u64::from(number % 10_000) << 32;
+    let hundreds = ((fours * 5_243) >> 19) & 0x0000_007f_0000_007f;
+    let pairs = hundreds | (fours - hundreds * 100) << 16;
+    let tens = ((pairs * 103) >> 10) & 0x000f_000f_000f_000f;
+    let digits = tens | (pairs - tens * 10) << 8;
+    digits | u64::from_le_bytes([b'0'; 8])
 }
 
 #[cfg(test)]
@@ -192,8 +197,9 @@ mod tests {
 
     #[test]
     fn each_count_of_digits_is_right() {
-        for number in 0..=1_010_u32 {
+        for number in 0..10_000_u32 {
             is_decimal(number);
+            is_decimal(10_000 * number + 9_999 - number);
         }
         let powers = (0..20).map(|digits| 10_u64.pow(digits));
         for number in powers.flat_map(|power| [power - 1, power, power + 1]) {
