@@ -7,7 +7,7 @@ mod birth;
 mod bundle;
 mod cause;
 mod cutting;
-mod elements;
+pub mod elements;
 mod fields;
 mod format;
 mod frame;
