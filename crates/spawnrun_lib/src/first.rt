@@ -12,6 +12,7 @@ ghost use Rattle.spawnrun_lib.specs.Place.{names_place, removed_place, unwhole_i
 
 use crate::part::Part;
 use ent_script::elements::{elements, is_among, members, name};
+use ent_script::sizes::COMPONENTS;
 use serde_json::{Map, Value};
 
 /// The first key that is none of a script's.
@@ -190,7 +191,7 @@ fn bad_element(value: &Value) -> Part<'_>
     let Some(list) = elements(value) else {
         return Part::Refused(value);
     };
-    if list.len() > 256 {
+    if list.len() > COMPONENTS {
         return Part::Long(list.len());
     }
     bad_name(list.as_slice())

@@ -27,6 +27,7 @@ mod passing;
 mod read_fault;
 mod reading;
 mod script;
+pub mod sizes;
 mod streaming;
 mod system;
 mod target;

@@ -5,6 +5,7 @@
 use crate::kit::programs::string::String;
 use crate::proved::spawnrun_lib::part::Part;
 use crate::proved::ent_script::elements::{elements, is_among, members, name};
+use crate::proved::ent_script::sizes::COMPONENTS;
 use crate::kit::programs::serde_json::{Map, Value};
 
 /// The first key that is none of a script's.
@@ -198,7 +199,7 @@ fn bad_element(value: &Value) -> Part<'_>
     let Some(list) = elements(value) else {
         return Part::Refused(value);
     };
-    if list.len() > 256 {
+    if list.len() > COMPONENTS {
         return Part::Long(list.len());
     }
     bad_name(list.as_slice())
