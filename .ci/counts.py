@@ -49,9 +49,9 @@ def counts(top):
     compared = r"\b(assert|assert_eq|assert_ne|prove|prove_eq)!\(|\bexpect\(|^\s*\(\s*(b?r?#*\"|&)"
     cases = [*lines(top, ["crates/*/cases/*", "crates/cases_and_examples/data/*"])]
     answers = sum(" => " in it or it.startswith(("> ", ">\\ ", ">> ", "! ", "= ")) or it == ">" for it in cases)
-    # Before they were patches, mutants were `.edit` files too.
-    mutants = [*top.glob("crates/*/*/*.edit"), *top.glob("crates/*/mutants/*.patch")]
-    of_gate = sum(it.parent.name == "must-fail" or "\ngate\n" in it.read_text() for it in mutants)
+    # Edits in `must-fail` are of definitions: `rt ci` tries each.
+    edits, mutants = [*top.glob("crates/*/must-fail/*.edit")], [*top.glob("crates/*/mutants/*.patch")]
+    of_gate = len(edits) + sum("\ngate\n" in it.read_text() for it in mutants)
     return {
         "crates": len(crates),
         "clauses (lines with `ensures`)": clauses,
@@ -59,7 +59,7 @@ def counts(top):
         "expectations of tests": sum(bool(re.search(compared, it)) for it in tests),
         "expectations of cases": answers,
         "expectations of scripts": sum(len([*checks(it)]) for it in top.glob("examples/*.sh")),
-        "mutants": len(mutants),
+        "mutants": len(edits) + len(mutants),
         "of them in the gate": of_gate,
     }
 

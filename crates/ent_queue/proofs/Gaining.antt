@@ -1,8 +1,8 @@
 -- How a reserver's record gains what commands have asked of it.
-use Rattle.std.proofs.Common.{rules, ◌≡◌, refl, ℕ, ◌+◌, ◌-◌, ◌<◌, ◌≤◌, ℤ, List, [], ◌∷◌, ◌++◌, map}
+use Rattle.std.proofs.Common.{rules, ◌≡◌, refl, ℕ, ◌+◌, ◌-◌, ◌<◌, ◌≤◌, ℤ, List, [], ◌∷◌, ◌++◌}
 use Rattle.std.proofs.Common.{arith, ap, ◌∙◌, subst, append_assoc, Result, Ok, Err, sym, inl, inr}
 use Rattle.std.proofs.lemmas.Grind.{common_steps, flat_map-append}
-use Rattle.std.specs.List.{flat_map, sum_by}
+use Rattle.std.specs.List.{sum_by}
 use Rattle.std.proofs.lemmas.List.Elements.{All-nil, All-cons}
 use Rattle.std.proofs.lemmas.Bool.{cases_lt}
 use Rattle.std.proofs.lemmas.List.Sums.{sum_by-append, sum_by-cons}
@@ -44,15 +44,6 @@ gains_one r high n c enough one within = record {
   left = search rules;
   within = (within, tt);
 }
-
-requests_both : (cs ds : List Command) → flat_map stands_for (cs ++ ds) ≡ flat_map stands_for cs
-    ++ flat_map stands_for ds
-requests_both [] ds = refl
-requests_both (c ∷ cs) ds = grind (arith, common_steps, requests_both cs ds)
-
-map_both : {X Y : Type 0} (f : X → Y) (xs ys : List X) → map f (xs ++ ys) ≡ map f xs ++ map f ys
-map_both f [] ys = refl
-map_both f (x ∷ xs) ys = ap (λ zs. f x ∷ zs) (map_both f xs ys)
 
 within_both : (left : ℕ) (cs ds : List Command) → FitQuota left cs
     → FitQuota (left - sum_by cost cs) ds → FitQuota left (cs ++ ds)

@@ -53,7 +53,7 @@ queues_in_order queues before (q ∷ after) n is at =
     search (rules, get_or-append_seam, rest)
 
 -- the calls of a history whose callers are all the first one
-calls_back : (history : List Call) → All (λ (call : Call). call.caller < 1) history
+pub calls_back : (history : List Call) → All (λ (call : Call). call.caller < 1) history
     → map first_call (requests_by 0 history) ≡ history
 calls_back [] all = refl
 calls_back (call ∷ history) all =

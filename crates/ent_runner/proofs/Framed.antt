@@ -74,10 +74,6 @@ everywhere P total ran once each n less =
     subst P (get_or-range_with_len 0 total n 0 less ∙ same)
     (there n 0 (omega (arith, length-range_with_len 0 total)))
 
--- jobs whose outputs are queues
-abbrev Relation : Type 1
-Relation = ℕ → Record → List Command → Record → Type 0
-
 weaker : (R E : ℕ → Record → List Command → Record → Type 0) → ((n : ℕ) (a : Record)
     (q : List Command) (b : Record) → R n a q b → E n a q b) → (queues : List (List Command))
     (a : Record) (mine : List ℕ) (b : Record) → DidAll R queues a mine b → DidAll E queues a mine b

@@ -1,7 +1,7 @@
 -- Lists of lists, and the numbers of a range.
 use Rattle.std.proofs.Common.{rules, ◌≡◌, ◌≢◌, ℕ, zero, suc, ◌+◌, ◌<◌, ◌≤◌, List, [], ◌∷◌, ◌++◌}
 use Rattle.std.proofs.Common.{length, map, refl, ap, arith, subst, Some, Bool, cond, ◌⊎◌, eq-eqb}
-use Rattle.std.proofs.Common.{ne_eqb, reverse, ◌∙◌}
+use Rattle.std.proofs.Common.{ne_eqb, ◌∙◌}
 use Rattle.std.proofs.lemmas.Grind.{common_steps}
 use Rattle.std.specs.Prelude.{◌==◌, filter, slice_get}
 use Rattle.std.specs.List.{All, sum_by, flat_map, range_with_len}
@@ -127,9 +127,3 @@ all_in_range a (suc many) = search (rules, All-cons, all_in_range (a + 1) many)
 
 pub all_below : (many : ℕ) → All (λ n. n < many) (range_with_len 0 many)
 all_below many = search (rules, all_in_range)
-
--- one more was taken from the end of what is left
-pub moved_back : {X Y : Type 0} (g : X → Y) (old new : List X) (x : X) (left next all : List Y)
-    → new ≡ old ++ x ∷ [] → left ≡ next ++ g x ∷ [] → left ++ reverse (map g old) ≡ all
-    → next ++ reverse (map g new) ≡ all
-moved_back g old new x left next all pushed taken whole = grind (arith, common_steps)

@@ -4,25 +4,17 @@ use Rattle.std.proofs.Common.{arith, rules, ◌≡◌, ℕ, suc, ◌+◌, List, 
 use Rattle.std.proofs.Common.{option_map, Result, Ok, ok_or, codes}
 use Rattle.std.proofs.lemmas.Grind.{common_steps}
 use Rattle.serde_json.specs.Data.{Data, Members, no_members, member}
-use Rattle.serde_json.specs.Find.{get, get_member, as_str}
+use Rattle.serde_json.specs.Find.{get, as_str}
 use Rattle.ent_script.specs.Cut.{cut, cut_members}
-use Rattle.ent_script.specs.Json.{members, pairs_of, keys_among, whole, whole_within}
+use Rattle.ent_script.specs.Json.{members, pairs_of, whole, whole_within}
 use Rattle.ent_script.specs.Names.{as_name}
 use Rattle.ent_script.specs.Reading.{◌>>=◌, items_of, read_bundle, with_of, count_of}
 use Rattle.ent_script.specs.Reading.{binding_of, removed_of, target_of}
-use Rattle.ent_script.specs.Reading.{format_of, heading_of, or_absent}
+use Rattle.ent_script.specs.Reading.{format_of, or_absent}
 use Rattle.ent_script.specs.Reading.{numbered, component_at}
 use Rattle.ent_script.specs.declared.cause.ScriptCause.{ScriptCause}
 use Rattle.ent_script.specs.declared.cause.ScriptCause.TheVariants as script_cause
 use Rattle.ent_script.specs.declared.heading.Heading.{Heading}
-
-get_member-cut : (l : ℕ) (k : List ℕ) (ms : Members) → get_member k (cut_members l ms) ≡ option_map
-    (cut l) (get_member k ms)
-get_member-cut l k no_members = refl
-get_member-cut l k (member key d ms) = search (rules, get_member-cut l k ms)
-
-pub get-cut : (l : ℕ) (k : List ℕ) (d : Data) → get k (cut (suc l) d) ≡ option_map (cut l) (get k d)
-get-cut l k d = search (rules, get_member-cut)
 
 abbrev cut_pair : ℕ → List ℕ × Data → List ℕ × Data
 cut_pair l m = (m.0, cut l m.1)
@@ -43,11 +35,6 @@ as_name-cut l d = search rules
 
 pub whole-cut : (l : ℕ) (d : Data) → whole (cut l d) ≡ whole d
 whole-cut l d = search rules
-
-among_cut : (l : ℕ) (allowed : List (List ℕ)) (ms : List (List ℕ × Data)) → keys_among allowed
-    (map (cut_pair l) ms) ≡ keys_among allowed ms
-among_cut l allowed [] = refl
-among_cut l allowed (m ∷ ms) = search (rules, among_cut l allowed ms)
 
 -- ---- the parts of an operation
 
@@ -103,14 +90,6 @@ said d =
       format = format;
       limits = record { slots = slots; generations = generations };
     })
-
-part-cut : (absent low high : ℕ) (k : List ℕ) (d : Data) → or_absent absent (whole_within low high)
-    (get k (cut 1 d)) ≡ or_absent absent (whole_within low high) (get k d)
-part-cut absent low high k d = search (rules, get-cut, whole-cut)
-
-pub heading_of-cut : (d : Data) → heading_of (cut 1 d) ≡ heading_of d
-unfolding heading_of
-heading_of-cut d = simp (members-cut 0, part-cut) (search (rules, among_cut))
 
 pub components-cut : (ds : List Data) → numbered (component_at (map (cut 0) ds)) 0 (map (cut 0) ds)
     ≡ numbered (component_at ds) 0 ds

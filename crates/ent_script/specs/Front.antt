@@ -9,6 +9,7 @@ use Rattle.ent_script.specs.Cut.{cut}
 use Rattle.ent_script.specs.Json.{at_most}
 use Rattle.ent_script.specs.Reading.{heading_of, in_script}
 use Rattle.ent_script.specs.Streaming.{heading_of_text}
+use Rattle.ent_script.specs.Sizes.{most_components}
 use Rattle.ent_script.specs.declared.front.Front.{Front}
 use Rattle.ent_script.specs.declared.read_fault.ReadFault.{ReadFault}
 use Rattle.ent_script.specs.declared.read_fault.ReadFault.TheVariants as fault
@@ -17,7 +18,7 @@ use Rattle.ent_script.specs.declared.read_fault.ReadFault.TheVariants as fault
 pub record IsFront (front : Front) (d : Data) : Type 0 where
   pub heading : in_script (heading_of d) ≡ Ok front.heading
   pub components : option_map (λ vs. map view vs.items) front.components
-      ≡ option_map (map (cut 0)) (option_and_then (at_most 256) (get (codes "components") d))
+      ≡ option_map (map (cut 0)) (option_and_then (at_most most_components) (get (codes "components") d))
 
 -- What was returned is the front of the value that a text is read as, or the first test that the
 -- value fails, unless memory ran out.

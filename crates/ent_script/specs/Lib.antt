@@ -12,3 +12,4 @@ pub mod Streaming
 pub mod Front
 pub mod Part
 pub mod Fields
+pub mod Sizes

@@ -5,6 +5,7 @@ use Rattle.ent_alloc.specs.Limits.{AreLimits}
 use Rattle.ent_handle.specs.declared.birth.Birth.{Birth}
 use Rattle.ent_handle.specs.declared.component.ComponentId.{ComponentId}
 use Rattle.ent_script.specs.Script.{Script}
+use Rattle.ent_script.specs.Sizes.{most_components, most_frames, most_systems, most_operations, most_spawned}
 use Rattle.ent_script.specs.declared.operation.Operation.{Operation}
 use Rattle.ent_script.specs.declared.operation.Operation.TheVariants as operation
 use Rattle.ent_script.specs.declared.target.Target.{Target}
@@ -28,7 +29,7 @@ IsBindingAt n (Some name) = name ≤ n
 
 -- a birth of a frame before this one, and of a system that a frame may have
 abbrev pub IsBirthBefore : ℕ → Birth → Type 0
-IsBirthBefore frame birth = (birth.frame < frame) × (birth.system < 256)
+IsBirthBefore frame birth = (birth.frame < frame) × (birth.system < most_systems)
 
 -- in operation n of a system of this frame
 abbrev pub IsTargetAt : ℕ → ℕ → ℕ → Target → Type 0
@@ -42,7 +43,7 @@ abbrev pub IsOperationAt : ℕ → ℕ → ℕ → Operation → Type 0
 IsOperationAt components frame n (operation.Spawn bundle binds) =
     IsBundleOf components bundle × IsBindingAt n binds
 IsOperationAt components frame n (operation.SpawnMany count bundle binds) =
-    (count ≤ 65536) × IsBundleOf components bundle × IsBindingAt n binds
+    (count ≤ most_spawned) × IsBundleOf components bundle × IsBindingAt n binds
 IsOperationAt components frame n (operation.Insert bundle on) =
     IsBundleOf components bundle × IsTargetAt components frame n on
 IsOperationAt components frame n (operation.Remove c on) =
@@ -52,15 +53,15 @@ IsOperationAt components frame n (operation.Despawn on) = IsTargetAt components 
 -- a system of this frame
 abbrev pub IsSystemOf : ℕ → ℕ → List Operation → Type 0
 IsSystemOf components frame operations =
-    (length operations ≤ 10000) × AllFrom (IsOperationAt components frame) 0 operations
+    (length operations ≤ most_operations) × AllFrom (IsOperationAt components frame) 0 operations
 
 -- the frame with this number
 abbrev pub IsFrameOf : ℕ → ℕ → List (List Operation) → Type 0
 IsFrameOf components frame systems =
-    (length systems ≤ 256) × AllByRecursion (IsSystemOf components frame) systems
+    (length systems ≤ most_systems) × AllByRecursion (IsSystemOf components frame) systems
 
 pub record IsScript (s : Script) : Type 0 where
   pub limits : AreLimits s.limits
-  pub components : length s.components ≤ 256
-  pub count : length s.frames ≤ 1000
+  pub components : length s.components ≤ most_components
+  pub count : length s.frames ≤ most_frames
   pub frames : AllFrom (IsFrameOf (length s.components)) 0 s.frames

@@ -15,6 +15,7 @@ use Rattle.ent_storage.specs.Bundle.{bundle_of}
 use Rattle.ent_script.specs.Json.{at_most, members, keys_among, whole, whole_within}
 use Rattle.ent_script.specs.Names.{as_name, number_among, names_in}
 use Rattle.ent_script.specs.Script.{Script}
+use Rattle.ent_script.specs.Sizes.{most_components, most_frames, most_systems, most_operations, most_spawned}
 use Rattle.ent_script.specs.declared.cause.Cause.{Cause}
 use Rattle.ent_script.specs.declared.cause.Cause.TheVariants as cause
 use Rattle.ent_script.specs.declared.cause.ScriptCause.{ScriptCause}
@@ -94,7 +95,7 @@ with_of components None = Ok []
 with_of components (Some d) = read_bundle components (Some d)
 
 unfoldable pub count_of : Option Data → Result ℕ Cause
-count_of part = ok_or (option_and_then (whole_within 0 65536) part) cause.Count
+count_of part = ok_or (option_and_then (whole_within 0 most_spawned) part) cause.Count
 
 -- the number of the name that an `as` binds: its number among the names bound so far, or the next
 unfoldable pub binding_of : List (List ℕ) → Option Data → Result (Option ℕ) Cause
@@ -123,7 +124,7 @@ birth_number decimal = elim (number_of decimal) [ Ok n ↦ Ok n | Err e ↦ Err 
 -- these numbers are those of a birth in a frame before this one
 abbrev pub birth_of_numbers : ℕ → ℕ → ℕ → ℕ → Result Birth Cause
 birth_of_numbers before frame system ordinal =
-    if nat_lt frame before && nat_lt system 256
+    if nat_lt frame before && nat_lt system most_systems
     then Ok (record { frame = frame; system = system; ordinal = ordinal })
     else Err cause.Birth
 
@@ -254,13 +255,13 @@ operation_at format components frame system ds number d =
 unfoldable pub system_of : Format → List (List ℕ) → ℕ → ℕ → Data
     → Result (List Operation) ReadFault
 system_of format components frame number d = do
-  ds ← ok_or (at_most 10000 d) (fault.System frame number)
+  ds ← ok_or (at_most most_operations d) (fault.System frame number)
   numbered (operation_at format components frame number ds) 0 ds
 
 unfoldable pub frame_of : Format → List (List ℕ) → ℕ → Data
     → Result (List (List Operation)) ReadFault
 frame_of format components number d = do
-  ds ← ok_or (at_most 256 d) (fault.Frame number)
+  ds ← ok_or (at_most most_systems d) (fault.Frame number)
   numbered (system_of format components number) 0 ds
 
 -- the name that a value is, if it is none of these
@@ -276,7 +277,7 @@ component_at ds number d =
 
 unfoldable pub component_names : Option Data → Result (List (List ℕ)) ScriptCause
 component_names part = do
-  ds ← ok_or (option_and_then (at_most 256) part) script_cause.Components
+  ds ← ok_or (option_and_then (at_most most_components) part) script_cause.Components
   numbered (component_at ds) 0 ds
 
 abbrev pub script_keys : List (List ℕ)
@@ -318,7 +319,7 @@ unfoldable pub script_of : Data → Result Script ReadFault
 script_of d = do
   heading ← in_script (heading_of d)
   components ← in_script (component_names (get (codes "components") d))
-  ds ← ok_or (option_and_then (at_most 1000) (get (codes "frames") d))
+  ds ← ok_or (option_and_then (at_most most_frames) (get (codes "frames") d))
       (fault.Script script_cause.Frames)
   frames ← numbered (frame_of heading.format components) 0 ds
   Ok (record { limits = heading.limits; components = components; frames = frames })

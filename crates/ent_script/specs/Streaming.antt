@@ -14,6 +14,7 @@ use Rattle.serde_json.specs.declared.value.Value.{Value}
 use Rattle.ent_script.specs.Cut.{cut}
 use Rattle.ent_script.specs.Json.{list_of, at_most}
 use Rattle.ent_script.specs.Reading.{◌>>=◌, numbered, frame_of, heading_of, in_script}
+use Rattle.ent_script.specs.Sizes.{most_frames}
 use Rattle.ent_script.specs.declared.cause.ScriptCause.TheVariants as script_cause
 use Rattle.ent_script.specs.declared.format.Format.{Format}
 use Rattle.ent_script.specs.declared.heading.Heading.{Heading}
@@ -68,7 +69,7 @@ StreamsList (Err e) left read rest = (read ≡ Err e) × (left ≡ rest)
 abbrev pub frames_of : Format → List (List ℕ) → Option Data
     → Result (List (List (List Operation))) ReadFault
 frames_of format components part = do
-  ds ← ok_or (option_and_then (at_most 1000) part) (fault.Script script_cause.Frames)
+  ds ← ok_or (option_and_then (at_most most_frames) part) (fault.Script script_cause.Frames)
   numbered (frame_of format components) 0 ds
 
 -- Whether the first token begins an object.

@@ -3,6 +3,7 @@ ghost use Rattle.ent_script.specs.Reading.{birth_number, birth_of_numbers, birth
 ghost use Rattle.ent_script.specs.Reading.{birth_of};
 
 use crate::cause::Cause;
+use crate::sizes::SYSTEMS;
 use ent_handle::{Birth, read_decimal, split_once};
 
 fn number(decimal: &[u8]) -> Result<u32, Cause>
@@ -14,7 +15,7 @@ fn number(decimal: &[u8]) -> Result<u32, Cause>
 fn birth_of_numbers(before: usize, frame: u32, system: u32, ordinal: u32) -> Result<Birth, Cause>
     ensures { result ≡ birth_of_numbers before frame system ordinal }
 {
-    if (frame as usize) < before && system < 256 {
+    if (frame as usize) < before && (system as usize) < SYSTEMS {
         Ok(Birth {
             frame: frame as u64,
             system,

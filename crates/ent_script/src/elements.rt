@@ -1,32 +1,24 @@
+//! What the format asks of a JSON value.
 ghost use Rattle.std.specs.Prelude.{◌≡◌, ◌≤◌, ◌^◌, ◌<◌, map, option_map, string_bytes, IfSome};
 ghost use Rattle.std.specs.List.{list_any, list_all};
 ghost use Rattle.std.specs.BTreeMap.{keys};
 ghost use Rattle.std.specs.Str.{bytes_eq};
 ghost use Rattle.serde_json.specs.View.{view};
-ghost use Rattle.ent_script.specs.Json.{elements, at_most, members, keys_among, whole_within};
+ghost use Rattle.ent_script.specs.Json.{elements, members, keys_among, whole_within};
 ghost use Rattle.ent_script.specs.Names.{as_name};
 
 use crate::names::is_name;
 use serde_json::{Map, Value};
 
-/// The elements of an array.
-fn elements(value: &Value) -> Option<&Vec<Value>>
+/// The elements of an array. `None` if the value is no array.
+pub fn elements(value: &Value) -> Option<&Vec<Value>>
     ensures { option_map (λ list. map view list.now.items) result ≡ elements (view value.now) }
 {
     value.as_array()
 }
 
-/// The elements of an array, if there are at most so many.
-#[tactic(auto, using(crate::proofs::Values::length_of_views))]
-pub(crate) fn at_most(value: &Value, most: usize) -> Option<&Vec<Value>>
-    ensures { option_map (λ list. map view list.now.items) result ≡ at_most most (view value.now) }
-{
-    let list = elements(value)?;
-    if list.len() <= most { Some(list) } else { None }
-}
-
-/// The members of an object.
-pub(crate) fn members(value: &Value) -> Option<&Map<String, Value>>
+/// The members of an object. `None` if the value is no object.
+pub fn members(value: &Value) -> Option<&Map<String, Value>>
     ensures { option_map (λ found. map (λ m. (string_bytes m.0, view m.1)) found.now.entries) result
         ≡ members (view value.now) }
 {
@@ -34,7 +26,7 @@ pub(crate) fn members(value: &Value) -> Option<&Map<String, Value>>
 }
 
 /// Whether the key is one of these.
-pub(crate) fn is_among(key: &str, allowed: &[&str]) -> bool
+pub fn is_among(key: &str, allowed: &[&str]) -> bool
     ensures { result ≡ list_any (λ name. bytes_eq key.now name.now) allowed.now }
 {
     allowed.iter().any(|name| key == *name)
@@ -67,8 +59,9 @@ pub(crate) fn whole_within(value: &Value, low: u32, high: u32) -> Option<u32>
     }
 }
 
-/// The name that it is.
-pub(crate) fn name(value: &Value) -> Option<&str>
+/// The name that a value is: a string of 1 to 32 letters from `a` to `z`, digits and `_`. `None` if it
+/// is none.
+pub fn name(value: &Value) -> Option<&str>
     ensures { option_map (λ text. text.now) result ≡ as_name (view value.now) }
 {
     let text = value.as_str()?;

@@ -11,6 +11,7 @@ ghost use Rattle.ent_script.specs.Reading.{births_before};
 ghost use Rattle.ent_script.specs.Reading.{ReadsPart, ReadsAs};
 ghost use Rattle.ent_script.specs.declared.read_fault.ReadFault.TheVariants as fault;
 ghost use Rattle.ent_script.specs.Streaming.{Streams, StreamsList, frames_of};
+ghost use Rattle.ent_script.specs.Sizes.{most_components};
 
 use crate::at::At;
 use crate::cause::{Cause, ScriptCause};
@@ -23,6 +24,7 @@ use crate::operation::Operation;
 use crate::part_fault::PartFault;
 use crate::parts::{binding, bundle, bundle_or_none, count, removed, target};
 use crate::read_fault::ReadFault;
+use crate::sizes::{FRAMES, OPERATIONS, SYSTEMS};
 use crate::streaming::{begins_array, begins_object, fault_of_array};
 use crate::system::System;
 use ent_handle::Memory;
@@ -38,7 +40,7 @@ fn operation_of_kind(
     fields: &Fields<'_>,
     kind: Kind,
 ) -> Result<Operation, PartFault>
-    requires { length components.now ≤ 256 }
+    requires { length components.now ≤ most_components }
     ensures { ReadsPart result (of_fields components.now bound.now before fields.now kind) }
 {
     match kind {
@@ -84,7 +86,7 @@ fn operation(
     before: Option<usize>,
     fields: &Fields<'_>,
 ) -> Result<Operation, PartFault>
-    requires { length components.now ≤ 256 }
+    requires { length components.now ≤ most_components }
     ensures { (ms : Members) → AreFields fields.now ms
         → ReadsPart result (operation_of components.now bound.now before (object ms)) }
 {
@@ -126,7 +128,7 @@ fn operation_at(
     at: At,
     fields: &Fields<'_>,
 ) -> Result<Operation, ReadFault>
-    requires { length components.now ≤ 256 }
+    requires { length components.now ≤ most_components }
     ensures { (ms : Members) → AreFields fields.now ms
         → ReadsAs result (at_operation at.frame at.system at.operation
         (operation_of components.now bound.now (births_before format at.frame) (object ms))) }
@@ -149,7 +151,7 @@ fn next_operation<'a>(
     reader: &mut Reader<'a>,
     depth: usize,
 ) -> Result<Operation, ReadFault>
-    requires { length components.now ≤ 256 }
+    requires { length components.now ≤ most_components }
     ensures value { (d : Data) (rest : List SpecToken)
         → converted of_json (value depth reader.old) ≡ Some (d, rest)
         → Streams result reader.new (at_operation at.frame at.system at.operation
@@ -180,7 +182,7 @@ fn operations(
     reader: &mut Reader<'_>,
     depth: usize,
 ) -> Result<System, ReadFault>
-    requires { length components.now ≤ 256 }
+    requires { length components.now ≤ most_components }
     ensures value { (n : ℕ) (ds : Items) (rest : List SpecToken)
         → converted of_items (items (value depth) n reader.old) ≡ Some (ds, rest)
         → Streams result reader.new (system_of format components.now frame system (array ds))
@@ -193,7 +195,7 @@ fn operations(
     let mut operations = Vec::new(alloc);
     let mut number = 0;
     'operations: while !reader.take_end_array() {
-        if number == 10_000 {
+        if number == OPERATIONS {
             return Err(fault_of_array(reader, depth, 0, limit, limit));
         }
         let at = At {
@@ -204,7 +206,7 @@ fn operations(
         match next_operation(alloc, format, components, &mut bound, at, reader, depth) {
             Ok(operation) => operations.push(operation)?,
             Err(fault) => {
-                return Err(fault_of_array(reader, depth, 9_999 - number, fault, limit));
+                return Err(fault_of_array(reader, depth, OPERATIONS - 1 - number, fault, limit));
             }
         }
         number += 1;
@@ -223,7 +225,7 @@ fn system(
     reader: &mut Reader<'_>,
     depth: usize,
 ) -> Result<System, ReadFault>
-    requires { length components.now ≤ 256 }
+    requires { length components.now ≤ most_components }
     ensures value { (d : Data) (rest : List SpecToken)
         → converted of_json (value depth reader.old) ≡ Some (d, rest)
         → Streams result reader.new (system_of format components.now frame number d) rest }
@@ -248,7 +250,7 @@ fn systems(
     reader: &mut Reader<'_>,
     depth: usize,
 ) -> Result<Frame, ReadFault>
-    requires { length components.now ≤ 256 }
+    requires { length components.now ≤ most_components }
     ensures value { (n : ℕ) (ds : Items) (rest : List SpecToken)
         → converted of_items (items (value depth) n reader.old) ≡ Some (ds, rest)
         → Streams result reader.new (frame_of format components.now frame (array ds)) rest }
@@ -259,13 +261,13 @@ fn systems(
     let mut systems = Vec::new(alloc);
     let mut number = 0;
     'systems: while !reader.take_end_array() {
-        if number == 256 {
+        if number == SYSTEMS {
             return Err(fault_of_array(reader, depth, 0, limit, limit));
         }
         match system(alloc, format, components, frame, number, reader, depth) {
             Ok(system) => systems.push(system)?,
             Err(fault) => {
-                return Err(fault_of_array(reader, depth, 255 - number, fault, limit));
+                return Err(fault_of_array(reader, depth, SYSTEMS - 1 - number, fault, limit));
             }
         }
         number += 1;
@@ -283,7 +285,7 @@ fn frame(
     reader: &mut Reader<'_>,
     depth: usize,
 ) -> Result<Frame, ReadFault>
-    requires { length components.now ≤ 256 }
+    requires { length components.now ≤ most_components }
     ensures value { (d : Data) (rest : List SpecToken)
         → converted of_json (value depth reader.old) ≡ Some (d, rest)
         → Streams result reader.new (frame_of format components.now number d) rest }
@@ -304,7 +306,7 @@ fn frames_inside(
     reader: &mut Reader<'_>,
     depth: usize,
 ) -> Result<Vec<Frame>, ReadFault>
-    requires { length components.now ≤ 256 }
+    requires { length components.now ≤ most_components }
     ensures value { (n : ℕ) (ds : Items) (rest : List SpecToken)
         → converted of_items (items (value depth) n reader.old) ≡ Some (ds, rest)
         → StreamsList result reader.new (frames_of format components.now (Some (array ds))) rest }
@@ -315,13 +317,13 @@ fn frames_inside(
     let mut frames = Vec::new(alloc);
     let mut number = 0;
     'frames: while !reader.take_end_array() {
-        if number == 1_000 {
+        if number == FRAMES {
             return Err(fault_of_array(reader, depth, 0, limit, limit));
         }
         match frame(alloc, format, components, number, reader, depth) {
             Ok(frame) => frames.push(frame)?,
             Err(fault) => {
-                return Err(fault_of_array(reader, depth, 999 - number, fault, limit));
+                return Err(fault_of_array(reader, depth, FRAMES - 1 - number, fault, limit));
             }
         }
         number += 1;
@@ -337,7 +339,7 @@ pub(crate) fn frames(
     reader: &mut Reader<'_>,
     depth: usize,
 ) -> Result<Vec<Frame>, ReadFault>
-    requires { length components.now ≤ 256 }
+    requires { length components.now ≤ most_components }
     ensures value { (d : Data) (rest : List SpecToken)
         → converted of_json (value depth reader.old) ≡ Some (d, rest)
         → StreamsList result reader.new (frames_of format components.now (Some d)) rest }

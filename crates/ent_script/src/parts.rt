@@ -5,6 +5,7 @@ ghost use Rattle.ent_script.specs.Reading.{count_of};
 ghost use Rattle.ent_script.specs.Reading.{binding_of, ReadsPart};
 ghost use Rattle.ent_script.specs.Json.{pairs_of};
 ghost use Rattle.ent_script.specs.Part.{data_of, leaf_data, members_of};
+ghost use Rattle.ent_script.specs.Sizes.{most_components};
 
 use crate::birth::birth;
 use crate::bundle::Bundle;
@@ -14,6 +15,7 @@ use crate::names::Names;
 use crate::object::Object;
 use crate::part::Part;
 use crate::part_fault::PartFault;
+use crate::sizes::SPAWNED;
 use crate::target::Target;
 use ent_handle::{ComponentId, Handle};
 use std::alloc::Global;
@@ -21,7 +23,7 @@ use std::collections::BTreeMap;
 
 /// The number of a component.
 pub(crate) fn component(components: &Names<'_>, name: &str) -> Option<ComponentId>
-    requires { length components.now ≤ 256 }
+    requires { length components.now ≤ most_components }
     ensures { result ≡ component_of components.now name.now }
 {
     let number = components.find(name)?;
@@ -34,7 +36,7 @@ pub(crate) fn count(part: Option<&Part<'_>>) -> Result<u32, Cause>
     ensures { result ≡ count_of (option_map (λ p. data_of p.now) part.entry) }
 {
     let value = part.ok_or(Cause::Count)?;
-    value.at_most(65_536).ok_or(Cause::Count)
+    value.at_most(SPAWNED).ok_or(Cause::Count)
 }
 
 /// The number of the name that is bound: that of the name if it is bound, and else the next.
@@ -52,7 +54,7 @@ pub(crate) fn binding(bound: &Names<'_>, part: Option<&Part<'_>>) -> Result<Opti
 /// The component that a removal is of.
 #[tactic(auto, unfolding(crate::specs::Reading::removed_of))]
 pub(crate) fn removed(components: &Names<'_>, part: Option<&Part<'_>>) -> Result<ComponentId, Cause>
-    requires { length components.now ≤ 256 }
+    requires { length components.now ≤ most_components }
     ensures { result ≡ removed_of components.now (option_map (λ p. data_of p.now) part.entry) }
 {
     let value = part.ok_or(Cause::Component)?;
@@ -76,7 +78,7 @@ fn target_at(
     key: &str,
     text: &str,
 ) -> Result<Target, Cause>
-    requires { length components.now ≤ 256 }
+    requires { length components.now ≤ most_components }
     ensures { result ≡ target_at components.now bound.now before key.now text.now }
 {
     if key == "name" {
@@ -103,7 +105,7 @@ pub(crate) fn target(
     before: Option<usize>,
     part: Option<&Part<'_>>,
 ) -> Result<Target, Cause>
-    requires { length components.now ≤ 256 }
+    requires { length components.now ≤ most_components }
     ensures { result ≡ target_of components.now bound.now before
         (option_map (λ p. data_of p.now) part.entry) }
 {
@@ -115,7 +117,7 @@ pub(crate) fn target(
 
 /// The component and the value of a bundle's member.
 fn item(components: &Names<'_>, key: &str, leaf: &Leaf<'_>) -> Result<(ComponentId, i64), Cause>
-    requires { length components.now ≤ 256 }
+    requires { length components.now ≤ most_components }
     ensures { result ≡ item_of components.now (key.now, leaf_data leaf.now) }
 {
     let id = component(components, key).ok_or(Cause::Component)?;
@@ -128,7 +130,7 @@ fn items_of(
     components: &Names<'_>,
     members: &BTreeMap<&str, Leaf<'_>>,
 ) -> Result<Bundle, PartFault>
-    requires { length components.now ≤ 256 }
+    requires { length components.now ≤ most_components }
     ensures { ReadsPart result (bundle_by components.now
         (map (λ m. (m.0.now, leaf_data m.1)) members.now.entries)) }
 {
@@ -146,7 +148,7 @@ fn one_item(
     key: &str,
     leaf: &Leaf<'_>,
 ) -> Result<Bundle, PartFault>
-    requires { length components.now ≤ 256 }
+    requires { length components.now ≤ most_components }
     ensures { ReadsPart result (bundle_by components.now ((key.now, leaf_data leaf.now) ∷ [])) }
 {
     let (id, number) = item(components, key, leaf)?;
@@ -156,7 +158,7 @@ fn one_item(
 }
 
 fn items(alloc: Global, components: &Names<'_>, members: &Object<'_>) -> Result<Bundle, PartFault>
-    requires { length components.now ≤ 256 }
+    requires { length components.now ≤ most_components }
     ensures { ReadsPart result (bundle_by components.now (pairs_of (members_of members.now))) }
 {
     match members {
@@ -173,7 +175,7 @@ pub(crate) fn bundle(
     components: &Names<'_>,
     part: Option<&Part<'_>>,
 ) -> Result<Bundle, PartFault>
-    requires { length components.now ≤ 256 }
+    requires { length components.now ≤ most_components }
     ensures { ReadsPart result (read_bundle components.now
         (option_map (λ p. data_of p.now) part.entry)) }
 {
@@ -187,7 +189,7 @@ pub(crate) fn bundle_or_none(
     components: &Names<'_>,
     part: Option<&Part<'_>>,
 ) -> Result<Bundle, PartFault>
-    requires { length components.now ≤ 256 }
+    requires { length components.now ≤ most_components }
     ensures { ReadsPart result (with_of components.now
         (option_map (λ p. data_of p.now) part.entry)) }
 {

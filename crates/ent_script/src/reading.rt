@@ -17,6 +17,7 @@ ghost use Rattle.ent_script.specs.Reading.{or_absent, new_name, component_at};
 ghost use Rattle.ent_script.specs.Reading.{format_of, heading_of, numbered, in_script, script_of};
 ghost use Rattle.ent_script.specs.Reading.{script_of_text};
 ghost use Rattle.ent_script.specs.Reading.{ReadsAs, ReadsList};
+ghost use Rattle.ent_script.specs.Sizes.{most_components};
 
 use crate::cause::ScriptCause;
 use crate::elements::{are_keys_among, members, name, whole_within};
@@ -124,7 +125,7 @@ const DEPTH: usize = 127;
 fn front_in(alloc: Global, text: &str, scratch: &mut Scratch) -> Result<Front, ReadFault>
     ensures front { ReadsFront result text.now }
     ensures few { IfOk result (λ front. IfSome front.components
-        (λ values. length values.items ≤ 256)) }
+        (λ values. length values.items ≤ most_components)) }
 {
     let mut reader = Reader::new(text, scratch)?;
     let top = read_top(alloc, &mut reader, DEPTH)?;
@@ -161,7 +162,7 @@ fn frames_inside(
     reader: &mut Reader<'_>,
     depth: usize,
 ) -> Result<Vec<Frame>, ReadFault>
-    requires { length components.now ≤ 256 }
+    requires { length components.now ≤ most_components }
     ensures { (n : ℕ) (ms : Members) (rest : List SpecToken)
         → converted (λ ms. of_members ms no_members) (members (value depth) n reader.old)
         ≡ Some (ms, rest)
@@ -190,7 +191,7 @@ fn frames_in(
     text: &str,
     scratch: &mut Scratch,
 ) -> Result<Vec<Frame>, ReadFault>
-    requires { length components.now ≤ 256 }
+    requires { length components.now ≤ most_components }
     ensures { (d : Data) → read text.now ≡ Some d
         → ReadsList result (frames_of format components.now (get (codes "frames") d)) }
 {
@@ -209,7 +210,7 @@ fn script_in(
     text: &str,
     scratch: &mut Scratch,
 ) -> Result<Script, ReadFault>
-    requires { IfSome front.components (λ values. length values.items ≤ 256) }
+    requires { IfSome front.components (λ values. length values.items ≤ most_components) }
     ensures { (d : Data) → read text.now ≡ Some d → IsFront front d
         → ReadsAs result (script_of d) }
 {

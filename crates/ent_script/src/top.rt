@@ -10,10 +10,12 @@ ghost use Rattle.ent_script.specs.Cut.{cut};
 ghost use Rattle.ent_script.specs.Json.{at_most};
 ghost use Rattle.ent_script.specs.Reading.{heading_of};
 ghost use Rattle.ent_script.specs.Top.{heads};
+ghost use Rattle.ent_script.specs.Sizes.{most_components};
 
 use crate::cutting::read_cut;
 use crate::passing::pass_rest;
 use crate::read_fault::ReadFault;
+use crate::sizes::COMPONENTS;
 use crate::streaming::read_elements;
 use json::{Reader, Token};
 use serde_json::{Map, Value};
@@ -38,8 +40,8 @@ pub(crate) fn read_top(
         × (converted of_json (value depth reader.old) ≡ Some (d, reader.new))
         × (heading_of (view top.value) ≡ heading_of d)
         × (option_map (λ vs. map view vs.items) top.components
-        ≡ option_map (map (cut 0)) (option_and_then (at_most 256) (get (codes "components") d)))) }
-    ensures few { IfOk result (λ top. IfSome top.components (λ vs. length vs.items ≤ 256)) }
+        ≡ option_map (map (cut 0)) (option_and_then (at_most most_components) (get (codes "components") d)))) }
+    ensures few { IfOk result (λ top. IfSome top.components (λ vs. length vs.items ≤ most_components)) }
     ensures json { result ≡ Err Json → converted of_json (value depth reader.old) ≡ None }
     ensures kind { IfErr result (λ e. (e ≡ Json) ⊎ (e ≡ Memory)) }
 {
@@ -65,8 +67,8 @@ fn read_members(alloc: Global, reader: &mut Reader<'_>, depth: usize) -> Result<
         × (view top.value ≡ object (heads ms))
         × (option_map (λ vs. map view vs.items) top.components
         ≡ option_map (map (cut 0))
-        (option_and_then (at_most 256) (get_member (codes "components") ms)))) }
-    ensures few { IfOk result (λ top. IfSome top.components (λ vs. length vs.items ≤ 256)) }
+        (option_and_then (at_most most_components) (get_member (codes "components") ms)))) }
+    ensures few { IfOk result (λ top. IfSome top.components (λ vs. length vs.items ≤ most_components)) }
     ensures json { result ≡ Err Json → converted (λ ms. of_members ms no_members)
         (members (value depth) (length reader.old) reader.old) ≡ None }
     ensures kind { IfErr result (λ e. (e ≡ Json) ⊎ (e ≡ Memory)) }
@@ -77,7 +79,7 @@ fn read_members(alloc: Global, reader: &mut Reader<'_>, depth: usize) -> Result<
         let key = String::from_str(alloc, name)?;
         if name == "components" {
             components = None;
-            components = read_elements(alloc, reader, depth, 0, 256)?;
+            components = read_elements(alloc, reader, depth, 0, COMPONENTS)?;
             drop(found.insert(key, Value::Null)?);
         } else {
             let member = read_cut(alloc, reader, depth, 0)?;

@@ -154,11 +154,6 @@ module _ (start : Allocator) (count : ℕ) (records : List Record) (at : ℤ)
             brings_to_life = given_in-bring_to_life start calls sound legal flushed;
           }
 
--- a cursor between the bounds is what the code makes of it
-pub in_word : (top : ℕ) (z : ℤ) → top < 2 ^ 32 → pos top ≤ℤ (z +ℤ pos (2 ^ 50)) → z ≤ℤ pos top
-    → to_z w64 (of_z w64 z) ≡ z
-in_word top z small least greatest = omega (arith, ints)
-
 pub ended : (entities : Entities) (start : Allocator) (n count : ℕ) (key : Opening)
     (records : List Record) (at floor from : ℤ) → IsStart entities.allocator
     → IsSound entities.allocator → n ≤ 1024 → key ≡ record { entities = entities; count = n }

@@ -99,9 +99,6 @@ pub record Lost (here start : Allocator) (count : ℕ) (records : List Record) (
     pub given : All (λ (r : Record). All (Contains (take asked start.pool))
         (handles_of (own_reservations r.entries))) records
 
-max_left : (a b : ℤ) → b ≤ℤ a → int_max a b ≡ a
-max_left a b le = grind (arith, ints)
-
 -- the two numbers that are set
 module _ (start : Allocator) (sound : IsSound start) (flushed : start.asked ≡ 0) where
   all_pool : available start ≡ start.pool

@@ -181,14 +181,6 @@ kept_met start at log r met k m =
       };
     }
 
--- a record's mark is below every reservation that it knows, after a reservation and after a meeting
-pub below_reservation : (r : Record) (high : ℤ) (n : ℕ) → All (λ (c : Reservation). r.mark ≤ℤ low c)
-    (known_reservations r.entries) → high ≤ℤ r.mark
-    → All (λ (c : Reservation). (after_reservation r high n).mark ≤ℤ low c)
-    (known_reservations (after_reservation r high n).entries)
-below_reservation r high n below le =
-    grind (arith, common_steps, All-weaker, ints, known-more, All-append, all_one)
-
 pub met_below : (r met : Record) → All (λ (c : Reservation). met.mark ≤ℤ low c)
     (known_reservations met.entries)
     → All (λ (c : Reservation). (after_meeting r met).mark ≤ℤ low c)

@@ -1,7 +1,7 @@
 -- The handle that is given next, and an entity that is made or taken back.
 use Rattle.std.proofs.Common.{rules, ◌≡◌, refl, sym, ap, ◌∙◌, ℕ, ◌<◌, Bool, true, false, cond}
-use Rattle.std.proofs.Common.{true≢false, List, [], ◌∷◌, ◌++◌, length, slice_get, arith, pos, ◌-ℤ◌}
-use Rattle.std.proofs.Common.{suc, ◌⊎◌, length-append, Option, Some, None, IfSome, Result, Ok, Err}
+use Rattle.std.proofs.Common.{true≢false, List, [], ◌∷◌, ◌++◌, length, slice_get, arith, suc}
+use Rattle.std.proofs.Common.{ℤ, ◌⊎◌, length-append, Option, Some, None, IfSome, Result, Ok, Err}
 use Rattle.std.proofs.Common.{OnOk, OnErr, is_err}
 use Rattle.std.proofs.lemmas.Grind.{common_steps}
 use Rattle.std.specs.Ordering.{eq_by_cmp}
@@ -13,8 +13,8 @@ use Rattle.ent_handle.specs.declared.birth.Birth.{Birth}
 use Rattle.ent_handle.specs.Handle.{Handle, handle_cmp, handle_cmp_total}
 use Rattle.ent_handle.specs.Handle.{handle_cmp-IsAntisymmetric}
 use Rattle.ent_alloc.specs.declared.space.Space.{Space}
-use Rattle.ent_alloc.specs.declared.span.Span.{Span}
-use Rattle.ent_alloc.specs.Sequential.{Allocator, listed, reply_to, reply_from, pool_at, cursor}
+use Rattle.ent_alloc.specs.Sequential.{Allocator, listed_alone, reply_to, reply_from, pool_at}
+use Rattle.ent_alloc.specs.Sequential.{cursor}
 use Rattle.ent_alloc.specs.Sound.{IsSound}
 use Rattle.ent_alloc.proofs.HandleSets.{same_handle, itself}
 use Rattle.ent_alloc.proofs.PoolLaw.{reply-cursor}
@@ -39,33 +39,26 @@ on_either it p q = search rules
 
 -- Of one handle.
 
-alone : (made : ℕ) (h : Handle) → listed made (h ∷ []) ≡ h ∷ []
-alone made h = grind (arith, common_steps)
-
 -- a request for one is given the front of the pool
-pub one_given : (s : Allocator) (given rest : List Handle) (h : Handle) → reply_to s 1 ≡ Ok given
-    → given ≡ h ∷ rest → slice_get s.pool 0 ≡ Some h
-one_given s given rest h is first = grind (arith, common_steps)
+pub one_given : (s : Allocator) (h : Handle) → reply_to s 1 ≡ Ok (h ∷ [])
+    → slice_get s.pool 0 ≡ Some h
+one_given s h is = grind (arith, common_steps)
 
-pub some_given : (s : Allocator) (given : List Handle) → reply_to s 1 ≡ Ok given → given ≡ [] → ⊥
-some_given s given is none = grind (arith, common_steps)
-
-pub given_new : (s : Allocator) (given rest : List Handle) (h : Handle) → IsSound s → reply_to s 1
-    ≡ Ok given → given ≡ h ∷ rest → set.contains s.live h ≡ false
-given_new s given rest h sound is first = search (rules, reply-not_live s 1 given is sound)
+pub given_new : (s : Allocator) (h : Handle) → IsSound s → reply_to s 1 ≡ Ok (h ∷ [])
+    → set.contains s.live h ≡ false
+given_new s h sound is = search (rules, reply-not_live s 1 (h ∷ []) is sound)
 
 pub none_given : (s : Allocator) (space : Space) → reply_to s 1 ≡ Err space → s.pool ≡ []
 none_given s space is = grind (arith, common_steps)
 
-pub pool_some : (s : Allocator) (given : List Handle) → reply_to s 1 ≡ Ok given → s.pool ≡ [] → ⊥
-pool_some s given is none = grind (arith, common_steps)
+pub pool_some : (s : Allocator) (h : Handle) → reply_to s 1 ≡ Ok (h ∷ []) → s.pool ≡ [] → ⊥
+pool_some s h is none = grind (arith, common_steps)
 
 -- the reply where nothing is requested
-pub reply_at_top : (s : Allocator) (span : Span) (r : Result (List Handle) Space) → IsSound s
-    → span.high ≡ cursor s → span.low ≡ span.high -ℤ pos 1
-    → ((n : ℕ) → span.low ≡ span.high -ℤ pos n → r ≡ reply_from s.made (pool_at s span.high) n) → r
-    ≡ reply_to s 1
-reply_at_top s span r sound at low reply = search (rules, reply-cursor s 1 sound)
+pub reply_at_top : (s : Allocator) (high : ℤ) (reply : Result Handle Space) → IsSound s
+    → high ≡ cursor s → listed_alone reply ≡ reply_from s.made (pool_at s high) 1
+    → listed_alone reply ≡ reply_to s 1
+reply_at_top s high reply sound at is = search (rules, reply-cursor s 1 sound)
 
 -- An entity.
 

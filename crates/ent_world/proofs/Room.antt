@@ -1,18 +1,15 @@
 -- Entering one by one, with room for all, and who stands from a place on.
 use Rattle.std.proofs.lemmas.Grind.{common_steps}
 use Rattle.std.proofs.Common.{rules, ◌≡◌, ◌≢◌, refl, sym, ap, ◌∙◌, ◌+◌, ◌<◌, ◌≤◌, Bool, true, false}
-use Rattle.std.proofs.Common.{cond, true≢false, ℕ, zero, suc, ◌-◌, List, [], ◌∷◌, ◌++◌, drop}
+use Rattle.std.proofs.Common.{cond, true≢false, ℕ, zero, suc, ◌-◌, List, [], ◌∷◌, drop}
 use Rattle.std.proofs.Common.{slice_get, is_some, arith, Some, ◌||◌}
 use Rattle.std.proofs.lemmas.Option.{none-some, same_Some}
 use Rattle.std.specs.Ordering.{eq_by_cmp}
 use Rattle.std.specs.FinMap as map
-use Rattle.ent_handle.specs.declared.birth.Birth.{Birth}
 use Rattle.ent_handle.specs.Handle.{Handle, handle_cmp, handle_cmp_total}
 use Rattle.ent_alloc.specs.Sequential.{stands_in}
 use Rattle.ent_alloc.proofs.HandleSets.{same_handle, itself}
-use Rattle.ent_storage.specs.EntityMap.{Entity, EntityMap, Store, newborn}
-use Rattle.ent_storage.specs.declared.fault.StorageFault.{StorageFault}
-use Rattle.ent_storage.specs.declared.fault.StorageFault.TheVariants.{Absent, Present, Memory}
+use Rattle.ent_storage.specs.EntityMap.{Entity, EntityMap}
 use Rattle.ent_world.specs.Entering.{AreNew}
 
 -- the others are new still
@@ -37,17 +34,6 @@ new_later h e (g ∷ hs) m none new =
         → is_some (cond b (Some e) (map.get m g)) ≡ false
     by_test true tied apart = absurd (true≢false (sym (turned tied) ∙ apart))
     by_test false _ apart = new.0
-
--- a storage with room is asked to enter one that is new
-pub record HasEntered (before after : Store) (h : Handle) (birth : Birth) : Type 0 where
-  pub entities : after.entities ≡ map.insert before.entities h (newborn birth)
-  pub places : after.places ≡ before.places ++ h ∷ []
-  pub spare : after.spare + 1 ≡ before.spare
-
-abbrev is_present : StorageFault → Bool
-is_present Present = true
-is_present Memory = false
-is_present Absent = false
 
 -- The places from one on.
 

@@ -6,7 +6,7 @@ ghost use Rattle.std.specs.FinSet as set;
 ghost use Rattle.std.specs.FinMap as map;
 ghost use Rattle.ent_world.specs.Effects.{spawned};
 
-use ent_alloc::{AllocFault, Entities, Span};
+use ent_alloc::{AllocFault, Entities};
 use ent_handle::{Birth, ComponentId, Handle, Memory};
 use ent_storage::Storage;
 
@@ -25,13 +25,10 @@ pub(crate) fn next_handle(entities: &Entities) -> Result<Handle, AllocFault>
     if entities.cursor() != top {
         return Err(AllocFault::NeedsFlush);
     }
-    let Ok(mut given) = entities.reply(Span::new(top, 1)) else {
-        return Err(AllocFault::Space);
-    };
-    let Some(handle) = given.next() else {
-        unreachable!()
-    };
-    Ok(handle)
+    match entities.reply_one(top) {
+        Ok(handle) => Ok(handle),
+        Err(_) => Err(AllocFault::Space),
+    }
 }
 
 /// Makes an entity that is not there, with all its components, at the next place. After an `Err` it

@@ -3,7 +3,7 @@ use Rattle.std.proofs.Common.{rules, ◌≡◌, ℕ, Bool, true, false, List, []
 use Rattle.std.proofs.Common.{refl, inl, inr, codes, Option, Some, None, is_some}
 use Rattle.std.specs.Prelude.{option_map}
 use Rattle.std.specs.Option.{option_map_or}
-use Rattle.std.specs.List.{AllByRecursion, slice_index_or, list_any}
+use Rattle.std.specs.List.{AllByRecursion, slice_index_or}
 use Rattle.clap.specs.Words.{Row, Rule, Shape, Text, built, fault_of, subcommand_of}
 use Rattle.clap.specs.Words.{rows_of, first_of, first_value}
 use Rattle.clap.specs.declared.parser.matches.Found.{Found}
@@ -16,7 +16,6 @@ use Rattle.spawnrun_lib.specs.declared.show.Show.{Show}
 use Rattle.spawnrun_lib.specs.declared.show.Show.TheVariants.{Births, Handles}
 use Rattle.std.specs.Borrow.{Bor}
 use Rattle.std.specs.Str.{bytes_eq}
-use Rattle.std.proofs.lemmas.Slice.Eq.{bytes_eq-Decides}
 use Rattle.cli.specs.Options.{HasNumber, generations_option, number_option, slots_option}
 use Rattle.spawnrun_lib.specs.CommandLine.{HasShow, program, references_to}
 use Rattle.spawnrun_lib.specs.CommandLine.{show_option, show_text, shown, workers_option}
@@ -72,11 +71,6 @@ run_shape = slice_index_or (built program).subs 1 (new_shape [])
 number_from : (option : Text) (most : ℕ) (default : Text) (rows : List Row)
     → HasValue (filled (number_option option most default)) rows → HasNumber option most rows
 number_from option most default rows value = search (rules, accepts-Accepts)
-
--- a text that `--show` takes
-shown_by : (text : Text) → list_any (λ name. bytes_eq name text) shown ≡ true → (show : Show)
-    × (text ≡ show_text show)
-shown_by text e = search (rules, bytes_eq-Decides)
 
 show_from : (rows : List Row) → HasValue show_rule rows → HasShow rows
 show_from rows value = search rules

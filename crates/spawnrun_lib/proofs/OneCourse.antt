@@ -1,9 +1,9 @@
 -- A frame of scripted systems on one worker has one course: its queues and its history follow from
 -- the systems and the world.
 use Rattle.std.proofs.Common.{rules, ◌≡◌, refl, sym, ◌∙◌, arith, append-nil, ℕ, ◌<◌, ℤ, List, []}
-use Rattle.std.proofs.Common.{◌∷◌, ◌++◌, length, map, Some, Ok, Err, Result, true}
+use Rattle.std.proofs.Common.{◌∷◌, ◌++◌, length, Some, Ok, Err, Result}
 use Rattle.std.proofs.lemmas.Grind.{common_steps}
-use Rattle.std.specs.Prelude.{◌==◌, if◌then◌else◌, nat_lt, slice_get}
+use Rattle.std.specs.Prelude.{if◌then◌else◌, nat_lt, slice_get}
 use Rattle.std.specs.List.{All, AllPairs, flat_map, range_with_len}
 use Rattle.std.specs.List.Sorted.{IsPermutation}
 use Rattle.std.proofs.lemmas.Bool.{cond-true, cond-false, lt-ltb, le-ltb}
@@ -18,15 +18,15 @@ use Rattle.ent_alloc.specs.declared.space.Space.{Space as OutOfSpace}
 use Rattle.ent_alloc.specs.Limits.{quota}
 use Rattle.ent_alloc.specs.Sequential.{Allocator, reply_to}
 use Rattle.ent_alloc.specs.History.{Call}
-use Rattle.ent_alloc.proofs.ListLaws.{filter_all}
 use Rattle.ent_alloc.proofs.PoolLaw.{reply-none}
 use Rattle.ent_alloc.specs.declared.refused.Refused.TheVariants.{Space, Quota}
 use Rattle.ent_storage.proofs.OneList.{one_list_with}
 use Rattle.ent_queue.specs.Command.{Command, Spawn, SpawnMany, Refused}
 use Rattle.ent_world.specs.World.{World}
 use Rattle.ent_world.specs.OpenWorld.{View}
-use Rattle.ent_runner.specs.Frame.{IsFrame, view_of, queue_at, commands_of, requests_by, first_call}
+use Rattle.ent_runner.specs.Frame.{IsFrame, view_of, queue_at, commands_of}
 use Rattle.ent_runner.proofs.Lists.{at_within, all_below}
+use Rattle.ent_runner.proofs.Alone.{calls_back}
 use Rattle.ent_script.specs.declared.operation.Operation.{Operation}
 use Rattle.ent_script.specs.declared.operation.Operation.TheVariants as operation
 use Rattle.ent_script.specs.declared.target.Target.{Target}
@@ -114,22 +114,6 @@ same_queue view names (op ∷ ops) s left cs ds (first, rest, cs_are, may, other
 
 -- ---- one worker
 
--- the first worker's calls, as they were requested and replied to
-calls_back : (history : List Call) → All (λ (call : Call). call.caller < 1) history
-    → map first_call (map (λ (call : Call). (call.requested, call.reply)) history) ≡ history
-calls_back [] all = refl
-calls_back (call ∷ history) all =
-    let less = All-head (λ (call : Call). call.caller < 1) call history all in
-    let zero : 0 ≡ call.caller = omega (arith, less) in
-    let rest = calls_back history (All-tail (λ (call : Call). call.caller < 1) call history all) in
-    λ i. record { caller = zero i; requested = call.requested; reply = call.reply } ∷ rest i
-
-all_calls : (history : List Call) → All (λ (call : Call). call.caller < 1) history
-    → map first_call (requests_by 0 history) ≡ history
-all_calls history all =
-    let own : All (λ (call : Call). (call.caller == 0) ≡ true) history = search rules in
-    rw (filter_all (λ (call : Call). call.caller == 0) history own) (calls_back history all)
-
 -- The worker ran these systems, and the history has its calls.
 record IsAlone (count : ℕ) (w : World) (queues : List (List Command)) (history : List Call) : Type 0
   where
@@ -151,7 +135,7 @@ is_alone : (systems : List (List Operation)) (w : World) (queues : List (List Co
 is_alone systems w queues history frame =
     let only = only_one frame.ran frame.each_worker in
     let work = frame.work 0 only.0 only.1 in
-    search (rules, calls_of, all_calls)
+    search (rules, calls_of, calls_back)
 
 -- each system has a queue that it may issue
 abbrev MayIssueEach : View → List (List Operation) → List (List Command) → Type 0

@@ -8,7 +8,6 @@ use Rattle.std.specs.Prelude.{slice_get, fold, find, option_and_then}
 use Rattle.std.specs.List.{AllByRecursion}
 use Rattle.std.specs.Option.{option_map_or}
 use Rattle.std.specs.Str.{bytes_eq}
-use Rattle.std.proofs.lemmas.Bool.Decides.{nat_tests}
 use Rattle.std.proofs.lemmas.Slice.Eq.{bytes_eq-Decides}
 use Rattle.clap.specs.Words.{Row, Rule, Shape, Text, first_of, one_of, read_as}
 use Rattle.clap.specs.Kinds.{Kinds, or_else, range_kinds}
@@ -42,9 +41,6 @@ passed b k e = search rules
 
 not_again : (test : Bool) → cond (test && true) (ArgumentConflict ∷ []) [] ≡ [] → test ≡ false
 not_again b e = search rules
-
-one_value : (n : ℕ) (others : Kinds) → or_else (range_kinds 1 1 n) others ≡ [] → n ≡ 1
-one_value n others e = grind (arith, common_steps, nat_tests)
 
 -- ---- rows
 

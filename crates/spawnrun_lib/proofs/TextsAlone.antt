@@ -1,6 +1,6 @@
 -- Where births alone tell each frame of a run, its text by births is that of births alone.
 use Rattle.std.proofs.Common.{arith, rules, ◌≡◌, refl, sym, ap, ◌∙◌, ℕ, ◌+◌, Bool, true, false, T}
-use Rattle.std.proofs.Common.{◌&&◌, List, [], ◌∷◌, ◌++◌, length, map, All, Contains, Option}
+use Rattle.std.proofs.Common.{List, [], ◌∷◌, ◌++◌, length, map, All, Contains, Option}
 use Rattle.std.proofs.Common.{is_some, option_map, unwrap_or, IsSomeAnd, IsTrue, append_assoc}
 use Rattle.std.proofs.Common.{append-nil}
 use Rattle.std.proofs.lemmas.Grind.{common_steps}
@@ -28,6 +28,7 @@ use Rattle.ent_storage.specs.BirthOrder.{ListsAll}
 use Rattle.ent_storage.specs.EntityMap.{Entity, EntityMap, birth_of}
 use Rattle.ent_storage.proofs.ByBirth.{filter-all}
 use Rattle.ent_storage.specs.Bundle.{Bundle}
+use Rattle.ent_storage.proofs.Positions.{first, second}
 use Rattle.ent_world.specs.declared.fault.Fault.{Fault}
 use Rattle.ent_world.specs.World.{World}
 use Rattle.ent_world.specs.BirthsAlone.{BirthMap, BirthFault, frame_alone}
@@ -62,14 +63,6 @@ frame_alike : (w : World) (e : Execution) (systems : List (List Operation)) (vie
 frame_alike w e systems view number one = search (rules, faults_alike, AllZip-long)
 
 -- ---- the text of a world
-
-first : (a b : Bool) → T (a && b) → T a
-first true b p = tt
-first false b p = p
-
-second : (a b : Bool) → T (a && b) → T b
-second true b p = p
-second false b p = absurd p
 
 module _ {K X : Type 0} (R : K → K → Ordering) where
   below_apart : (q : K) (es : List (K × X)) → T (below_all R q es)

@@ -2,6 +2,7 @@
 use Rattle.std.specs.Prelude.{◌≡◌, ℕ, ◌≤◌, List, length}
 use Rattle.std.specs.List.{All}
 use Rattle.ent_world.specs.World.{World}
+use Rattle.ent_script.specs.Sizes.{most_systems}
 use Rattle.ent_script.specs.declared.operation.Operation.{Operation}
 use Rattle.spawnrun_lib.specs.declared.show.Show.{Show}
 use Rattle.spawnrun_lib.specs.Report.{Execution, AreExecutions, last_world, frames_text}
@@ -16,4 +17,4 @@ pub record HaveGone (frames : List (List (List Operation))) (workers : ℕ) (sho
 
 -- no frame has more systems than a frame may have
 abbrev pub AreFew : List (List (List Operation)) → Type 0
-AreFew frames = All (λ systems. length systems ≤ 256) frames
+AreFew frames = All (λ systems. length systems ≤ most_systems) frames

@@ -48,8 +48,12 @@ pub record TellsOfValue (text : List ℕ) (e : ReadFault) (found : List ℕ) : T
 abbrev pub unshown_text : ReadFault → List ℕ
 unshown_text e = codes "; found what there was no memory to show" ++ position_text e
 
--- For a text of more than 65,536 bytes the line says only where the test failed. For a shorter one it
--- also says what is there, or that there was no memory to show it.
+-- the longest text that is read once more, in bytes
+abbrev pub longest_shown : ℕ
+longest_shown = 65536
+
+-- For a longer text the line says only where the test failed. For a shorter one it also says what is
+-- there, or that there was no memory to show it.
 pub record TellsOfScript (text : List ℕ) (e : ReadFault) (found : List ℕ) : Type 0 where
-  pub long : 65536 < length text → found ≡ position_text e
-  pub short : length text ≤ 65536 → TellsOfValue text e found ⊎ (found ≡ unshown_text e)
+  pub long : longest_shown < length text → found ≡ position_text e
+  pub short : length text ≤ longest_shown → TellsOfValue text e found ⊎ (found ≡ unshown_text e)

@@ -14,6 +14,7 @@ use Rattle.serde_json.specs.Written.{compact_text, has_float}
 use Rattle.ent_script.specs.Json.{elements, members, whole}
 use Rattle.ent_script.specs.Names.{as_name}
 use Rattle.ent_script.specs.Reading.{script_keys}
+use Rattle.ent_script.specs.Sizes.{most_components}
 use Rattle.ent_script.specs.declared.Cause.{Cause}
 use Rattle.ent_script.specs.declared.Cause.TheVariants as cause
 use Rattle.ent_script.specs.declared.ReadFault.{ReadFault}
@@ -151,7 +152,7 @@ bad_name earlier [] = absent
 bad_name earlier (d ∷ ds) = name_place (as_name d) d earlier (bad_name (earlier ++ d ∷ []) ds)
 
 abbrev pub bad_in : List Data → Place
-bad_in ds = if nat_lt 256 (length ds) then long (length ds) else bad_name [] ds
+bad_in ds = if nat_lt most_components (length ds) then long (length ds) else bad_name [] ds
 
 -- a list of names that is too long, its first that is bad, or what stands there instead of a list
 abbrev pub names_place : Option Data → Place

@@ -1,27 +1,19 @@
 //! The first of several keys, members or names that fails its test.
 ghost use Rattle.std.specs.Prelude.{◌≡◌, [], Some, false, map, option_and_then, option_map, string_bytes};
 ghost use Rattle.std.specs.Prelude.{unwrap_or};
-ghost use Rattle.std.specs.List.{list_all, list_any};
-ghost use Rattle.std.specs.Str.{bytes_eq};
+ghost use Rattle.std.specs.List.{list_any};
 ghost use Rattle.serde_json.specs.View.{view};
 ghost use Rattle.serde_json.specs.Find.{as_str};
 ghost use Rattle.ent_script.specs.Json.{elements, members};
-ghost use Rattle.ent_script.specs.Names.{as_name, is_name, is_name_byte};
 ghost use Rattle.ent_script.specs.Reading.{script_keys};
 ghost use Rattle.spawnrun_lib.specs.Place.{bad_name, component_place, is_among, is_listed, is_text};
 ghost use Rattle.spawnrun_lib.specs.Place.{key_but, key_place, listed_in, member_place, place_of};
 ghost use Rattle.spawnrun_lib.specs.Place.{names_place, removed_place, unwhole_in};
 
 use crate::part::Part;
+use ent_script::elements::{elements, is_among, members, name};
+use ent_script::sizes::COMPONENTS;
 use serde_json::{Map, Value};
-
-// The members of an object.
-fn members(value: &Value) -> Option<&Map<String, Value>>
-    ensures { option_map (λ found. map (λ m. (string_bytes m.0, view m.1)) found.now.entries) result
-        ≡ members (view value.now) }
-{
-    value.as_object()
-}
 
 /// The first key that is none of a script's.
 pub(crate) fn unknown_key(script: &Value) -> Part<'_>
@@ -50,13 +42,6 @@ fn first_key<'a>(members: &'a Map<String, Value>, known: &[&str]) -> Option<&'a 
         }
     }
     None
-}
-
-// Whether it is one of these.
-fn is_among(key: &str, known: &[&str]) -> bool
-    ensures { result ≡ list_any (λ name. bytes_eq key.now name.now) known.now }
-{
-    known.iter().any(|name| key == *name)
 }
 
 /// The first member of an object whose value is no whole number.
@@ -145,7 +130,7 @@ fn listed_in(script: &Value) -> &[Value]
 fn elements_of(value: &Value) -> &[Value]
     ensures { map view result.now ≡ unwrap_or (elements (view value.now)) [] }
 {
-    match value.as_array() {
+    match elements(value) {
         Some(list) => list.as_slice(),
         None => &[],
     }
@@ -203,23 +188,13 @@ pub(crate) fn bad_component(components: Option<&Value>) -> Part<'_>
 fn bad_element(value: &Value) -> Part<'_>
     ensures { place_of result ≡ names_place (Some (view value.now)) }
 {
-    let Some(list) = array(value) else {
+    let Some(list) = elements(value) else {
         return Part::Refused(value);
     };
-    if list.len() > 256 {
+    if list.len() > COMPONENTS {
         return Part::Long(list.len());
     }
-    bad_name(list)
-}
-
-// The elements of an array.
-fn array(value: &Value) -> Option<&[Value]>
-    ensures { option_map (λ list. map view list.now) result ≡ elements (view value.now) }
-{
-    match value.as_array() {
-        Some(list) => Some(list.as_slice()),
-        None => None,
-    }
+    bad_name(list.as_slice())
 }
 
 // The first that is no name or that an earlier one is too.
@@ -235,24 +210,4 @@ fn bad_name(list: &[Value]) -> Part<'_>
         }
     }
     Part::Absent
-}
-
-// The name that it is, by the rules of scripts.
-fn name(value: &Value) -> Option<&str>
-    ensures { option_map (λ text. text.now) result ≡ as_name (view value.now) }
-{
-    let text = value.as_str()?;
-    if is_name(text) { Some(text) } else { None }
-}
-
-fn is_name(text: &str) -> bool
-    ensures { result ≡ is_name text.now }
-{
-    1 <= text.len() && text.len() <= 32 && are_name_bytes(text.as_bytes())
-}
-
-fn are_name_bytes(bytes: &[u8]) -> bool
-    ensures { result ≡ list_all is_name_byte bytes.now }
-{
-    bytes.iter().all(|byte| byte.is_ascii_lowercase() || byte.is_ascii_digit() || *byte == b'_')
 }

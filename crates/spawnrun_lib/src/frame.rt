@@ -2,6 +2,7 @@
 ghost use Rattle.std.specs.Prelude.{◌≡◌, ◌<◌, ◌≤◌, length, List, IfOk, OnOk};
 ghost use Rattle.ent_queue.specs.Command.{Command};
 ghost use Rattle.ent_runner.specs.Frame.{Ends};
+ghost use Rattle.ent_script.specs.Sizes.{most_systems};
 ghost use Rattle.spawnrun_lib.specs.Issuing.{MayIssue};
 
 use crate::script_system::ScriptSystem;
@@ -34,7 +35,7 @@ pub(crate) fn run<R>(
 where
     R: Threads + Sync,
     requires flushed { world.old.allocator.asked ≡ 0 }
-    requires systems { length systems.now ≤ 256 }
+    requires systems { length systems.now ≤ most_systems }
     requires some { 0 < workers }
     requires few { workers ≤ 64 }
     ensures flushed { OnOk result (world.new.allocator.asked ≡ 0) }

@@ -2,7 +2,7 @@ ghost use Rattle.std.specs.Prelude.{◌≡◌, ◌+◌, ◌<◌, ◌≤◌, ◌+
 ghost use Rattle.std.specs.Prelude.{IfSome, option_map};
 ghost use Rattle.std.specs.Fmt.{decimal};
 ghost use Rattle.std.specs.Fmt.InlineText.{inline_text};
-ghost use Rattle.spawnrun_lib.specs.Found.{position_text, ShowsValue, TellsOfScript};
+ghost use Rattle.spawnrun_lib.specs.Found.{longest_shown, position_text, ShowsValue, TellsOfScript};
 ghost use Rattle.serde_json.specs.View.{view};
 ghost use Rattle.spawnrun_lib.specs.Place.{IsPlaceOf, bundle_in, frame_in, operation_in};
 ghost use Rattle.spawnrun_lib.specs.Place.{operation_place, place_of, script_place, system_in};
@@ -30,7 +30,7 @@ const LONGEST: usize = 65_536;
 /// 65,536 bytes it has only the place. If memory runs out, it says so in place of the value.
 pub(crate) fn script_found(alloc: Global, text: &[u8], fault: ReadFault) -> Found
     ensures found { TellsOfScript text.now fault (inline_text result) }
-    ensures long { 65536 < length text.now → inline_text result ≡ position_text fault }
+    ensures long { longest_shown < length text.now → inline_text result ≡ position_text fault }
     ensures printable { ArePrintable (inline_text result) }
 {
     if text.len() > LONGEST {

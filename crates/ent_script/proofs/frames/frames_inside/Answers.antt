@@ -10,8 +10,8 @@ use Rattle.ent_script.proofs.frames.frames_inside.Goals as goal
 pub frames-init : goal.frames-init
 frames-init c = grind (arith, common_steps)
 
-pub returns-then-number-eq1000-clause-value : goal.returns-then-number-eq1000-clause-value
-returns-then-number-eq1000-clause-value c n ds rest e =
+pub returns-then-number-eq-FRAMES-clause-value : goal.returns-then-number-eq-FRAMES-clause-value
+returns-then-number-eq-FRAMES-clause-value c n ds rest e =
     let l = c.frames in
     let many = at_most_many (value c.args.depth) (frame_of c.args.format c.args.components.now) 1000
     (fault.Script script_cause.Frames) c.fault_of_array.result l.frames.items l.number l.reader

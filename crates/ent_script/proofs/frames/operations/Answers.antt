@@ -11,9 +11,9 @@ use Rattle.ent_script.proofs.frames.operations.Goals as goal
 pub operations-init : goal.operations-init
 operations-init c = grind (arith, common_steps)
 
-pub returns-then-number-eq10000-clause-value : goal.returns-then-number-eq10000-clause-value
+pub returns-then-number-eq-OPERATIONS-clause-value : goal.returns-then-number-eq-OPERATIONS-clause-value
 unfolding system_of
-returns-then-number-eq10000-clause-value c n ds rest e =
+returns-then-number-eq-OPERATIONS-clause-value c n ds rest e =
     let l = c.operations in
     let g = operation_at c.args.format c.args.components.now c.args.frame c.args.system in
     let limit = fault.System c.args.frame c.args.system in

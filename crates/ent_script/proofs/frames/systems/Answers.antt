@@ -9,9 +9,9 @@ use Rattle.ent_script.proofs.frames.systems.Goals as goal
 pub systems-init : goal.systems-init
 systems-init c = grind (arith, common_steps)
 
-pub returns-then-number-eq256-clause-value : goal.returns-then-number-eq256-clause-value
+pub returns-then-number-eq-SYSTEMS-clause-value : goal.returns-then-number-eq-SYSTEMS-clause-value
 unfolding frame_of
-returns-then-number-eq256-clause-value c n ds rest e =
+returns-then-number-eq-SYSTEMS-clause-value c n ds rest e =
     let l = c.systems in
     let many = at_most_many (value c.args.depth)
     (system_of c.args.format c.args.components.now c.args.frame) 256 (fault.Frame c.args.frame)

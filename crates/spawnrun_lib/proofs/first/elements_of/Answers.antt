@@ -1,17 +1,14 @@
 use Rattle.std.proofs.Common.{◌≡◌, sym, ap, ◌∙◌, List, [], map, Bor, Some, Vec, Global, option_map}
 use Rattle.std.proofs.Common.{Option, unwrap_or}
 use Rattle.serde_json.specs.Data.{Data}
-use Rattle.serde_json.specs.Find.{as_array}
 use Rattle.serde_json.specs.View.{view}
 use Rattle.serde_json.specs.declared.value.Value.{Value}
 use Rattle.ent_script.specs.Json.{elements}
-use Rattle.ent_script.proofs.Values.{elements_seen}
 use Rattle.spawnrun_lib.proofs.first.elements_of.Goals as goal
 
 pub returns-in-Some : goal.returns-in-Some
 returns-in-Some c =
-    let d = view c.args.value.now in
-    let seen : Some (map view c.in-Some.list.now.items) ≡ elements d =
+    let seen : Some (map view c.in-Some.list.now.items) ≡ elements (view c.args.value.now) =
     sym (ap (option_map (λ (v : Bor (Vec Value Global)). map view v.now.items)) c.in-Some.is)
-    ∙ elements_seen c.as_array.result (as_array d) c.as_array.ensures in
+    ∙ c.elements.ensures in
     ap (map view) c.as_slice.ensures.value ∙ ap (λ (o : Option (List Data)). unwrap_or o []) seen

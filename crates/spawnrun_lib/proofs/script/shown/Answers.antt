@@ -7,7 +7,8 @@ use Rattle.serde_json.specs.View.{view}
 use Rattle.ent_script.specs.declared.ReadFault.{ReadFault}
 use Rattle.spawnrun_lib.specs.Place.{Place, IsPlaceOf, Shows, place_of}
 use Rattle.spawnrun_lib.specs.Shown.{front, plain}
-use Rattle.spawnrun_lib.proofs.Json.{json_some, json_none}
+use Rattle.ent_script.proofs.Texts.{json_none}
+use Rattle.spawnrun_lib.proofs.Json.{json_some}
 use Rattle.spawnrun_lib.proofs.Pieces.{if_some}
 use Rattle.spawnrun_lib.proofs.script.shown.Goals as goal
 

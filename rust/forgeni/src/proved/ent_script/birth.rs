@@ -1,6 +1,7 @@
 // Made of crates/ent_script/src/birth.rt by rust/erase. It isn't edited by hand.
 
 use crate::proved::ent_script::cause::Cause;
+use crate::proved::ent_script::sizes::SYSTEMS;
 use crate::proved::ent_handle::{Birth, read_decimal, split_once};
 
 #[inline]
@@ -14,7 +15,7 @@ fn number(decimal: &[u8]) -> Result<u32, Cause>
 fn birth_of_numbers(before: usize, frame: u32, system: u32, ordinal: u32) -> Result<Birth, Cause>
     // ensures { result ≡ birth_of_numbers before frame system ordinal }
 {
-    if (frame as usize) < before && system < 256 {
+    if (frame as usize) < before && (system as usize) < SYSTEMS {
         Ok(Birth {
             frame: frame as u64,
             system,

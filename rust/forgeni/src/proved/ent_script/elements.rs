@@ -1,41 +1,58 @@
 // Made of crates/ent_script/src/elements.rt by rust/erase. It isn't edited by hand.
 
+//! What the format asks of a JSON value.
+
 use alloc::vec::Vec;
 use crate::kit::programs::string::String;
 use crate::proved::ent_script::names::is_name;
 use crate::kit::programs::serde_json::{Map, Value};
 
-/// The elements of an array.
+/// The elements of an array. `None` if the value is no array.
+///
+/// <details><summary>Contract</summary>
+///
+/// In the words of the folder `specs/` of crate `ent_script`:
+///
+/// ```text
+/// ensures { option_map (λ list. map view list.now.items) result ≡ elements (view value.now) }
+/// ```
+///
+/// </details>
 #[inline]
-fn elements(value: &Value) -> Option<&Vec<Value>>
-    // ensures { option_map (λ list. map view list.now.items) result ≡ elements (view value.now) }
-{
+pub fn elements(value: &Value) -> Option<&Vec<Value>> {
     value.as_array()
 }
 
-/// The elements of an array, if there are at most so many.
+/// The members of an object. `None` if the value is no object.
+///
+/// <details><summary>Contract</summary>
+///
+/// In the words of the folder `specs/` of crate `ent_script`:
+///
+/// ```text
+/// ensures { option_map (λ found. map (λ m. (string_bytes m.0, view m.1)) found.now.entries) result
+///     ≡ members (view value.now) }
+/// ```
+///
+/// </details>
 #[inline]
-pub(super) fn at_most(value: &Value, most: usize) -> Option<&Vec<Value>>
-    // ensures { option_map (λ list. map view list.now.items) result ≡ at_most most (view value.now) }
-{
-    let list = elements(value)?;
-    if list.len() <= most { Some(list) } else { None }
-}
-
-/// The members of an object.
-#[inline]
-pub(super) fn members(value: &Value) -> Option<&Map<String, Value>>
-    // ensures { option_map (λ found. map (λ m. (string_bytes m.0, view m.1)) found.now.entries) result
-    //     ≡ members (view value.now) }
-{
+pub fn members(value: &Value) -> Option<&Map<String, Value>> {
     value.as_object()
 }
 
 /// Whether the key is one of these.
+///
+/// <details><summary>Contract</summary>
+///
+/// In the words of the folder `specs/` of crate `ent_script`:
+///
+/// ```text
+/// ensures { result ≡ list_any (λ name. bytes_eq key.now name.now) allowed.now }
+/// ```
+///
+/// </details>
 #[inline]
-pub(super) fn is_among(key: &str, allowed: &[&str]) -> bool
-    // ensures { result ≡ list_any (λ name. bytes_eq key.now name.now) allowed.now }
-{
+pub fn is_among(key: &str, allowed: &[&str]) -> bool {
     allowed.iter().any(|name| key == *name)
 }
 
@@ -69,11 +86,20 @@ pub(super) fn whole_within(value: &Value, low: u32, high: u32) -> Option<u32>
     }
 }
 
-/// The name that it is.
+/// The name that a value is: a string of 1 to 32 letters from `a` to `z`, digits and `_`. `None` if it
+/// is none.
+///
+/// <details><summary>Contract</summary>
+///
+/// In the words of the folder `specs/` of crate `ent_script`:
+///
+/// ```text
+/// ensures { option_map (λ text. text.now) result ≡ as_name (view value.now) }
+/// ```
+///
+/// </details>
 #[inline]
-pub(super) fn name(value: &Value) -> Option<&str>
-    // ensures { option_map (λ text. text.now) result ≡ as_name (view value.now) }
-{
+pub fn name(value: &Value) -> Option<&str> {
     let text = value.as_str()?;
     if is_name(text) { Some(text) } else { None }
 }

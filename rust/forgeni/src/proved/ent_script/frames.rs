@@ -13,6 +13,7 @@ use crate::proved::ent_script::operation::Operation;
 use crate::proved::ent_script::part_fault::PartFault;
 use crate::proved::ent_script::parts::{binding, bundle, bundle_or_none, count, removed, target};
 use crate::proved::ent_script::read_fault::ReadFault;
+use crate::proved::ent_script::sizes::{FRAMES, OPERATIONS, SYSTEMS};
 use crate::proved::ent_script::streaming::{begins_array, begins_object, fault_of_array};
 use crate::proved::ent_script::system::System;
 use crate::proved::ent_handle::Memory;
@@ -25,7 +26,7 @@ fn operation_of_kind(
     fields: &Fields<'_>,
     kind: Kind,
 ) -> Result<Operation, PartFault>
-    // requires { length components.now ≤ 256 }
+    // requires { length components.now ≤ most_components }
     // ensures { ReadsPart result (of_fields components.now bound.now before fields.now kind) }
 {
     match kind {
@@ -70,7 +71,7 @@ fn operation(
     before: Option<usize>,
     fields: &Fields<'_>,
 ) -> Result<Operation, PartFault>
-    // requires { length components.now ≤ 256 }
+    // requires { length components.now ≤ most_components }
     // ensures { (ms : Members) → AreFields fields.now ms
     //     → ReadsPart result (operation_of components.now bound.now before (object ms)) }
 {
@@ -114,7 +115,7 @@ fn operation_at(
     at: At,
     fields: &Fields<'_>,
 ) -> Result<Operation, ReadFault>
-    // requires { length components.now ≤ 256 }
+    // requires { length components.now ≤ most_components }
     // ensures { (ms : Members) → AreFields fields.now ms
     //     → ReadsAs result (at_operation at.frame at.system at.operation
     //     (operation_of components.now bound.now (births_before format at.frame) (object ms))) }
@@ -137,7 +138,7 @@ fn next_operation<'a>(
     reader: &mut Reader<'a>,
     depth: usize,
 ) -> Result<Operation, ReadFault>
-    // requires { length components.now ≤ 256 }
+    // requires { length components.now ≤ most_components }
     // ensures value { (d : Data) (rest : List SpecToken)
     //     → converted of_json (value depth reader.old) ≡ Some (d, rest)
     //     → Streams result reader.new (at_operation at.frame at.system at.operation
@@ -168,7 +169,7 @@ fn operations(
     reader: &mut Reader<'_>,
     depth: usize,
 ) -> Result<System, ReadFault>
-    // requires { length components.now ≤ 256 }
+    // requires { length components.now ≤ most_components }
     // ensures value { (n : ℕ) (ds : Items) (rest : List SpecToken)
     //     → converted of_items (items (value depth) n reader.old) ≡ Some (ds, rest)
     //     → Streams result reader.new (system_of format components.now frame system (array ds))
@@ -181,7 +182,7 @@ fn operations(
     let mut operations = Vec::new();
     let mut number = 0;
     'operations: while !reader.take_end_array() {
-        if number == 10_000 {
+        if number == OPERATIONS {
             return Err(fault_of_array(reader, depth, 0, limit, limit));
         }
         let at = At {
@@ -192,7 +193,7 @@ fn operations(
         match next_operation(format, components, &mut bound, at, reader, depth) {
             Ok(operation) => operations.push_fallibly(operation)?,
             Err(fault) => {
-                return Err(fault_of_array(reader, depth, 9_999 - number, fault, limit));
+                return Err(fault_of_array(reader, depth, OPERATIONS - 1 - number, fault, limit));
             }
         }
         number += 1;
@@ -210,7 +211,7 @@ fn system(
     reader: &mut Reader<'_>,
     depth: usize,
 ) -> Result<System, ReadFault>
-    // requires { length components.now ≤ 256 }
+    // requires { length components.now ≤ most_components }
     // ensures value { (d : Data) (rest : List SpecToken)
     //     → converted of_json (value depth reader.old) ≡ Some (d, rest)
     //     → Streams result reader.new (system_of format components.now frame number d) rest }
@@ -235,7 +236,7 @@ fn systems(
     reader: &mut Reader<'_>,
     depth: usize,
 ) -> Result<Frame, ReadFault>
-    // requires { length components.now ≤ 256 }
+    // requires { length components.now ≤ most_components }
     // ensures value { (n : ℕ) (ds : Items) (rest : List SpecToken)
     //     → converted of_items (items (value depth) n reader.old) ≡ Some (ds, rest)
     //     → Streams result reader.new (frame_of format components.now frame (array ds)) rest }
@@ -246,13 +247,13 @@ fn systems(
     let mut systems = Vec::new();
     let mut number = 0;
     'systems: while !reader.take_end_array() {
-        if number == 256 {
+        if number == SYSTEMS {
             return Err(fault_of_array(reader, depth, 0, limit, limit));
         }
         match system(format, components, frame, number, reader, depth) {
             Ok(system) => systems.push_fallibly(system)?,
             Err(fault) => {
-                return Err(fault_of_array(reader, depth, 255 - number, fault, limit));
+                return Err(fault_of_array(reader, depth, SYSTEMS - 1 - number, fault, limit));
             }
         }
         number += 1;
@@ -269,7 +270,7 @@ fn frame(
     reader: &mut Reader<'_>,
     depth: usize,
 ) -> Result<Frame, ReadFault>
-    // requires { length components.now ≤ 256 }
+    // requires { length components.now ≤ most_components }
     // ensures value { (d : Data) (rest : List SpecToken)
     //     → converted of_json (value depth reader.old) ≡ Some (d, rest)
     //     → Streams result reader.new (frame_of format components.now number d) rest }
@@ -290,7 +291,7 @@ fn frames_inside(
     reader: &mut Reader<'_>,
     depth: usize,
 ) -> Result<Vec<Frame>, ReadFault>
-    // requires { length components.now ≤ 256 }
+    // requires { length components.now ≤ most_components }
     // ensures value { (n : ℕ) (ds : Items) (rest : List SpecToken)
     //     → converted of_items (items (value depth) n reader.old) ≡ Some (ds, rest)
     //     → StreamsList result reader.new (frames_of format components.now (Some (array ds))) rest }
@@ -301,13 +302,13 @@ fn frames_inside(
     let mut frames = Vec::new();
     let mut number = 0;
     'frames: while !reader.take_end_array() {
-        if number == 1_000 {
+        if number == FRAMES {
             return Err(fault_of_array(reader, depth, 0, limit, limit));
         }
         match frame(format, components, number, reader, depth) {
             Ok(frame) => frames.push_fallibly(frame)?,
             Err(fault) => {
-                return Err(fault_of_array(reader, depth, 999 - number, fault, limit));
+                return Err(fault_of_array(reader, depth, FRAMES - 1 - number, fault, limit));
             }
         }
         number += 1;
@@ -323,7 +324,7 @@ pub(super) fn frames(
     reader: &mut Reader<'_>,
     depth: usize,
 ) -> Result<Vec<Frame>, ReadFault>
-    // requires { length components.now ≤ 256 }
+    // requires { length components.now ≤ most_components }
     // ensures value { (d : Data) (rest : List SpecToken)
     //     → converted of_json (value depth reader.old) ≡ Some (d, rest)
     //     → StreamsList result reader.new (frames_of format components.now (Some d)) rest }

@@ -8,6 +8,7 @@ use crate::proved::ent_script::names::Names;
 use crate::proved::ent_script::object::Object;
 use crate::proved::ent_script::part::Part;
 use crate::proved::ent_script::part_fault::PartFault;
+use crate::proved::ent_script::sizes::SPAWNED;
 use crate::proved::ent_script::target::Target;
 use crate::proved::ent_handle::{ComponentId, Handle};
 use crate::kit::collections::BTreeMap;
@@ -15,7 +16,7 @@ use crate::kit::collections::BTreeMap;
 /// The number of a component.
 #[inline]
 pub(super) fn component(components: &Names<'_>, name: &str) -> Option<ComponentId>
-    // requires { length components.now ≤ 256 }
+    // requires { length components.now ≤ most_components }
     // ensures { result ≡ component_of components.now name.now }
 {
     let number = components.find(name)?;
@@ -28,7 +29,7 @@ pub(super) fn count(part: Option<&Part<'_>>) -> Result<u32, Cause>
     // ensures { result ≡ count_of (option_map (λ p. data_of p.now) part.entry) }
 {
     let value = part.ok_or(Cause::Count)?;
-    value.at_most(65_536).ok_or(Cause::Count)
+    value.at_most(SPAWNED).ok_or(Cause::Count)
 }
 
 /// The number of the name that is bound: that of the name if it is bound, and else the next.
@@ -46,7 +47,7 @@ pub(super) fn binding(bound: &Names<'_>, part: Option<&Part<'_>>) -> Result<Opti
 /// The component that a removal is of.
 #[inline]
 pub(super) fn removed(components: &Names<'_>, part: Option<&Part<'_>>) -> Result<ComponentId, Cause>
-    // requires { length components.now ≤ 256 }
+    // requires { length components.now ≤ most_components }
     // ensures { result ≡ removed_of components.now (option_map (λ p. data_of p.now) part.entry) }
 {
     let value = part.ok_or(Cause::Component)?;
@@ -71,7 +72,7 @@ fn target_at(
     key: &str,
     text: &str,
 ) -> Result<Target, Cause>
-    // requires { length components.now ≤ 256 }
+    // requires { length components.now ≤ most_components }
     // ensures { result ≡ target_at components.now bound.now before key.now text.now }
 {
     if key == "name" {
@@ -98,7 +99,7 @@ pub(super) fn target(
     before: Option<usize>,
     part: Option<&Part<'_>>,
 ) -> Result<Target, Cause>
-    // requires { length components.now ≤ 256 }
+    // requires { length components.now ≤ most_components }
     // ensures { result ≡ target_of components.now bound.now before
     //     (option_map (λ p. data_of p.now) part.entry) }
 {
@@ -111,7 +112,7 @@ pub(super) fn target(
 /// The component and the value of a bundle's member.
 #[inline]
 fn item(components: &Names<'_>, key: &str, leaf: &Leaf<'_>) -> Result<(ComponentId, i64), Cause>
-    // requires { length components.now ≤ 256 }
+    // requires { length components.now ≤ most_components }
     // ensures { result ≡ item_of components.now (key.now, leaf_data leaf.now) }
 {
     let id = component(components, key).ok_or(Cause::Component)?;
@@ -124,7 +125,7 @@ fn items_of(
     components: &Names<'_>,
     members: &BTreeMap<&str, Leaf<'_>>,
 ) -> Result<Bundle, PartFault>
-    // requires { length components.now ≤ 256 }
+    // requires { length components.now ≤ most_components }
     // ensures { ReadsPart result (bundle_by components.now
     //     (map (λ m. (m.0.now, leaf_data m.1)) members.now.entries)) }
 {
@@ -142,7 +143,7 @@ fn one_item(
     key: &str,
     leaf: &Leaf<'_>,
 ) -> Result<Bundle, PartFault>
-    // requires { length components.now ≤ 256 }
+    // requires { length components.now ≤ most_components }
     // ensures { ReadsPart result (bundle_by components.now ((key.now, leaf_data leaf.now) ∷ [])) }
 {
     let (id, number) = item(components, key, leaf)?;
@@ -153,7 +154,7 @@ fn one_item(
 
 #[inline]
 fn items(components: &Names<'_>, members: &Object<'_>) -> Result<Bundle, PartFault>
-    // requires { length components.now ≤ 256 }
+    // requires { length components.now ≤ most_components }
     // ensures { ReadsPart result (bundle_by components.now (pairs_of (members_of members.now))) }
 {
     match members {
@@ -169,7 +170,7 @@ pub(super) fn bundle(
     components: &Names<'_>,
     part: Option<&Part<'_>>,
 ) -> Result<Bundle, PartFault>
-    // requires { length components.now ≤ 256 }
+    // requires { length components.now ≤ most_components }
     // ensures { ReadsPart result (read_bundle components.now
     //     (option_map (λ p. data_of p.now) part.entry)) }
 {
@@ -183,7 +184,7 @@ pub(super) fn bundle_or_none(
     components: &Names<'_>,
     part: Option<&Part<'_>>,
 ) -> Result<Bundle, PartFault>
-    // requires { length components.now ≤ 256 }
+    // requires { length components.now ≤ most_components }
     // ensures { ReadsPart result (with_of components.now
     //     (option_map (λ p. data_of p.now) part.entry)) }
 {

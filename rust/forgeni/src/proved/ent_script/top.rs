@@ -5,6 +5,7 @@ use crate::kit::programs::string::String;
 use crate::proved::ent_script::cutting::read_cut;
 use crate::proved::ent_script::passing::pass_rest;
 use crate::proved::ent_script::read_fault::ReadFault;
+use crate::proved::ent_script::sizes::COMPONENTS;
 use crate::proved::ent_script::streaming::read_elements;
 use crate::kit::programs::json::{Reader, Token};
 use crate::kit::programs::serde_json::{Map, Value};
@@ -27,8 +28,8 @@ pub(super) fn read_top(
     //     × (converted of_json (value depth reader.old) ≡ Some (d, reader.new))
     //     × (heading_of (view top.value) ≡ heading_of d)
     //     × (option_map (λ vs. map view vs.items) top.components
-    //     ≡ option_map (map (cut 0)) (option_and_then (at_most 256) (get (codes "components") d)))) }
-    // ensures few { IfOk result (λ top. IfSome top.components (λ vs. length vs.items ≤ 256)) }
+    //     ≡ option_map (map (cut 0)) (option_and_then (at_most most_components) (get (codes "components") d)))) }
+    // ensures few { IfOk result (λ top. IfSome top.components (λ vs. length vs.items ≤ most_components)) }
     // ensures json { result ≡ Err Json → converted of_json (value depth reader.old) ≡ None }
     // ensures kind { IfErr result (λ e. (e ≡ Json) ⊎ (e ≡ Memory)) }
 {
@@ -55,8 +56,8 @@ fn read_members(reader: &mut Reader<'_>, depth: usize) -> Result<Top, ReadFault>
     //     × (view top.value ≡ object (heads ms))
     //     × (option_map (λ vs. map view vs.items) top.components
     //     ≡ option_map (map (cut 0))
-    //     (option_and_then (at_most 256) (get_member (codes "components") ms)))) }
-    // ensures few { IfOk result (λ top. IfSome top.components (λ vs. length vs.items ≤ 256)) }
+    //     (option_and_then (at_most most_components) (get_member (codes "components") ms)))) }
+    // ensures few { IfOk result (λ top. IfSome top.components (λ vs. length vs.items ≤ most_components)) }
     // ensures json { result ≡ Err Json → converted (λ ms. of_members ms no_members)
     //     (members (value depth) (length reader.old) reader.old) ≡ None }
     // ensures kind { IfErr result (λ e. (e ≡ Json) ⊎ (e ≡ Memory)) }
@@ -67,7 +68,7 @@ fn read_members(reader: &mut Reader<'_>, depth: usize) -> Result<Top, ReadFault>
         let key = String::from_str(name)?;
         if name == "components" {
             components = None;
-            components = read_elements(reader, depth, 0, 256)?;
+            components = read_elements(reader, depth, 0, COMPONENTS)?;
             drop(found.insert(key, Value::Null)?);
         } else {
             let member = read_cut(reader, depth, 0)?;

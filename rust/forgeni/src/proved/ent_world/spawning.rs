@@ -3,7 +3,7 @@
 //! What one spawn needs: the handle that the allocator gives next, and an entity that is made whole
 //! or not at all.
 
-use crate::proved::ent_alloc::{AllocFault, Entities, Span};
+use crate::proved::ent_alloc::{AllocFault, Entities};
 use crate::proved::ent_handle::{Birth, ComponentId, Handle, Memory};
 use crate::proved::ent_storage::Storage;
 
@@ -22,13 +22,10 @@ pub(super) fn next_handle(entities: &Entities) -> Result<Handle, AllocFault>
     if entities.cursor() != top {
         return Err(AllocFault::NeedsFlush);
     }
-    let Ok(mut given) = entities.reply(Span::new(top, 1)) else {
-        return Err(AllocFault::Space);
-    };
-    let Some(handle) = given.next() else {
-        unreachable!()
-    };
-    Ok(handle)
+    match entities.reply_one(top) {
+        Ok(handle) => Ok(handle),
+        Err(_) => Err(AllocFault::Space),
+    }
 }
 
 /// Makes an entity that is not there, with all its components, at the next place. After an `Err` it

@@ -4,16 +4,9 @@
 
 use crate::kit::programs::string::String;
 use crate::proved::spawnrun_lib::part::Part;
+use crate::proved::ent_script::elements::{elements, is_among, members, name};
+use crate::proved::ent_script::sizes::COMPONENTS;
 use crate::kit::programs::serde_json::{Map, Value};
-
-// The members of an object.
-#[inline]
-fn members(value: &Value) -> Option<&Map<String, Value>>
-    // ensures { option_map (λ found. map (λ m. (string_bytes m.0, view m.1)) found.now.entries) result
-    //     ≡ members (view value.now) }
-{
-    value.as_object()
-}
 
 /// The first key that is none of a script's.
 #[inline]
@@ -44,14 +37,6 @@ fn first_key<'a>(members: &'a Map<String, Value>, known: &[&str]) -> Option<&'a 
         }
     }
     None
-}
-
-// Whether it is one of these.
-#[inline]
-fn is_among(key: &str, known: &[&str]) -> bool
-    // ensures { result ≡ list_any (λ name. bytes_eq key.now name.now) known.now }
-{
-    known.iter().any(|name| key == *name)
 }
 
 /// The first member of an object whose value is no whole number.
@@ -147,7 +132,7 @@ fn listed_in(script: &Value) -> &[Value]
 fn elements_of(value: &Value) -> &[Value]
     // ensures { map view result.now ≡ unwrap_or (elements (view value.now)) [] }
 {
-    match value.as_array() {
+    match elements(value) {
         Some(list) => list.as_slice(),
         None => &[],
     }
@@ -211,24 +196,13 @@ pub(super) fn bad_component(components: Option<&Value>) -> Part<'_>
 fn bad_element(value: &Value) -> Part<'_>
     // ensures { place_of result ≡ names_place (Some (view value.now)) }
 {
-    let Some(list) = array(value) else {
+    let Some(list) = elements(value) else {
         return Part::Refused(value);
     };
-    if list.len() > 256 {
+    if list.len() > COMPONENTS {
         return Part::Long(list.len());
     }
-    bad_name(list)
-}
-
-// The elements of an array.
-#[inline]
-fn array(value: &Value) -> Option<&[Value]>
-    // ensures { option_map (λ list. map view list.now) result ≡ elements (view value.now) }
-{
-    match value.as_array() {
-        Some(list) => Some(list.as_slice()),
-        None => None,
-    }
+    bad_name(list.as_slice())
 }
 
 // The first that is no name or that an earlier one is too.
@@ -245,27 +219,4 @@ fn bad_name(list: &[Value]) -> Part<'_>
         }
     }
     Part::Absent
-}
-
-// The name that it is, by the rules of scripts.
-#[inline]
-fn name(value: &Value) -> Option<&str>
-    // ensures { option_map (λ text. text.now) result ≡ as_name (view value.now) }
-{
-    let text = value.as_str()?;
-    if is_name(text) { Some(text) } else { None }
-}
-
-#[inline]
-fn is_name(text: &str) -> bool
-    // ensures { result ≡ is_name text.now }
-{
-    1 <= text.len() && text.len() <= 32 && are_name_bytes(text.as_bytes())
-}
-
-#[inline]
-fn are_name_bytes(bytes: &[u8]) -> bool
-    // ensures { result ≡ list_all is_name_byte bytes.now }
-{
-    bytes.iter().all(|byte| byte.is_ascii_lowercase() || byte.is_ascii_digit() || *byte == b'_')
 }

@@ -34,7 +34,7 @@ pub(super) fn run<R>(
 where
     R: Threads + Sync,
     // requires flushed { world.old.allocator.asked ≡ 0 }
-    // requires systems { length systems.now ≤ 256 }
+    // requires systems { length systems.now ≤ most_systems }
     // requires some { 0 < workers }
     // requires few { workers ≤ 64 }
     // ensures flushed { OnOk result (world.new.allocator.asked ≡ 0) }

@@ -21,7 +21,7 @@ const LONGEST: usize = 65_536;
 #[inline]
 pub(super) fn script_found(text: &[u8], fault: ReadFault) -> Found
     // ensures found { TellsOfScript text.now fault (inline_text result) }
-    // ensures long { 65536 < length text.now → inline_text result ≡ position_text fault }
+    // ensures long { longest_shown < length text.now → inline_text result ≡ position_text fault }
     // ensures printable { ArePrintable (inline_text result) }
 {
     if text.len() > LONGEST {

@@ -1,0 +1,16 @@
+//! How much a script may have.
+
+/// How many components a script may list.
+pub const COMPONENTS: usize = 256;
+
+/// How many frames a script may have.
+pub(crate) const FRAMES: usize = 1_000;
+
+/// How many systems a frame may have.
+pub(crate) const SYSTEMS: usize = 256;
+
+/// How many operations a system may have.
+pub(crate) const OPERATIONS: usize = 10_000;
+
+/// How many entities one operation may spawn.
+pub(crate) const SPAWNED: u32 = 65_536;
