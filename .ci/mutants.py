@@ -286,7 +286,10 @@ def owner_of(kind, head, homes):
     said = re.sub(r"<[^<>]*(?:<[^<>]*>)?[^<>]*>", "", head).split("{")[0].split()
     if kind != "impl" or "for" in said or not said or len(homes.get(said[0], [])) != 1:
         return None
-    return "::".join(filter(None, (homes[said[0]][0], said[0])))
+    # Where the type is that of a type, as `Filled<'_, Log<C>>`, the prover's name has the words of that too: `Filled+Log+C`.
+    within = re.search(rf"\b{said[0]}<(.*<.*)>", head)
+    words = [it for it in re.findall(r"'?\w+", within[1]) if it[0] != "'"] if within else []
+    return "::".join(filter(None, (homes[said[0]][0], "+".join([said[0], *words]))))
 
 
 def body_of(lines, at):

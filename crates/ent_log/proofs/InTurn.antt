@@ -3,7 +3,7 @@ use Rattle.std.proofs.Common.{rules, ◌≡◌, ◌∙◌, sym, refl, ap, append
 use Rattle.std.proofs.Common.{Option, None, Some, IfSome, IfNone, subst}
 use Rattle.std.specs.List.{FoldsTo}
 use Rattle.std.specs.Option.{option_to_list}
-use Rattle.std.specs.Result.{IfErr, IsErrAnd}
+use Rattle.std.specs.Result.{IfErr, OnOk}
 use Rattle.std.proofs.lemmas.List.{append_assoc}
 use Rattle.std.proofs.lemmas.Fn.{FoldsTo-push}
 use Rattle.ent_alloc.specs.Entities.{Entities}
@@ -21,12 +21,6 @@ pub none_left : {X : Type 0} (new : List X) (item : Option X) → IfNone item (n
     → new ≡ []
 none_left new None done is = done
 none_left new (Some x) done is = search rules
-
--- the error is this one
-pub if_err_is : {A X : Type 0} (r : Result A X) (x : X) (P : X → Type 0) → IsErrAnd r (λ y. y ≡ x)
-    → P x → IfErr r P
-if_err_is (Ok a) x P is p = tt
-if_err_is (Err y) x P is p = subst P (sym is) p
 
 module _ {C E F : Type 0} (step : F → MutBor Entities → Entry C → Result (Unit {0}) (Entry C × E)
     → MutBor Entities → F → Type 0) where
@@ -126,19 +120,16 @@ module _ {C E F : Type 0} (step : F → MutBor Entities → Entry C → Result (
         called))
 
   -- the same of the list that a view has
-  pub TakesAll-of_view : (f : F) (before after : Entities) (out front : Option (Entry C))
-      (rest all : List (Entry C)) → out ≡ front → option_to_list front ++ rest ≡ all
-      → TakesAll step f before (option_to_list out ++ rest) after
-      → TakesAll step f before all after
-  TakesAll-of_view f before after out front rest all same view =
-      subst (λ (l : List (Entry C)). TakesAll step f before l after)
-      (ap (λ (o : Option (Entry C)). option_to_list o ++ rest) same ∙ view)
+  pub TakesAll-of_view : (r : Result (Unit {0}) E) (f : F) (before after : Entities)
+      (shown all : List (Entry C)) → shown ≡ all → OnOk r (TakesAll step f before shown after)
+      → OnOk r (TakesAll step f before all after)
+  TakesAll-of_view r f before after shown all view =
+      subst (λ (l : List (Entry C)). OnOk r (TakesAll step f before l after)) view
 
-  pub FailsAt-of_view : (f : F) (before after : Entities) (out front : Option (Entry C))
-      (rest all left : List (Entry C)) (error : E) → out ≡ front
-      → option_to_list front ++ rest ≡ all
-      → FailsAt step f before (option_to_list out ++ rest) error left after
-      → FailsAt step f before all error left after
-  FailsAt-of_view f before after out front rest all left error same view =
-      subst (λ (l : List (Entry C)). FailsAt step f before l error left after)
-      (ap (λ (o : Option (Entry C)). option_to_list o ++ rest) same ∙ view)
+  pub FailsAt-of_view : (r : Result (Unit {0}) E) (f : F) (before after : Entities)
+      (shown all left : List (Entry C)) → shown ≡ all
+      → IfErr r (λ (error : E). FailsAt step f before shown error left after)
+      → IfErr r (λ (error : E). FailsAt step f before all error left after)
+  FailsAt-of_view r f before after shown all left view =
+      subst (λ (l : List (Entry C)). IfErr r (λ (error : E). FailsAt step f before l error left after))
+      view

@@ -1,5 +1,5 @@
 -- How a closure takes entries in turn, each with the allocator that the one before it left.
-use Rattle.std.specs.Prelude.{◌≡◌, List, [], ◌∷◌, ◌++◌, Result, Ok, Err}
+use Rattle.std.specs.Prelude.{◌≡◌, List, ◌∷◌, ◌++◌, Result, Ok, Err}
 use Rattle.std.specs.List.{FoldsTo}
 use Rattle.std.specs.Borrow.{MutBor}
 use Rattle.ent_alloc.specs.Entities.{Entities}

@@ -1,4 +1,4 @@
-ghost use Rattle.std.specs.Prelude.{◌≡◌, [], ◌∷◌, ◌++◌, IfSome, IfNone};
+ghost use Rattle.std.specs.Prelude.{◌≡◌, [], ◌∷◌, ◌++◌, IfSome, IfNone, IsTrue, false};
 ghost use Rattle.std.specs.Vec.Iter.{into_iter_items};
 ghost use Rattle.ent_log.specs.Logs.{entries_of};
 
@@ -60,14 +60,32 @@ fn first_of<C: Drop>(
     ensures done { IfNone result
         (into_iter_items entries.new ++ entries_of (into_iter_items logs.new) ≡ []) }
 {
-    if let Some(entry) = entries.next() {
-        return Some(entry);
+    let mut next = entries.next();
+    while next.is_none() && open_next(entries, logs) {
+        next = entries.next();
     }
-    while let Some(log) = logs.next() {
-        *entries = log.into_entries();
-        if let Some(entry) = entries.next() {
-            return Some(entry);
+    next
+}
+
+/// Goes on to the entries of the first of these logs, if there is one.
+// It is apart: then a loop over entries keeps in registers only what it needs at each of them.
+#[cold]
+#[inline(never)]
+fn open_next<C: Drop>(
+    entries: &mut IntoIter<Entry<C>, Global>,
+    logs: &mut IntoIter<Log<C>, Global>,
+) -> bool
+    ensures opened { IsTrue result
+        → into_iter_items logs.old ≡ into_iter_items entries.new ∷ into_iter_items logs.new }
+    ensures none { result ≡ false → into_iter_items logs.old ≡ [] }
+    ensures none_left { result ≡ false → into_iter_items logs.new ≡ [] }
+    ensures same { result ≡ false → into_iter_items entries.new ≡ into_iter_items entries.old }
+{
+    match logs.next() {
+        Some(log) => {
+            *entries = log.into_entries();
+            true
         }
+        None => false,
     }
-    None
 }

@@ -3,6 +3,7 @@ pub mod Batch
 pub mod Births
 pub mod Closing
 pub mod Faults
+pub mod Filling
 pub mod Finishing
 pub mod Framing
 pub mod Issuing

@@ -1,9 +1,10 @@
 //! Frames: systems run on workers over one world or one allocator, and a sync point takes what they issued.
 
+use crate::errors::fails;
 use crate::proved::ent_runner::NoGate;
 use crate::proved::ent_total;
-use crate::{Entities, Log, LogCommands, LogSystem, OutOfMemory, Report};
-use crate::{System, SystemCommands, View, World};
+use crate::{Entities, Handle, Log, LogCommands, LogSystem, OutOfMemory, Report};
+use crate::{SyncPoint, System, SystemCommands, View, World};
 use alloc::boxed::Box;
 use alloc::vec::Vec;
 use core::any::Any;
@@ -12,7 +13,7 @@ use std::sync::{Mutex, PoisonError};
 
 pub use crate::kit::thread::{StdThreads, Threads as Join};
 pub use crate::proved::ent_block_runner::{run_in_blocks, RunError, Unrun};
-pub use crate::proved::ent_total::{FrameError, LogError};
+pub use crate::proved::ent_total::{FrameError, LogError, Unbegun};
 
 /// Runs each system once, on that many workers side by side, and then the sync point. It returns
 /// the report of the sync point.
@@ -226,6 +227,65 @@ pub fn run_logs_on<J: Join + Sync, C: Send, S: LogSystem<C> + Sync>(
     })
 }
 
+/// [`run_logs_on`], and then the beginning of the sync point of these logs. It brings to life what the
+/// systems reserved, and appends it to `born`, as [`Entities::flush`] does. The sync point has the entries of
+/// all logs, in the order of the systems.
+///
+/// [`SyncPoint::begin`] has to look at each spawn of a log, since the log may be of another phase. These
+/// logs are of this one, so this looks at none.
+///
+/// ```
+/// use forgeni::{run_to_sync_point, Entities, Entry, LogCommands, OutOfMemory, StdThreads};
+///
+/// fn launch(commands: &mut LogCommands<'_, &str>) -> Result<(), OutOfMemory> {
+///     commands.spawn().map_or_else(|refused| refused.or_memory(), |_| commands.push("ready"))
+/// }
+///
+/// let (mut entities, mut born, mut said) = (Entities::new(), Vec::new(), Vec::new());
+/// let systems: [fn(&mut LogCommands<'_, &'static str>) -> _; 3] = [launch; 3];
+/// let mut sync = run_to_sync_point(&StdThreads, &mut entities, &systems, 2, &mut born)?;
+/// sync.apply(&mut entities, |entities, entry| {
+///     match entry {
+///         Entry::Spawn(one) => assert!(entities.is_alive(one)),
+///         Entry::Command(word) => said.push(word),
+///     }
+///     Ok::<(), (Entry<&str>, OutOfMemory)>(())
+/// })?;
+/// assert_eq!((born.len(), said), (3, vec!["ready"; 3]));
+/// # Ok::<(), Box<dyn std::error::Error>>(())
+/// ```
+///
+/// # Errors
+///
+/// [`Unbegun`] has the error. `born` is as it was.
+///
+/// - Those of [`run_logs`]. There are no logs.
+/// - [`Unborn`](LogError::Unborn): all systems ran, and there is no memory for what is born. What they
+///   reserved stays reserved, and the error has their logs, for [`SyncPoint::begin`].
+///
+/// # Panics
+///
+/// If a system panics, as of [`run_logs`]. If no system panics but the `Join` does, its panic is handed on
+/// when all workers have ended. What they reserved is alive, and their logs are dropped.
+pub fn run_to_sync_point<J: Join + Sync, C: Send, S: LogSystem<C> + Sync>(
+    join: &J,
+    entities: &mut Entities,
+    systems: &[S],
+    workers: usize,
+    born: &mut Vec<Handle>,
+) -> Result<SyncPoint<C>, Unbegun<C>> {
+    let memory = Unbegun::without_logs(LogError::Memory);
+    guarded(join, systems, memory, |join, systems| {
+        ent_total::run_to_sync_point(join, entities, systems, workers, born)
+    })
+}
+
+// Without the logs, whose commands need not be ones that can be printed.
+fails! {
+    finish_non_exhaustive;
+    Unbegun<C>: error;
+}
+
 /// Calls `run` with a `Join` and systems whose panics don't leave them, and hands the first panic on. If
 /// there is no memory to guard the systems, it returns that error.
 fn guarded<J, S, T, E>(
@@ -240,8 +300,8 @@ fn guarded<J, S, T, E>(
         return Err(memory);
     }
     let numbered = systems.iter().enumerate();
-    guarded.extend(numbered.map(|(number, system)| Guarded::of(system, number, &panics)));
-    let ran = run(&Guarded::of(join, usize::MAX, &panics), &guarded);
+    guarded.extend(numbered.map(|(number, system)| Guarded(system, number, &panics)));
+    let ran = run(&Guarded(join, usize::MAX, &panics), &guarded);
     if let Some(panic) = first(panics) {
         resume_unwind(panic);
     }
@@ -262,29 +322,17 @@ fn first(panics: Panics) -> Option<Panic> {
     first.map(|(_, panic)| panic)
 }
 
-/// A system or a `Join` whose panics don't leave it: the proved code that calls it knows none.
-struct Guarded<'a, T> {
-    guards: &'a T,
-    /// That of the system. A `Join` comes after all of them.
-    number: usize,
-    panics: &'a Panics,
-}
+/// A system or a `Join` whose panics don't leave it: the proved code that calls it knows none. With it is the
+/// number of the system, where a `Join` comes after all of them, and where the panics are kept.
+struct Guarded<'a, T>(&'a T, usize, &'a Panics);
 
-impl<'a, T> Guarded<'a, T> {
-    fn of(guards: &'a T, number: usize, panics: &'a Panics) -> Self {
-        Self {
-            guards,
-            number,
-            panics,
-        }
-    }
-
+impl<T> Guarded<'_, T> {
     /// Calls the closure. If it panics, the panic is kept, and this is returned.
     fn run<R>(&self, run: impl FnOnce() -> R, panicked: R) -> R {
         // Nothing that a panic leaves half done is looked at: what was issued is dropped.
         catch_unwind(AssertUnwindSafe(run)).unwrap_or_else(|panic| {
-            let mut panics = self.panics.lock().unwrap_or_else(PoisonError::into_inner);
-            panics.push((self.number, panic));
+            let mut panics = self.2.lock().unwrap_or_else(PoisonError::into_inner);
+            panics.push((self.1, panic));
             panicked
         })
     }
@@ -294,19 +342,19 @@ impl<S: System> System for Guarded<'_, S> {
     /// A system that panics has stopped, like one that ran out of memory: the frame is lost, and the
     /// world is closed with what was reserved.
     fn run(&self, view: &View<'_>, commands: &mut SystemCommands<'_>) -> Result<(), OutOfMemory> {
-        self.run(|| self.guards.run(view, commands), Err(OutOfMemory))
+        self.run(|| self.0.run(view, commands), Err(OutOfMemory))
     }
 }
 
 /// The same of a system that fills a log.
 impl<C, S: LogSystem<C>> LogSystem<C> for Guarded<'_, S> {
     fn run(&self, commands: &mut LogCommands<'_, C>) -> Result<(), OutOfMemory> {
-        self.run(|| self.guards.run(commands), Err(OutOfMemory))
+        self.run(|| self.0.run(commands), Err(OutOfMemory))
     }
 }
 
 impl<J: Join> Join for Guarded<'_, J> {
     fn join(&self, first: &mut (dyn FnMut() + Send), second: &mut (dyn FnMut() + Send)) {
-        self.run(|| self.guards.join(first, second), ());
+        self.run(|| self.0.join(first, second), ());
     }
 }

@@ -69,9 +69,11 @@ pub use entities::{Entities, Freed, Living, State};
 pub use errors::{Absent, AllocError, FreeError, ImageFault, OutOfMemory, Refused, ReserveError};
 pub use errors::{StorageImageFault, WorldImageFault};
 #[cfg(feature = "std")]
-pub use frames::{run_frame, run_frame_on, run_in_blocks, run_logs, run_logs_on};
+pub use frames::{
+    run_frame, run_frame_on, run_in_blocks, run_logs, run_logs_on, run_to_sync_point,
+};
 #[cfg(feature = "std")]
-pub use frames::{FrameError, Join, LogError, RunError, StdThreads, Unrun};
+pub use frames::{FrameError, Join, LogError, RunError, StdThreads, Unbegun, Unrun};
 pub use handle::{Handle, ParseHandleError};
 pub use handle_map::{HandleMap, InsertError, Uninserted};
 pub use lent::Lent;

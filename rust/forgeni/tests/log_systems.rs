@@ -1,8 +1,8 @@
 //! Systems that fill logs on workers: what their contracts can't say, and what a panic leaves.
 
 use crate::common::{flushed, small};
-use forgeni::{run_logs, run_logs_on, Entities, Entry, Handle, HandleMap, Join, Log};
-use forgeni::{LogCommands, LogError, LogSystem, OutOfMemory, StdThreads, SyncPoint};
+use forgeni::{run_logs, run_logs_on, run_to_sync_point, Entities, Entry, Handle, HandleMap, Join};
+use forgeni::{Log, LogCommands, LogError, LogSystem, OutOfMemory, StdThreads, SyncPoint};
 use std::convert::Infallible;
 use std::panic::{catch_unwind, resume_unwind, AssertUnwindSafe};
 use std::sync::{Barrier, Mutex};
@@ -80,6 +80,61 @@ fn logs_are_in_the_order_of_the_systems() {
             assert_eq!(entities.len(), 120 * frame);
         }
     }
+}
+
+/// A sync point that begins at once hands on what `begin` would have, and lists what is born behind the rest.
+#[test]
+fn the_sync_point_begins_at_once() {
+    for workers in WORKERS {
+        let systems = numbered(&[Does::Spawn(3); 40]);
+        let (mut at_once, mut later) = (Entities::new(), Entities::new());
+        let listed = at_once.alloc().expect("a handle");
+        let mut born = vec![listed];
+        let sync = run_to_sync_point(&StdThreads, &mut at_once, &systems, workers, &mut born);
+        let mut sync = sync.map_err(|unbegun| unbegun.error).expect("memory");
+        assert_eq!((born.len(), born[0], at_once.len()), (121, listed, 121));
+
+        let logs = run_logs(&mut later, &systems, workers).expect("memory");
+        let mut commands = logs.iter().flat_map(|log| log.entries());
+        let done = sync.apply(&mut at_once, |entities, entry| {
+            match (entry, commands.next()) {
+                (Entry::Spawn(one), Some(Entry::Spawn(_))) if entities.is_alive(one) => Ok(()),
+                (Entry::Command(it), Some(Entry::Command(other))) if it.1 == other.1 => Ok(()),
+                (_, wanted) => Err((entry, format!("{wanted:?}"))),
+            }
+        });
+        assert_eq!((done, commands.next()), (Ok(()), None));
+    }
+}
+
+/// Why it doesn't begin: as of `run_logs`, and there are no logs then.
+#[test]
+fn a_sync_point_that_does_not_begin() {
+    let (mut entities, mut born) = (Entities::new(), vec![]);
+    for (systems, workers, wanted) in [
+        (vec![Does::Spawn(1); 2], 0, LogError::Workers),
+        (vec![Does::Spawn(1); 2], 65, LogError::Workers),
+        (vec![Does::Spawn(1); 65_537], 1, LogError::Systems),
+        (vec![Does::Spawn(2), Does::Stop], 1, LogError::Lost),
+        (vec![Does::Spawn(1)], 1, LogError::NeedsFlush),
+    ] {
+        let systems = numbered(&systems);
+        let sync = run_to_sync_point(&StdThreads, &mut entities, &systems, workers, &mut born);
+        let unbegun = sync.map(drop).expect_err("refused");
+        assert_eq!((unbegun.error, unbegun.logs.len()), (wanted, 0));
+        assert_eq!(unbegun.to_string(), wanted.to_string());
+        assert!(format!("{unbegun:?}").starts_with("Unbegun { error: "));
+    }
+    assert!(born.is_empty() && entities.is_empty());
+    assert_eq!(flushed(&mut entities).len(), 3);
+
+    // A panic leaves what was reserved, as of `run_logs`.
+    let systems = numbered(&[Does::Spawn(1), Does::Panic(2, 1)]);
+    let ran = catch_unwind(AssertUnwindSafe(|| {
+        run_to_sync_point(&StdThreads, &mut entities, &systems, 1, &mut born).map(drop)
+    }));
+    assert!(ran.is_err() && born.is_empty());
+    assert_eq!(flushed(&mut entities).len(), 3);
 }
 
 /// Two systems that wait for each other: both workers have a thread, or this never ends.

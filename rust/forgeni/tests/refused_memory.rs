@@ -8,6 +8,8 @@ mod refusing;
 
 use common::{handle, this_program};
 use forgeni::trace::{Call, CheckError, Checker, FreeReply, Log, Reservation};
+#[cfg(feature = "std")]
+use forgeni::{run_to_sync_point, LogCommands, LogError, StdThreads};
 use forgeni::{
     AllocError, BeginError, Birth, CommandQueue, Commands, ComponentId, Entities, Entry, Fault,
     FreeError, GoOnError, Handle, HandleMap, ImageFault, InsertError, Limits, OpenWorld,
@@ -1135,6 +1137,47 @@ fn a_sync_point_of_logs() {
         let begin = || SyncPoint::begin(&mut entities, &mut logs, &mut born).is_ok();
         let (begun, none) = refusing(Refusal::All { after: 0 }, begin);
         assert_eq!((begun, none, born.len(), logs.len()), (true, 0, 98, 0));
+        refused
+    });
+}
+
+/// Systems and the beginning of their sync point, on one worker. Before they run the allocator is as it was. A
+/// system that stopped leaves what was reserved. If only what is born has no memory, the logs come back.
+#[cfg(feature = "std")]
+#[test]
+fn a_sync_point_of_systems() {
+    let system = |commands: &mut LogCommands<'_, u64>| {
+        for number in 0..49 {
+            commands
+                .spawn()
+                .or_else(|refused| refused.or_memory().map(|()| handle(7, 7)))?;
+            commands.push(number)?;
+        }
+        Ok(())
+    };
+    each_in_turn(|refusal| {
+        let mut entities = three();
+        let (before, mut born) = (told(&entities), vec![handle(7, 7)]);
+        let run = || run_to_sync_point(&StdThreads, &mut entities, &[system; 2], 1, &mut born);
+        let (begun, refused) = refusing(refusal, run);
+        let Err(unbegun) = begun else {
+            assert_eq!((born.len(), entities.len()), (99, 100));
+            return refused;
+        };
+        assert!(refused > 0);
+        assert_eq!(born, [handle(7, 7)]);
+        match unbegun.error {
+            LogError::Memory => assert_eq!(told(&entities), before),
+            LogError::Lost => assert_eq!(entities.len(), 2),
+            error => {
+                let mut logs = unbegun.logs;
+                assert_eq!((error, logs.len()), (LogError::Unborn, 2));
+                let sync = SyncPoint::begin(&mut entities, &mut logs, &mut born);
+                assert!(sync.is_ok() && entities.len() == 100);
+                return refused;
+            }
+        }
+        assert!(unbegun.logs.is_empty());
         refused
     });
 }

@@ -1,6 +1,7 @@
 //! Commands of a type of the caller's: logs beside plain lists. Both have the same allocator and maps.
 
 use crate::{line_of_two, places, rounds, shift, timed, Run, COUNT};
+use forgeni::{run_logs, run_to_sync_point, LogCommands, OutOfMemory, StdThreads};
 use forgeni::{Entities, Entry, Handle, HandleMap, Log, SyncPoint};
 use std::hint::black_box;
 
@@ -48,6 +49,20 @@ pub fn table() {
         places!(issue_and_apply, Ours),
         places!(issue_and_apply, Plain),
     );
+    line_of_two(
+        rounds(),
+        "issued by systems, a command",
+        COMMANDS,
+        places!(issue_by_systems),
+        places!(issue, Plain),
+    );
+    line_of_two(
+        rounds(),
+        "issued by systems and applied, a command",
+        COMMANDS,
+        places!(issue_by_systems_and_apply),
+        places!(issue_and_apply, Plain),
+    );
 }
 
 /// What is commanded, until it takes effect.
@@ -80,15 +95,8 @@ impl List for Ours {
     fn apply(mut lists: Vec<Self>, game: &mut Game) {
         let Game { entities, maps } = game;
         let mut born = Vec::new();
-        let mut sync = SyncPoint::begin(entities, &mut lists, &mut born).expect("reserved");
-        let done = sync.apply(entities, |entities, entry| match entry {
-            Entry::Spawn(_) => Ok(()),
-            Entry::Command(command) => match maps.run(entities, command) {
-                true => Ok(()),
-                false => Err((entry, "refused")),
-            },
-        });
-        done.expect("each has an effect");
+        let sync = SyncPoint::begin(entities, &mut lists, &mut born);
+        hand_on(sync.expect("reserved"), entities, maps);
     }
 }
 
@@ -118,6 +126,18 @@ impl List for Plain {
             }
         }
     }
+}
+
+#[inline(always)]
+fn hand_on(mut sync: SyncPoint<Command>, entities: &mut Entities, maps: &mut Maps) {
+    let done = sync.apply(entities, |entities, entry| match entry {
+        Entry::Spawn(_) => Ok(()),
+        Entry::Command(command) => match maps.run(entities, command) {
+            true => Ok(()),
+            false => Err((entry, "refused")),
+        },
+    });
+    done.expect("each has an effect");
 }
 
 struct Game {
@@ -223,6 +243,66 @@ fn issue_and_apply<L: List, const PLACE: usize>() -> Run {
     let run = timed(|| {
         let lists: Vec<L> = issued(&mut game, &all);
         L::apply(lists, &mut game);
+        0
+    });
+    Run {
+        sum: game.sum(),
+        ..run
+    }
+}
+
+/// The commands are issued.
+fn issue<L: List, const PLACE: usize>() -> Run {
+    shift::<PLACE>();
+    let (mut game, all) = Game::new();
+    timed(|| {
+        black_box(issued::<L>(&mut game, &all));
+        0
+    })
+}
+
+/// A system for each part of all entities.
+#[inline(always)]
+fn systems(
+    all: &[Handle],
+) -> Vec<impl Fn(&mut LogCommands<'_, Command>) -> Result<(), OutOfMemory> + '_> {
+    let parts = all.chunks_exact(all.len() / SYSTEMS as usize);
+    let system = |part: &'_ [Handle]| {
+        let part = part.to_vec();
+        move |commands: &mut LogCommands<'_, Command>| {
+            for (round, pair) in (0..).zip(part.chunks_exact(2)) {
+                let one = commands.spawn().expect("a handle");
+                commands.push(black_box(Command::Spawn(one, round, 1)))?;
+                commands.push(black_box(Command::Insert(pair[0], round)))?;
+                commands.push(black_box(Command::Despawn(pair[1])))?;
+            }
+            Ok(())
+        }
+    };
+    parts.map(system).collect()
+}
+
+/// Systems on one worker issue the commands.
+fn issue_by_systems<const PLACE: usize>() -> Run {
+    shift::<PLACE>();
+    let (mut game, all) = Game::new();
+    let systems = systems(&all);
+    timed(|| {
+        black_box(run_logs(&mut game.entities, &systems, 1).expect("memory"));
+        0
+    })
+}
+
+/// Systems on one worker issue the commands, and these take effect.
+fn issue_by_systems_and_apply<const PLACE: usize>() -> Run {
+    shift::<PLACE>();
+    let (mut game, all) = Game::new();
+    let systems = systems(&all);
+    let run = timed(|| {
+        let Game { entities, maps } = &mut game;
+        let mut born = Vec::new();
+        let sync = run_to_sync_point(&StdThreads, entities, &systems, 1, &mut born);
+        hand_on(sync.expect("memory"), entities, maps);
         0
     });
     Run {

@@ -7,7 +7,7 @@ use crate::proved::ent_log::handing::hand_on;
 use crate::proved::ent_log::log::Log;
 use crate::proved::ent_log::rest::Rest;
 use crate::proved::ent_alloc::Entities;
-use crate::proved::ent_handle::Handle;
+use crate::proved::ent_handle::{Handle, Memory};
 use core::mem;
 
 /// A sync point of logs: the entries that are still to be handed on.
@@ -121,9 +121,42 @@ impl<C> SyncPoint<C> {
         if let Some(handle) = unreserved(entities, logs) {
             return Err(BeginError::NotReserved { handle });
         }
-        if entities.flush(out).is_err() {
-            return Err(BeginError::Memory);
+        match SyncPoint::begin_reserved(entities, logs, out) {
+            Ok(point) => Ok(point),
+            Err(Memory) => Err(BeginError::Memory),
         }
+    }
+
+    /// [`begin`](Self::begin) of logs all of whose spawns are reserved in the allocator, so it looks
+    /// at none of them.
+    ///
+    /// # Errors
+    ///
+    /// [`OutOfMemory`](Memory) if there is no memory for what is born. Nothing has changed.
+    #[inline]
+    pub(crate) fn begin_reserved(
+        entities: &mut Entities,
+        logs: &mut Vec<Log<C>>,
+        out: &mut Vec<Handle>,
+    ) -> Result<Self, Memory>
+        // requires reserved { first_unreserved entities.old.allocator
+        //     (spawned_in (entries_of logs.old.items)) ≡ None }
+        // ensures entries { IfOk result (λ point. point ≡ entries_of logs.old.items) }
+        // ensures emptied { OnOk result (logs.new.items ≡ []) }
+        // ensures flushed { OnOk result
+        //     (entities.new.allocator ≡ after_flush entities.old.allocator) }
+        // ensures rows { entities.new.rows ≡ entities.old.rows }
+        // ensures born { OnOk result
+        //     (out.new.items ≡ out.old.items ++ born entities.old.allocator) }
+        // ensures alive { OnOk result
+        //     (All (IsLive entities.new.allocator) (spawned_in (entries_of logs.old.items))) }
+        // ensures memory { OnErr result ((0 < made_at_flush entities.old.allocator)
+        //     ⊎ (vec_capacity out.old < vec_len out.old + length entities.old.allocator.taken)) }
+        // ensures kept { OnErr result (logs.new.items ≡ logs.old.items) }
+        // ensures err { OnErr result (entities.new ≡ entities.old) }
+        // ensures unchanged { OnErr result (out.new.items ≡ out.old.items) }
+    {
+        entities.flush(out)?;
         Ok(SyncPoint {
             front: None,
             rest: Rest::of(mem::replace(logs, Vec::new())),
@@ -164,13 +197,7 @@ impl<C> SyncPoint<C> {
         entities: &mut Entities,
         run: F,
     ) -> Result<(), E> {
-        match hand_on(self.front.take(), &mut self.rest, entities, run) {
-            Ok(()) => Ok(()),
-            Err((entry, error)) => {
-                self.front = Some(entry);
-                Err(error)
-            }
-        }
+        hand_on(&mut self.front, &mut self.rest, entities, run)
     }
 
     /// Takes the next entry out: the one that a closure handed back, or the first that it wasn't

@@ -16,6 +16,9 @@ pub enum LogError {
     /// another one. The logs are dropped. The handles that the systems reserved stay reserved, and
     /// no others: the next flush brings them to life.
     Lost,
+    /// All systems ran, and there is no memory for what is born. The handles that they reserved stay
+    /// reserved, and no others. [`run_logs`](crate::proved::ent_total::run_logs) never returns it.
+    Unborn,
 }
 
 impl core::fmt::Display for LogError {
@@ -26,6 +29,7 @@ impl core::fmt::Display for LogError {
             LogError::Systems => write!(f, "at most 65,536 systems run together"),
             LogError::Memory => write!(f, "out of memory before any system ran"),
             LogError::Lost => write!(f, "out of memory while the systems ran"),
+            LogError::Unborn => write!(f, "out of memory for what is born"),
         }
     }
 }

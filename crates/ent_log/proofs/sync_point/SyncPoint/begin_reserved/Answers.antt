@@ -1,7 +1,7 @@
 use Rattle.std.proofs.Common.{rules}
 use Rattle.ent_log.specs.Logs.{entries_of, spawned_in}
 use Rattle.ent_log.proofs.Unreserved.{alive_after}
-use Rattle.ent_log.proofs.sync_point.SyncPoint.begin.Goals as goal
+use Rattle.ent_log.proofs.sync_point.SyncPoint.begin_reserved.Goals as goal
 
 pub returns-clause-alive : goal.returns-clause-alive
 returns-clause-alive g c =
