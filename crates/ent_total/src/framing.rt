@@ -1,6 +1,6 @@
 //! Frames: systems run on workers over a world, and the sync point lets their queues take effect.
 ghost use Rattle.std.specs.Prelude.{◌≡◌, ◌<◌, ◌≤◌, ◌^◌, ◌↔◌, ◌⊎◌, List, length};
-ghost use Rattle.std.specs.Prelude.{IfOk, IfErr, OnOk};
+ghost use Rattle.std.specs.Prelude.{IfOk, IfErr, OnOk, IsErrOf};
 ghost use Rattle.ent_alloc.specs.History.{Call};
 ghost use Rattle.ent_runner.specs.Frame.{Ends, EndsInOrder, IsBrokenOff, IsLost, StopsAt, reserved_by};
 ghost use Rattle.ent_world.specs.Memory.{TakesMemoryAt};
@@ -82,6 +82,7 @@ where
     ensures too_many { IsErrWith result IsTooManySystems
         ↔ ((world.old.world.allocator.asked ≡ 0) × (0 < workers) × (workers ≤ 64)
         × (2 ^ 16 < length systems.now)) }
+    ensures memory_some { IsErrOf result FrameError.Memory → 0 < length systems.now }
     ensures nothing { IfErr result (λ error. IsUnbegun error → world.new ≡ world.old) }
 
     // What is left of a frame that was broken off.
