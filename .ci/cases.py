@@ -14,6 +14,8 @@ line ends a case. Lines of input and of output may alternate. The program must d
     $                   the arguments. Each `$` is a run of the case, and a case without one has those of the case above
     < > !               a line of standard input, output, error
     =                   the exit status, by default 1 if the output begins with `refused`, else 0
+    %                   the start of a file, of which `%` in an argument is the name, also for the cases below. `\\x00` is one byte
+    %*                  more of it: numbers, each in four bytes, the lowest first
     ~                   a frame for the input of this case and those below: the input replaces its `@`. `~ @` ends that
     $\\ <\\ >\\ !\\     the same without a line feed at the end. `\\n`, `\\r`, `\\t`, `\\\\` and `\\xff` are one byte each
     <* >* !*            a range, as `0..255`, and a pattern: once for each number, which replaces `#`, and 7 times the number `#*7`
@@ -31,6 +33,7 @@ import pathlib
 import re
 import subprocess
 import sys
+import tempfile
 
 # The status that each program ends with, by the first word of its output, where that is not 0.
 STATUSES = {"spawnrun": {"refused": 1}, "tracecheck": {"differs": 1, "refused": 2}}
@@ -51,6 +54,7 @@ class Case:
     words: list = dataclasses.field(default_factory=list)
     around: bytes = b"@"
     source: str = ""
+    named: bytes = b""
     input: bytes = b""
     output: bytes = b""
     errors: bytes = b""
@@ -114,6 +118,10 @@ def take(case, mark, text):
         case.words.append(os.fsdecode(unescaped(text)).split() if kind else text.split())
     elif mark == "~":
         case.around = text.encode()
+    elif mark == "%":
+        case.named = unescaped(text)
+    elif mark == "%*":
+        case.named += b"".join(int(number).to_bytes(4, "little") for number in text.split())
     elif mark == "=":
         case.status = int(text)
     elif mark == "<<":
@@ -133,8 +141,8 @@ def take(case, mark, text):
 
 
 def cases_of(crate, file):
-    """The cases of a file. Words and frame hold for those below too, until others stand there."""
-    cases, words, around, case = [], [], b"@", None
+    """The cases of a file. Words, frame and the named file hold for those below too, until others stand there."""
+    cases, words, around, named, case = [], [], b"@", b"", None
     for number, line in enumerate(file.read_text().splitlines() + [""], 1):
         if line.startswith("#"):
             continue
@@ -142,18 +150,18 @@ def cases_of(crate, file):
             if case and case.words:
                 words = case.words
             if case:
-                around = case.around
+                around, named = case.around, case.named
                 case.words = words
                 cases += [case] if case.marks > case.settings else []
             case = None
             continue
         mark, _, text = line.partition(" ")
-        if not re.fullmatch(r"\$\\?|[~=]|[<>!](\\|\*[,_]?)?|<[<^|]|>>", mark):
+        if not re.fullmatch(r"\$\\?|[~=]|%\*?|[<>!](\\|\*[,_]?)?|<[<^|]|>>", mark):
             sys.exit(f"{file}:{number}: {mark} is no mark of a case")
         if case is None:
-            case = Case(crate, file, number, around=around)
+            case = Case(crate, file, number, around=around, named=named)
             case.settings = 0
-        case.settings += mark[0] in "$~"
+        case.settings += mark[0] in "$~%"
         take(case, mark, text)
     return cases
 
@@ -195,7 +203,10 @@ def faults_of(case, program):
     runs = [(words, given) for words in case.words for given in case.inputs()]
     faults = []
     for words, given in runs:
-        fault = fault_of(case, program, words, given)
+        with tempfile.NamedTemporaryFile() as named:
+            named.write(case.named)
+            named.flush()
+            fault = fault_of(case, program, [word.replace("%", named.name) for word in words], given)
         if fault:
             on = f" on {shown(given)}" if case.is_cut else ""
             faults.append(f"{case.file}:{case.line}: {program.name} {shown(' '.join(words))}{on} {fault}")

@@ -1,9 +1,10 @@
 #!/bin/sh
 # Runs the programs with each read of their input failing in turn, with their write failing, and with what they say on standard error
-# failing, on input that comes in pieces of 7 bytes. A read or a write that fails ends a run with 4, and then it has written nothing and says
-# `device`. Without a failure it ends as its words and its input say. A failure of standard error changes no status. Words that are refused
-# use no device but standard error. Then `tracecheck` runs on a folder, which can't be read, and into a device that is full. It needs `cc` on
-# the path, `/dev/full`, and the programs as `.ci/run` or `prove.sh` built them. If one wasn't built, `rt`, which then proves it first.
+# failing, on input that comes in pieces of 7 bytes. A read or a write that fails ends a run with 4, and then it has written nothing and
+# says `device`. Without a failure it ends as its words and its input say. A failure of standard error changes no status. Words that are
+# refused use no device but standard error. Then `tracecheck` runs with an image, on a folder, which can't be read, and into a device that
+# is full. It needs `cc` on the path, `/dev/full`, and the programs as `.ci/run` or `prove.sh` built them. If one wasn't built, `rt`, which
+# then proves it first.
 set -eu
 here=$(cd "$(dirname "$0")" && pwd)
 room=$(mktemp -d)
@@ -121,6 +122,15 @@ unused --slots 0
 ends 2 one '' --slots 0
 printf "error: invalid value '0' for '--slots <N>': 0 is not in 1..=4294967295\n\nFor more information, try '--help'.\n" |
     cmp -s - "$room/said" || wrong "--slots 0: not as it should"
+
+# With an image of an allocator that has given nothing, and with a file that can't be read in its place.
+z='\0\0\0'
+printf "FORGENI\\0\\1$z\\11$z\\11$z\\0$z\\0$z\\0$z\\0$z\\0$z" >"$room/image"
+reads agrees 9 0 --from "$room/image"
+written 1 differs --from "$room/image"
+fails agrees SAYS=9 --from /proc/self/mem
+ends 2 one 'READS=0' --from "$room/agrees"
+prints 'refused image magic\n'
 
 mkdir "$room/folder"
 fails folder SAYS=9

@@ -1,13 +1,13 @@
 #!/bin/sh
 # Runs the programs with each of their allocations refused in turn: schedules, scripts on one worker and on eight, with a bundle that takes
-# memory and with many births as targets, a script that is refused, and traces that agree, differ or are none. Each run must end as an
-# undisturbed one does (the program may do without that piece of memory), or with status 3, `memory` on standard error and nothing else. Then
-# it runs each test of refused memory in the same way, and the files `*_refused.txt` of `crates/cases_and_examples`: they must pass, whichever
-# allocation is refused, and each of their lines must be run in at least one of these runs. It also counts what tests of things that take no
-# memory ask for. With `PROGRAMS`, a folder of programs that cargo has built, it runs these, and no tests: each allocation is refused with all
-# after it, and Rust's runtime may end a program as it starts, or as a thread does. It needs `cc` on the path, and the programs, the tests and
-# the cases as `.ci/run` built them. If a program wasn't built, it needs `rt`, which then proves it first; anything else that wasn't built is
-# left out.
+# memory and with many births as targets, a script that is refused, and traces that agree, differ or are none, also with an image. Each run
+# must end as an undisturbed one does (the program may do without that piece of memory), or with status 3, `memory` on standard error and
+# nothing else. Then it runs each test of refused memory in the same way, and the files `*_refused.txt` of `crates/cases_and_examples`: they
+# must pass, whichever allocation is refused, and each of their lines must be run in at least one of these runs. It also counts what tests
+# of things that take no memory ask for. With `PROGRAMS`, a folder of programs that cargo has built, it runs these, and no tests: each
+# allocation is refused with all after it, and Rust's runtime may end a program as it starts, or as a thread does. It needs `cc` on the
+# path, and the programs, the tests and the cases as `.ci/run` built them. If a program wasn't built, it needs `rt`, which then proves it
+# first; anything else that wasn't built is left out.
 set -eu
 here=$(cd "$(dirname "$0")" && pwd)
 top=$(cd "$here/.." && pwd)
@@ -140,6 +140,15 @@ each "$room/agrees"
 each "$room/differs" --slots 9 --generations 2
 each "$room/refused_line"
 each "$room/agrees" --slots 0
+# An image of two slots, of which the second one waits, and one whose second slot is damaged.
+z='\0\0\0'
+head="FORGENI\\0\\1$z\\11$z\\11$z\\2$z\\1$z\\0$z\\0$z\\0$z\\1$z\\1$z\\0$z"
+printf "$head\\1$z\\3$z\\0$z" >"$room/image"
+printf "$head\\1$z\\4$z\\0$z" >"$room/no_image"
+printf 'alloc => 1v1\nreserve 2 1 => 3v1\nreserve 1 1 => 2v1' >"$room/goes_on"
+each "$room/goes_on" --from "$room/image"
+each "$room/goes_on" --from "$room/no_image"
+each "$room/goes_on" --from "$room/image" --slots 3
 
 # note_left_out: notes which lines the run of a file of cases has left out, as it prints them.
 note_left_out() {

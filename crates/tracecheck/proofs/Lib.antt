@@ -5,3 +5,5 @@ pub mod InputRead
 pub mod OptionsGiven
 pub mod LimitsOfWords
 pub mod Strangers
+pub mod Beginnings
+pub mod FromImage

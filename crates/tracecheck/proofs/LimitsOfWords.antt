@@ -4,7 +4,7 @@ use Rattle.clap.specs.Words.{App, is_simple, is_simple_and_free}
 use Rattle.clap.proofs.OnLiterals.{clap_on_literals}
 use Rattle.tracecheck.specs.CommandLine.{program}
 
-program-simple : is_simple program ≡ true
+pub program-simple : is_simple program ≡ true
 unfolding clap_on_literals
 program-simple = refl
 

@@ -6,7 +6,7 @@ use Rattle.std.proofs.lemmas.Bool.{cond-false, ne_eqb}
 use Rattle.std.proofs.lemmas.List.{append-nil, nil_from_length}
 use Rattle.std.proofs.lemmas.List.Elements.{All-append}
 use Rattle.ent_replay.proofs.ScheduleWords.{parts_whole, parts_first, parts_nonempty}
-use Rattle.ent_alloc.specs.Limits.{Limits}
+use Rattle.ent_alloc.specs.Sequential.{Allocator}
 use Rattle.ent_replay.specs.Text.{ended, lines_of, without_return}
 use Rattle.tracecheck.specs.Checking.{HasRead, HasTaken}
 use Rattle.tracecheck.specs.declared.checking.Checking.{Checking}
@@ -50,34 +50,34 @@ lines_last line long all =
 
 -- ---- what was read
 
-pub cut_line : (limits : Limits) (text : List ℕ) (old : Checking) (pending bytes : List ℕ)
-    → IsUnended bytes → (h : HasRead limits text old pending) → (more : List ℕ)
+pub cut_line : (begin : Allocator) (text : List ℕ) (old : Checking) (pending bytes : List ℕ)
+    → IsUnended bytes → (h : HasRead begin text old pending) → (more : List ℕ)
     → lines_of (text ++ bytes ++ 10 ∷ more)
     ≡ h.texts ++ without_return (pending ++ bytes) ∷ lines_of more
-cut_line limits text old pending bytes all h more =
+cut_line begin text old pending bytes all h more =
     ap lines_of (append_assoc text bytes (10 ∷ more)) ∙ h.lines (bytes ++ 10 ∷ more)
     ∙ ap (λ (bs : List ℕ). h.texts ++ lines_of bs) (sym (append_assoc pending bytes (10 ∷ more)))
     ∙ ap (λ (ls : List (List ℕ)). h.texts ++ ls)
     (lines_first (pending ++ bytes) more
     (All-append (λ byte. byte ≢ 10) pending bytes h.unended all))
 
-pub HasRead-line : (limits : Limits) (text : List ℕ) (old new : Checking)
-    (pending bytes : List ℕ) → IsUnended bytes → (h : HasRead limits text old pending)
-    → HasTaken limits (h.texts ++ without_return (pending ++ bytes) ∷ []) new
-    → HasRead limits (text ++ bytes ++ 10 ∷ []) new []
-HasRead-line limits text old new pending bytes all h taken = record {
+pub HasRead-line : (begin : Allocator) (text : List ℕ) (old new : Checking)
+    (pending bytes : List ℕ) → IsUnended bytes → (h : HasRead begin text old pending)
+    → HasTaken begin (h.texts ++ without_return (pending ++ bytes) ∷ []) new
+    → HasRead begin (text ++ bytes ++ 10 ∷ []) new []
+HasRead-line begin text old new pending bytes all h taken = record {
   texts = h.texts ++ without_return (pending ++ bytes) ∷ [];
   taken = taken;
   unended = λ k d lt. absurd (omega (arith, lt));
   lines = λ more. ap lines_of (append_assoc (text ++ bytes) (10 ∷ []) more)
-      ∙ cut_line limits text old pending bytes all h more
+      ∙ cut_line begin text old pending bytes all h more
       ∙ sym (append_assoc h.texts (without_return (pending ++ bytes) ∷ []) (lines_of more));
 }
 
 -- all lines of the text, if nothing comes any more
-pub lines_now : (limits : Limits) (text : List ℕ) (old : Checking) (pending : List ℕ)
-    → (h : HasRead limits text old pending) → lines_of text ≡ h.texts ++ lines_of pending
-lines_now limits text old pending h =
+pub lines_now : (begin : Allocator) (text : List ℕ) (old : Checking) (pending : List ℕ)
+    → (h : HasRead begin text old pending) → lines_of text ≡ h.texts ++ lines_of pending
+lines_now begin text old pending h =
     grind (arith, common_steps, append-nil text, append-nil pending, h.lines, h.texts)
 
 -- ---- a piece

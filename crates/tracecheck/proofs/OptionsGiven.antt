@@ -146,7 +146,7 @@ module _ (c : Command) (id : Text) (most : ℕ) (no_groups : groups_of c ≡ [])
 
 -- two options of the program are never one
 abbrev Alone : ℕ → Text → Type 0
-Alone k option = (j : ℕ) (e : Rule) → j < 2
+Alone k option = (j : ℕ) (e : Rule) → j < 3
     → bytes_eq (slice_index_or program.top.rules j e).id option ≡ true → j ≡ k
 
 program-ready : is_ready program.top ≡ true
@@ -154,13 +154,13 @@ unfolding clap_on_literals
 program-ready = refl
 
 number-given : (cmd : Command) (m : ArgMatches) → app_of cmd ≡ program → IsParsedFrom cmd m
-    → (k : ℕ) (option : Text) (most : ℕ) (default : Text) → k < 2
+    → (k : ℕ) (option : Text) (most : ℕ) (default : Text) → k < 3
     → ((e : Rule) → slice_index_or program.top.rules k e ≡ number_option option most default)
     → Alone k option → (option ≡ [] → ⊥)
     → ((option ≡ codes "help") ⊎ (option ≡ codes "version") → ⊥) → HasNumber option most (given m)
 number-given cmd m is p k option most default below at alone named own =
     let rules : map rule_of (args_of cmd) ≡ program.top.rules = ap (λ (a : App). a.top.rules) is in
-    let count : length (args_of cmd) ≡ 2 = sym (rule_count (args_of cmd)) ∙ ap length rules in
+    let count : length (args_of cmd) ≡ 3 = sym (rule_count (args_of cmd)) ∙ ap length rules in
     let d : Arg = first_arg (args_of cmd) (omega arith) in
     let a : Arg = slice_index_or (args_of cmd) k d in
     let lt : k < length (args_of cmd) = omega arith in
@@ -222,12 +222,14 @@ differs a b other same e = false≢true (sym other ∙ (ap (λ text. bytes_eq te
 slots-alone : Alone 0 (codes "slots")
 slots-alone zero e lt same = refl
 slots-alone (suc zero) e lt same = absurd (false≢true same)
-slots-alone (suc (suc j)) e lt same = absurd (omega arith)
+slots-alone (suc (suc zero)) e lt same = absurd (false≢true same)
+slots-alone (suc (suc (suc j))) e lt same = absurd (omega arith)
 
 generations-alone : Alone 1 (codes "generations")
 generations-alone zero e lt same = absurd (false≢true same)
 generations-alone (suc zero) e lt same = refl
-generations-alone (suc (suc j)) e lt same = absurd (omega arith)
+generations-alone (suc (suc zero)) e lt same = absurd (false≢true same)
+generations-alone (suc (suc (suc j))) e lt same = absurd (omega arith)
 
 pub slots-given : (cmd : Command) (m : ArgMatches) → app_of cmd ≡ program → IsParsedFrom cmd m
     → HasNumber (codes "slots") 4294967295 (given m)

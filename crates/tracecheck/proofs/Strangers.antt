@@ -109,7 +109,7 @@ said limits = record {
 module _ (limits : Limits) (one two : List ℕ)
     (read : calls_from 1 (one ∷ []) ≡ Ok (line.Reserve first ∷ [])) where
   pub names_the_first : line_of 2 (words_of two) ≡ Ok (Some (line.Flush None))
-      → IsVerdict limits (one ∷ two ∷ []) (verdict.Differs (said limits))
+      → IsVerdict (opening limits) (one ∷ two ∷ []) (verdict.Differs (said limits))
   names_the_first is = differs (said limits) (record {
     number = 2;
     calls = line.Reserve first ∷ [];
@@ -148,10 +148,10 @@ module _ (limits : Limits) (one two : List ℕ)
 
 -- a trace is refused for its requests since the last flush
 pub refuses_too_many : (limits : Limits) (texts after : List (List ℕ)) (text : List ℕ) (r : Reservation)
-    (old : Checking) (h : HasTaken limits texts old)
+    (old : Checking) (h : HasTaken (opening limits) texts old)
     → line_of (length texts + 1) (words_of text) ≡ Ok (Some (line.Reserve r))
     → 2 ^ 50 < requested_from 0 (h.calls ++ line.Reserve r ∷ [])
-    → IsVerdict limits (texts ++ text ∷ after)
+    → IsVerdict (opening limits) (texts ++ text ∷ after)
     (verdict.Refused (length texts + 1) refusal.Requests)
 refuses_too_many limits texts after text r old h named many = asks_too_many (length texts + 1) (record {
   calls = h.calls;

@@ -5,9 +5,10 @@ use Rattle.std.proofs.Common.{Result, Ok, Err, refl, sym, ap, subst, ◌∙◌, 
 use Rattle.std.proofs.lemmas.Grind.{common_steps}
 use Rattle.std.proofs.lemmas.List.{append-nil}
 use Rattle.std.proofs.lemmas.List.Sums.{sum_by_push}
-use Rattle.ent_alloc.specs.Limits.{Limits}
+use Rattle.ent_alloc.specs.Sequential.{Allocator}
 use Rattle.ent_replay.specs.Checker.{AgreesWith, Checked, Follows, IsTooMany, NoneFollows, Reaches}
-use Rattle.ent_replay.specs.Checker.{AllFollow, ReachesAll, Shows, opened, requested_in}
+use Rattle.ent_replay.specs.Checker.{AllFollow, ReachesAll, Shows, requested_in}
+use Rattle.tracecheck.specs.Beginning.{begun}
 use Rattle.ent_replay.proofs.Requested.{ReachesAll-next, requested_by, requested-reserve}
 use Rattle.ent_replay.proofs.Requested.{requested-flush, requested-alloc, requested-free}
 use Rattle.ent_replay.proofs.Requested.{requested-state, requested-len}
@@ -36,19 +37,19 @@ next_call texts text calls r more read named gives =
     grind (arith, common_steps, calls_from-append 1 texts (text ∷ []) calls read, with_front calls)
 
 -- a line without words
-pub HasTaken-none : (limits : Limits) (texts : List (List ℕ)) (text : List ℕ) (old new : Checking)
+pub HasTaken-none : (begin : Allocator) (texts : List (List ℕ)) (text : List ℕ) (old new : Checking)
     (number : ℕ) → number ≡ old.lines + 1 → new.lines ≡ number → new.given ≡ old.given
     → new.comparer ≡ old.comparer → line_of number (words_of text) ≡ Ok None
-    → HasTaken limits texts old → HasTaken limits (texts ++ text ∷ []) new
-HasTaken-none limits texts text old new number next lines given same named h =
+    → HasTaken begin texts old → HasTaken begin (texts ++ text ∷ []) new
+HasTaken-none begin texts text old new number next lines given same named h =
     let here : number ≡ 1 + length texts = omega (arith, h.lines) in
     record {
       calls = h.calls;
       read = next_call texts text h.calls (Ok None) (Ok []) h.read
           (ap (λ n. line_of n (words_of text)) (sym here) ∙ named) refl
           ∙ ap (λ (ls : List Call). Ok ls) (append-nil h.calls);
-      follow = subst (AllFollow (opened limits) h.calls) (sym same) h.follow;
-      reached = subst (ReachesAll (opened limits) h.calls) (sym same) h.reached;
+      follow = subst (AllFollow (begun begin) h.calls) (sym same) h.follow;
+      reached = subst (ReachesAll (begun begin) h.calls) (sym same) h.reached;
       requested = ap requested_by same ∙ h.requested;
       few = h.few;
       lines = omega (arith, h.lines, length-append texts (text ∷ []));
@@ -93,72 +94,72 @@ many_next old (line.State h told) many = absurd many
 many_next old (line.Len told) many = absurd many
 
 -- a call
-pub HasTaken-call : (limits : Limits) (texts : List (List ℕ)) (text : List ℕ) (l : Call)
+pub HasTaken-call : (begin : Allocator) (texts : List (List ℕ)) (text : List ℕ) (l : Call)
     (old new : Checking) (number : ℕ) → number ≡ old.lines + 1 → new.lines ≡ number
     → new.given ≡ old.given + given_in l → Follows old.comparer l new.comparer
     → Reaches old.comparer l new.comparer → (IsTooMany old.comparer l → ⊥)
     → line_of number (words_of text) ≡ Ok (Some l)
-    → HasTaken limits texts old → HasTaken limits (texts ++ text ∷ []) new
-HasTaken-call limits texts text l old new number next lines given follows reaches more named h =
+    → HasTaken begin texts old → HasTaken begin (texts ++ text ∷ []) new
+HasTaken-call begin texts text l old new number next lines given follows reaches more named h =
     let here : number ≡ 1 + length texts = omega (arith, h.lines) in
     record {
       calls = h.calls ++ l ∷ [];
       read = next_call texts text h.calls (Ok (Some l)) (Ok (l ∷ [])) h.read
           (ap (λ n. line_of n (words_of text)) (sym here) ∙ named) refl;
-      follow = AllFollow-call (opened limits) old.comparer new.comparer h.calls l h.follow follows;
-      reached = ReachesAll-next (opened limits) old.comparer new.comparer h.calls l h.reached reaches;
+      follow = AllFollow-call (begun begin) old.comparer new.comparer h.calls l h.follow follows;
+      reached = ReachesAll-next (begun begin) old.comparer new.comparer h.calls l h.reached reaches;
       requested = requested_next old.comparer new.comparer l reaches
-          ∙ ap (λ n. requested_after n l) h.requested ∙ sym (requested_from-append 0 h.calls l);
+          ∙ ap (λ n. requested_after n l) h.requested ∙ sym (requested_from-append begin.asked h.calls l);
       few = subst (λ n. n ≤ 2 ^ 50)
-          (ap (λ n. requested_after n l) h.requested ∙ sym (requested_from-append 0 h.calls l))
+          (ap (λ n. requested_after n l) h.requested ∙ sym (requested_from-append begin.asked h.calls l))
           (few_next old.comparer l (subst (λ n. n ≤ 2 ^ 50) (sym h.requested) h.few) more);
       lines = omega (arith, h.lines, length-append texts (text ∷ []));
       given = omega (arith, h.given, given, sum_by_push given_in h.calls l);
     }
 
-stands : (limits : Limits) (texts after : List (List ℕ)) (text : List ℕ) (l : Call) (old : Checking)
+stands : (begin : Allocator) (texts after : List (List ℕ)) (text : List ℕ) (l : Call) (old : Checking)
     (number : ℕ) → number ≡ old.lines + 1 → line_of number (words_of text) ≡ Ok (Some l)
-    → (h : HasTaken limits texts old) → StandsAt (texts ++ text ∷ after) number h.calls l
-stands limits texts after text l old number next named h = search (rules)
+    → (h : HasTaken begin texts old) → StandsAt (texts ++ text ∷ after) number h.calls l
+stands begin texts after text l old number next named h = search (rules)
 
-pub differs_here : (limits : Limits) (texts after : List (List ℕ)) (text : List ℕ) (l : Call)
+pub differs_here : (begin : Allocator) (texts after : List (List ℕ)) (text : List ℕ) (l : Call)
     (old : Checking) (number : ℕ) (d : Difference) → number ≡ old.lines + 1
     → line_of number (words_of text) ≡ Ok (Some l) → Shows old.comparer number (l ∷ []) d
-    → NoneFollows old.comparer l → HasTaken limits texts old
-    → IsVerdict limits (texts ++ text ∷ after) (verdict.Differs d)
-differs_here limits texts after text l old number d next named shows none h = differs d (record {
+    → NoneFollows old.comparer l → HasTaken begin texts old
+    → IsVerdict begin (texts ++ text ∷ after) (verdict.Differs d)
+differs_here begin texts after text l old number d next named shows none h = differs d (record {
   number = number;
   calls = h.calls;
   next = l;
-  stands = stands limits texts after text l old number next named h;
+  stands = stands begin texts after text l old number next named h;
   checked = old.comparer;
   reached = h.reached;
   shows = shows;
   none = λ rest a. none rest (h.follow.complete (l ∷ rest) a);
 })
 
-pub asks_here : (limits : Limits) (texts after : List (List ℕ)) (text : List ℕ) (l : Call)
+pub asks_here : (begin : Allocator) (texts after : List (List ℕ)) (text : List ℕ) (l : Call)
     (old : Checking) (number : ℕ) → number ≡ old.lines + 1
     → line_of number (words_of text) ≡ Ok (Some l) → IsTooMany old.comparer l
-    → HasTaken limits texts old
-    → IsVerdict limits (texts ++ text ∷ after) (verdict.Refused number refusal.Requests)
-asks_here limits texts after text l old number next named many h = asks_too_many number (record {
+    → HasTaken begin texts old
+    → IsVerdict begin (texts ++ text ∷ after) (verdict.Refused number refusal.Requests)
+asks_here begin texts after text l old number next named many h = asks_too_many number (record {
   calls = h.calls;
   next = l;
-  stands = stands limits texts after text l old number next named h;
+  stands = stands begin texts after text l old number next named h;
   checked = old.comparer;
   reached = h.reached;
   few = h.few;
   many = subst (λ n. 2 ^ 50 < n)
-      (ap (λ n. requested_after n l) h.requested ∙ sym (requested_from-append 0 h.calls l))
+      (ap (λ n. requested_after n l) h.requested ∙ sym (requested_from-append begin.asked h.calls l))
       (many_next old.comparer l many);
 })
 
-pub none_here : (limits : Limits) (texts after : List (List ℕ)) (text : List ℕ) (c : Cause)
+pub none_here : (begin : Allocator) (texts after : List (List ℕ)) (text : List ℕ) (c : Cause)
     (old : Checking) (number : ℕ) → number ≡ old.lines + 1
-    → line_of number (words_of text) ≡ Err c → HasTaken limits texts old
-    → IsVerdict limits (texts ++ text ∷ after) (verdict.Refused number (refusal.Line c))
-none_here limits texts after text c old number next named h =
+    → line_of number (words_of text) ≡ Err c → HasTaken begin texts old
+    → IsVerdict begin (texts ++ text ∷ after) (verdict.Refused number (refusal.Line c))
+none_here begin texts after text c old number next named h =
     let here : number ≡ 1 + length texts = omega (arith, h.lines) in
     is_none number c (search (rules, calls_from-append 1 texts (text ∷ after) h.calls h.read, here))
     (record {
@@ -174,18 +175,18 @@ none_here limits texts after text c old number next named h =
 
 -- ---- the end
 
-pub agrees_in_all : (limits : Limits) (texts : List (List ℕ)) (old : Checking)
-    → AgreesWith old.comparer [] → HasTaken limits texts old
-    → IsVerdict limits texts (verdict.Agrees old.lines old.given)
-agrees_in_all limits texts old a h =
-    subst (λ n. IsVerdict limits texts (verdict.Agrees n old.given)) (sym h.lines)
-    (subst (λ n. IsVerdict limits texts (verdict.Agrees (length texts) n)) (sym h.given)
+pub agrees_in_all : (begin : Allocator) (texts : List (List ℕ)) (old : Checking)
+    → AgreesWith old.comparer [] → HasTaken begin texts old
+    → IsVerdict begin texts (verdict.Agrees old.lines old.given)
+agrees_in_all begin texts old a h =
+    subst (λ n. IsVerdict begin texts (verdict.Agrees n old.given)) (sym h.lines)
+    (subst (λ n. IsVerdict begin texts (verdict.Agrees (length texts) n)) (sym h.given)
     (agrees h.calls h.read (search (rules, append-nil))))
 
-pub differs_at_end : (limits : Limits) (texts : List (List ℕ)) (old : Checking) (d : Difference)
-    → Shows old.comparer 0 [] d → (AgreesWith old.comparer [] → ⊥) → HasTaken limits texts old
-    → IsVerdict limits texts (verdict.Differs d)
-differs_at_end limits texts old d shows none h = differs_in_all d (record {
+pub differs_at_end : (begin : Allocator) (texts : List (List ℕ)) (old : Checking) (d : Difference)
+    → Shows old.comparer 0 [] d → (AgreesWith old.comparer [] → ⊥) → HasTaken begin texts old
+    → IsVerdict begin texts (verdict.Differs d)
+differs_at_end begin texts old d shows none h = differs_in_all d (record {
   calls = h.calls;
   read = h.read;
   checked = old.comparer;

@@ -1,29 +1,30 @@
 -- What was taken of a trace so far.
-use Rattle.std.specs.Prelude.{◌≡◌, ◌≢◌, ℕ, ◌+◌, ◌^◌, ◌≤◌, List, [], ◌++◌, length, All, Ok}
+use Rattle.std.specs.Prelude.{◌≡◌, ◌≢◌, ℕ, ◌+◌, ◌^◌, ◌≤◌, List, ◌++◌, length, All, Ok}
 use Rattle.std.specs.List.{sum_by}
-use Rattle.ent_alloc.specs.Limits.{Limits}
-use Rattle.ent_replay.specs.Checker.{AllFollow, ReachesAll, opened, requested_in}
+use Rattle.ent_alloc.specs.Sequential.{Allocator}
+use Rattle.ent_replay.specs.Checker.{AllFollow, ReachesAll, requested_in}
+use Rattle.tracecheck.specs.Beginning.{begun}
 use Rattle.ent_replay.specs.Text.{lines_of}
 use Rattle.ent_replay.specs.declared.trace.call.Call.{Call}
 use Rattle.tracecheck.specs.Calls.{calls_from, given_in, requested_from}
 use Rattle.tracecheck.specs.declared.checking.Checking.{Checking}
 
 -- these lines were taken, from the first on
-pub record HasTaken (limits : Limits) (texts : List (List ℕ)) (c : Checking) : Type 0 where
+pub record HasTaken (begin : Allocator) (texts : List (List ℕ)) (c : Checking) : Type 0 where
   pub calls : List Call
   pub read : calls_from 1 texts ≡ Ok calls
-  pub follow : AllFollow (opened limits) calls c.comparer
-  pub reached : ReachesAll (opened limits) calls c.comparer
-  pub requested : c.comparer.allocator.asked + requested_in c.comparer.run ≡ requested_from 0 calls
-  pub few : requested_from 0 calls ≤ 2 ^ 50
+  pub follow : AllFollow (begun begin) calls c.comparer
+  pub reached : ReachesAll (begun begin) calls c.comparer
+  pub requested : c.comparer.allocator.asked + requested_in c.comparer.run ≡ requested_from begin.asked calls
+  pub few : requested_from begin.asked calls ≤ 2 ^ 50
   pub lines : c.lines ≡ length texts
   pub given : c.given ≡ sum_by given_in calls
 
 -- This text was read: its lines that have an end are taken, and what stands after them is pending.
-pub record HasRead (limits : Limits) (text : List ℕ) (c : Checking) (pending : List ℕ)
+pub record HasRead (begin : Allocator) (text : List ℕ) (c : Checking) (pending : List ℕ)
     : Type 0 where
   pub texts : List (List ℕ)
-  pub taken : HasTaken limits texts c
+  pub taken : HasTaken begin texts c
   pub unended : All (λ byte. byte ≢ 10) pending
   -- whatever comes then
   pub lines : (more : List ℕ) → lines_of (text ++ more) ≡ texts ++ lines_of (pending ++ more)

@@ -1,11 +1,18 @@
 -- The program's exit status.
-use Rattle.std.specs.Prelude.{◌≡◌, ℕ, List, Option}
+use Rattle.std.specs.Prelude.{◌≡◌, ◌⊎◌, ℕ, List, Option, Some, IfSome}
+use Rattle.std.specs.Io.KnownBytes.{Appends}
 use Rattle.clap.specs.Words.{Text}
 use Rattle.devices.specs.Device.{Writes}
-use Rattle.ent_alloc.specs.Limits.{Limits}
+use Rattle.ent_alloc.specs.Entities.{Entities}
+use Rattle.ent_alloc.specs.FirstFault.{first_fault}
+use Rattle.ent_alloc.specs.Sequential.{Allocator, opening}
+use Rattle.ent_alloc.specs.declared.image_fault.ImageFault.{ImageFault}
 use Rattle.ent_replay.specs.Text.{lines_of}
+use Rattle.tracecheck.specs.Beginning.{IsImageOf, refused_image_text}
 use Rattle.tracecheck.specs.CommandLine.{AsksFor}
 use Rattle.tracecheck.specs.Verdict.{IsVerdict, verdict_text}
+use Rattle.tracecheck.specs.declared.command_line.Beginning.{Beginning}
+use Rattle.tracecheck.specs.declared.command_line.Beginning.TheVariants.{Image, Limits}
 use Rattle.tracecheck.specs.declared.status.Status.{Status}
 use Rattle.tracecheck.specs.declared.status.Status.TheVariants as status
 use Rattle.tracecheck.specs.declared.verdict.Verdict.{Verdict}
@@ -24,13 +31,30 @@ status_of (verdict.Agrees lines given) = status.Agrees
 status_of (verdict.Differs d) = status.Differs
 status_of (verdict.Refused line refusal) = status.Refused
 
--- a line that may be said of the trace of this text, if the run ends so
-abbrev pub IsSaidOf : Limits → Status → List ℕ → List ℕ → Type 0
-IsSaidOf limits ended text written = (v : Verdict) × IsVerdict limits (lines_of text) v
+-- a line that may be said of the trace of this text, which begins in this state, if the run ends so
+abbrev pub IsSaidOf : Allocator → Status → List ℕ → List ℕ → Type 0
+IsSaidOf begin ended text written = (v : Verdict) × IsVerdict begin (lines_of text) v
     × (status_of v ≡ ended) × (written ≡ verdict_text v)
 
--- a line was written that may be said of the trace by the limits of the words, if the devices tell
-abbrev pub HasSaid : List Text → Status → Option (List ℕ) → Option (List ℕ) → Option (List ℕ)
+-- A line was written that may be said of the trace, which begins in the state that has this image. Or
+-- the bytes are no image, and their first fault was written.
+abbrev pub HasSaidFrom : List ℕ → Status → Option (List ℕ) → Option (List ℕ) → Option (List ℕ)
     → Type 0
-HasSaid words ended input old new =
-    (limits : Limits) × AsksFor words limits × Writes (IsSaidOf limits ended) input old new
+HasSaidFrom bytes ended input old new =
+    ((e : Entities) × IsImageOf bytes e × Writes (IsSaidOf e.allocator ended) input old new)
+    ⊎ ((fault : ImageFault) × (first_fault bytes ≡ Some fault) × (ended ≡ status.Refused)
+    × Appends old new (refused_image_text fault))
+
+-- the trace begins so, with the bytes of the image that is named, if the devices tell
+abbrev pub HasSaidOf : Beginning → Status → Option (List ℕ) → Option (List ℕ) → Option (List ℕ)
+    → Option (List ℕ) → Type 0
+HasSaidOf (Limits limits) ended image input old new =
+    Writes (IsSaidOf (opening limits) ended) input old new
+HasSaidOf Image ended image input old new =
+    IfSome image (λ bytes. HasSaidFrom bytes ended input old new)
+
+-- and the words ask for this
+abbrev pub HasSaid : List Text → Status → Option (List ℕ) → Option (List ℕ) → Option (List ℕ)
+    → Option (List ℕ) → Type 0
+HasSaid words ended image input old new =
+    (begin : Beginning) × AsksFor words begin × HasSaidOf begin ended image input old new

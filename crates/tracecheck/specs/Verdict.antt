@@ -5,9 +5,9 @@ use Rattle.std.specs.Fmt.{decimal, signed_decimal}
 use Rattle.std.specs.List.{sum_by}
 use Rattle.ent_handle.specs.Handle.{Handle}
 use Rattle.ent_handle.specs.Text.{handle_text}
-use Rattle.ent_alloc.specs.Limits.{Limits}
-use Rattle.ent_alloc.specs.Sequential.{opening}
-use Rattle.ent_replay.specs.Checker.{Checked, ReachesAll, Shows, opened}
+use Rattle.ent_alloc.specs.Sequential.{Allocator}
+use Rattle.ent_replay.specs.Checker.{Checked, ReachesAll, Shows}
+use Rattle.tracecheck.specs.Beginning.{begun}
 use Rattle.ent_replay.specs.Trace.{Agrees}
 use Rattle.ent_replay.specs.Text.{Word, cause_text, difference_text, line_of, spaced}
 use Rattle.ent_replay.specs.Text.{words_of}
@@ -36,7 +36,7 @@ pub record StandsAt (lines : List (List ℕ)) (number : ℕ) (calls : List Call)
   pub named : line_of number (words_of text) ≡ Ok (Some next)
 
 -- The lines before the one of this number are calls that were taken.
-pub record AreTaken (limits : Limits) (lines : List (List ℕ)) (number : ℕ) : Type 0 where
+pub record AreTaken (begin : Allocator) (lines : List (List ℕ)) (number : ℕ) : Type 0 where
   pub before : List (List ℕ)
   pub after : List (List ℕ)
   pub is : lines ≡ before ++ after
@@ -44,59 +44,59 @@ pub record AreTaken (limits : Limits) (lines : List (List ℕ)) (number : ℕ) :
   pub calls : List Call
   pub read : calls_from 1 before ≡ Ok calls
   pub checked : Checked
-  pub reached : ReachesAll (opened limits) calls checked
+  pub reached : ReachesAll (begun begin) calls checked
 
 -- The calls before this line were taken. With its call the difference shows, and no trace that goes on
 -- after it agrees.
-pub record DiffersAt (limits : Limits) (lines : List (List ℕ)) (d : Difference) : Type 0 where
+pub record DiffersAt (begin : Allocator) (lines : List (List ℕ)) (d : Difference) : Type 0 where
   pub number : ℕ
   pub calls : List Call
   pub next : Call
   pub stands : StandsAt lines number calls next
   pub checked : Checked
-  pub reached : ReachesAll (opened limits) calls checked
+  pub reached : ReachesAll (begun begin) calls checked
   pub shows : Shows checked number (next ∷ []) d
-  pub none : (rest : List Call) → Agrees (opening limits) (calls ++ next ∷ rest) → ⊥
+  pub none : (rest : List Call) → Agrees (begin) (calls ++ next ∷ rest) → ⊥
 
 -- All calls were taken. At the end of the trace the difference shows.
-pub record DiffersInAll (limits : Limits) (lines : List (List ℕ)) (d : Difference) : Type 0 where
+pub record DiffersInAll (begin : Allocator) (lines : List (List ℕ)) (d : Difference) : Type 0 where
   pub calls : List Call
   pub read : calls_from 1 lines ≡ Ok calls
   pub checked : Checked
-  pub reached : ReachesAll (opened limits) calls checked
+  pub reached : ReachesAll (begun begin) calls checked
   pub shows : Shows checked 0 [] d
-  pub none : Agrees (opening limits) calls → ⊥
+  pub none : Agrees (begin) calls → ⊥
 
 -- The calls before this line were taken. Only with its call more was requested since the last flush than
 -- an allocator counts.
-pub record AsksAt (limits : Limits) (lines : List (List ℕ)) (number : ℕ) : Type 0 where
+pub record AsksAt (begin : Allocator) (lines : List (List ℕ)) (number : ℕ) : Type 0 where
   pub calls : List Call
   pub next : Call
   pub stands : StandsAt lines number calls next
   pub checked : Checked
-  pub reached : ReachesAll (opened limits) calls checked
-  pub few : requested_from 0 calls ≤ 2 ^ 50
-  pub many : 2 ^ 50 < requested_from 0 (calls ++ next ∷ [])
+  pub reached : ReachesAll (begun begin) calls checked
+  pub few : requested_from begin.asked calls ≤ 2 ^ 50
+  pub many : 2 ^ 50 < requested_from begin.asked (calls ++ next ∷ [])
 
 -- what may be said of the trace of these lines
-pub data IsVerdict (limits : Limits) (lines : List (List ℕ)) : Verdict → Type 0 where
+pub data IsVerdict (begin : Allocator) (lines : List (List ℕ)) : Verdict → Type 0 where
   -- they are a trace, and it agrees
-  agrees : (calls : List Call) → calls_from 1 lines ≡ Ok calls → Agrees (opening limits) calls
-      → IsVerdict limits lines (verdict.Agrees (length lines) (sum_by given_in calls))
-  differs : (d : Difference) → DiffersAt limits lines d → IsVerdict limits lines (verdict.Differs d)
-  differs_in_all : (d : Difference) → DiffersInAll limits lines d
-      → IsVerdict limits lines (verdict.Differs d)
+  agrees : (calls : List Call) → calls_from 1 lines ≡ Ok calls → Agrees (begin) calls
+      → IsVerdict begin lines (verdict.Agrees (length lines) (sum_by given_in calls))
+  differs : (d : Difference) → DiffersAt begin lines d → IsVerdict begin lines (verdict.Differs d)
+  differs_in_all : (d : Difference) → DiffersInAll begin lines d
+      → IsVerdict begin lines (verdict.Differs d)
   -- the first line that is none, and its first fault
   is_none : (number : ℕ) (cause : Cause) → calls_from 1 lines ≡ Err (number, cause)
-      → AreTaken limits lines number
-      → IsVerdict limits lines (verdict.Refused number (refusal.Line cause))
-  asks_too_many : (number : ℕ) → AsksAt limits lines number
-      → IsVerdict limits lines (verdict.Refused number refusal.Requests)
+      → AreTaken begin lines number
+      → IsVerdict begin lines (verdict.Refused number (refusal.Line cause))
+  asks_too_many : (number : ℕ) → AsksAt begin lines number
+      → IsVerdict begin lines (verdict.Refused number refusal.Requests)
 
 -- what may be said, unless memory ran out
-abbrev pub MayEnd : Limits → List (List ℕ) → End → Type 0
-MayEnd limits lines (end.Verdict v) = IsVerdict limits lines v
-MayEnd limits lines end.Memory = ⊤
+abbrev pub MayEnd : Allocator → List (List ℕ) → End → Type 0
+MayEnd begin lines (end.Verdict v) = IsVerdict begin lines v
+MayEnd begin lines end.Memory = ⊤
 
 -- what a stop at the line of this number says
 abbrev pub end_of : ℕ → CheckError → End

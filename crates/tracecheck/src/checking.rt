@@ -1,7 +1,7 @@
 //! Lines of a trace, read and compared one after the other.
 ghost use Rattle.std.specs.Prelude.{◌≡◌, ◌∷◌, ◌++◌, ◌+◌, [], length, List, ℕ, IfOk, IfErr};
 ghost use Rattle.std.specs.Prelude.{Some, Ok};
-ghost use Rattle.ent_alloc.specs.Limits.{Limits as LimitsValue};
+ghost use Rattle.ent_alloc.specs.Sequential.{Allocator};
 ghost use Rattle.ent_replay.specs.Text.{line_of, words_of};
 ghost use Rattle.ent_replay.specs.declared.trace.call.Call.{Call as CallValue};
 ghost use Rattle.tracecheck.specs.Calls.{given_in, listed_in};
@@ -10,7 +10,7 @@ ghost use Rattle.tracecheck.specs.Verdict.{MayEnd, end_of};
 ghost use Rattle.tracecheck.specs.declared.checking.End.TheVariants.{Memory as EndMemory};
 
 use crate::verdict::{Refusal, Verdict};
-use ent_alloc::Limits;
+use ent_alloc::Entities;
 use ent_replay::trace::{
     AllocReply, Call, CheckError, Comparer, ReadFault, ReserveReply, read_line,
 };
@@ -44,13 +44,14 @@ pub struct Checking {
 }
 
 impl Checking {
-    /// One that has taken no line. It takes no memory.
-    pub fn new(alloc: Global, limits: Limits) -> Self
-        ensures { HasTaken limits [] result }
+    /// One that has taken no line. The trace begins in the state of this allocator, with its requests.
+    /// It takes no memory.
+    pub fn new(alloc: Global, entities: Entities) -> Self
+        ensures { HasTaken entities.allocator [] result }
     {
         Checking {
             alloc,
-            comparer: Comparer::new(alloc, limits),
+            comparer: Comparer::from_entities(alloc, entities),
             lines: 0,
             given: 0,
         }
@@ -70,11 +71,11 @@ impl Checking {
     /// `Verdict` if the line is none, or if an answer isn't the allocator's. `Memory` if memory ran
     /// out.
     pub fn take(self, text: &[u8]) -> Result<Self, End>
-        ensures taken { IfOk result (λ next. (limits : LimitsValue) (texts : List (List ℕ))
-            → HasTaken limits texts self → HasTaken limits (texts ++ text.now ∷ []) next) }
-        ensures ends { IfErr result (λ end. (limits : LimitsValue)
-            (texts after : List (List ℕ)) → HasTaken limits texts self
-            → MayEnd limits (texts ++ text.now ∷ after) end) }
+        ensures taken { IfOk result (λ next. (begin : Allocator) (texts : List (List ℕ))
+            → HasTaken begin texts self → HasTaken begin (texts ++ text.now ∷ []) next) }
+        ensures ends { IfErr result (λ end. (begin : Allocator)
+            (texts after : List (List ℕ)) → HasTaken begin texts self
+            → MayEnd begin (texts ++ text.now ∷ after) end) }
     {
         let Some(number) = self.lines.checked_add(1) else {
             return Err(End::Memory);
@@ -111,13 +112,13 @@ impl Checking {
     // Takes the call of the line that has this number.
     fn take_call(self, number: u64, line: Call) -> Result<Self, End>
         requires { number ≡ self.lines + 1 }
-        ensures taken { IfOk result (λ next. (limits : LimitsValue) (texts : List (List ℕ))
+        ensures taken { IfOk result (λ next. (begin : Allocator) (texts : List (List ℕ))
             (text : List ℕ) → line_of number (words_of text) ≡ Ok (Some line)
-            → HasTaken limits texts self → HasTaken limits (texts ++ text ∷ []) next) }
-        ensures ends { IfErr result (λ end. (limits : LimitsValue)
+            → HasTaken begin texts self → HasTaken begin (texts ++ text ∷ []) next) }
+        ensures ends { IfErr result (λ end. (begin : Allocator)
             (texts after : List (List ℕ)) (text : List ℕ)
-            → line_of number (words_of text) ≡ Ok (Some line) → HasTaken limits texts self
-            → MayEnd limits (texts ++ text ∷ after) end) }
+            → line_of number (words_of text) ≡ Ok (Some line) → HasTaken begin texts self
+            → MayEnd begin (texts ++ text ∷ after) end) }
     {
         let Checking {
             alloc,
@@ -141,8 +142,8 @@ impl Checking {
 
     /// Says what is to be said of a trace that ends here.
     pub fn finish(self) -> End
-        ensures { (limits : LimitsValue) (texts : List (List ℕ)) → HasTaken limits texts self
-            → MayEnd limits texts result }
+        ensures { (begin : Allocator) (texts : List (List ℕ)) → HasTaken begin texts self
+            → MayEnd begin texts result }
     {
         let Checking {
             alloc: _,

@@ -1,9 +1,17 @@
-//! The limits that the words after the program's name ask for.
-ghost use Rattle.std.specs.Prelude.{◌≡◌, ◌≢◌, [], IfOk, IfErr, OnOk, Ok, map, true, false};
-ghost use Rattle.clap.specs.Words.{app_of, fault_of, takes};
-ghost use Rattle.tracecheck.specs.CommandLine.{AsksFor, IsFaultIn, IsFaulty, program, top_command};
+//! Where a trace begins, by the words after the program's name.
+ghost use Rattle.std.specs.Prelude.{◌≡◌, ◌≢◌, ◌∷◌, [], IfOk, IfErr, IfSome, OnOk, OnErr, Ok, Some};
+ghost use Rattle.std.specs.Prelude.{codes, map, true, false};
+ghost use Rattle.clap.specs.Words.{app_of, kind_of, rule_of};
+ghost use Rattle.clap.specs.declared.error.kind.ErrorKind.TheVariants.{ArgumentConflict};
+ghost use Rattle.cli.specs.Fault.{IsFaultAmong};
+ghost use Rattle.cli.specs.Options.{HasNumber, given};
+ghost use Rattle.tracecheck.specs.CommandLine.{AsksFor, HasBeginning, IsFaultIn, IsFaulty};
+ghost use Rattle.tracecheck.specs.CommandLine.{fault_in, from_option, has_both, has_limits, image_in};
+ghost use Rattle.tracecheck.specs.CommandLine.{is_of_words, is_taken, is_written, program, top_command};
 
-use clap::Command;
+use clap::error::ErrorKind;
+use clap::parser::ValueSource;
+use clap::{Arg, ArgAction, ArgMatches, Command};
 use cli::{LineFault, generations_option, limits_of, slots_option};
 use ent_alloc::Limits;
 use std::alloc::{AllocError, Global};
@@ -16,13 +24,28 @@ const VERSION: &str = "0.1.0";
 const PROGRAM_END: &str = "It reads standard input, or the file that is named by the last word.\n\n\
      Examples:\n  \
      printf 'reserve 1 2 => 0v1 1v1\\nflush => born 0v1 1v1\\n' | tracecheck\n  \
-     tracecheck --slots 100 trace.txt\n\n\
+     tracecheck --slots 100 trace.txt\n  \
+     tracecheck --from game.image trace.txt\n\n\
      Exit status:\n  \
      0  the trace agrees with the sequential allocator\n  \
      1  the trace differs: the output names the line, and what the allocator answers there\n  \
-     2  the text is no trace, or the words are no command line, or ask for help or the version\n  \
+     2  the text is no trace or the image is none, or the words are no command line, or ask for help or\n     \
+     the version\n  \
      3  memory ran out, and nothing was written\n  \
      4  reading or writing failed, or there is no such file";
+
+// What is wrong with limits beside an image.
+const BOTH: &str =
+    "the argument '--from <IMAGE>' cannot be used with '--slots <N>' or '--generations <N>'";
+
+/// Where a trace begins.
+#[derive(Clone, Copy)]
+pub enum Beginning {
+    /// With an allocator of these limits that has given nothing.
+    Limits(Limits),
+    /// With the allocator whose image is in the file that is named.
+    Image,
+}
 
 // The program without its options.
 fn top_command<'a>(alloc: Global) -> Command<'a>
@@ -35,30 +58,100 @@ fn top_command<'a>(alloc: Global) -> Command<'a>
         .no_binary_name(true)
 }
 
+// The option `--from`.
+fn from_option<'a>(alloc: Global) -> Arg<'a>
+    ensures rule { rule_of result ≡ from_option }
+    ensures own { result.global ≡ false }
+{
+    Arg::new(alloc, "from")
+        .long("from")
+        .action(ArgAction::Set)
+        .value_name("IMAGE")
+        .help("Begin with the allocator of this image")
+}
+
 fn program<'a>(alloc: Global) -> Result<Command<'a>, AllocError>
     ensures { IfOk result (λ c. app_of c ≡ program) }
 {
     top_command(alloc)
         .arg(slots_option(alloc))?
         .arg(generations_option(alloc))?
+        .arg(from_option(alloc))?
         .bin_name("tracecheck")
 }
 
-/// Reads the limits from the words after the program's name.
+// Whether a value is in the words.
+fn is_of_words(source: Option<ValueSource>) -> bool
+    ensures { result ≡ is_of_words source }
+{
+    match source {
+        Some(ValueSource::CommandLine) => true,
+        _ => false,
+    }
+}
+
+// Whether the words have the option.
+fn is_written(options: &ArgMatches<'_>, option: &str) -> bool
+    ensures { result ≡ is_written option.now (given options.now) }
+{
+    is_of_words(options.value_source(option))
+}
+
+// Whether the words have limits.
+fn has_limits(options: &ArgMatches<'_>) -> bool
+    ensures { result ≡ has_limits (given options.now) }
+{
+    is_written(options, "slots") || is_written(options, "generations")
+}
+
+// The fault of words that have limits beside an image.
+fn both(alloc: Global) -> Result<clap::Error, AllocError>
+    ensures { IfOk result (λ error. kind_of error ≡ ArgumentConflict) }
+{
+    program(alloc)?.error(ErrorKind::ArgumentConflict, BOTH)
+}
+
+fn both_fault(alloc: Global) -> LineFault
+    ensures { IsFaultAmong (ArgumentConflict ∷ []) result }
+{
+    match both(alloc) {
+        Ok(error) => LineFault::from(error),
+        Err(AllocError) => LineFault::Memory,
+    }
+}
+
+// The beginning that the options give.
+fn beginning_of(alloc: Global, options: &ArgMatches<'_>) -> Result<Beginning, LineFault>
+    requires slots { HasNumber (codes "slots") 4294967295 (given options.now) }
+    requires generations { HasNumber (codes "generations") 2147483647 (given options.now) }
+    ensures asked { IfOk result (HasBeginning (given options.now)) }
+    ensures one { OnOk result (has_both (given options.now) ≡ false) }
+    ensures both { OnErr result (has_both (given options.now) ≡ true) }
+    ensures fault { IfErr result (IsFaultAmong (ArgumentConflict ∷ [])) }
+{
+    match options.get_str("from") {
+        None => Ok(Beginning::Limits(limits_of(options))),
+        Some(_) if has_limits(options) => Err(both_fault(alloc)),
+        Some(_) => Ok(Beginning::Image),
+    }
+}
+
+/// Reads from the words after the program's name where the trace begins.
 ///
 /// # Errors
 ///
-/// - `Line` if clap finds a fault in the words, or if they ask for help.
-/// - `Memory` if memory ran out. Words that clap takes are refused for this alone.
-pub fn command_line<S: AsStr>(alloc: Global, words: &[S]) -> Result<Limits, LineFault>
+/// - `Line` if clap finds a fault in the words, if they ask for help, or if they give limits beside an
+///   image.
+/// - `Memory` if memory ran out. Words that are a command line are refused for this alone.
+pub fn command_line<S: AsStr>(alloc: Global, words: &[S]) -> Result<Beginning, LineFault>
     ensures asked { IfOk result (AsksFor (map S.text words.now)) }
-    ensures taken { OnOk result (fault_of program (map S.text words.now) ≡ []) }
+    ensures taken { OnOk result (fault_in (map S.text words.now) ≡ []) }
     ensures fault { IfErr result (IsFaultIn (map S.text words.now)) }
     ensures refused { IfErr result (λ fault.
-        takes program (map S.text words.now) ≡ true → fault ≡ LineFault.Memory) }
+        is_taken (map S.text words.now) ≡ true → fault ≡ LineFault.Memory) }
 {
     let matches = program(alloc)?.try_get_matches_from(words)?;
-    Ok(limits_of(&matches))
+    beginning_of(alloc, &matches)
 }
 
 /// Whether the words ask for a check.
@@ -66,14 +159,44 @@ pub fn command_line<S: AsStr>(alloc: Global, words: &[S]) -> Result<Limits, Line
 /// # Errors
 ///
 /// Memory ran out while they were read.
-pub fn are_limits<S: AsStr>(alloc: Global, words: &[S]) -> Result<bool, AllocError>
-    ensures yes { result ≡ Ok true → fault_of program (map S.text words.now) ≡ [] }
+pub fn ask_for_a_check<S: AsStr>(alloc: Global, words: &[S]) -> Result<bool, AllocError>
+    ensures yes { result ≡ Ok true → fault_in (map S.text words.now) ≡ [] }
     ensures no { result ≡ Ok false → IsFaulty (map S.text words.now) }
-    ensures taken { takes program (map S.text words.now) ≡ true → result ≢ Ok false }
+    ensures taken { is_taken (map S.text words.now) ≡ true → result ≢ Ok false }
 {
     match command_line(alloc, words) {
         Ok(_) => Ok(true),
         Err(LineFault::Line(_)) => Ok(false),
         Err(LineFault::Memory) => Err(AllocError),
+    }
+}
+
+/// The file of the image that the words ask to begin with, if they do.
+///
+/// # Errors
+///
+/// Memory ran out while they were read.
+pub fn image_name<'a, S: AsStr>(
+    alloc: Global,
+    words: &'a [S],
+) -> Result<Option<&'a str>, AllocError>
+    ensures { IfOk result (λ name. IfSome name (λ name.
+        image_in (map S.text words.now) ≡ Some name.now)) }
+{
+    match command_line(alloc, words) {
+        Ok(Beginning::Image) => named_image(alloc, words),
+        Ok(Beginning::Limits(_)) | Err(LineFault::Line(_)) => Ok(None),
+        Err(LineFault::Memory) => Err(AllocError),
+    }
+}
+
+// The file that a command line names.
+fn named_image<'a, S: AsStr>(alloc: Global, words: &'a [S]) -> Result<Option<&'a str>, AllocError>
+    ensures { IfOk result (λ name. IfSome name (λ name.
+        image_in (map S.text words.now) ≡ Some name.now)) }
+{
+    match program(alloc)?.try_get_matches_from(words) {
+        Ok(options) => Ok(options.get_str("from")),
+        Err(_) => Err(AllocError),
     }
 }

@@ -1,6 +1,6 @@
 //! Pieces of a text, cut into lines.
 ghost use Rattle.std.specs.Prelude.{◌≡◌, ◌≢◌, ◌∷◌, ◌++◌, [], List, ℕ, All, IfOk, IfErr};
-ghost use Rattle.ent_alloc.specs.Limits.{Limits as LimitsValue};
+ghost use Rattle.ent_alloc.specs.Sequential.{Allocator};
 ghost use Rattle.ent_replay.specs.Text.{lines_of, without_return};
 ghost use Rattle.tracecheck.specs.Checking.{HasRead};
 ghost use Rattle.tracecheck.specs.Verdict.{MayEnd};
@@ -21,12 +21,12 @@ fn without_return(line: &[u8]) -> &[u8]
 // Takes the line that is pending and ends with these bytes.
 fn end_line(checking: Checking, pending: &mut Vec<u8>, bytes: &[u8]) -> Result<Checking, End>
     requires { All (λ byte. byte ≢ 10) bytes.now }
-    ensures taken { IfOk result (λ next. (limits : LimitsValue) (text : List ℕ)
-        → HasRead limits text checking pending.old.items
-        → HasRead limits (text ++ bytes.now ++ 10 ∷ []) next pending.new.items) }
-    ensures ends { IfErr result (λ end. (limits : LimitsValue) (text more : List ℕ)
-        → HasRead limits text checking pending.old.items
-        → MayEnd limits (lines_of (text ++ bytes.now ++ 10 ∷ more)) end) }
+    ensures taken { IfOk result (λ next. (begin : Allocator) (text : List ℕ)
+        → HasRead begin text checking pending.old.items
+        → HasRead begin (text ++ bytes.now ++ 10 ∷ []) next pending.new.items) }
+    ensures ends { IfErr result (λ end. (begin : Allocator) (text more : List ℕ)
+        → HasRead begin text checking pending.old.items
+        → MayEnd begin (lines_of (text ++ bytes.now ++ 10 ∷ more)) end) }
 {
     pending.extend_from_slice(bytes)?;
     let checking = checking.take(without_return(pending))?;
@@ -37,12 +37,12 @@ fn end_line(checking: Checking, pending: &mut Vec<u8>, bytes: &[u8]) -> Result<C
 /// Takes all lines that end in a piece of the text. What stands after the last line's end is pending,
 /// before and afterwards.
 pub fn feed(checking: Checking, pending: &mut Vec<u8>, piece: &[u8]) -> Result<Checking, End>
-    ensures taken { IfOk result (λ next. (limits : LimitsValue) (text : List ℕ)
-        → HasRead limits text checking pending.old.items
-        → HasRead limits (text ++ piece.now) next pending.new.items) }
-    ensures ends { IfErr result (λ end. (limits : LimitsValue) (text more : List ℕ)
-        → HasRead limits text checking pending.old.items
-        → MayEnd limits (lines_of (text ++ piece.now ++ more)) end) }
+    ensures taken { IfOk result (λ next. (begin : Allocator) (text : List ℕ)
+        → HasRead begin text checking pending.old.items
+        → HasRead begin (text ++ piece.now) next pending.new.items) }
+    ensures ends { IfErr result (λ end. (begin : Allocator) (text more : List ℕ)
+        → HasRead begin text checking pending.old.items
+        → MayEnd begin (lines_of (text ++ piece.now ++ more)) end) }
 {
     let mut checking = checking;
     let mut rest = piece;
@@ -56,8 +56,8 @@ pub fn feed(checking: Checking, pending: &mut Vec<u8>, piece: &[u8]) -> Result<C
 
 /// Takes the last line if there is one without an end, and says what is to be said of the trace.
 pub fn finish(checking: Checking, pending: &[u8]) -> End
-    ensures { (limits : LimitsValue) (text : List ℕ) → HasRead limits text checking pending.now
-        → MayEnd limits (lines_of text) result }
+    ensures { (begin : Allocator) (text : List ℕ) → HasRead begin text checking pending.now
+        → MayEnd begin (lines_of text) result }
 {
     if pending.is_empty() {
         return checking.finish();

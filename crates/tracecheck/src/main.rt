@@ -4,6 +4,7 @@
 
 mod checking;
 mod command_line;
+mod image;
 mod lines;
 mod program;
 mod progress;

@@ -3,16 +3,19 @@ ghost use Rattle.std.specs.Prelude.{◌≡◌, ◌≢◌, ◌+◌, ◌⊎◌, fa
 ghost use Rattle.std.specs.Io.KnownBytes.{Appends};
 ghost use Rattle.devices.specs.Device.{OneFails, Writes};
 ghost use Rattle.ent_replay.specs.Text.{lines_of};
-ghost use Rattle.tracecheck.specs.Status.{IsSaidOf, status_of};
+ghost use Rattle.tracecheck.specs.Beginning.{refused_image_text};
+ghost use Rattle.tracecheck.specs.Status.{HasSaidFrom, HasSaidOf, IsSaidOf, status_of};
 ghost use Rattle.tracecheck.specs.Verdict.{MayEnd, verdict_text};
 
 use crate::checking::{Checking, End};
+use crate::command_line::Beginning;
+use crate::image::{Unread, read_entities, refused_image_text};
 use crate::lines::{feed, finish};
 use crate::progress::tell;
 use crate::status::Status;
 use crate::verdict::Verdict;
 use devices::{Failed, Sink, Source};
-use ent_alloc::Limits;
+use ent_alloc::{Entities, ImageFault};
 use std::alloc::Global;
 
 // How many bytes one call of the source may bring.
@@ -24,15 +27,15 @@ fn check<I: Source, T: Sink>(
     input: &mut I,
     terminal: &mut T,
     tells: bool,
-    limits: Limits,
+    entities: Entities,
 ) -> Result<End, Failed>
     ensures ends { IfOk result (λ end. IfSome (I.remaining input.old) (λ text.
-        MayEnd limits (lines_of text) end)) }
+        MayEnd entities.allocator (lines_of text) end)) }
     ensures taken { OnOk result (I.failures input.new ≡ I.failures input.old) }
     ensures failed { OnErr result (I.failures input.new ≡ I.failures input.old + 1) }
     ensures untold { tells ≡ false → terminal.new ≡ terminal.old }
 {
-    let mut checking = Checking::new(alloc, limits);
+    let mut checking = Checking::new(alloc, entities);
     let mut pending = Vec::new(alloc);
     let mut piece = [0; PIECE];
     let mut told = 0;
@@ -51,8 +54,8 @@ fn check<I: Source, T: Sink>(
     Ok(End::Memory)
 }
 
-/// Checks the trace that the input gives against an allocator of these limits, and writes what was
-/// found: one line, or two for a difference.
+/// Checks the trace that the input gives, which begins in the state of this allocator, and writes what
+/// was found: one line, or two for a difference.
 ///
 /// It holds the checker, the line that has no end yet, and one piece of the input. So an input may
 /// have any length. It stops at the first line that is none or differs.
@@ -66,11 +69,11 @@ pub fn check_trace<I: Source, O: Sink, T: Sink>(
     output: &mut O,
     terminal: &mut T,
     tells: bool,
-    limits: Limits,
+    entities: Entities,
 ) -> Status
     // What was found is so, and is what was written.
     ensures said { result ≢ Status.Memory → result ≢ Status.Device
-        → Writes (IsSaidOf limits result)
+        → Writes (IsSaidOf entities.allocator result)
         (I.remaining input.old) (O.written output.old) (O.written output.new) }
     ensures memory { result ≡ Status.Memory → output.new ≡ output.old }
 
@@ -84,9 +87,109 @@ pub fn check_trace<I: Source, O: Sink, T: Sink>(
     ensures unread { I.failures input.new ≢ I.failures input.old → output.new ≡ output.old }
     ensures untold { tells ≡ false → terminal.new ≡ terminal.old }
 {
-    match check(alloc, input, terminal, tells, limits) {
+    match check(alloc, input, terminal, tells, entities) {
         Ok(End::Verdict(verdict)) => say(alloc, output, &verdict),
         Ok(End::Memory) => Status::Memory,
+        Err(Failed) => Status::Device,
+    }
+}
+
+// Checks the trace that the input gives, which begins with the allocator whose image the other input
+// gives. The image is read first. If it is none, this writes one line that names its first fault, and
+// the trace isn't read.
+//
+// After `Memory`, or a failure of an input, the output is as it was. `Device` is one failed call of one
+// of the three devices. It writes to the terminal as `check_trace`.
+fn check_from<M: Source, I: Source, O: Sink, T: Sink>(
+    alloc: Global,
+    image: &mut M,
+    input: &mut I,
+    output: &mut O,
+    terminal: &mut T,
+    tells: bool,
+) -> Status
+    // What was found is so, and is what was written.
+    ensures said { result ≢ Status.Memory → result ≢ Status.Device
+        → IfSome (M.remaining image.old) (λ bytes. HasSaidFrom bytes result
+        (I.remaining input.old) (O.written output.old) (O.written output.new)) }
+    ensures memory { result ≡ Status.Memory → output.new ≡ output.old }
+
+    // The failures of the three devices.
+    ensures device { result ≡ Status.Device → M.failures image.new ≡ M.failures image.old → OneFails
+        (I.failures input.old) (I.failures input.new)
+        (O.failures output.old) (O.failures output.new) }
+    ensures image_unfailed { result ≢ Status.Device → M.failures image.new ≡ M.failures image.old }
+    ensures input_unfailed { result ≢ Status.Device → I.failures input.new ≡ I.failures input.old }
+    ensures output_unfailed { result ≢ Status.Device
+        → O.failures output.new ≡ O.failures output.old }
+    ensures image_failed { M.failures image.new ≢ M.failures image.old
+        → (M.failures image.new ≡ M.failures image.old + 1) × (input.new ≡ input.old)
+        × (output.new ≡ output.old) }
+    ensures unread { I.failures input.new ≢ I.failures input.old → output.new ≡ output.old }
+    ensures untold { tells ≡ false → terminal.new ≡ terminal.old }
+{
+    match read_entities(alloc, image) {
+        Ok(entities) => check_trace(alloc, input, output, terminal, tells, entities),
+        Err(Unread::Fault(fault)) => refuse_image(alloc, output, fault),
+        Err(Unread::Memory) => Status::Memory,
+        Err(Unread::Device) => Status::Device,
+    }
+}
+
+/// Checks the trace that the input gives, which begins so: as `check_trace`, with an allocator of these
+/// limits that has given nothing, or as `check_from`. Without an image the image's device isn't used.
+pub fn check_as<M: Source, I: Source, O: Sink, T: Sink>(
+    alloc: Global,
+    begin: Beginning,
+    image: &mut M,
+    input: &mut I,
+    output: &mut O,
+    terminal: &mut T,
+    tells: bool,
+) -> Status
+    ensures said { result ≢ Status.Memory → result ≢ Status.Device
+        → HasSaidOf begin result (M.remaining image.old)
+        (I.remaining input.old) (O.written output.old) (O.written output.new) }
+    ensures memory { result ≡ Status.Memory → output.new ≡ output.old }
+    ensures no_image { begin ≢ Beginning.Image → image.new ≡ image.old }
+
+    // The failures of the three devices.
+    ensures device { result ≡ Status.Device → M.failures image.new ≡ M.failures image.old → OneFails
+        (I.failures input.old) (I.failures input.new)
+        (O.failures output.old) (O.failures output.new) }
+    ensures image_unfailed { result ≢ Status.Device → M.failures image.new ≡ M.failures image.old }
+    ensures input_unfailed { result ≢ Status.Device → I.failures input.new ≡ I.failures input.old }
+    ensures output_unfailed { result ≢ Status.Device
+        → O.failures output.new ≡ O.failures output.old }
+    ensures image_failed { M.failures image.new ≢ M.failures image.old
+        → (M.failures image.new ≡ M.failures image.old + 1) × (input.new ≡ input.old)
+        × (output.new ≡ output.old) }
+    ensures unread { I.failures input.new ≢ I.failures input.old → output.new ≡ output.old }
+    ensures untold { tells ≡ false → terminal.new ≡ terminal.old }
+{
+    match begin {
+        Beginning::Limits(limits) => {
+            let entities = Entities::new(alloc, limits);
+            check_trace(alloc, input, output, terminal, tells, entities)
+        }
+        Beginning::Image => check_from(alloc, image, input, output, terminal, tells),
+    }
+}
+
+// Writes why there is no allocator to begin with.
+fn refuse_image<O: Sink>(alloc: Global, output: &mut O, fault: ImageFault) -> Status
+    ensures ends { (result ≡ Status.Refused) ⊎ (result ≡ Status.Memory) ⊎ (result ≡ Status.Device) }
+    ensures written { result ≡ Status.Refused
+        → Appends (O.written output.old) (O.written output.new) (refused_image_text fault) }
+    ensures memory { result ≡ Status.Memory → output.new ≡ output.old }
+    ensures failed { result ≡ Status.Device → O.failures output.new ≡ O.failures output.old + 1 }
+    ensures unfailed { result ≢ Status.Device → O.failures output.new ≡ O.failures output.old }
+{
+    let Ok(text) = refused_image_text(alloc, fault) else {
+        return Status::Memory;
+    };
+    match output.put(&text) {
+        Ok(()) => Status::Refused,
         Err(Failed) => Status::Device,
     }
 }

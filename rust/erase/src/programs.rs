@@ -36,6 +36,7 @@ const MODULES: &[Module] = &[
             "Command",
             "Error",
             "error",
+            "parser",
             "value_parser",
         ],
     ),
@@ -43,6 +44,11 @@ const MODULES: &[Module] = &[
         "clap::error",
         "crate::kit::programs::clap::error",
         &["ErrorKind"],
+    ),
+    module(
+        "clap::parser",
+        "crate::kit::programs::clap::parser",
+        &["ValueSource"],
     ),
     module(
         "fast_float",
@@ -86,6 +92,7 @@ const MODULES: &[Module] = &[
             "Read",
             "Result",
             "Write",
+            "empty",
         ],
     ),
     module("std::fs", "crate::kit::programs::fs", &["File", "metadata"]),
@@ -133,6 +140,7 @@ const METHODS: &[&str] = &[
     "encode_utf16",
     "encode_utf8",
     "eq",
+    "error",
     "first_key_value",
     "flush",
     "get_one",
@@ -167,6 +175,7 @@ const METHODS: &[&str] = &[
     "try_get_matches_from",
     "value_name",
     "value_parser",
+    "value_source",
     "version",
     "write",
     "write_all",
@@ -182,6 +191,7 @@ const ASSOCIATED: &[Associated] = &[
     (
         "ErrorKind",
         &[
+            "ArgumentConflict",
             "BrokenPipe",
             "Interrupted",
             "InvalidData",
@@ -229,6 +239,7 @@ const ASSOCIATED: &[Associated] = &[
             "from_slice",
         ],
     ),
+    ("ValueSource", &["CommandLine"]),
     ("Vec", &["from_slice", "new", "with_capacity"]),
     ("char", &["from"]),
 ];

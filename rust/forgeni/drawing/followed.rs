@@ -1,9 +1,14 @@
 //! The proved allocator, and what is drawn of it.
 
 use super::state::{Occupant, State};
-use crate::proved::ent_alloc::{Entities, Limits};
+use crate::proved::ent_alloc::{Entities, ImageFault, Limits};
 use crate::proved::ent_handle::{Handle, Memory};
+use std::collections::BTreeMap;
 use std::vec::Vec;
+
+/// How many bytes of an image stand before the slots, and how many each slot has.
+const HEADER: usize = 40;
+const SLOT: usize = 12;
 
 /// Entities, and the state that shows them. Each call is one of the entities. What they refuse changes nothing that is
 /// drawn but the cursor.
@@ -14,10 +19,23 @@ pub(super) struct Followed {
 
 impl Followed {
     pub(super) fn new(limits: Limits) -> Self {
-        let mut followed = Followed {
-            entities: Entities::with_exact_limits(limits),
-            state: State::default(),
+        Self::of(Entities::with_exact_limits(limits), BTreeMap::new())
+    }
+
+    /// The entities of an image. No image says for which caller a slot is reserved, so that one shows as waiting.
+    pub(super) fn of_image(image: &[u8]) -> Result<Self, ImageFault> {
+        let entities = Entities::read_image(image)?;
+        let (_, slots) = image.split_at(HEADER);
+        let slots = (0..).zip(slots.chunks_exact(SLOT).map(occupant));
+        Ok(Self::of(entities, slots.collect()))
+    }
+
+    fn of(entities: Entities, slots: BTreeMap<u32, Occupant>) -> Self {
+        let state = State {
+            slots,
+            ..State::default()
         };
+        let mut followed = Followed { entities, state };
         followed.read_cursor();
         followed
     }
@@ -63,5 +81,18 @@ impl Followed {
 
     fn read_cursor(&mut self) {
         self.state.cursor = Some(self.entities.cursor());
+    }
+}
+
+/// The occupant of a slot of an image.
+fn occupant(slot: &[u8]) -> Occupant {
+    let mut words = slot.chunks_exact(4).map(|word| match word {
+        [a, b, c, d] => u32::from_le_bytes([*a, *b, *c, *d]),
+        _ => 0,
+    });
+    match (words.next().unwrap_or(0), words.next()) {
+        (generation, Some(1 | 2)) => Occupant::Alive(generation),
+        (generation, Some(3)) => Occupant::Waiting(generation),
+        _ => Occupant::Retired,
     }
 }

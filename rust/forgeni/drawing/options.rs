@@ -1,7 +1,7 @@
 //! The options that the drawing commands have in common with the proved ones.
 
 use crate::kit::alloc::AllocError;
-use crate::kit::programs::clap::{numbers, Arg, Command, Error};
+use crate::kit::programs::clap::{numbers, Arg, ArgMatches, Command, Error};
 use crate::kit::programs::rt::HostRuntime;
 use crate::kit::programs::string::AsStr;
 use crate::proved::devices::{open_named, NameFault};
@@ -27,10 +27,14 @@ pub(super) fn with_limits(command: Command<'_>) -> Result<Command<'_>, AllocErro
 
 /// The limits that words ask such a command for.
 pub(super) fn limits_in(command: Command<'_>, words: &[impl AsStr]) -> Result<Limits, Error> {
-    let options = command.try_get_matches_from(words)?;
+    Ok(limits_of(&command.try_get_matches_from(words)?))
+}
+
+/// The limits that these options give.
+pub(super) fn limits_of(options: &ArgMatches<'_>) -> Limits {
     let number = |name| options.get_one::<u32>(name).unwrap_or(1);
     let limits = Limits::new(number("slots"), number("generations"));
-    Ok(limits.unwrap_or(Limits::GREATEST))
+    limits.unwrap_or(Limits::GREATEST)
 }
 
 /// The file that the last word names, by the rule of the proved programs: the words before it are a command line, all

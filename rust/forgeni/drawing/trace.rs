@@ -4,11 +4,12 @@
 //! process has read, writes to the same streams, and its exit status is the one of this process too. The picture comes
 //! after it.
 
-use super::options::{limits_in, named_file, with_limits};
+use super::followed::Followed;
+use super::options::{limits_of, named_file, with_limits};
 use super::picture::{Caption, Picture};
 use super::timeline::{Undrawn, MOST_EVENTS, MOST_SLOTS};
 use super::traced::BrokenRun;
-use crate::kit::programs::clap::Command;
+use crate::kit::programs::clap::{Arg, Command};
 use crate::kit::programs::env;
 use crate::kit::programs::rt::HostRuntime;
 use crate::kit::programs::string::AsStr;
@@ -105,7 +106,7 @@ fn check(rt: HostRuntime, file: &str, words: &[&str]) -> Result<u8, Failure> {
             format!("error: '{file}' is no SVG, and isn't written over\n\n{HELP}"),
         ));
     }
-    match named_file(rt, words, |words| limits(words).is_some()) {
+    match named_file(rt, words, |words| beginning(words).is_some()) {
         Ok(Some(input)) => check_input(input, file, &words[..words.len() - 1]),
         Ok(None) => check_input(rt.stdin(), file, words),
         Err(fault) => {
@@ -131,14 +132,14 @@ fn begins_with(file: &str, begin: &[u8]) -> bool {
 }
 
 fn check_input(input: impl Read, file: &str, words: &[&str]) -> Result<u8, Failure> {
-    let Some(limits) = limits(words) else {
+    let Some(begin) = beginning(words) else {
         // The proved program says what is wrong with the words, and reads nothing.
         return check_alone(words, &[]);
     };
     let trace = read(input)?;
     let status = check_alone(words, &trace)?;
     if status == DIFFERS {
-        draw(file, limits, &trace)?;
+        draw(file, followed(begin)?, &trace)?;
     }
     Ok(status)
 }
@@ -174,17 +175,38 @@ fn run_alone(words: &[&str], trace: &[u8]) -> io::Result<ExitStatus> {
 }
 
 /// Writes the picture of a trace that differs.
-fn draw(file: &str, limits: Limits, trace: &[u8]) -> Result<(), Failure> {
-    let run = BrokenRun::find(limits, trace).ok_or_else(memory)?;
+fn draw(file: &str, begin: Followed, trace: &[u8]) -> Result<(), Failure> {
+    let run = BrokenRun::find(begin, trace).ok_or_else(memory)?;
     let picture = picture_of(&run).map_err(no_picture)?;
     let written = std::fs::write(file, picture);
     written.map_err(|error| (DEVICE, format!("{file} can't be written: {error}\n")))
 }
 
-/// The limits that these words ask for, if they are a command line.
-fn limits(words: &[&str]) -> Option<Limits> {
+/// Where a trace begins: with an allocator of these limits, or with the image in the file of this name.
+enum Beginning<'a> {
+    Limits(Limits),
+    Image(&'a str),
+}
+
+/// Where the trace begins by these words, if they are a command line.
+fn beginning<'a>(words: &'a [&'a str]) -> Option<Beginning<'a>> {
     let command = with_limits(Command::new("tracecheck")).ok()?;
-    limits_in(command.bin_name("tracecheck").ok()?, words).ok()
+    let command = command.arg(Arg::new("from")).ok()?;
+    let options = command.bin_name("tracecheck").ok()?;
+    let options = options.try_get_matches_from(words).ok()?;
+    let image = options.get_str("from").map(Beginning::Image);
+    Some(image.unwrap_or_else(|| Beginning::Limits(limits_of(&options))))
+}
+
+/// The allocator that a trace begins with. The proved program has read the image before.
+fn followed(begin: Beginning<'_>) -> Result<Followed, Failure> {
+    let name = match begin {
+        Beginning::Limits(limits) => return Ok(Followed::new(limits)),
+        Beginning::Image(name) => name,
+    };
+    let unread = |why: String| (DEVICE, format!("{name} can't be read: {why}\n"));
+    let image = std::fs::read(name).map_err(|error| unread(error.to_string()))?;
+    Followed::of_image(&image).map_err(|fault| unread(fault.to_string()))
 }
 
 fn picture_of(run: &BrokenRun) -> Result<String, Undrawn> {

@@ -6,7 +6,6 @@
 use super::followed::Followed;
 use super::state::{Occupant, State};
 use super::timeline::{Mark, Moment, Timeline, Undrawn, MOST_EVENTS, MOST_SLOTS};
-use crate::proved::ent_alloc::Limits;
 use crate::proved::ent_handle::{Handle, Memory};
 use crate::proved::ent_replay::trace::{
     read_line, write_difference, write_line, AllocReply, Call, CheckError, Comparer, Difference,
@@ -31,10 +30,10 @@ pub(super) struct BrokenRun {
 }
 
 impl BrokenRun {
-    /// The run of this trace in which the proved `Comparer` of these limits finds a difference. `None` if it finds none.
-    pub(super) fn find(limits: Limits, trace: &[u8]) -> Option<Self> {
-        let mut comparer = Comparer::new(limits);
-        let mut followed = Followed::new(limits);
+    /// The run of this trace, which begins so, in which the proved `Comparer` finds a difference. `None` if it finds none.
+    pub(super) fn find(begin: Followed, trace: &[u8]) -> Option<Self> {
+        let mut comparer = Comparer::from_entities(begin.entities.try_clone().ok()?);
+        let mut followed = begin;
         let mut lines = Vec::new();
         for (number, text) in (1..).zip(trace.split(|byte| *byte == b'\n')) {
             let text = text.strip_suffix(b"\r").unwrap_or(text);

@@ -2,9 +2,10 @@
 
 use super::*;
 use crate::drawing::band::{Band, Bar};
+use crate::proved::ent_alloc::{Entities, Limits};
 
 fn broken(trace: &str) -> BrokenRun {
-    BrokenRun::find(Limits::GREATEST, trace.as_bytes()).expect("a difference")
+    BrokenRun::find(Followed::new(Limits::GREATEST), trace.as_bytes()).expect("a difference")
 }
 
 fn bar(what: Occupant, begin: usize, end: usize) -> Bar<Occupant> {
@@ -162,20 +163,50 @@ fn a_run_with_refused_requests() {
     let limits = Limits::new(2, 1).expect("limits");
     let trace = "reserve 1 5 => space left 0\nreserve 2 2 => 0v1 1v1\nreserve 3 1 => space\n\
                  flush => born 0v1 1v1\nfree 1v1 => freed retired\nstate 0v1 => gone";
-    let run = BrokenRun::find(limits, trace.as_bytes()).expect("a difference");
+    let run = BrokenRun::find(Followed::new(limits), trace.as_bytes()).expect("a difference");
     assert!(
         run.before.slots[&0] == Occupant::Alive(1) && run.before.slots[&1] == Occupant::Retired
     );
     let refused = "reserve 1 1 => space\nalloc => needs flush\nreserve 2 2 => 0v1 1v1\nreserve 1 3 => space left 1";
-    let run = BrokenRun::find(limits, refused.as_bytes()).expect("a difference");
+    let run = BrokenRun::find(Followed::new(limits), refused.as_bytes()).expect("a difference");
     assert_eq!(run.difference.number, 1);
     let line = run.timeline().expect("few lines");
     assert_eq!(line.moments[0].note.as_deref(), Some("space"));
 }
 
+/// A trace that begins with an image: of four slots the first one is retired, the second one waits, the third one has an
+/// entity, and the last one is reserved, for nobody knows whom.
+#[test]
+fn a_trace_from_an_image() {
+    let limits = Limits::new(9, 2).expect("limits");
+    let mut entities = Entities::with_exact_limits(limits);
+    let handles: Vec<_> = (0..4).map(|_| entities.alloc().expect("room")).collect();
+    entities.free(handles[0]).expect("alive");
+    let second = entities.alloc().expect("room");
+    for handle in [second, handles[1], handles[3]] {
+        entities.free(handle).expect("alive");
+    }
+    entities.request_many(1).expect("room");
+    let mut image = Vec::new();
+    entities.write_image(&mut image).expect("memory");
+    let begin = Followed::of_image(&image).expect("an image");
+    let run = BrokenRun::find(begin, b"reserve 1 1 => 3v2\nflush").expect("a difference");
+    let slots: Vec<_> = run.before.slots.into_iter().collect();
+    let wanted = [
+        Occupant::Retired,
+        Occupant::Waiting(2),
+        Occupant::Alive(1),
+        Occupant::Waiting(2),
+    ];
+    assert_eq!(slots, (0..).zip(wanted).collect::<Vec<_>>());
+    assert_eq!(run.before.cursor, Some(1));
+    assert!(Followed::of_image(&image[1..]).is_err());
+}
+
 #[test]
 fn no_difference_is_no_run() {
-    let find = |trace: &str| BrokenRun::find(Limits::GREATEST, trace.as_bytes()).is_none();
+    let find =
+        |trace: &str| BrokenRun::find(Followed::new(Limits::GREATEST), trace.as_bytes()).is_none();
     assert!(find("") && find("alloc => 0v1\n") && find("reserve 1 1 => 0v1"));
     assert!(find("alloc => 0v1\nallox\nalloc => 0v1"));
 }

@@ -1,32 +1,58 @@
-use Rattle.std.proofs.Common.{rules, arith, ◌≡◌, ◌∙◌, ℕ, List, true, ap, map}
-use Rattle.std.proofs.lemmas.Grind.{common_steps}
+use Rattle.std.proofs.Common.{◌≡◌, ◌∙◌, List, ℕ, true, ap, map, subst}
+use Rattle.std.specs.Prelude.{IfOk}
 use Rattle.clap.specs.Words.{App, takes}
-use Rattle.tracecheck.specs.CommandLine.{program}
 use Rattle.cli.proofs.Faults.{only_memory}
+use Rattle.tracecheck.specs.CommandLine.{HasBeginning, is_taken}
+use Rattle.tracecheck.proofs.Beginnings.{both_not_taken, clap_fault, faultless, faultless_of_one}
+use Rattle.tracecheck.proofs.Beginnings.{faulty_of_both, is_taken-takes, rows_asked}
 use Rattle.tracecheck.proofs.OptionsGiven.{generations-given, slots-given}
 use Rattle.tracecheck.proofs.command_line.command_line.Goals as goal
 
 pub returns-in_err-matches-clause-refused : goal.returns-in_err-matches-clause-refused
 returns-in_err-matches-clause-refused g c =
     let words : List (List ℕ) = map g.S.AsStr.text c.args.words.now in
-    only_memory _ _ (takes program words ≡ true) c.from_residual-in_err-matches.ensures.1
+    only_memory _ _ (is_taken words ≡ true) c.from_residual-in_err-matches.ensures.1
     (λ yes. c.in_err-matches.ensures.passes
-    (ap (λ (a : App). takes a words) c.in_ok-program.ensures ∙ yes))
+    (ap (λ (a : App). takes a words) c.in_ok-program.ensures ∙ is_taken-takes words yes))
 
 pub returns-in_err-matches-clause-fault : goal.returns-in_err-matches-clause-fault
-returns-in_err-matches-clause-fault g c = grind (arith, common_steps)
+returns-in_err-matches-clause-fault g c =
+    clap_fault _ _ _ (map g.S.AsStr.text c.args.words.now) c.in_ok-program.ensures
+    c.from_residual-in_err-matches.ensures.1 c.in_err-matches.ensures.kinds
 
-pub limits_of-requires-clause-slots : goal.limits_of-requires-clause-slots
-limits_of-requires-clause-slots g c =
+pub beginning_of-requires-clause-slots : goal.beginning_of-requires-clause-slots
+beginning_of-requires-clause-slots g c =
     slots-given _ _ c.in_ok-program.ensures c.in_ok-matches.ensures.parsed
 
-pub limits_of-requires-clause-generations : goal.limits_of-requires-clause-generations
-limits_of-requires-clause-generations g c =
+pub beginning_of-requires-clause-generations : goal.beginning_of-requires-clause-generations
+beginning_of-requires-clause-generations g c =
     generations-given _ _ c.in_ok-program.ensures c.in_ok-matches.ensures.parsed
 
 pub returns-clause-asked : goal.returns-clause-asked
-returns-clause-asked g c = grind (arith, common_steps)
+returns-clause-asked g c =
+    subst (λ rows. IfOk c.beginning_of.result (HasBeginning rows))
+    (rows_asked _ (map g.S.AsStr.text c.args.words.now) _ c.in_ok-program.ensures
+    c.in_ok-matches.ensures.matches) c.beginning_of.ensures.asked
 
 pub returns-clause-taken : goal.returns-clause-taken
 returns-clause-taken g c =
-    search (rules, c.args.words.now, c.in_ok-program.ensures, c.in_ok-matches.ensures.kinds)
+    let words : List (List ℕ) = map g.S.AsStr.text c.args.words.now in
+    faultless_of_one c.beginning_of.result words _
+    (rows_asked _ words _ c.in_ok-program.ensures c.in_ok-matches.ensures.matches)
+    (faultless _ words c.in_ok-program.ensures c.in_ok-matches.ensures.kinds)
+    c.beginning_of.ensures.one
+
+pub returns-clause-fault : goal.returns-clause-fault
+returns-clause-fault g c =
+    let words : List (List ℕ) = map g.S.AsStr.text c.args.words.now in
+    faulty_of_both c.beginning_of.result words _
+    (rows_asked _ words _ c.in_ok-program.ensures c.in_ok-matches.ensures.matches)
+    (faultless _ words c.in_ok-program.ensures c.in_ok-matches.ensures.kinds)
+    c.beginning_of.ensures.both c.beginning_of.ensures.fault
+
+pub returns-clause-refused : goal.returns-clause-refused
+returns-clause-refused g c =
+    let words : List (List ℕ) = map g.S.AsStr.text c.args.words.now in
+    both_not_taken c.beginning_of.result words _
+    (rows_asked _ words _ c.in_ok-program.ensures c.in_ok-matches.ensures.matches)
+    c.beginning_of.ensures.both

@@ -10,7 +10,7 @@ invariant-loop g l =
     record {
       read : (text : List ℕ)
           × Consumes (device.remaining l.initial.input) (device.remaining l.input) text
-          × HasRead l.fn.limits text l.checking l.pending.items;
+          × HasRead l.fn.entities.allocator text l.checking l.pending.items;
       failures : device.failures l.input ≡ device.failures l.initial.input;
       untold : l.tells ≡ false → l.terminal ≡ l.initial.terminal;
     }

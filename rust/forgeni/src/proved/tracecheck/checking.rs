@@ -3,7 +3,7 @@
 //! Lines of a trace, read and compared one after the other.
 
 use crate::proved::tracecheck::verdict::{Refusal, Verdict};
-use crate::proved::ent_alloc::Limits;
+use crate::proved::ent_alloc::Entities;
 use crate::proved::ent_replay::trace::{
     AllocReply, Call, CheckError, Comparer, ReadFault, ReserveReply, read_line,
 };
@@ -33,21 +33,22 @@ pub struct Checking {
 }
 
 impl Checking {
-    /// One that has taken no line. It takes no memory.
+    /// One that has taken no line. The trace begins in the state of this allocator, with its requests.
+    /// It takes no memory.
     ///
     /// <details><summary>Contract</summary>
     ///
     /// In the words of the folder `specs/` of crate `tracecheck`:
     ///
     /// ```text
-    /// ensures { HasTaken limits [] result }
+    /// ensures { HasTaken entities.allocator [] result }
     /// ```
     ///
     /// </details>
     #[inline]
-    pub fn new(limits: Limits) -> Self {
+    pub fn new(entities: Entities) -> Self {
         Checking {
-            comparer: Comparer::new(limits),
+            comparer: Comparer::from_entities(entities),
             lines: 0,
             given: 0,
         }
@@ -81,11 +82,11 @@ impl Checking {
     /// In the words of the folder `specs/` of crate `tracecheck`:
     ///
     /// ```text
-    /// ensures taken { IfOk result (λ next. (limits : LimitsValue) (texts : List (List ℕ))
-    ///     → HasTaken limits texts self → HasTaken limits (texts ++ text.now ∷ []) next) }
-    /// ensures ends { IfErr result (λ end. (limits : LimitsValue)
-    ///     (texts after : List (List ℕ)) → HasTaken limits texts self
-    ///     → MayEnd limits (texts ++ text.now ∷ after) end) }
+    /// ensures taken { IfOk result (λ next. (begin : Allocator) (texts : List (List ℕ))
+    ///     → HasTaken begin texts self → HasTaken begin (texts ++ text.now ∷ []) next) }
+    /// ensures ends { IfErr result (λ end. (begin : Allocator)
+    ///     (texts after : List (List ℕ)) → HasTaken begin texts self
+    ///     → MayEnd begin (texts ++ text.now ∷ after) end) }
     /// ```
     ///
     /// </details>
@@ -126,13 +127,13 @@ impl Checking {
     #[inline]
     fn take_call(self, number: u64, line: Call) -> Result<Self, End>
         // requires { number ≡ self.lines + 1 }
-        // ensures taken { IfOk result (λ next. (limits : LimitsValue) (texts : List (List ℕ))
+        // ensures taken { IfOk result (λ next. (begin : Allocator) (texts : List (List ℕ))
         //     (text : List ℕ) → line_of number (words_of text) ≡ Ok (Some line)
-        //     → HasTaken limits texts self → HasTaken limits (texts ++ text ∷ []) next) }
-        // ensures ends { IfErr result (λ end. (limits : LimitsValue)
+        //     → HasTaken begin texts self → HasTaken begin (texts ++ text ∷ []) next) }
+        // ensures ends { IfErr result (λ end. (begin : Allocator)
         //     (texts after : List (List ℕ)) (text : List ℕ)
-        //     → line_of number (words_of text) ≡ Ok (Some line) → HasTaken limits texts self
-        //     → MayEnd limits (texts ++ text ∷ after) end) }
+        //     → line_of number (words_of text) ≡ Ok (Some line) → HasTaken begin texts self
+        //     → MayEnd begin (texts ++ text ∷ after) end) }
     {
         let Checking {
             comparer,
@@ -159,8 +160,8 @@ impl Checking {
     /// In the words of the folder `specs/` of crate `tracecheck`:
     ///
     /// ```text
-    /// ensures { (limits : LimitsValue) (texts : List (List ℕ)) → HasTaken limits texts self
-    ///     → MayEnd limits texts result }
+    /// ensures { (begin : Allocator) (texts : List (List ℕ)) → HasTaken begin texts self
+    ///     → MayEnd begin texts result }
     /// ```
     ///
     /// </details>

@@ -22,12 +22,12 @@ fn without_return(line: &[u8]) -> &[u8]
 #[inline]
 fn end_line(checking: Checking, pending: &mut Vec<u8>, bytes: &[u8]) -> Result<Checking, End>
     // requires { All (λ byte. byte ≢ 10) bytes.now }
-    // ensures taken { IfOk result (λ next. (limits : LimitsValue) (text : List ℕ)
-    //     → HasRead limits text checking pending.old.items
-    //     → HasRead limits (text ++ bytes.now ++ 10 ∷ []) next pending.new.items) }
-    // ensures ends { IfErr result (λ end. (limits : LimitsValue) (text more : List ℕ)
-    //     → HasRead limits text checking pending.old.items
-    //     → MayEnd limits (lines_of (text ++ bytes.now ++ 10 ∷ more)) end) }
+    // ensures taken { IfOk result (λ next. (begin : Allocator) (text : List ℕ)
+    //     → HasRead begin text checking pending.old.items
+    //     → HasRead begin (text ++ bytes.now ++ 10 ∷ []) next pending.new.items) }
+    // ensures ends { IfErr result (λ end. (begin : Allocator) (text more : List ℕ)
+    //     → HasRead begin text checking pending.old.items
+    //     → MayEnd begin (lines_of (text ++ bytes.now ++ 10 ∷ more)) end) }
 {
     pending.extend_from_slice_fallibly(bytes)?;
     let checking = checking.take(without_return(pending))?;
@@ -43,12 +43,12 @@ fn end_line(checking: Checking, pending: &mut Vec<u8>, bytes: &[u8]) -> Result<C
 /// In the words of the folder `specs/` of crate `tracecheck`:
 ///
 /// ```text
-/// ensures taken { IfOk result (λ next. (limits : LimitsValue) (text : List ℕ)
-///     → HasRead limits text checking pending.old.items
-///     → HasRead limits (text ++ piece.now) next pending.new.items) }
-/// ensures ends { IfErr result (λ end. (limits : LimitsValue) (text more : List ℕ)
-///     → HasRead limits text checking pending.old.items
-///     → MayEnd limits (lines_of (text ++ piece.now ++ more)) end) }
+/// ensures taken { IfOk result (λ next. (begin : Allocator) (text : List ℕ)
+///     → HasRead begin text checking pending.old.items
+///     → HasRead begin (text ++ piece.now) next pending.new.items) }
+/// ensures ends { IfErr result (λ end. (begin : Allocator) (text more : List ℕ)
+///     → HasRead begin text checking pending.old.items
+///     → MayEnd begin (lines_of (text ++ piece.now ++ more)) end) }
 /// ```
 ///
 /// </details>
@@ -71,8 +71,8 @@ pub fn feed(checking: Checking, pending: &mut Vec<u8>, piece: &[u8]) -> Result<C
 /// In the words of the folder `specs/` of crate `tracecheck`:
 ///
 /// ```text
-/// ensures { (limits : LimitsValue) (text : List ℕ) → HasRead limits text checking pending.now
-///     → MayEnd limits (lines_of text) result }
+/// ensures { (begin : Allocator) (text : List ℕ) → HasRead begin text checking pending.now
+///     → MayEnd begin (lines_of text) result }
 /// ```
 ///
 /// </details>

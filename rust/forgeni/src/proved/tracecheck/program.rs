@@ -5,30 +5,34 @@
 
 use crate::kit::programs::format;
 use crate::kit::programs::rt::AllocGlobal;
-use crate::proved::tracecheck::command_line::{are_limits, command_line};
-use crate::proved::tracecheck::running::check_trace;
+use crate::kit::programs::string::String;
+use crate::proved::tracecheck::command_line::{ask_for_a_check, command_line, image_name};
+use crate::proved::tracecheck::running::check_as;
 use crate::proved::tracecheck::status::Status;
 use crate::proved::cli::{LineFault, file_name, finish, refuse_file, refuse_line, refuse_words, words_after_name};
 use crate::proved::devices::{Counted, Muted, Noting, Sink, Source, open_named};
 use crate::kit::alloc::AllocError;
 use core::cell::Cell;
 use crate::kit::programs::string::AsStr;
-use crate::kit::programs::env;
 use crate::kit::programs::env::Env;
 use std::io::{Read, Write};
 use crate::kit::programs::rt::Files;
+use crate::kit::programs::env;
+use std::io;
 
-/// Checks the trace that the input gives, and returns the exit status. The words after the
-/// program's name give the limits.
+/// Checks the trace that the input gives, and returns the exit status. By the words after the program's
+/// name it begins with an allocator of these limits that has given nothing, or with the one whose image
+/// is in the file that they name. Then `image` gives the bytes of this file, and else it isn't used.
 ///
 /// | Status | Meaning | On the error stream |
 /// |---|---|---|
 /// | 0 | The trace agrees, and one line of output says so. | nothing |
 /// | 1 | The trace differs. Two lines of output say where, and show the state. | nothing |
 /// | 2 | The text is no trace. One line of output names the line. | nothing |
+/// | 2 | The image is none. One line of output names its fault, and the trace isn't read. | nothing |
 /// | 2 | The words are no command line, or ask for help. No device is used. | clap's text |
 /// | 3 | Memory ran out. Nothing was written. | `memory` |
-/// | 4 | A call of the input or the output failed. | `device` |
+/// | 4 | A call of the image, the input or the output failed. | `device` |
 ///
 /// If `tells`, it writes to the terminal how many lines were read, after each million. A failure of the
 /// error stream or of the terminal changes no status.
@@ -40,37 +44,45 @@ use crate::kit::programs::rt::Files;
 /// ```text
 /// ensures statuses { result ≤ 4 }
 ///
-/// // The trace was compared with an allocator of the limits that the words ask for.
+/// // The trace was compared from the beginning on that the words ask for.
 /// ensures agrees { result ≡ 0 → HasSaid (map S.text words.now) Status.Agrees
-///     (I.remaining input.old) (O.written output.old) (O.written output.new) }
+///     (M.remaining image.old) (I.remaining input.old) (O.written output.old) (O.written output.new) }
 /// ensures differs { result ≡ 1 → HasSaid (map S.text words.now) Status.Differs
-///     (I.remaining input.old) (O.written output.old) (O.written output.new) }
+///     (M.remaining image.old) (I.remaining input.old) (O.written output.old) (O.written output.new) }
 ///
-/// // The two meanings of 2. Words that clap takes end so only for the text.
+/// // The two meanings of 2. Words that are a command line end so only for the text or the image.
 /// ensures refused { result ≡ 2 → IsFaulty (map S.text words.now)
 ///     ⊎ HasSaid (map S.text words.now) Status.Refused
-///     (I.remaining input.old) (O.written output.old) (O.written output.new) }
-/// ensures taken { takes program (map S.text words.now) ≡ true → result ≡ 2
+///     (M.remaining image.old) (I.remaining input.old) (O.written output.old) (O.written output.new) }
+/// ensures taken { is_taken (map S.text words.now) ≡ true → result ≡ 2
 ///     → HasSaid (map S.text words.now) Status.Refused
-///     (I.remaining input.old) (O.written output.old) (O.written output.new) }
+///     (M.remaining image.old) (I.remaining input.old) (O.written output.old) (O.written output.new) }
 ///
 /// // Words that are no command line, or ask for help, have no other status, but 3 for lack of
 /// // memory. No device is used for them.
 /// ensures faulty { IsFaulty (map S.text words.now) → result ≢ 3 → result ≡ 2 }
+/// ensures unused_image { IsFaulty (map S.text words.now) → image.new ≡ image.old }
 /// ensures unused_input { IsFaulty (map S.text words.now) → input.new ≡ input.old }
 /// ensures unused_output { IsFaulty (map S.text words.now) → output.new ≡ output.old }
 ///
 /// ensures memory { result ≡ 3 → output.new ≡ output.old }
-/// ensures device { result ≡ 4 → OneFails
+///
+/// // One of the devices fails, and the image only if the words name one.
+/// ensures device { result ≡ 4 → M.failures image.new ≡ M.failures image.old → OneFails
 ///     (I.failures input.old) (I.failures input.new)
 ///     (O.failures output.old) (O.failures output.new) }
+/// ensures image_failed { M.failures image.new ≢ M.failures image.old
+///     → (M.failures image.new ≡ M.failures image.old + 1) × (input.new ≡ input.old)
+///     × (output.new ≡ output.old) }
+/// ensures no_image { image_in (map S.text words.now) ≡ None → image.new ≡ image.old }
+/// ensures image_unfailed { result ≢ 4 → M.failures image.new ≡ M.failures image.old }
 /// ensures input_unfailed { result ≢ 4 → I.failures input.new ≡ I.failures input.old }
 /// ensures output_unfailed { result ≢ 4 → O.failures output.new ≡ O.failures output.old }
 /// ensures unread { I.failures input.new ≢ I.failures input.old → output.new ≡ output.old }
 ///
 /// // What the error stream says.
 /// ensures quiet { result ≤ 1 → errors.new ≡ errors.old }
-/// ensures quiet_refused { takes program (map S.text words.now) ≡ true → result ≡ 2
+/// ensures quiet_refused { is_taken (map S.text words.now) ≡ true → result ≡ 2
 ///     → errors.new ≡ errors.old }
 /// ensures memory_said { result ≡ 3 → E.failures errors.new ≡ E.failures errors.old
 ///     → Appends (E.written errors.old) (E.written errors.new) (codes "memory\n") }
@@ -82,8 +94,9 @@ use crate::kit::programs::rt::Files;
 ///
 /// </details>
 #[inline]
-pub fn execute<S: AsStr, I: Source, O: Sink, E: Sink, T: Sink>(
+pub fn execute<S: AsStr, M: Source, I: Source, O: Sink, E: Sink, T: Sink>(
     words: &[S],
+    image: &mut M,
     input: &mut I,
     output: &mut O,
     errors: &mut E,
@@ -91,8 +104,8 @@ pub fn execute<S: AsStr, I: Source, O: Sink, E: Sink, T: Sink>(
     tells: bool,
 ) -> u8 {
     match command_line(words) {
-        Ok(limits) => {
-            let status = check_trace(input, output, terminal, tells, limits);
+        Ok(begin) => {
+            let status = check_as(begin, image, input, output, terminal, tells);
             finish(errors, status.number())
         }
         Err(LineFault::Line(error)) => refuse_line(format!("{error}"), errors),
@@ -100,11 +113,55 @@ pub fn execute<S: AsStr, I: Source, O: Sink, E: Sink, T: Sink>(
     }
 }
 
+// Opens the file of the image, if the words name one, and does what they ask for.
+#[inline]
+fn execute_on<R: Files + AllocGlobal, I: Source, O: Sink, E: Sink, T: Sink>(
+    rt: &R,
+    words: &[String],
+    input: &mut I,
+    output: &mut O,
+    errors: &mut E,
+    terminal: &mut T,
+    tells: bool,
+) -> u8
+    // ensures { result ≤ 4 }
+{
+    let name = match image_name(words) {
+        Ok(name) => name,
+        Err(AllocError) => return finish(errors, Status::Memory.number()),
+    };
+    let Some(name) = name else {
+        let mut none = Counted::new(io::empty());
+        return execute(
+            words,
+            &mut none,
+            input,
+            output,
+            errors,
+            terminal,
+            tells,
+        );
+    };
+    match open_named(rt, name) {
+        Ok(image) => execute(
+            words,
+            &mut Counted::new(image),
+            input,
+            output,
+            errors,
+            terminal,
+            tells,
+        ),
+        Err(fault) => refuse_file("tracecheck", name, fault, errors),
+    }
+}
+
 /// Runs the program on the words that it was started with, and returns its exit status.
 ///
 /// If the last word is one too many and no option, it names a file: the program runs on the words
 /// before it, with the file for its input. The status is 4 if there is no such file, if it is a
-/// folder, or if it can't be opened, and a line on the error stream says so.
+/// folder, or if it can't be opened, and a line on the error stream says so. The same holds for the
+/// file of an image.
 ///
 /// If the output is a pipe whose reader has left, the status is 4, and nothing is written to the error
 /// stream.
@@ -142,12 +199,13 @@ where
         Ok(words) => words,
         Err(AllocError) => return finish(&mut errors, Status::Memory.number()),
     };
-    let name = match file_name(&words, |words| are_limits(words)) {
+    let name = match file_name(&words, |words| ask_for_a_check(words)) {
         Ok(name) => name,
         Err(AllocError) => return finish(&mut errors, Status::Memory.number()),
     };
     let Some(name) = name else {
-        return execute(
+        return execute_on(
+            rt,
             &words,
             &mut Counted::new(input),
             &mut output,
@@ -157,7 +215,8 @@ where
         );
     };
     match open_named(rt, name) {
-        Ok(file) => execute(
+        Ok(file) => execute_on(
+            rt,
             &words[..words.len() - 1],
             &mut Counted::new(file),
             &mut output,

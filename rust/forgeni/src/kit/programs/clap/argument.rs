@@ -42,6 +42,8 @@ pub(crate) use value_parser;
 /// Which values an option takes.
 #[derive(Clone, Copy, Debug)]
 pub enum Values<'a> {
+    /// All texts.
+    Texts,
     /// Whole numbers of a range.
     Numbers(Numbers),
     /// These names.
@@ -79,7 +81,7 @@ pub struct Arg<'a> {
     pub(super) name: &'a str,
     pub(super) value_name: &'a str,
     pub(super) values: Values<'a>,
-    pub(super) default: &'a str,
+    pub(super) default: Option<&'a str>,
     pub(super) help: &'a str,
 }
 
@@ -89,8 +91,8 @@ impl<'a> Arg<'a> {
         Arg {
             name,
             value_name: name,
-            values: Values::Names(&[]),
-            default: "",
+            values: Values::Texts,
+            default: None,
             help: "",
         }
     }
@@ -118,6 +120,7 @@ impl<'a> Arg<'a> {
 
     /// The contract: it has this value where none is given.
     pub const fn default_value(self, default: &'a str) -> Self {
+        let default = Some(default);
         Arg { default, ..self }
     }
 
@@ -129,6 +132,7 @@ impl<'a> Arg<'a> {
     /// What is wrong with a value, if something is.
     pub(super) fn fault_of(&self, value: &str) -> Result<Option<String>, AllocError> {
         match self.values {
+            Values::Texts => Ok(None),
             Values::Numbers(numbers) => self.fault_of_number(numbers, value),
             Values::Names(names) if names.contains(&value) => Ok(None),
             Values::Names(names) => self.fault_of_name(names, value).map(Some),
@@ -171,7 +175,7 @@ impl<'a> Arg<'a> {
     /// Adds a line with the names that it takes, if it takes names.
     fn add_names(&self, text: &mut String) -> Result<(), AllocError> {
         match self.values {
-            Values::Numbers(_) => Ok(()),
+            Values::Texts | Values::Numbers(_) => Ok(()),
             Values::Names(names) => {
                 text.push_str("\n  [possible values: ")?;
                 add_list(text, names.iter().copied(), ", ")?;
@@ -182,7 +186,10 @@ impl<'a> Arg<'a> {
 
     /// Adds what the help says of it.
     pub(super) fn add_help(&self, text: &mut String) -> Result<(), AllocError> {
-        write!(text, "{} [default: {}]", self.help, self.default)?;
+        text.push_str(self.help)?;
+        if let Some(default) = self.default {
+            write!(text, " [default: {default}]")?;
+        }
         if let Values::Names(names) = self.values {
             text.push_str(" [possible values: ")?;
             add_list(text, names.iter().copied(), ", ")?;

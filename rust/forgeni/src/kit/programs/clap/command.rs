@@ -1,6 +1,7 @@
 //! Commands, and the texts that they show.
 
 use super::argument::{add_list, Arg};
+use super::error::ErrorKind;
 use super::similar::similar;
 use super::Error;
 use crate::kit::alloc::AllocError;
@@ -112,8 +113,13 @@ impl<'a> Command<'a> {
         Ok(self)
     }
 
+    /// The contract: an error of this kind, with this text.
+    pub fn error(&mut self, kind: ErrorKind, fault: &str) -> Result<Error, AllocError> {
+        Ok(self.fault(fault, &self.usage()?).of_kind(kind))
+    }
+
     /// The error with this text, with these lines on how the command is used.
-    pub(super) fn error(&self, fault: &str, usage: &str) -> Error {
+    pub(super) fn fault(&self, fault: &str, usage: &str) -> Error {
         let space = if usage.is_empty() { "" } else { "\n\n" };
         let more = "For more information, try '--help'.";
         match super::super::format!("error: {fault}{space}{usage}\n\n{more}\n") {

@@ -4,14 +4,22 @@ use super::argument::Arg;
 use super::command::Command;
 use super::Error;
 use crate::kit::alloc::AllocError;
-use crate::kit::programs::string::String;
 use crate::kit::vec::FallibleVec;
 use ::alloc::vec::Vec;
 
-/// What words give: a value for each option, and the subcommand with its own.
+/// Where an option has its value from.
+#[derive(Clone, Copy, Debug, PartialEq, Eq)]
+pub enum ValueSource {
+    /// It is the default.
+    DefaultValue,
+    /// It is in the words.
+    CommandLine,
+}
+
+/// What words give: the values of the options, and the subcommand with its own.
 #[derive(Debug)]
 pub struct ArgMatches<'a> {
-    values: Vec<(&'a str, String)>,
+    values: Vec<(&'a str, Option<&'a str>)>,
     /// The numbers of the options that are in the words, in their order.
     used: Vec<usize>,
     /// The subcommand's name and what its words give. There is one at most.
@@ -23,7 +31,7 @@ impl<'a> ArgMatches<'a> {
     pub(super) fn of(command: &Command<'a>) -> Result<Self, AllocError> {
         let mut values = Vec::with_capacity_fallibly(command.arguments.len())?;
         for Arg { name, default, .. } in &command.arguments {
-            values.push_fallibly((*name, String::from_str(default)?))?;
+            values.push_fallibly((*name, *default))?;
         }
         Ok(ArgMatches {
             values,
@@ -41,10 +49,9 @@ impl<'a> ArgMatches<'a> {
     }
 
     /// Gives the option its value.
-    pub(super) fn set(&mut self, number: usize, value: &str) -> Result<(), AllocError> {
-        let value = String::from_str(value)?;
+    pub(super) fn set(&mut self, number: usize, value: &'a str) -> Result<(), AllocError> {
         self.used.push_fallibly(number)?;
-        self.values[number].1 = value;
+        self.values[number].1 = Some(value);
         Ok(())
     }
 
@@ -60,9 +67,19 @@ impl<'a> ArgMatches<'a> {
     }
 
     /// The contract: the value of the option with this name, which is its default if the words give none.
-    pub fn get_str(&self, name: &str) -> Option<&str> {
-        let found = self.values.iter().find(|it| it.0 == name)?;
-        Some(found.1.as_str())
+    pub fn get_str(&self, name: &str) -> Option<&'a str> {
+        self.values.iter().find(|it| it.0 == name)?.1
+    }
+
+    /// The contract: where that value comes from, if there is one.
+    pub fn value_source(&self, name: &str) -> Option<ValueSource> {
+        let number = self.values.iter().position(|it| it.0 == name)?;
+        self.values[number].1?;
+        Some(if self.is_used(number) {
+            ValueSource::CommandLine
+        } else {
+            ValueSource::DefaultValue
+        })
     }
 
     /// The contract: that value as a number. Its range is that of the option.

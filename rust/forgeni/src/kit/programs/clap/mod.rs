@@ -15,6 +15,12 @@ pub use command::Command;
 pub use error::Error;
 pub use matches::ArgMatches;
 
+pub mod parser {
+    //! What words give.
+
+    pub use super::matches::ValueSource;
+}
+
 pub mod error {
     //! Why words are not taken.
 
@@ -27,6 +33,8 @@ pub mod error {
     pub enum ErrorKind {
         /// Words that are no command line, or that ask for help.
         Words,
+        /// Options that don't go together.
+        ArgumentConflict,
         /// There is no memory for what the words give, or for the text that refuses them.
         OutOfMemory,
     }
@@ -44,6 +52,14 @@ pub mod error {
             Error {
                 kind: ErrorKind::Words,
                 text,
+            }
+        }
+
+        /// The same error, but for memory, of this kind.
+        pub(super) fn of_kind(self, kind: ErrorKind) -> Self {
+            match self.kind {
+                ErrorKind::OutOfMemory => self,
+                _ => Error { kind, ..self },
             }
         }
 
@@ -71,7 +87,7 @@ pub mod error {
     impl fmt::Display for Error {
         fn fmt(&self, f: &mut fmt::Formatter<'_>) -> fmt::Result {
             f.write_str(match self.kind {
-                ErrorKind::Words => self.text.as_str(),
+                ErrorKind::Words | ErrorKind::ArgumentConflict => self.text.as_str(),
                 ErrorKind::OutOfMemory => "out of memory",
             })
         }

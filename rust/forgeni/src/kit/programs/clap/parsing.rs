@@ -58,12 +58,12 @@ impl<'w> Word<'w> {
 impl<'a> Command<'a> {
     /// The contract: what the words give. An `Err` is of memory, or of the first fault in the words, or they ask for
     /// help.
-    pub fn try_get_matches_from<S: AsStr>(self, words: &[S]) -> Result<ArgMatches<'a>, Error> {
-        let words: Vec<&str> = words.iter().map(AsStr::as_str).collect_in()?;
+    pub fn try_get_matches_from<S: AsStr>(self, words: &'a [S]) -> Result<ArgMatches<'a>, Error> {
+        let words: Vec<&'a str> = words.iter().map(AsStr::as_str).collect_in()?;
         self.read(&words)
     }
 
-    fn read(&self, words: &[&str]) -> Result<ArgMatches<'a>, Error> {
+    fn read(&self, words: &[&'a str]) -> Result<ArgMatches<'a>, Error> {
         let mut matches = ArgMatches::of(self)?;
         // The option whose value is next.
         let mut pending = None;
@@ -127,22 +127,22 @@ impl<'a> Command<'a> {
         &self,
         matches: &mut ArgMatches<'a>,
         number: Option<usize>,
-        value: Option<&str>,
+        value: Option<&'a str>,
     ) -> Result<(), Error> {
         let Some(number) = number else {
             return Ok(());
         };
         let argument = &self.arguments[number];
         let Some(value) = value else {
-            return Err(self.error(&argument.fault_of_none()?, ""));
+            return Err(self.fault(&argument.fault_of_none()?, ""));
         };
         if matches.is_used(number) {
             let fault =
                 super::super::format!("the argument '{argument}' cannot be used multiple times")?;
-            return Err(self.error(&fault, &self.usage()?));
+            return Err(self.fault(&fault, &self.usage()?));
         }
         if let Some(fault) = argument.fault_of(value)? {
-            return Err(self.error(&fault, ""));
+            return Err(self.fault(&fault, ""));
         }
         Ok(matches.set(number, value)?)
     }
@@ -183,12 +183,12 @@ impl<'a> Command<'a> {
         let usage = self.usage_with(matches.used(), Some(flag))?;
         let what = "found; no more were expected";
         let fault = super::super::format!("unexpected value '{value}' for '--{flag}' {what}")?;
-        Ok(self.error(&fault, &usage))
+        Ok(self.fault(&fault, &usage))
     }
 
     fn unexpected_letter(&self, letter: char) -> Result<Error, AllocError> {
         let fault = super::super::format!("unexpected argument '-{letter}' found")?;
-        Ok(self.error(&fault, &self.usage()?))
+        Ok(self.fault(&fault, &self.usage()?))
     }
 
     fn unexpected_after_dashes(&self, word: &str) -> Result<Error, AllocError> {
@@ -196,7 +196,7 @@ impl<'a> Command<'a> {
         if self.subcommands.iter().any(|it| it.name == word) {
             let what = "to use it, remove the '--' before it";
             write!(fault, "\n\n  tip: subcommand '{word}' exists; {what}")?;
-            return Ok(self.error(&fault, &self.usage()?));
+            return Ok(self.fault(&fault, &self.usage()?));
         }
         self.unexpected(word)
     }
@@ -210,7 +210,7 @@ impl<'a> Command<'a> {
             self.add_subcommands_like(&mut fault, word)?;
             fault
         };
-        Ok(self.error(&fault, &self.usage()?))
+        Ok(self.fault(&fault, &self.usage()?))
     }
 
     /// The fault of an option that isn't there: with one that is like it, or with a subcommand of the words after it
@@ -229,7 +229,7 @@ impl<'a> Command<'a> {
             Some(option) => write!(fault, "\n\n  tip: a similar argument exists: '--{option}'")?,
             None => self.add_option_of_subcommand(&mut fault, name, rest)?,
         }
-        Ok(self.error(&fault, &usage))
+        Ok(self.fault(&fault, &usage))
     }
 
     /// Adds the option like this one that the first subcommand of the words has, of those that have one.
@@ -257,6 +257,6 @@ impl<'a> Command<'a> {
         fault.push_str("\n  [subcommands: ")?;
         self.add_subcommands(&mut fault)?;
         fault.push_str("]")?;
-        Ok(self.error(&fault, &self.usage()?))
+        Ok(self.fault(&fault, &self.usage()?))
     }
 }

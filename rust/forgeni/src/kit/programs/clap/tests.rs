@@ -247,3 +247,61 @@ fn refused_memory_is_an_error_of_its_kind() {
         );
     }
 }
+
+/// A command with an option that has no default.
+fn with_file() -> Command<'static> {
+    let file = Arg::new("from").long("from").action(ArgAction::Set);
+    let file = file.value_name("FILE").help("Which file");
+    let program = Command::new("program").about("Does it").after_help("End.");
+    let program = program.arg(number("slots", 9, "3")).expect("memory");
+    let program = program.arg(file).expect("memory");
+    program.bin_name("program").expect("memory")
+}
+
+#[test]
+fn an_option_without_a_default() {
+    use super::parser::ValueSource::{CommandLine, DefaultValue};
+    for (words, file, slots) in [
+        (&[][..], None, DefaultValue),
+        (&["--slots", "3"], None, CommandLine),
+        (&["--from", "a b"], Some("a b"), DefaultValue),
+        (&["--from=", "--slots=4"], Some(""), CommandLine),
+    ] {
+        let matches = with_file().try_get_matches_from(words).expect("words");
+        assert_eq!(matches.get_str("from"), file, "{words:?}");
+        assert_eq!(
+            matches.value_source("from"),
+            file.map(|_| CommandLine),
+            "{words:?}"
+        );
+        assert_eq!(matches.value_source("slots"), Some(slots), "{words:?}");
+        assert_eq!(matches.value_source("other"), None);
+    }
+    let help = with_file().try_get_matches_from(&["-h"]).expect_err("help");
+    let wanted = "Does it\n\nUsage: program [OPTIONS]\n\nOptions:\n      --slots <N>    How many [default: 3]\n      --from <FILE>  Which file\n  -h, --help         Print help\n\nEnd.\n";
+    assert_eq!(help.to_string(), wanted);
+    let none = with_file()
+        .try_get_matches_from(&["--from"])
+        .expect_err("no value");
+    let wanted = "error: a value is required for '--from <FILE>' but none was supplied\n\nFor more information, try '--help'.\n";
+    assert_eq!(none.to_string(), wanted);
+}
+
+#[test]
+fn an_error_of_the_caller() {
+    let mut program = with_file();
+    let error = program.error(ErrorKind::ArgumentConflict, "not both");
+    let error = error.expect("memory");
+    let wanted =
+        "error: not both\n\nUsage: program [OPTIONS]\n\nFor more information, try '--help'.\n";
+    assert_eq!(
+        (error.kind(), error.to_string()),
+        (ErrorKind::ArgumentConflict, wanted.to_string())
+    );
+    let refused = refuse(|| with_file_error(&mut program)).expect_err("no memory");
+    assert_eq!(refused.kind(), ErrorKind::OutOfMemory);
+}
+
+fn with_file_error(program: &mut Command<'_>) -> Result<(), Error> {
+    Err(program.error(ErrorKind::ArgumentConflict, "not both")?)
+}

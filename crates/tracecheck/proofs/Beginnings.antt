@@ -1,0 +1,134 @@
+-- What a parse says of where a trace begins, and the fault of limits beside an image.
+use Rattle.std.proofs.Common.{◌≡◌, ◌∙◌, ◌∷◌, [], List, Bool, true, false, Option, Some, None, refl, sym, ap}
+use Rattle.std.proofs.Common.{subst, codes}
+use Rattle.std.proofs.lemmas.Bool.{false≢true}
+use Rattle.std.specs.Borrow.{Bor}
+use Rattle.std.specs.Prelude.{Result, Ok, Err, IfErr, IfSome, IsErrAnd, OnErr, OnOk, ◌&&◌, not, option_and_then, option_map}
+use Rattle.std.specs.Prelude.{find, if◌then◌else◌}
+use Rattle.std.specs.Str.{bytes_eq}
+use Rattle.clap.specs.Faults.{is_simple_and_free}
+use Rattle.clap.specs.Facts.{Entry}
+use Rattle.clap.specs.Kinds.{HasKind, Kinds, or_else}
+use Rattle.clap.specs.Matches.{first_value, matched_of}
+use Rattle.clap.specs.Simple.{App, HasMatchesOf, is_simple, matches_of}
+use Rattle.clap.specs.Walk.{Row, Text, first_of, row_of, rows_of}
+use Rattle.clap.specs.Words.{fault_of, takes}
+use Rattle.clap.specs.declared.error.Error.{Error}
+use Rattle.clap.specs.declared.error.kind.ErrorKind.TheVariants.{ArgumentConflict}
+use Rattle.clap.specs.declared.parser.ArgMatches.{ArgMatches}
+use Rattle.clap.specs.declared.parser.matches.Found.{Found}
+use Rattle.clap.specs.declared.parser.matches.MatchedArg.{MatchedArg}
+use Rattle.clap.proofs.WalkLemmas.{find_row, first_value-rows}
+use Rattle.cli.specs.Fault.{IsFaultAmong, IsFaultOf}
+use Rattle.cli.specs.Options.{given}
+use Rattle.cli.specs.declared.line_fault.LineFault.{LineFault}
+use Rattle.cli.specs.declared.line_fault.LineFault.TheVariants.{Line, Memory}
+use Rattle.cli.proofs.Faults.{found_fault}
+use Rattle.tracecheck.specs.CommandLine.{IsFaultIn, both_fault, fault_in, has_both, image_in, is_taken}
+use Rattle.tracecheck.specs.CommandLine.{program}
+use Rattle.tracecheck.specs.declared.command_line.Beginning.{Beginning}
+use Rattle.tracecheck.proofs.LimitsOfWords.{is_free, program-simple}
+
+-- ---- what the getters of the matches read, by the rows
+
+pub source-rows : (f : Found) (option : Text)
+    → option_and_then (λ (a : MatchedArg). a.source) (matched_of f option)
+    ≡ option_and_then (λ (row : Row). row.source)
+    (find (λ (row : Row). bytes_eq row.id option) (rows_of f))
+source-rows f option = go (find (λ (e : Entry). bytes_eq e.0.now option) f.entries.items)
+    ∙ ap (option_and_then (λ (row : Row). row.source)) (sym (find_row f.entries.items option))
+  where
+    go : (o : Option Entry)
+        → option_and_then (λ (a : MatchedArg). a.source) (option_map (λ (e : Entry). e.1) o)
+        ≡ option_and_then (λ (row : Row). row.source) (option_map row_of o)
+    go None = refl
+    go (Some e) = refl
+
+pub text-rows : (f : Found) (option : Text) (r found : Option (Bor Text))
+    → option_map (λ s. s.now) r ≡ first_value f option → r ≡ found
+    → first_of option (rows_of f) ≡ option_map (λ s. s.now) found
+text-rows f option r found reads is =
+    sym (first_value-rows f option) ∙ (sym reads ∙ ap (option_map (λ s. s.now)) is)
+
+-- ---- the words
+
+pub rows_asked : (app : App) (words : List Text) (m : ArgMatches) → app ≡ program
+    → HasMatchesOf app words m → given m ≡ matches_of program words
+rows_asked app words m is matches =
+    (matches (ap is_simple is ∙ program-simple)).0 ∙ ap (λ (a : App). matches_of a words) is
+
+pub name_asked : (words : List Text) (f : Found) (r : Option (Bor Text))
+    → option_map (λ s. s.now) r ≡ first_value f (codes "from") → rows_of f ≡ matches_of program words
+    → IfSome r (λ name. image_in words ≡ Some name.now)
+name_asked words f None reads are = tt
+name_asked words f (Some name) reads are =
+    ap (first_of (codes "from")) (sym are)
+    ∙ text-rows f (codes "from") (Some name) (Some name) reads refl
+
+pub faultless : (app : App) (words : List Text) → app ≡ program
+    → (is_simple_and_free app ≡ true → fault_of app words ≡ []) → fault_of program words ≡ []
+faultless app words is kinds =
+    ap (λ (a : App). fault_of a words) (sym is) ∙ kinds (is_free app is)
+
+left_true : (a b : Bool) → (a && b) ≡ true → a ≡ true
+left_true true b e = refl
+left_true false b e = e
+
+pub is_taken-takes : (words : List Text) → is_taken words ≡ true → takes program words ≡ true
+is_taken-takes words taken = left_true (takes program words) _ taken
+
+-- a fault that clap finds comes first
+later_too : {T : Type 0} (r : Result T LineFault) (kinds later : Kinds)
+    → IfErr r (IsFaultAmong kinds) → IfErr r (IsFaultAmong (or_else kinds later))
+later_too (Ok x) kinds later found = tt
+later_too (Err (Line error)) [] later found = absurd found
+later_too (Err (Line error)) (k ∷ ks) later found = found
+later_too (Err Memory) kinds later found = tt
+
+pub clap_fault : {T : Type 0} (r : Result T LineFault) (error : Error) (app : App)
+    (words : List Text) → app ≡ program → IsErrAnd r (IsFaultOf error)
+    → (is_simple_and_free app ≡ true → HasKind (fault_of app words) error)
+    → IfErr r (IsFaultIn words)
+clap_fault r error app words is fault kinds =
+    later_too r (fault_of program words) (both_fault (matches_of program words))
+    (found_fault r error (fault_of program words) fault
+    (subst (λ (a : App). HasKind (fault_of a words) error) is (kinds (is_free app is))))
+
+-- ---- limits beside an image
+
+fault_of_both : (words : List Text) → fault_of program words ≡ []
+    → (both : Bool) → has_both (matches_of program words) ≡ both
+    → fault_in words ≡ (if both then ArgumentConflict ∷ [] else [])
+fault_of_both words none both is =
+    ap (λ kinds. or_else kinds (both_fault (matches_of program words))) none
+    ∙ ap (λ (b : Bool). if b then ArgumentConflict ∷ [] else []) is
+
+pub faultless_of_one : (r : Result Beginning LineFault) (words : List Text) (rows : List Row)
+    → rows ≡ matches_of program words → fault_of program words ≡ []
+    → OnOk r (has_both rows ≡ false) → OnOk r (fault_in words ≡ [])
+faultless_of_one (Ok begin) words rows are none one =
+    fault_of_both words none false (ap has_both (sym are) ∙ one)
+faultless_of_one (Err fault) words rows are none one = tt
+
+pub faulty_of_both : (r : Result Beginning LineFault) (words : List Text) (rows : List Row)
+    → rows ≡ matches_of program words → fault_of program words ≡ []
+    → OnErr r (has_both rows ≡ true) → IfErr r (IsFaultAmong (ArgumentConflict ∷ []))
+    → IfErr r (IsFaultIn words)
+faulty_of_both (Ok begin) words rows are none both fault = tt
+faulty_of_both (Err why) words rows are none both fault =
+    subst (λ kinds. IsFaultAmong kinds why)
+    (sym (fault_of_both words none true (ap has_both (sym are) ∙ both))) fault
+
+-- such words are not taken
+not_both : (a b : Bool) → (a && not b) ≡ true → b ≡ true → ⊥
+not_both true true e both = false≢true e
+not_both true false e both = false≢true both
+not_both false b e both = false≢true e
+
+pub both_not_taken : (r : Result Beginning LineFault) (words : List Text) (rows : List Row)
+    → rows ≡ matches_of program words → OnErr r (has_both rows ≡ true)
+    → IfErr r (λ fault. is_taken words ≡ true → fault ≡ Memory)
+both_not_taken (Ok begin) words rows are both = tt
+both_not_taken (Err fault) words rows are both = λ taken.
+    absurd (not_both (takes program words) (has_both (matches_of program words)) taken
+    (ap has_both (sym are) ∙ both))

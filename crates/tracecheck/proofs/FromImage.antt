@@ -1,0 +1,14 @@
+-- What is said of a trace that begins with an image.
+use Rattle.std.proofs.Common.{List, ℕ, Option, Some, None, inl}
+use Rattle.std.specs.Prelude.{IfSome}
+use Rattle.devices.specs.Device.{Writes}
+use Rattle.ent_alloc.specs.Entities.{Entities}
+use Rattle.tracecheck.specs.Beginning.{IsImageOf}
+use Rattle.tracecheck.specs.Status.{HasSaidFrom, IsSaidOf}
+use Rattle.tracecheck.specs.declared.status.Status.{Status}
+
+pub said_from : (image input old new : Option (List ℕ)) (e : Entities) (ended : Status)
+    → IfSome image (λ bytes. IsImageOf bytes e) → Writes (IsSaidOf e.allocator ended) input old new
+    → IfSome image (λ bytes. HasSaidFrom bytes ended input old new)
+said_from None input old new e ended is written = tt
+said_from (Some bytes) input old new e ended is written = inl (e, is, written)
