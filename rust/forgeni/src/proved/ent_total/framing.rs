@@ -68,6 +68,7 @@ pub(super) const SYSTEMS: usize = 65_536;
 /// ensures too_many { IsErrWith result IsTooManySystems
 ///     ↔ ((world.old.world.allocator.asked ≡ 0) × (0 < workers) × (workers ≤ 64)
 ///     × (2 ^ 16 < length systems.now)) }
+/// ensures memory_some { IsErrOf result FrameError.Memory → 0 < length systems.now }
 /// ensures nothing { IfErr result (λ error. IsUnbegun error → world.new ≡ world.old) }
 ///
 /// // What is left of a frame that was broken off.
