@@ -1,6 +1,6 @@
 -- What commands draw from a block, one by one and together.
-use Rattle.std.proofs.Common.{rules, ◌≡◌, ◌≢◌, refl, sym, ap, ◌∙◌, subst, ℕ, ◌+◌, ◌-◌, ◌<◌, List, [], ◌∷◌}
-use Rattle.std.proofs.Common.{◌++◌, take, length, arith, append-nil, append_assoc, Result, Ok, Err}
+use Rattle.std.proofs.Common.{rules, ◌≡◌, refl, sym, ap, ◌∙◌, subst, ℕ, ◌+◌, ◌-◌, ◌<◌, List, [], ◌∷◌}
+use Rattle.std.proofs.Common.{◌++◌, take, length, arith, append-nil, Result, Ok, Err}
 use Rattle.std.proofs.Common.{IfOk, IfErr, OnOk, OnErr, IsErrOf, Vec, Global}
 use Rattle.std.specs.List.{sum_by}
 use Rattle.std.proofs.lemmas.Grind.{common_steps}
