@@ -1,3 +1,4 @@
 pub mod Drawing
 pub mod Filling
 pub mod Running
+pub mod Queues

@@ -1,26 +1,19 @@
 ghost use Rattle.std.specs.Prelude.{◌≡◌, ◌≢◌, ◌<◌, ◌≤◌, ◌^◌, ◌↔◌, ◌⊎◌, [], length, All, IfOk, IfErr};
-ghost use Rattle.std.specs.Prelude.{IsTrue};
 ghost use Rattle.ent_blocks.specs.Blocks.{blocks_of};
 ghost use Rattle.ent_blocks.specs.Faults.{IsErrWith};
 ghost use Rattle.ent_block_runner.specs.Running.{HaveFilled, IsBrokenOff};
 ghost use Rattle.ent_block_runner.specs.declared.run_error.RunError.TheVariants as failed;
 
 use crate::BlockNumbering;
+use crate::room::{Room, WORKERS, prepare, unrun};
 use crate::run_error::{RunError, Unrun};
 use crate::splitting::split;
 use crate::stage::BlockStage;
 use crate::system::BlockSystem;
 use ent_blocks::{BlockReserver, Blocks};
 use ent_log::Log;
-use ent_runner::Crew;
 use std::alloc::Global;
 use std::thread::Threads;
-
-/// How many workers there may be.
-const WORKERS: usize = 64;
-
-/// How many systems there may be.
-const SYSTEMS: usize = 65_536;
 
 /// Runs each system once, on that many workers side by side, each with the reserver at its position
 /// and a log of its own. The logs and the reservers are in the order of the systems.
@@ -98,27 +91,15 @@ where
     ensures lost_some { IsErrWith result (λ u. u.error ≡ failed.Lost) → 0 < length systems.now }
     ensures lost_reservers { IfErr result (λ u. u.error ≡ failed.Lost → u.reservers.items ≡ []) }
 {
-    if workers == 0 || workers > WORKERS {
-        return Err(unrun(reservers, RunError::Workers));
-    }
-    if systems.len() > SYSTEMS {
-        return Err(unrun(reservers, RunError::Systems));
-    }
-    if reservers.len() != systems.len() {
-        return Err(unrun(reservers, RunError::Reservers));
-    }
-    if !are_of(blocks, &reservers) {
-        return Err(unrun(reservers, RunError::OtherPhase));
-    }
-    let Ok(crew) = Crew::new(alloc, systems.len(), workers) else {
-        return Err(unrun(reservers, RunError::Memory));
+    let room = match prepare(alloc, blocks, &reservers, systems.len(), workers) {
+        Ok(room) => room,
+        Err(error) => return Err(unrun(reservers, error)),
     };
-    let Ok(mut logs) = Vec::with_capacity(alloc, systems.len()) else {
-        return Err(unrun(reservers, RunError::Memory));
-    };
-    let Ok(mut returned) = Vec::with_capacity(alloc, systems.len()) else {
-        return Err(unrun(reservers, RunError::Memory));
-    };
+    let Room {
+        crew,
+        outputs: mut logs,
+        reservers: mut returned,
+    } = room;
     let stage = BlockStage {
         alloc,
         blocks,
@@ -131,23 +112,4 @@ where
     };
     split(done, &mut logs, &mut returned);
     Ok((logs, returned))
-}
-
-/// Whether all reservers are of this phase.
-fn are_of<J: BlockNumbering>(blocks: &Blocks<J>, reservers: &[BlockReserver<J>]) -> bool
-    ensures { IsTrue result ↔ All (λ r. r.number ≡ blocks.now.number) reservers.now }
-{
-    for reserver in reservers {
-        if !reserver.is_of(blocks) {
-            return false;
-        }
-    }
-    true
-}
-
-fn unrun<J: BlockNumbering>(reservers: Vec<BlockReserver<J>>, error: RunError) -> Unrun<J>
-    ensures reservers { result.reservers.items ≡ reservers.items }
-    ensures error { result.error ≡ error }
-{
-    Unrun { reservers, error }
 }

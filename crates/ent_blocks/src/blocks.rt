@@ -9,6 +9,7 @@ ghost use Rattle.ent_alloc.specs.Sequential.{after_flush, reply_from, listed, li
 ghost use Rattle.ent_alloc.specs.Sound.{IsLive};
 ghost use Rattle.ent_alloc.specs.Entities.{HasRowsOfLiving};
 ghost use Rattle.ent_blocks.specs.Blocks.{rest_of, unused, blocks_of, are_among, accounted};
+ghost use Rattle.ent_blocks.specs.Blocks.{after_use};
 ghost use Rattle.ent_blocks.specs.Faults.{IsErrWith, IsMissing};
 ghost use Rattle.ent_blocks.specs.declared.block_error.BlockError.TheVariants as refused;
 ghost use Rattle.ent_blocks.specs.declared.unended.EndError.TheVariants as failed;
@@ -21,7 +22,7 @@ use crate::numbering::BlockNumbering;
 use crate::part::Part;
 use crate::taking::{append, take_many, take_one};
 use crate::unended::{EndError, Unended};
-use ent_alloc::Entities;
+use ent_alloc::{Entities, Reserved};
 use ent_handle::Handle;
 use std::alloc::Global;
 use std::marker::{Model, PhantomData};
@@ -69,7 +70,7 @@ impl<J: BlockNumbering> Model for Blocks<J> {
 }
 
 impl<J: BlockNumbering> Blocks<J> {
-    ghost use Rattle.ent_blocks.specs.Blocks.{AreDealt, after_use, after_blocks};
+    ghost use Rattle.ent_blocks.specs.Blocks.{AreDealt, after_blocks};
 
     pub(crate) fn new(alloc: Global, entities: Entities, parts: Vec<Part>, number: u64) -> Self
         requires dealt { AreDealt entities.allocator parts.items }
@@ -453,4 +454,40 @@ impl<J: BlockNumbering> Blocks<J> {
             error,
         }
     }
+}
+
+/// [`Blocks::reserve_many`] without a list: it takes no memory, and each handle is looked up when it is
+/// yielded.
+///
+/// # Errors
+///
+/// As [`Blocks::reserve_many`], except that there is no [`BlockError::Memory`].
+pub fn reserve_iter<'b, J: BlockNumbering>(
+    blocks: &'b Blocks<J>,
+    reserver: &mut BlockReserver<J>,
+    n: u32,
+) -> Result<Reserved<'b>, BlockError>
+    ensures given { IfOk result (λ handles. handles ≡ listed blocks.now.phase.start.made
+        (take n (rest_of blocks.now.phase.start.pool reserver.old.block))) }
+    ensures length { IfOk result (λ handles. length handles ≡ n) }
+    ensures ok { OnOk result (reserver.new ≡ record reserver.old {
+      block = after_use reserver.old.block n;
+    }) }
+    ensures other_phase { IsErrOf result refused.OtherPhase
+        ↔ (reserver.old.number ≢ blocks.now.number) }
+    ensures space { let left = reserver.old.block.size - reserver.old.block.used in
+        IsErrOf result (refused.Space n left)
+        ↔ ((reserver.old.number ≡ blocks.now.number) × (left < n)) }
+    ensures err { let left = reserver.old.block.size - reserver.old.block.used in
+        IfErr result (λ error. (error ≡ refused.OtherPhase) ⊎ (error ≡ refused.Space n left)) }
+    ensures unchanged { OnErr result (reserver.new ≡ reserver.old) }
+{
+    if reserver.number != blocks.number {
+        return Err(BlockError::OtherPhase);
+    }
+    let left = reserver.part.left();
+    if n > left {
+        return Err(BlockError::Space { wanted: n, left });
+    }
+    Ok(take_many(&blocks.entities, &mut reserver.part, n))
 }

@@ -18,7 +18,7 @@ mod unended;
 pub use block_error::BlockError;
 pub use block_reserver::{BlockReserver, again};
 pub use block_size::BlockSize;
-pub use blocks::Blocks;
+pub use blocks::{Blocks, reserve_iter};
 pub use numbering::BlockNumbering;
 pub use opening::{Deal, open_in_blocks};
 pub use undealt::{DealError, Undealt};

@@ -14,7 +14,7 @@ use Rattle.ent_alloc.specs.declared.refused.Refused.TheVariants.{Quota, Space}
 use Rattle.ent_shared.specs.Phase.{Shared, Reserver}
 use Rattle.ent_shared.specs.Record.{after_reservation, reservation_at}
 use Rattle.ent_shared.specs.Replies.{Reserves}
-use Rattle.ent_queue.specs.Command.{Command, Refused, HasRange, IsRefusal}
+use Rattle.ent_queue.specs.Command.{Command, Refused, HasRange, SaysWanted, IsRefusal}
 use Rattle.ent_queue.specs.Reserving.{stands_for, cost, FitsQuota, FitQuota, Gains, IsReturned}
 use Rattle.ent_queue.specs.Reserving.{refused_by}
 use Rattle.ent_alloc.specs.Fault.{as_reserve_error}
@@ -103,9 +103,13 @@ pub replies_alone : (shared : Shared) (before after : Reserver) (result : Result
 replies_alone shared before after result quota gains = search (rules)
 
 -- a refusal by the pool says how many handles were requested
-pub is_refusal : (shared : Shared) (before after : Reserver) (n : ℕ) (why : Refusal)
-    → IsReturned shared before after n (Err why) → HasRange why → IsRefusal n why
-is_refusal shared before after n it replied range = grind (arith, common_steps)
+pub says_wanted : (shared : Shared) (before after : Reserver) (n : ℕ) (why : Refusal)
+    → IsReturned shared before after n (Err why) → SaysWanted n why
+says_wanted shared before after n it replied = grind (arith, common_steps)
+
+pub is_refusal : (n : ℕ) (why : Refusal) → SaysWanted n why → HasRange why → IsRefusal n why
+is_refusal n (Space wanted left) says range = (says, range)
+is_refusal n (Quota left) says range = range
 
 pub refused_by_fault : (n : ℕ) (why : Refusal) → refused_by n (as_reserve_error why) ≡ Refused n why ∷ []
 refused_by_fault n it = search rules

@@ -7,3 +7,5 @@ pub mod Pushes
 pub mod Gaining
 pub mod Issuing
 pub mod Extending
+pub mod DrawnBlocks
+pub mod ExtendingInBlocks

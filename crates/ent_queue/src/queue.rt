@@ -2,7 +2,6 @@ ghost use Rattle.std.specs.Prelude.{◌≡◌, ◌↔◌, ◌++◌, ◌∷◌, [
 ghost use Rattle.std.specs.Prelude.{IfOk, IfErr, IsErrOf, Result, List, All};
 ghost use Rattle.ent_handle.specs.Handle.{Handle as HandleValue};
 ghost use Rattle.ent_alloc.specs.declared.refused.Refused.{Refused as Refusal};
-ghost use Rattle.ent_shared.specs.Phase.{IsOf};
 ghost use Rattle.ent_alloc.specs.Sequential.{listed_alone};
 ghost use Rattle.ent_storage.specs.Bundle.{IsBundle};
 ghost use Rattle.ent_queue.specs.Command.{IsCommand};
@@ -11,12 +10,12 @@ ghost use Rattle.ent_queue.specs.Packing.{queue_bytes};
 
 use crate::entries::Entries;
 use crate::kind::{INSERT, SPAWN};
+use crate::serves::Serves;
 use crate::writing::{
     write_bundle, write_despawn, write_many, write_refused, write_remove, write_with_bundle,
 };
 use ent_alloc::ReserveError as QueueFault;
 use ent_handle::{ComponentId, Handle, Memory};
-use ent_shared::{Reserver, Shared};
 use std::alloc::Global;
 use std::marker::Model;
 
@@ -46,7 +45,7 @@ impl Model for CommandQueue {
 }
 
 impl CommandQueue {
-    ghost use Rattle.ent_queue.specs.Reserving.{IsReturned, refused_by, queued, as_list};
+    ghost use Rattle.ent_queue.specs.Reserving.{refused_by, queued, as_list};
 
     pub(crate) fn new(alloc: Global) -> Self
         ensures { result ≡ [] }
@@ -103,24 +102,24 @@ impl CommandQueue {
     }
 
     /// Grows first, for the spawn and for a refusal alike, and then reserves.
-    pub(crate) fn spawn(
+    pub(crate) fn spawn<R, A: Serves<R>>(
         &mut self,
-        shared: &Shared,
-        reserver: &mut Reserver,
+        phase: &A,
+        reserver: &mut R,
         items: &[(ComponentId, i64)],
     ) -> Result<Handle, QueueFault>
-        requires of { IsOf shared.now reserver.old }
+        requires of { A.serves phase.now reserver.old }
         requires is { IsBundle items.now }
-        ensures stays { IsOf shared.now reserver.new }
+        ensures stays { A.serves phase.now reserver.new }
         ensures ok { IfOk result (λ handle. self.new ≡ self.old ++ Spawn handle items.now ∷ []) }
         ensures refused { IfErr result (λ fault. self.new ≡ self.old ++ refused_by 1 fault) }
         ensures memory { IsErrOf result QueueFault.Memory → reserver.new ≡ reserver.old }
         ensures replies { (reply : Result HandleValue Refusal) → result ≡ queued reply
-            → IsReturned shared.now reserver.old reserver.new 1 (listed_alone reply) }
+            → A.may_reply phase.now reserver.old reserver.new 1 (listed_alone reply) }
     {
         let own = 11 + 9 * items.len();
         self.bytes.reserve(own.max(REFUSAL))?;
-        match shared.reserve(reserver) {
+        match phase.serve_one(reserver) {
             Ok(handle) => {
                 write_with_bundle(&mut self.bytes, SPAWN, handle, items);
                 self.count += 1;
@@ -135,17 +134,17 @@ impl CommandQueue {
     }
 
     /// Grows first, for the spawn, for a refusal and for the list alike, and then reserves.
-    pub(crate) fn spawn_many(
+    pub(crate) fn spawn_many<R, A: Serves<R>>(
         &mut self,
         alloc: Global,
-        shared: &Shared,
-        reserver: &mut Reserver,
+        phase: &A,
+        reserver: &mut R,
         n: u32,
         items: &[(ComponentId, i64)],
     ) -> Result<Vec<Handle>, QueueFault>
-        requires of { IsOf shared.now reserver.old }
+        requires of { A.serves phase.now reserver.old }
         requires is { IsBundle items.now }
-        ensures stays { IsOf shared.now reserver.new }
+        ensures stays { A.serves phase.now reserver.new }
         ensures ok { IfOk result
             (λ handles. self.new ≡ self.old ++ SpawnMany handles.items items.now ∷ []) }
         ensures length { IfOk result (λ handles. length handles.items ≡ n) }
@@ -153,12 +152,12 @@ impl CommandQueue {
         ensures memory { IsErrOf result QueueFault.Memory → reserver.new ≡ reserver.old }
         ensures replies { (reply : Result (List HandleValue) Refusal)
             → as_list result ≡ queued reply
-            → IsReturned shared.now reserver.old reserver.new n reply }
+            → A.may_reply phase.now reserver.old reserver.new n reply }
     {
         let mut handles = Vec::with_capacity(alloc, n as usize)?;
         let own = 7 + 8 * n as usize + 9 * items.len();
         self.bytes.reserve(own.max(REFUSAL))?;
-        match shared.reserve_many(reserver, n) {
+        match phase.serve_many(reserver, n) {
             Ok(given) => {
                 write_many(&mut self.bytes, &mut handles, n, given);
                 write_bundle(&mut self.bytes, items);

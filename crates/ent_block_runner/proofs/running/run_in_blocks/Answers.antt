@@ -15,19 +15,19 @@ returns-clause-ok g c =
     rw (c.split.ensures.first, c.split.ensures.second, sym c.deref-2.ensures.value)
     (filled_done g.S.BlockSystem.may_log g.S.BlockSystem.may_leave c.args.systems.now
     c.args.blocks.now c.deref-2.result.now (ready g (goal.at.returns-clause-ok g c).After-work) _ _
-    c.in-Some.ensures.count _ c.in-Ok.ensures.jobs c.in-Some.done.items c.in-Some.ensures.done)
+    c.in-Some.ensures.count _ c.in-Ok.ensures.crew.0 c.in-Some.done.items c.in-Some.ensures.done)
 
 pub returns-clause-of : goal.returns-clause-of
 returns-clause-of g c =
     rw c.split.ensures.second
     (of_done g.S.BlockSystem.may_log g.S.BlockSystem.may_leave c.args.systems.now
     c.args.blocks.now c.deref-2.result.now (ready g (goal.at.returns-clause-of g c).After-work) _ _
-    c.in-Some.ensures.count _ c.in-Ok.ensures.jobs c.in-Some.done.items c.in-Some.ensures.done)
+    c.in-Some.ensures.count _ c.in-Ok.ensures.crew.0 c.in-Some.done.items c.in-Some.ensures.done)
 
-pub returns-in_default-work-clause-lost : goal.returns-in_default-work-clause-lost
-returns-in_default-work-clause-lost g c lost =
+pub returns-in_default-clause-lost : goal.returns-in_default-clause-lost
+returns-in_default-clause-lost g c lost =
     rw (sym c.deref-2.ensures.value)
     (lost_off g.S.BlockSystem.may_log g.S.BlockSystem.may_leave c.args.systems.now
     c.args.blocks.now c.deref-2.result.now
-    (ready g (goal.at.returns-in_default-work-clause-lost g c).After-work) _ _
-    c.in_default-work.ensures.count _ c.in-Ok.ensures.jobs c.in_default-work.ensures.broken_off)
+    (ready g (goal.at.returns-in_default-clause-lost g c).After-work) _ _
+    c.in_default.ensures.count _ c.in-Ok.ensures.crew.0 c.in_default.ensures.broken_off)

@@ -1,21 +1,14 @@
 // Made of crates/ent_block_runner/src/running.rt by rust/erase. It isn't edited by hand.
 
 use alloc::vec::Vec;
-use crate::kit::vec::FallibleVec;
+use crate::proved::ent_block_runner::room::{Room, WORKERS, prepare, unrun};
 use crate::proved::ent_block_runner::run_error::{RunError, Unrun};
 use crate::proved::ent_block_runner::splitting::split;
 use crate::proved::ent_block_runner::stage::BlockStage;
 use crate::proved::ent_block_runner::system::BlockSystem;
 use crate::proved::ent_blocks::{BlockReserver, Blocks};
 use crate::proved::ent_log::Log;
-use crate::proved::ent_runner::Crew;
 use crate::kit::thread::Threads;
-
-/// How many workers there may be.
-const WORKERS: usize = 64;
-
-/// How many systems there may be.
-const SYSTEMS: usize = 65_536;
 
 /// Runs each system once, on that many workers side by side, each with the reserver at its position
 /// and a log of its own. The logs and the reservers are in the order of the systems.
@@ -102,27 +95,15 @@ where
     C: Send,
     S: BlockSystem<C> + Sync,
 {
-    if workers == 0 || workers > WORKERS {
-        return Err(unrun(reservers, RunError::Workers));
-    }
-    if systems.len() > SYSTEMS {
-        return Err(unrun(reservers, RunError::Systems));
-    }
-    if reservers.len() != systems.len() {
-        return Err(unrun(reservers, RunError::Reservers));
-    }
-    if !are_of(blocks, &reservers) {
-        return Err(unrun(reservers, RunError::OtherPhase));
-    }
-    let Ok(crew) = Crew::new(systems.len(), workers) else {
-        return Err(unrun(reservers, RunError::Memory));
+    let room = match prepare(blocks, &reservers, systems.len(), workers) {
+        Ok(room) => room,
+        Err(error) => return Err(unrun(reservers, error)),
     };
-    let Ok(mut logs) = Vec::with_capacity_fallibly(systems.len()) else {
-        return Err(unrun(reservers, RunError::Memory));
-    };
-    let Ok(mut returned) = Vec::with_capacity_fallibly(systems.len()) else {
-        return Err(unrun(reservers, RunError::Memory));
-    };
+    let Room {
+        crew,
+        outputs: mut logs,
+        reservers: mut returned,
+    } = room;
     let stage = BlockStage {
         blocks,
         reservers: &reservers,
@@ -134,25 +115,4 @@ where
     };
     split(done, &mut logs, &mut returned);
     Ok((logs, returned))
-}
-
-/// Whether all reservers are of this phase.
-#[inline]
-fn are_of(blocks: &Blocks, reservers: &[BlockReserver]) -> bool
-    // ensures { IsTrue result ↔ All (λ r. r.number ≡ blocks.now.number) reservers.now }
-{
-    for reserver in reservers {
-        if !reserver.is_of(blocks) {
-            return false;
-        }
-    }
-    true
-}
-
-#[inline]
-fn unrun(reservers: Vec<BlockReserver>, error: RunError) -> Unrun
-    // ensures reservers { result.reservers.items ≡ reservers.items }
-    // ensures error { result.error ≡ error }
-{
-    Unrun { reservers, error }
 }

@@ -9,7 +9,7 @@ use crate::proved::ent_blocks::closing::take_used;
 use crate::proved::ent_blocks::part::Part;
 use crate::proved::ent_blocks::taking::{append, take_many, take_one};
 use crate::proved::ent_blocks::unended::{EndError, Unended};
-use crate::proved::ent_alloc::Entities;
+use crate::proved::ent_alloc::{Entities, Reserved};
 use crate::proved::ent_handle::Handle;
 
 /// An allocator whose pool's front is dealt in blocks, one to each [`BlockReserver`].
@@ -479,4 +479,49 @@ impl Blocks {
             error,
         }
     }
+}
+
+/// [`Blocks::reserve_many`] without a list: it takes no memory, and each handle is looked up when it is
+/// yielded.
+///
+/// # Errors
+///
+/// As [`Blocks::reserve_many`], except that there is no [`BlockError::Memory`].
+///
+/// <details><summary>Contract</summary>
+///
+/// In the words of the folder `specs/` of crate `ent_blocks`:
+///
+/// ```text
+/// ensures given { IfOk result (λ handles. handles ≡ listed blocks.now.phase.start.made
+///     (take n (rest_of blocks.now.phase.start.pool reserver.old.block))) }
+/// ensures length { IfOk result (λ handles. length handles ≡ n) }
+/// ensures ok { OnOk result (reserver.new ≡ record reserver.old {
+///   block = after_use reserver.old.block n;
+/// }) }
+/// ensures other_phase { IsErrOf result refused.OtherPhase
+///     ↔ (reserver.old.number ≢ blocks.now.number) }
+/// ensures space { let left = reserver.old.block.size - reserver.old.block.used in
+///     IsErrOf result (refused.Space n left)
+///     ↔ ((reserver.old.number ≡ blocks.now.number) × (left < n)) }
+/// ensures err { let left = reserver.old.block.size - reserver.old.block.used in
+///     IfErr result (λ error. (error ≡ refused.OtherPhase) ⊎ (error ≡ refused.Space n left)) }
+/// ensures unchanged { OnErr result (reserver.new ≡ reserver.old) }
+/// ```
+///
+/// </details>
+#[inline]
+pub fn reserve_iter<'b>(
+    blocks: &'b Blocks,
+    reserver: &mut BlockReserver,
+    n: u32,
+) -> Result<Reserved<'b>, BlockError> {
+    if reserver.number != blocks.number {
+        return Err(BlockError::OtherPhase);
+    }
+    let left = reserver.part.left();
+    if n > left {
+        return Err(BlockError::Space { wanted: n, left });
+    }
+    Ok(take_many(&blocks.entities, &mut reserver.part, n))
 }

@@ -4,12 +4,12 @@ use alloc::vec::Vec;
 use crate::kit::vec::FallibleVec;
 use crate::proved::ent_queue::entries::Entries;
 use crate::proved::ent_queue::kind::{INSERT, SPAWN};
+use crate::proved::ent_queue::serves::Serves;
 use crate::proved::ent_queue::writing::{
     write_bundle, write_despawn, write_many, write_refused, write_remove, write_with_bundle,
 };
 use crate::proved::ent_alloc::ReserveError as QueueFault;
 use crate::proved::ent_handle::{ComponentId, Handle, Memory};
-use crate::proved::ent_shared::{Reserver, Shared};
 
 /// How many bytes a refusal has.
 const REFUSAL: usize = 14;
@@ -117,24 +117,24 @@ impl CommandQueue {
 
     /// Grows first, for the spawn and for a refusal alike, and then reserves.
     #[inline]
-    pub(super) fn spawn(
+    pub(super) fn spawn<R, A: Serves<R>>(
         &mut self,
-        shared: &Shared,
-        reserver: &mut Reserver,
+        phase: &A,
+        reserver: &mut R,
         items: &[(ComponentId, i64)],
     ) -> Result<Handle, QueueFault>
-        // requires of { IsOf shared.now reserver.old }
+        // requires of { A.serves phase.now reserver.old }
         // requires is { IsBundle items.now }
-        // ensures stays { IsOf shared.now reserver.new }
+        // ensures stays { A.serves phase.now reserver.new }
         // ensures ok { IfOk result (λ handle. self.new ≡ self.old ++ Spawn handle items.now ∷ []) }
         // ensures refused { IfErr result (λ fault. self.new ≡ self.old ++ refused_by 1 fault) }
         // ensures memory { IsErrOf result QueueFault.Memory → reserver.new ≡ reserver.old }
         // ensures replies { (reply : Result HandleValue Refusal) → result ≡ queued reply
-        //     → IsReturned shared.now reserver.old reserver.new 1 (listed_alone reply) }
+        //     → A.may_reply phase.now reserver.old reserver.new 1 (listed_alone reply) }
     {
         let own = 11 + 9 * items.len();
         self.bytes.reserve_fallibly(own.max(REFUSAL))?;
-        match shared.reserve(reserver) {
+        match phase.serve_one(reserver) {
             Ok(handle) => {
                 write_with_bundle(&mut self.bytes, SPAWN, handle, items);
                 self.count += 1;
@@ -150,16 +150,16 @@ impl CommandQueue {
 
     /// Grows first, for the spawn, for a refusal and for the list alike, and then reserves.
     #[inline]
-    pub(super) fn spawn_many(
+    pub(super) fn spawn_many<R, A: Serves<R>>(
         &mut self,
-        shared: &Shared,
-        reserver: &mut Reserver,
+        phase: &A,
+        reserver: &mut R,
         n: u32,
         items: &[(ComponentId, i64)],
     ) -> Result<Vec<Handle>, QueueFault>
-        // requires of { IsOf shared.now reserver.old }
+        // requires of { A.serves phase.now reserver.old }
         // requires is { IsBundle items.now }
-        // ensures stays { IsOf shared.now reserver.new }
+        // ensures stays { A.serves phase.now reserver.new }
         // ensures ok { IfOk result
         //     (λ handles. self.new ≡ self.old ++ SpawnMany handles.items items.now ∷ []) }
         // ensures length { IfOk result (λ handles. length handles.items ≡ n) }
@@ -167,12 +167,12 @@ impl CommandQueue {
         // ensures memory { IsErrOf result QueueFault.Memory → reserver.new ≡ reserver.old }
         // ensures replies { (reply : Result (List HandleValue) Refusal)
         //     → as_list result ≡ queued reply
-        //     → IsReturned shared.now reserver.old reserver.new n reply }
+        //     → A.may_reply phase.now reserver.old reserver.new n reply }
     {
         let mut handles = Vec::with_capacity_fallibly(n as usize)?;
         let own = 7 + 8 * n as usize + 9 * items.len();
         self.bytes.reserve_fallibly(own.max(REFUSAL))?;
-        match shared.reserve_many(reserver, n) {
+        match phase.serve_many(reserver, n) {
             Ok(given) => {
                 write_many(&mut self.bytes, &mut handles, n, given);
                 write_bundle(&mut self.bytes, items);

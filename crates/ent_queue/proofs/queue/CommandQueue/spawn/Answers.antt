@@ -1,23 +1,24 @@
-use Rattle.std.proofs.Common.{◌++◌, ◌∷◌, [], Err, ap, sym, ◌∙◌}
+use Rattle.std.proofs.Common.{◌++◌, ◌∷◌, [], ap, sym, ◌∙◌}
 use Rattle.ent_queue.specs.Command.{Spawn, Refused}
 use Rattle.ent_queue.proofs.Pushes.{Pushed, pushed, count_fits}
-use Rattle.ent_queue.proofs.Gaining.{replies_alone, is_refusal, refused_by_fault}
+use Rattle.ent_queue.proofs.Gaining.{is_refusal, refused_by_fault}
 use Rattle.ent_queue.proofs.queue.CommandQueue.spawn.Goals.{After-write_with_bundle}
 use Rattle.ent_queue.proofs.queue.CommandQueue.spawn.Goals.{After-write_refused}
+use Rattle.ent_queue.proofs.queue.CommandQueue.spawn.Given as given
 use Rattle.ent_queue.proofs.queue.CommandQueue.spawn.Goals as goal
 use Rattle.ent_queue.specs.Packing.{command_bytes}
 use Rattle.ent_queue.specs.Reserving.{refused_by}
 
 pub overflow_add-self : goal.overflow_add-self
-overflow_add-self c = count_fits c.self.inside.count c.self.inside.bytes c.self.invariant
+overflow_add-self g c = count_fits c.self.inside.count c.self.inside.bytes c.self.invariant
 
 pub overflow_add-self-in-Err : goal.overflow_add-self-in-Err
-overflow_add-self-in-Err c = count_fits c.self.inside.count c.self.inside.bytes c.self.invariant
+overflow_add-self-in-Err g c = count_fits c.self.inside.count c.self.inside.bytes c.self.invariant
 
 -- the bytes after the spawn
-served : (c : After-write_with_bundle) → Pushed c.self.inside.count c.self.inside.bytes.items
+served : (g : given.Over) (c : After-write_with_bundle g) → Pushed c.self.inside.count c.self.inside.bytes.items
     c.write_with_bundle.new.bytes.items (Spawn c.in-Ok.handle c.args.items.now)
-served c =
+served g c =
     let command = Spawn c.in-Ok.handle c.args.items.now in
     pushed c.self.inside.count c.self.inside.bytes.items c.write_with_bundle.new.bytes.items command
     c.self.invariant (c.write_with_bundle.ensures.handle, c.requires.is)
@@ -25,35 +26,32 @@ served c =
     c.in_ok-reserve.ensures.items)
 
 pub invariant_of-self-in-Ok : goal.invariant_of-self-in-Ok
-invariant_of-self-in-Ok c =
-    (served (goal.at.invariant_of-self-in-Ok c).After-write_with_bundle).packed
+invariant_of-self-in-Ok g c =
+    (served g (goal.at.invariant_of-self-in-Ok g c).After-write_with_bundle).packed
 
 pub returns-in-Ok-clause-ok : goal.returns-in-Ok-clause-ok
-returns-in-Ok-clause-ok c =
-    (served (goal.at.returns-in-Ok-clause-ok c).After-write_with_bundle).commands
+returns-in-Ok-clause-ok g c =
+    (served g (goal.at.returns-in-Ok-clause-ok g c).After-write_with_bundle).commands
     ∙ ap (λ commands. commands ++ Spawn c.in-Ok.handle c.args.items.now ∷ []) c.self.view_is
 
 -- and after a refusal
-refused : (c : After-write_refused) → Pushed c.self.inside.count c.self.inside.bytes.items
+refused : (g : given.Over) (c : After-write_refused g) → Pushed c.self.inside.count c.self.inside.bytes.items
     c.write_refused.new.bytes.items (Refused 1 c.in-Err.why)
-refused c =
+refused g c =
     let command = Refused 1 c.in-Err.why in
-    let replied = replies_alone c.args.shared.now c.args.reserver.now c.reserve-2.new.reserver
-    (Err c.in-Err.why) c.in-Err.ensures.quota c.in-Err.ensures.gains in
-    let is = is_refusal c.args.shared.now c.args.reserver.now c.reserve-2.new.reserver 1
-    c.in-Err.why replied c.write_refused.ensures.why in
+    let is = is_refusal 1 c.in-Err.why c.in-Err.ensures.wanted c.write_refused.ensures.why in
     pushed c.self.inside.count c.self.inside.bytes.items c.write_refused.new.bytes.items command
     c.self.invariant (c.write_refused.ensures.wanted, is)
     (c.write_refused.ensures.items ∙ ap (λ bytes. bytes ++ command_bytes command)
     c.in_ok-reserve.ensures.items)
 
 pub invariant_of-self-in-Err : goal.invariant_of-self-in-Err
-invariant_of-self-in-Err c =
-    (refused (goal.at.invariant_of-self-in-Err c).After-write_refused).packed
+invariant_of-self-in-Err g c =
+    (refused g (goal.at.invariant_of-self-in-Err g c).After-write_refused).packed
 
 pub returns-in-Err-clause-refused : goal.returns-in-Err-clause-refused
-returns-in-Err-clause-refused c =
-    (refused (goal.at.returns-in-Err-clause-refused c).After-write_refused).commands
+returns-in-Err-clause-refused g c =
+    (refused g (goal.at.returns-in-Err-clause-refused g c).After-write_refused).commands
     ∙ ap (λ commands. commands ++ Refused 1 c.in-Err.why ∷ []) c.self.view_is
     ∙ ap (λ more. c.args.self.now ++ more)
     (sym (ap (refused_by 1) c.from.ensures ∙ refused_by_fault 1 c.in-Err.why))

@@ -1,24 +1,25 @@
-use Rattle.std.proofs.Common.{◌≡◌, ◌++◌, ◌∷◌, [], Ok, Err, ap, sym, subst, ◌∙◌, length, ◌<◌, ◌^◌}
+use Rattle.std.proofs.Common.{◌≡◌, ◌++◌, ◌∷◌, [], Ok, ap, sym, subst, ◌∙◌, length, ◌<◌, ◌^◌}
 use Rattle.ent_queue.specs.Command.{SpawnMany, Refused}
 use Rattle.ent_queue.proofs.Pushes.{Pushed, pushed, count_fits, many_written}
 use Rattle.ent_queue.proofs.Issuing.{queued_ok}
 use Rattle.ent_queue.proofs.Gaining.{is_refusal, refused_by_fault}
 use Rattle.ent_queue.proofs.queue.CommandQueue.spawn_many.Goals.{After-write_bundle}
 use Rattle.ent_queue.proofs.queue.CommandQueue.spawn_many.Goals.{After-write_refused}
+use Rattle.ent_queue.proofs.queue.CommandQueue.spawn_many.Given as given
 use Rattle.ent_queue.proofs.queue.CommandQueue.spawn_many.Goals as goal
 use Rattle.ent_queue.specs.Packing.{command_bytes, bundle_bytes}
-use Rattle.ent_queue.specs.Reserving.{refused_by, IsReturned}
+use Rattle.ent_queue.specs.Reserving.{refused_by}
 
 pub overflow_add-self : goal.overflow_add-self
-overflow_add-self c = count_fits c.self.inside.count c.self.inside.bytes c.self.invariant
+overflow_add-self g c = count_fits c.self.inside.count c.self.inside.bytes c.self.invariant
 
 pub overflow_add-self-in-Err : goal.overflow_add-self-in-Err
-overflow_add-self-in-Err c = count_fits c.self.inside.count c.self.inside.bytes c.self.invariant
+overflow_add-self-in-Err g c = count_fits c.self.inside.count c.self.inside.bytes c.self.invariant
 
 -- the bytes after the spawn
-served : (c : After-write_bundle) → Pushed c.self.inside.count c.self.inside.bytes.items
+served : (g : given.Over) (c : After-write_bundle g) → Pushed c.self.inside.count c.self.inside.bytes.items
     c.write_bundle.new.bytes.items (SpawnMany c.in-Ok.given c.args.items.now)
-served c =
+served g c =
     let hs = c.in-Ok.given in
     let command = SpawnMany hs c.args.items.now in
     let few : length hs < 2 ^ 32 = subst (λ k. k < 2 ^ 32) (sym c.in-Ok.ensures.length)
@@ -31,58 +32,44 @@ served c =
     ∙ ap (λ bytes. bytes ++ command_bytes command) c.in_ok-reserve.ensures.items)
 
 pub invariant_of-self-in-Ok : goal.invariant_of-self-in-Ok
-invariant_of-self-in-Ok c = (served (goal.at.invariant_of-self-in-Ok c).After-write_bundle).packed
+invariant_of-self-in-Ok g c = (served g (goal.at.invariant_of-self-in-Ok g c).After-write_bundle).packed
 
 pub returns-in-Ok-clause-ok : goal.returns-in-Ok-clause-ok
-returns-in-Ok-clause-ok c =
+returns-in-Ok-clause-ok g c =
     let hs = c.in-Ok.given in
-    (served (goal.at.returns-in-Ok-clause-ok c).After-write_bundle).commands
+    (served g (goal.at.returns-in-Ok-clause-ok g c).After-write_bundle).commands
     ∙ ap (λ commands. commands ++ SpawnMany hs c.args.items.now ∷ []) c.self.view_is
     ∙ ap (λ gs. c.args.self.now ++ SpawnMany gs c.args.items.now ∷ [])
     (sym (c.write_many.ensures.handles ∙ ap (λ gs. gs ++ hs) c.in_ok-handles.ensures.items))
 
 -- and after a refusal
-refused : (c : After-write_refused) → Pushed c.self.inside.count c.self.inside.bytes.items
+refused : (g : given.Over) (c : After-write_refused g) → Pushed c.self.inside.count c.self.inside.bytes.items
     c.write_refused.new.bytes.items (Refused c.args.n c.in-Err.why)
-refused c =
+refused g c =
     let command = Refused c.args.n c.in-Err.why in
-    let replied : IsReturned c.args.shared.now c.args.reserver.now c.reserve_many.new.reserver
-    c.args.n
-    (Err c.in-Err.why) = record {
-      quota = c.in-Err.ensures.quota;
-      nothing = c.in-Err.ensures.nothing;
-      gains = c.in-Err.ensures.gains;
-    } in
-    let is = is_refusal c.args.shared.now c.args.reserver.now c.reserve_many.new.reserver c.args.n
-    c.in-Err.why replied c.write_refused.ensures.why in
+    let is = is_refusal c.args.n c.in-Err.why c.in-Err.ensures.wanted c.write_refused.ensures.why in
     pushed c.self.inside.count c.self.inside.bytes.items c.write_refused.new.bytes.items command
     c.self.invariant (c.write_refused.ensures.wanted, is)
     (c.write_refused.ensures.items ∙ ap (λ bytes. bytes ++ command_bytes command)
     c.in_ok-reserve.ensures.items)
 
 pub invariant_of-self-in-Err-1 : goal.invariant_of-self-in-Err-1
-invariant_of-self-in-Err-1 c =
-    (refused (goal.at.invariant_of-self-in-Err-1 c).After-write_refused).packed
+invariant_of-self-in-Err-1 g c =
+    (refused g (goal.at.invariant_of-self-in-Err-1 g c).After-write_refused).packed
 
 pub returns-in-Err-clause-refused : goal.returns-in-Err-clause-refused
-returns-in-Err-clause-refused c =
-    (refused (goal.at.returns-in-Err-clause-refused c).After-write_refused).commands
+returns-in-Err-clause-refused g c =
+    (refused g (goal.at.returns-in-Err-clause-refused g c).After-write_refused).commands
     ∙ ap (λ commands. commands ++ Refused c.args.n c.in-Err.why ∷ []) c.self.view_is
     ∙ ap (λ more. c.args.self.now ++ more) (sym (ap (refused_by c.args.n) c.from.ensures
     ∙ refused_by_fault c.args.n c.in-Err.why))
 
 pub returns-in-Ok-clause-replies : goal.returns-in-Ok-clause-replies
-returns-in-Ok-clause-replies c reply e =
+returns-in-Ok-clause-replies g c reply e =
     let hs = c.in-Ok.given in
     let listed : Ok hs ≡ reply = queued_ok reply hs
     (ap Ok (sym (c.write_many.ensures.handles
     ∙ ap (λ gs. gs ++ hs) c.in_ok-handles.ensures.items)) ∙ e) in
-    let given : IsReturned c.args.shared.now c.args.reserver.now c.reserve_many.new.reserver
-    c.args.n
-    (Ok hs) = record {
-      quota = c.in-Ok.ensures.quota;
-      nothing = c.in-Ok.ensures.nothing;
-      gains = c.in-Ok.ensures.gains;
-    } in
-    subst (IsReturned c.args.shared.now c.args.reserver.now c.reserve_many.new.reserver c.args.n)
-    listed given
+    subst (g.A.Serves.may_reply c.args.phase.now c.args.reserver.now c.serve_many.new.reserver
+    c.args.n)
+    listed c.in-Ok.ensures.replies

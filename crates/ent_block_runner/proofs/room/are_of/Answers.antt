@@ -1,7 +1,7 @@
 use Rattle.std.proofs.Common.{arith, refl, ◌≡◌, All}
 use Rattle.std.proofs.lemmas.List.{take_all}
 use Rattle.ent_blocks.specs.Blocks.{Reserver}
-use Rattle.ent_block_runner.proofs.running.are_of.Goals as goal
+use Rattle.ent_block_runner.proofs.room.are_of.Goals as goal
 
 pub returns : goal.returns
 returns g c =

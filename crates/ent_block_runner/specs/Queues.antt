@@ -1,0 +1,55 @@
+-- Systems of a frame that fill queues, each from a block of its own. What comes of it depends on the
+-- world, the blocks and the systems alone: there is no history, and no word of workers.
+use Rattle.std.specs.Prelude.{◌≡◌, ℕ, ◌<◌, ◌≤◌, ◌⊎◌, List, [], ◌∷◌, length, slice_get, Some}
+use Rattle.ent_alloc.specs.Sequential.{Allocator}
+use Rattle.ent_blocks.specs.Blocks.{Block, Phase, Reserver}
+use Rattle.ent_queue.specs.Command.{Command}
+use Rattle.ent_queue.specs.Drawing.{AreDrawnBy, Draws, after_commands}
+use Rattle.ent_runner.specs.Frame.{queue_at, SystemMayIssue, SystemMayHaveIssued}
+use Rattle.ent_world.specs.OpenWorld.{View}
+
+-- the blocks after systems have filled these queues
+abbrev pub blocks_after_queues : List Block → List (List Command) → List Block
+blocks_after_queues [] queues = []
+blocks_after_queues (b ∷ blocks) [] = b ∷ blocks
+blocks_after_queues (b ∷ blocks) (queue ∷ queues) =
+    after_commands b queue ∷ blocks_after_queues blocks queues
+
+-- All systems have run, and each has a queue that it may issue. The handles of each queue are the next
+-- ones of the system's block.
+pub record HaveIssued {S : Type 0} (may : S → View → List Command → Type 0) (systems : List S)
+    (view : View) (s : Allocator) (before : List Block) (queues : List (List Command))
+    (after : List Block) : Type 0 where
+  pub each_queue : length queues ≡ length systems
+  pub each_system : (n : ℕ) (system : S) → slice_get systems n ≡ Some system
+      → may system view (queue_at queues n)
+  pub draws : (n : ℕ) (block : Block) → slice_get before n ≡ Some block
+      → AreDrawnBy s block (queue_at queues n)
+  pub used : after ≡ blocks_after_queues before queues
+
+-- Some systems have run, at least one if there are any, and the workers stopped. A queue is what the
+-- system had issued when it ended or stopped.
+pub record HaveStopped {S : Type 0} (may leave : S → View → List Command → Type 0)
+    (systems : List S) (view : View) (s : Allocator) (before : List Block) : Type 0 where
+  pub count : ℕ
+  pub within : count ≤ length systems
+  pub some : 0 < length systems → 0 < count
+  pub queues : List (List Command)
+  pub each_queue : length queues ≡ count
+  pub each_system : (n : ℕ) → n < count
+      → SystemMayHaveIssued may leave systems view n (queue_at queues n)
+  pub draws : (n : ℕ) (block : Block) → n < count → slice_get before n ≡ Some block
+      → AreDrawnBy s block (queue_at queues n)
+  -- Why: a system ran out of memory, or some are left that no worker has room for.
+  pub why : ((n : ℕ) × (n < count) × SystemMayIssue leave systems view n (queue_at queues n))
+      ⊎ (count < length systems)
+
+-- For private contracts: the job of this number filled the queue from its own block, and hands back the
+-- queue and the reserver.
+pub record IssuesAt {S : Type 0} (may : S → View → List Command → Type 0) (systems : List S)
+    (view : View) (phase : Phase) (reservers : List Reserver) (n : ℕ)
+    (done : List Command × Reserver) : Type 0 where
+  pub system : SystemMayIssue may systems view n done.0
+  pub of_phase : done.1.number ≡ phase.number
+  pub draws : (r : Reserver) → slice_get reservers n ≡ Some r
+      → Draws phase.phase.start r.block done.0 done.1.block

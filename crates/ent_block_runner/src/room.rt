@@ -1,0 +1,106 @@
+//! What systems in blocks need before they run: a crew, and room for what they hand back.
+ghost use Rattle.std.specs.Prelude.{◌≡◌, ◌≢◌, ◌<◌, ◌≤◌, ◌^◌, ◌↔◌, ◌⊎◌, [], length, All, IfOk, OnOk, IsErrOf};
+ghost use Rattle.std.specs.Prelude.{IsTrue, vec_capacity};
+ghost use Rattle.ent_block_runner.specs.Running.{AreReady};
+ghost use Rattle.ent_block_runner.specs.declared.run_error.RunError.TheVariants as failed;
+
+use crate::BlockNumbering;
+use crate::run_error::{RunError, Unrun};
+use ent_blocks::{BlockReserver, Blocks};
+use ent_runner::Crew;
+use std::alloc::Global;
+
+/// How many workers there may be.
+pub(crate) const WORKERS: usize = 64;
+
+/// How many systems there may be.
+const SYSTEMS: usize = 65_536;
+
+/// A crew whose jobs hand back an `O` each, and a reserver, and a list for all of either.
+#[derive(Drop)]
+pub(crate) struct Room<J: BlockNumbering, O> {
+    pub(crate) crew: Crew<(O, BlockReserver<J>)>,
+    pub(crate) outputs: Vec<O>,
+    pub(crate) reservers: Vec<BlockReserver<J>>,
+}
+
+/// Room for that many systems, if each has a reserver of the phase.
+///
+/// # Errors
+///
+/// Any [`RunError`] but [`RunError::Lost`]. Of those, the first that holds.
+pub(crate) fn prepare<J: BlockNumbering, O: Drop>(
+    alloc: Global,
+    blocks: &Blocks<J>,
+    reservers: &[BlockReserver<J>],
+    systems: usize,
+    workers: usize,
+) -> Result<Room<J, O>, RunError>
+    ensures crew { IfOk result (λ room. (room.crew.jobs ≡ systems) × (room.crew.workers ≡ workers)) }
+    ensures few { OnOk result (workers ≤ 64) }
+    ensures ready { OnOk result (AreReady blocks.now systems reservers.now) }
+    ensures empty { IfOk result (λ room.
+        (room.outputs.items ≡ []) × (room.reservers.items ≡ [])) }
+    ensures outputs { IfOk result (λ room. systems ≤ vec_capacity room.outputs) }
+    ensures reservers { IfOk result (λ room. systems ≤ vec_capacity room.reservers) }
+    ensures of_workers { IsErrOf result failed.Workers ↔ ((workers ≡ 0) ⊎ (64 < workers)) }
+    ensures of_systems { IsErrOf result failed.Systems
+        ↔ ((0 < workers) × (workers ≤ 64) × (2 ^ 16 < systems)) }
+    ensures of_reservers { IsErrOf result failed.Reservers
+        ↔ ((0 < workers) × (workers ≤ 64) × (systems ≤ 2 ^ 16)
+        × (length reservers.now ≢ systems)) }
+    ensures other_phase { IsErrOf result failed.OtherPhase
+        ↔ ((0 < workers) × (workers ≤ 64) × (systems ≤ 2 ^ 16)
+        × (length reservers.now ≡ systems)
+        × ¬ (All (λ r. r.number ≡ blocks.now.number) reservers.now)) }
+    ensures not_lost { ¬ (IsErrOf result failed.Lost) }
+{
+    if workers == 0 || workers > WORKERS {
+        return Err(RunError::Workers);
+    }
+    if systems > SYSTEMS {
+        return Err(RunError::Systems);
+    }
+    if reservers.len() != systems {
+        return Err(RunError::Reservers);
+    }
+    if !are_of(blocks, reservers) {
+        return Err(RunError::OtherPhase);
+    }
+    let Ok(crew) = Crew::new(alloc, systems, workers) else {
+        return Err(RunError::Memory);
+    };
+    let Ok(outputs) = Vec::with_capacity(alloc, systems) else {
+        return Err(RunError::Memory);
+    };
+    let Ok(returned) = Vec::with_capacity(alloc, systems) else {
+        return Err(RunError::Memory);
+    };
+    Ok(Room {
+        crew,
+        outputs,
+        reservers: returned,
+    })
+}
+
+/// Whether all reservers are of this phase.
+fn are_of<J: BlockNumbering>(blocks: &Blocks<J>, reservers: &[BlockReserver<J>]) -> bool
+    ensures { IsTrue result ↔ All (λ r. r.number ≡ blocks.now.number) reservers.now }
+{
+    for reserver in reservers {
+        if !reserver.is_of(blocks) {
+            return false;
+        }
+    }
+    true
+}
+
+pub(crate) fn unrun<J: BlockNumbering>(
+    reservers: Vec<BlockReserver<J>>,
+    error: RunError,
+) -> Unrun<J>
+    ensures reservers { result.reservers.items ≡ reservers.items }
+    ensures error { result.error ≡ error }
+{
+    Unrun { reservers, error }
+}

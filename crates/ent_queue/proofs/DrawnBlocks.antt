@@ -1,0 +1,213 @@
+-- What commands draw from a block, one by one and together.
+use Rattle.std.proofs.Common.{rules, ◌≡◌, refl, sym, ap, ◌∙◌, subst, ℕ, ◌+◌, ◌-◌, ◌<◌, List, [], ◌∷◌}
+use Rattle.std.proofs.Common.{◌++◌, take, length, arith, append-nil, Result, Ok, Err}
+use Rattle.std.proofs.Common.{IfOk, IfErr, OnOk, OnErr, IsErrOf, Vec, Global}
+use Rattle.std.specs.List.{sum_by}
+use Rattle.std.proofs.lemmas.Grind.{common_steps}
+use Rattle.std.proofs.lemmas.List.Sums.{sum_by-append, sum_by-cons}
+use Rattle.ent_handle.specs.Handle.{Handle}
+use Rattle.ent_alloc.specs.Sequential.{Allocator, reply_from, listed, listed_alone}
+use Rattle.ent_alloc.specs.Fault.{as_reserve_error}
+use Rattle.ent_alloc.specs.declared.refused.Refused.{Refused as Refusal}
+use Rattle.ent_alloc.specs.declared.refused.Refused.TheVariants.{Space, Quota}
+use Rattle.ent_alloc.specs.declared.reserve_error.ReserveError.{ReserveError as QueueFault}
+use Rattle.ent_alloc.specs.declared.reserve_error.ReserveError.TheVariants as fault
+use Rattle.ent_blocks.specs.Blocks.{Block, Phase, Reserver, rest_of, after_use}
+use Rattle.ent_storage.specs.Bundle.{Bundle}
+use Rattle.ent_queue.specs.Command.{Command, Spawn, SpawnMany, Refused}
+use Rattle.ent_queue.specs.Reserving.{queued, as_list, refused_by}
+use Rattle.ent_queue.specs.Drawing.{IsDrawn, IsDrawnBy, AreDrawnBy, Draws, left_of, used_by}
+use Rattle.ent_queue.specs.Drawing.{after_commands}
+use Rattle.ent_queue.specs.InBlocks.{Issuing, ExtendsInBlocks}
+
+-- a reply with one handle lists the first one, and that is the first one
+pub one_listed : (made : ℕ) (rest : List Handle) (h : Handle)
+    → reply_from made rest 1 ≡ Ok (h ∷ []) → h ∷ [] ≡ listed made (take 1 rest)
+one_listed made [] h is = absurd (cc)
+one_listed made (x ∷ rest) h is = grind (arith, common_steps)
+
+single : (made : ℕ) (x : Handle) → listed made (x ∷ []) ≡ x ∷ []
+single made x = grind (arith, common_steps)
+
+first_listed : (made : ℕ) (rest : List Handle) (h : Handle)
+    → h ∷ [] ≡ listed made (take 1 rest) → h ∷ [] ≡ take 1 rest
+first_listed made [] h is = is
+first_listed made (x ∷ rest) h is = is ∙ single made x
+
+-- a request that is served, and one that is not
+pub drawn_given : (phase : Phase) (before after : Reserver) (n : ℕ) (hs : List Handle)
+    → hs ≡ listed phase.phase.start.made (take n (rest_of phase.phase.start.pool before.block))
+    → length hs ≡ n → after ≡ record before { block = after_use before.block n }
+    → IsDrawn phase before after n (Ok hs)
+drawn_given phase before after n hs given number used =
+    record { given = given; number = number; used = used; refused = tt; unchanged = tt }
+
+pub drawn_refused : (phase : Phase) (before after : Reserver) (n left : ℕ)
+    → left ≡ left_of before.block → left < n → after ≡ before
+    → IsDrawn phase before after n (Err (Space n left))
+drawn_refused phase before after n left is less same = record {
+  given = tt;
+  number = tt;
+  used = tt;
+  refused = (ap (Space n) is, omega (arith, is));
+  unchanged = same;
+}
+
+-- of commands one by one
+pub draws_nothing : (s : Allocator) (b : Block) → Draws s b [] b
+draws_nothing s b = record { each = tt; used = search rules }
+
+one_used : (c : Command) → sum_by used_by (c ∷ []) ≡ used_by c
+one_used c = grind (arith, common_steps)
+
+pub draws_one : (s : Allocator) (b after : Block) (c : Command) → IsDrawnBy s b c
+    → after ≡ after_use b (used_by c) → Draws s b (c ∷ []) after
+draws_one s b after c is used = record { each = (is, tt); used = rw (one_used c) used }
+
+pub draws_still : (s : Allocator) (b : Block) (c : Command) → IsDrawnBy s b c → used_by c ≡ 0
+    → Draws s b (c ∷ []) b
+draws_still s b c is none = draws_one s b b c is (rw none (draws_nothing s b).used)
+
+used_then : (b : Block) (m n : ℕ) → after_use (after_use b m) n ≡ after_use b (m + n)
+used_then b m n =
+    let same : (b.used + m) + n ≡ b.used + (m + n) = omega arith in
+    ap (λ k. record b { used = k }) same
+
+after_then : (b : Block) (cs ds : List Command)
+    → after_commands (after_commands b cs) ds ≡ after_commands b (cs ++ ds)
+after_then b cs ds = used_then b (sum_by used_by cs) (sum_by used_by ds)
+    ∙ ap (after_use b) (sym (sum_by-append used_by cs ds))
+
+after_first : (b : Block) (c : Command) (cs : List Command)
+    → after_commands b (c ∷ cs) ≡ after_commands (after_use b (used_by c)) cs
+after_first b c cs = ap (after_use b) (sum_by-cons used_by c cs)
+    ∙ sym (used_then b (used_by c) (sum_by used_by cs))
+
+each_then : (s : Allocator) (b : Block) (cs ds : List Command) → AreDrawnBy s b cs
+    → AreDrawnBy s (after_commands b cs) ds → AreDrawnBy s b (cs ++ ds)
+each_then s b [] ds first second =
+    subst (λ (b : Block). AreDrawnBy s b ds) (sym (draws_nothing s b).used) second
+each_then s b (c ∷ cs) ds first second = (
+  first.0,
+  each_then s (after_use b (used_by c)) cs ds first.1
+      (subst (λ (b : Block). AreDrawnBy s b ds) (after_first b c cs) second),
+)
+
+-- the commands of two queues, one after the other
+pub draws_then : (s : Allocator) (a b c : Block) (cs ds : List Command) → Draws s a cs b
+    → Draws s b ds c → Draws s a (cs ++ ds) c
+draws_then s a b c cs ds first second = record {
+  each = each_then s a cs ds first.each
+      (subst (λ (b : Block). AreDrawnBy s b ds) first.used second.each);
+  used = second.used ∙ ap (λ (b : Block). after_commands b ds) first.used ∙ after_then a cs ds;
+}
+
+-- the commands that a call added, and what they drew from the block
+pub record AddedInBlocks (s : Allocator) (old new : List Command) (before after : Reserver)
+    : Type 0 where
+  pub number : after.number ≡ before.number
+  pub added : List Command
+  pub queue : new ≡ old ++ added
+  pub draws : Draws s before.block added after.block
+
+pub extends_in_blocks : (a b : Issuing) → b.phase ≡ a.phase
+    → AddedInBlocks a.phase.phase.start a.queue b.queue a.reserver b.reserver → ExtendsInBlocks a b
+extends_in_blocks a b phase more = record {
+  phase = phase;
+  number = more.number;
+  added = more.added;
+  queue = more.queue;
+  draws = more.draws;
+}
+
+nothing_added : (s : Allocator) (old new : List Command) (before after : Reserver)
+    → new ≡ old ++ [] → after ≡ before → AddedInBlocks s old new before after
+nothing_added s old new before after queue same = record {
+  number = ap (λ (r : Reserver). r.number) same;
+  added = [];
+  queue = queue;
+  draws = rw same (draws_nothing s before.block);
+}
+
+-- a command that reserves nothing, or no command
+pub still_added : {E : Type 0} (s : Allocator) (old new : List Command) (r : Reserver) (c : Command)
+    (result : Result (Unit {0}) E) → IsDrawnBy s r.block c → used_by c ≡ 0
+    → OnOk result (new ≡ old ++ c ∷ []) → OnErr result (new ≡ old) → AddedInBlocks s old new r r
+still_added s old new r c (Ok it) is none ok err = record {
+  number = refl;
+  added = c ∷ [];
+  queue = ok;
+  draws = draws_still s r.block c is none;
+}
+still_added s old new r c (Err e) is none ok err =
+    nothing_added s old new r r (err ∙ sym (append-nil old)) refl
+
+same_fault : (f g : QueueFault) → ◌≡◌ {A = Result (List Handle) QueueFault} (Err f) (Err g) → f ≡ g
+same_fault f g e = cc
+
+space_is : (n m k left : ℕ) → Space m left ≡ Space n k → (m ≡ n) × (left ≡ k)
+space_is n m k left same = (cc, cc)
+
+module _ (phase : Phase) (old new : List Command) (before after : Reserver) where
+  abbrev pub start : Allocator
+  start = phase.phase.start
+
+  added_served : (n : ℕ) (hs : List Handle) (c : Command) → IsDrawn phase before after n (Ok hs)
+      → IsDrawnBy start before.block c → used_by c ≡ n → new ≡ old ++ c ∷ []
+      → AddedInBlocks start old new before after
+  added_served n hs c replied is many queue = record {
+    number = ap (λ (r : Reserver). r.number) replied.used;
+    added = c ∷ [];
+    queue = queue;
+    draws = draws_one start before.block after.block c is
+        (rw many (ap (λ (r : Reserver). r.block) replied.used));
+  }
+
+  added_refusal : (n : ℕ) (f : QueueFault) → new ≡ old ++ refused_by n f
+      → (f ≡ fault.Memory → after ≡ before)
+      → ((why : Refusal) → Err f ≡ queued {X = List Handle} (Err why)
+      → IsDrawn phase before after n (Err why)) → AddedInBlocks start old new before after
+  added_refusal n (fault.Space wanted left) queue memory replied =
+      let d = replied (Space wanted left) refl in
+      let is = space_is n wanted (left_of before.block) left d.refused.0 in
+      record {
+        number = ap (λ (r : Reserver). r.number) d.unchanged;
+        added = Refused n (Space wanted left) ∷ [];
+        queue = queue;
+        draws = rw d.unchanged (draws_still start before.block (Refused n (Space wanted left))
+            (is.0, is.1, omega (arith, is.1, d.refused.1)) refl);
+      }
+  added_refusal n (fault.Quota left) queue memory replied =
+      let d = replied (Quota left) refl in
+      let no = d.refused.0 in
+      absurd (cc)
+  added_refusal n fault.Memory queue memory replied =
+      nothing_added start old new before after queue (memory refl)
+
+  pub spawn_added : (items : Bundle) (result : Result Handle QueueFault)
+      → IfOk result (λ h. new ≡ old ++ Spawn h items ∷ [])
+      → IfErr result (λ f. new ≡ old ++ refused_by 1 f)
+      → (IsErrOf result fault.Memory → after ≡ before)
+      → ((reply : Result Handle Refusal) → result ≡ queued reply
+      → IsDrawn phase before after 1 (listed_alone reply)) → AddedInBlocks start old new before after
+  spawn_added items (Ok h) ok refused memory replied =
+      let d = replied (Ok h) refl in
+      added_served 1 (h ∷ []) (Spawn h items) d
+      (first_listed start.made (rest_of start.pool before.block) h d.given) refl ok
+  spawn_added items (Err f) ok refused memory replied =
+      added_refusal 1 f refused (λ e. memory (ap Err e))
+      (λ why e. replied (Err why) (ap Err (same_fault f (as_reserve_error why) e)))
+
+  pub many_added : (n : ℕ) (items : Bundle) (result : Result (Vec Handle Global) QueueFault)
+      → IfOk result (λ hs. new ≡ old ++ SpawnMany hs.items items ∷ [])
+      → IfErr result (λ f. new ≡ old ++ refused_by n f)
+      → (IsErrOf result fault.Memory → after ≡ before)
+      → ((reply : Result (List Handle) Refusal) → as_list result ≡ queued reply
+      → IsDrawn phase before after n reply) → AddedInBlocks start old new before after
+  many_added n items (Ok hs) ok refused memory replied =
+      let d = replied (Ok hs.items) refl in
+      added_served n hs.items (SpawnMany hs.items items) d
+      (subst (λ (k : ℕ). hs.items ≡ listed start.made (take k (rest_of start.pool before.block)))
+      (sym d.number) d.given) d.number ok
+  many_added n items (Err f) ok refused memory replied =
+      added_refusal n f refused (λ e. memory (ap Err e)) (λ why e. replied (Err why) e)

@@ -1,0 +1,33 @@
+-- For who writes a system, or any function that issues commands from a block: what its calls add up to.
+-- Put `#[tactic(auto, using(ent_queue::proofs::ExtendingInBlocks::extends_then))]` above it.
+use Rattle.std.proofs.Common.{refl, sym, ◌∙◌, [], ◌++◌, ap, subst, append-nil, append_assoc}
+use Rattle.std.specs.Prelude.{List}
+use Rattle.ent_blocks.specs.Blocks.{Phase}
+use Rattle.ent_queue.specs.Command.{Command}
+use Rattle.ent_queue.specs.Drawing.{Draws}
+use Rattle.ent_queue.specs.InBlocks.{Issuing, ExtendsInBlocks}
+use Rattle.ent_queue.proofs.DrawnBlocks.{draws_nothing, draws_then}
+
+-- where nothing is issued: on a path without a call, and before the first turn of a loop
+pub extends_nothing : (a : Issuing) → ExtendsInBlocks a a
+extends_nothing a = record {
+  phase = refl;
+  number = refl;
+  added = [];
+  queue = sym (append-nil a.queue);
+  draws = draws_nothing a.phase.phase.start a.reserver.block;
+}
+
+-- where one call follows another, also over the turns of a loop
+pub extends_then : (a b c : Issuing) → ExtendsInBlocks a b → ExtendsInBlocks b c
+    → ExtendsInBlocks a c
+extends_then a b c first second = record {
+  phase = second.phase ∙ first.phase;
+  number = second.number ∙ first.number;
+  added = first.added ++ second.added;
+  queue = second.queue ∙ ap (λ (cs : List Command). cs ++ second.added) first.queue
+      ∙ append_assoc a.queue first.added second.added;
+  draws = draws_then a.phase.phase.start a.reserver.block b.reserver.block c.reserver.block first.added
+      second.added first.draws (subst (λ (p : Phase). Draws p.phase.start b.reserver.block
+      second.added c.reserver.block) first.phase second.draws);
+}

@@ -1,0 +1,36 @@
+// Made of crates/ent_block_runner/src/queue_stage.rt by rust/erase. It isn't edited by hand.
+
+//! Systems that fill queues from blocks are the jobs of a crew.
+use crate::proved::ent_block_runner::system_in_blocks::SystemInBlocks;
+use crate::proved::ent_blocks::{BlockReserver, Blocks, again};
+use crate::proved::ent_handle::Memory;
+use crate::proved::ent_queue::{CommandQueue, CommandsInBlocks};
+use crate::proved::ent_runner::Jobs;
+use crate::proved::ent_world::View;
+
+/// The systems that fill queues together, each with the reserver at its number, and the world that they
+/// see.
+pub(super) struct QueueStage<'b, 'r, 'v, 's, S> {
+    pub(super) blocks: &'b Blocks,
+    pub(super) reservers: &'r [BlockReserver],
+    pub(super) view: View<'v>,
+    pub(super) systems: &'s [S],
+}
+
+/// Nothing is lent to them: each has its own reserver.
+impl<S: SystemInBlocks> Jobs<(CommandQueue, BlockReserver), ()>
+    for QueueStage<'_, '_, '_, '_, S> {
+    /// Runs the system of this number, which is run once. Its queue has what it issued, also if it
+    /// stopped.
+    #[inline]
+    fn run(
+        &self,
+        number: usize,
+        lent: &mut (),
+    ) -> ((CommandQueue, BlockReserver), Result<(), Memory>) {
+        let reserver = again(&self.reservers[number]);
+        let mut commands = CommandsInBlocks::new(self.blocks, reserver);
+        let ran = self.systems[number].run(&self.view, &mut commands);
+        (commands.finish(), ran)
+    }
+}

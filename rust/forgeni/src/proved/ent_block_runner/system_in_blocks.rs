@@ -1,0 +1,36 @@
+// Made of crates/ent_block_runner/src/system_in_blocks.rt by rust/erase. It isn't edited by hand.
+
+use crate::proved::ent_handle::Memory;
+use crate::proved::ent_queue::CommandsInBlocks;
+use crate::proved::ent_world::View;
+
+/// A system of a frame in blocks: it reads the world as the frame began, and issues commands, with
+/// handles from a block of its own. They take effect at the frame's sync point.
+///
+/// One value of it may run on any worker, so what it knows of the world is what the view says.
+pub trait SystemInBlocks {
+    /// Runs it once.
+    ///
+    /// # Errors
+    ///
+    /// `Memory`, if the system ran out of memory. All queues and all reservers are then dropped.
+    ///
+    /// <details><summary>Contract</summary>
+    ///
+    /// In the words of the folder `specs/` of crate `ent_block_runner`:
+    ///
+    /// ```text
+    /// ensures extends { ExtendsInBlocks commands.old commands.new }
+    /// ensures may { commands.old.queue ≡ []
+    ///     → OnOk result (may_issue self.now view.now commands.new.queue) }
+    /// ensures leaves { commands.old.queue ≡ []
+    ///     → OnErr result (may_leave self.now view.now commands.new.queue) }
+    /// ```
+    ///
+    /// </details>
+    fn run(
+        &self,
+        view: &View<'_>,
+        commands: &mut CommandsInBlocks<'_>,
+    ) -> Result<(), Memory>;
+}
