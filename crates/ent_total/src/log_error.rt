@@ -22,7 +22,7 @@ pub enum LogError {
     #[error("out of memory while the systems ran")]
     Lost,
     /// All systems ran, and there is no memory for what is born. The handles that they reserved stay
-    /// reserved, and no others. [`run_logs`](crate::run_logs) never returns it.
+    /// reserved, and no others. `run_logs` never returns it.
     #[error("out of memory for what is born")]
     Unborn,
 }

@@ -17,7 +17,7 @@ pub enum LogError {
     /// no others: the next flush brings them to life.
     Lost,
     /// All systems ran, and there is no memory for what is born. The handles that they reserved stay
-    /// reserved, and no others. [`run_logs`](crate::proved::ent_total::run_logs) never returns it.
+    /// reserved, and no others. `run_logs` never returns it.
     Unborn,
 }
 
