@@ -132,7 +132,9 @@ class Cases:
             value = self.spoil_value(value)
         text = json.dumps(value, ensure_ascii=self.rarely(0.5), indent=self.pick([None, None, 1]), separators=self.pick([None, (",", ":")]))
         shown = self.pick([["--show", "births"], ["--show=handles"], []])
-        workers = [] if shown == ["--show=handles"] else self.pick([[], ["--workers", "3"]])
+        # With a handle or few slots a report may depend on which system reserved first.
+        depends = shown == ["--show=handles"] or '"handle"' in text or '"slots"' in text
+        workers = [] if depends else self.pick([[], ["--workers", "3"]])
         return "spawnrun", ["run", *shown, *workers], text.encode()
 
     # Traces.
