@@ -224,7 +224,10 @@ impl<'a> Command<'a> {
     ) -> Result<Error, AllocError> {
         let mut fault = super::super::format!("unexpected argument '--{name}' found")?;
         let like = self.option_like(name)?;
-        let usage = self.usage_with(matches.used().chain(pending), like)?;
+        // An option that comes twice isn't shown.
+        let before = matches.used().filter(|it| Some(*it) != pending);
+        let pending = pending.filter(|it| !matches.is_used(*it));
+        let usage = self.usage_with(before.chain(pending), like)?;
         match like {
             Some(option) => write!(fault, "\n\n  tip: a similar argument exists: '--{option}'")?,
             None => self.add_option_of_subcommand(&mut fault, name, rest)?,

@@ -167,6 +167,15 @@ fn words_that_are_not_expected() {
         "unexpected argument 'x' found\n\nUsage: program run [OPTIONS]",
     );
     refuses(
+        &["run", "--workers", "1", "--x"],
+        "unexpected argument '--x' found\n\nUsage: program run --workers <N>",
+    );
+    // The option that comes twice isn't shown.
+    refuses(
+        &["run", "--workers", "1", "--workers", "1", "--x"],
+        "unexpected argument '--x' found\n\nUsage: program run [OPTIONS]",
+    );
+    refuses(
         &["--", "run"],
         "unexpected argument 'run' found\n\n  tip: subcommand 'run' exists; to use it, remove the '--' before it\n\nUsage: program <COMMAND>",
     );
