@@ -64,7 +64,7 @@ of_phase blocks b laid has =
 
 -- ---- closing
 
-size-portions : (blocks : List Block) → size_of (portions_of blocks) ≡ dealt blocks
+pub size-portions : (blocks : List Block) → size_of (portions_of blocks) ≡ dealt blocks
 size-portions [] = refl
 size-portions (b ∷ blocks) = ap (λ n. b.size + n) (size-portions blocks)
 

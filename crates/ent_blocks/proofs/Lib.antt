@@ -4,3 +4,4 @@ pub mod Given
 pub mod Accounts
 pub mod Phases
 pub mod Openings
+pub mod Waiting

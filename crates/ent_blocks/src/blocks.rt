@@ -1,15 +1,15 @@
 ghost use Rattle.std.specs.Prelude.{◌≡◌, ◌≢◌, ℕ, ◌+◌, ◌-◌, ◌<◌, ◌≤◌, ◌⊎◌, ◌↔◌, ◌++◌, ◌∷◌, []};
 ghost use Rattle.std.specs.Prelude.{length, take, map, IfOk, IfErr, OnOk, OnErr, IsErrOf, IsTrue};
 ghost use Rattle.std.specs.Prelude.{All, AllPairs, Contains};
-ghost use Rattle.std.specs.Prelude.{Ok, vec_len, vec_capacity, true, OnSome};
+ghost use Rattle.std.specs.Prelude.{Ok, vec_len, vec_capacity, true, OnSome, max};
 ghost use Rattle.std.specs.FinSet as set;
 ghost use Rattle.std.specs.FinMap as maps;
 ghost use Rattle.ent_handle.specs.Handle.{Handle as HandleValue};
-ghost use Rattle.ent_alloc.specs.Sequential.{after_flush, reply_from, listed, listed_alone};
+ghost use Rattle.ent_alloc.specs.Sequential.{after_flush, reply_from, listed, listed_alone, top};
 ghost use Rattle.ent_alloc.specs.Sound.{IsLive};
 ghost use Rattle.ent_alloc.specs.Entities.{HasRowsOfLiving};
 ghost use Rattle.ent_blocks.specs.Blocks.{rest_of, unused, blocks_of, are_among, accounted};
-ghost use Rattle.ent_blocks.specs.Blocks.{after_use};
+ghost use Rattle.ent_blocks.specs.Blocks.{after_use, dealt};
 ghost use Rattle.ent_blocks.specs.Faults.{IsErrWith, IsMissing};
 ghost use Rattle.ent_blocks.specs.declared.block_error.BlockError.TheVariants as refused;
 ghost use Rattle.ent_blocks.specs.declared.unended.EndError.TheVariants as failed;
@@ -301,6 +301,8 @@ impl<J: BlockNumbering> Blocks<J> {
             ≡ after_blocks self.phase.start (blocks_of reservers.items)) }
         ensures rows { IfOk result (λ entities. entities.rows ≡ self.phase.rows) }
         ensures rows_of_living { IfOk result HasRowsOfLiving }
+        ensures waiting { IfOk result (λ entities.
+            top entities.allocator ≤ max (top self.phase.start) (dealt self.phase.blocks)) }
 
         // No handle was given twice, and none was alive.
         ensures distinct { IfOk result (λ entities.
@@ -370,6 +372,8 @@ impl<J: BlockNumbering> Blocks<J> {
             self.phase.start (accounted self.phase.blocks (blocks_of reservers.items))) }
         ensures rows { IfOk result (λ entities. entities.rows ≡ self.phase.rows) }
         ensures rows_of_living { IfOk result HasRowsOfLiving }
+        ensures waiting { IfOk result (λ entities.
+            top entities.allocator ≤ max (top self.phase.start) (dealt self.phase.blocks)) }
 
         // No handle is taken twice, and none was alive. A flush brings to life exactly these.
         ensures distinct { IfOk result (λ entities.
@@ -410,6 +414,8 @@ impl<J: BlockNumbering> Blocks<J> {
             self.phase.start (accounted self.phase.blocks (blocks_of reservers.items))) }
         ensures rows { IfOk result (λ entities. entities.rows ≡ self.phase.rows) }
         ensures rows_of_living { IfOk result HasRowsOfLiving }
+        ensures waiting { IfOk result (λ entities.
+            top entities.allocator ≤ max (top self.phase.start) (dealt self.phase.blocks)) }
         ensures distinct { IfOk result (λ entities.
             AllPairs (λ g h. g ≢ h) entities.allocator.taken) }
         ensures not_live { IfOk result (λ entities.

@@ -1,13 +1,15 @@
 use Rattle.std.proofs.Common.{◌≡◌, ◌≢◌, ◌⊎◌, ◌↔◌, sym, ap, ◌∙◌, subst, arith, List}
-use Rattle.std.proofs.Common.{map, All, AllPairs, Contains}
+use Rattle.std.proofs.Common.{map, All, AllPairs, Contains, max, ◌≤◌}
 use Rattle.ent_handle.specs.Handle.{Handle}
-use Rattle.ent_alloc.specs.Sequential.{Allocator, after_flush}
+use Rattle.ent_alloc.specs.Sequential.{Allocator, after_flush, top}
 use Rattle.ent_alloc.specs.Sound.{IsLive}
 use Rattle.ent_alloc.specs.Portions.{AreUsed}
 use Rattle.ent_blocks.specs.Blocks.{Block, Phase, dealt, unused, AreLaid, portions_of, after_blocks}
 use Rattle.ent_blocks.specs.Blocks.{accounted, blocks_of}
 use Rattle.ent_blocks.proofs.Accounts.{unused_accounted}
+use Rattle.ent_blocks.proofs.Dealing.{dealt-unused}
 use Rattle.ent_blocks.proofs.Phases.{closing}
+use Rattle.ent_blocks.proofs.Waiting.{waiting}
 use Rattle.ent_blocks.proofs.Given.{used-distinct, used-not_live, used-live}
 use Rattle.ent_blocks.proofs.blocks.Blocks.end_with.Goals as goal
 
@@ -108,3 +110,23 @@ returns-clause-brings_to_life g c =
     (subst (λ (t : Allocator). (h : Handle) → IsLive (after_flush t) h
     ↔ (IsLive s h ⊎ Contains t.taken h)) (sym after)
     (used-live s all inv.sound inv.flushed closes.laid closes.within fits))
+
+pub returns-clause-waiting : goal.returns-clause-waiting
+returns-clause-waiting g c =
+    let s = c.self.inside.entities.allocator in
+    let bs = c.self.inside.parts.items in
+    let rs = blocks_of c.args.reservers.items in
+    let all = accounted bs rs in
+    let inv = c.self.invariant.0 in
+    let closes = closing s bs rs inv in
+    let is : c.deref-3.result.now ≡ all = c.deref-3.ensures.value ∙ c.in-Ok.ensures.ok
+    ∙ (λ i. accounted (c.deref.ensures.value i) (blocks_of (c.deref-2.ensures.value i))) in
+    let fits : AreUsed (portions_of all) =
+    subst (λ (bs : List Block). AreUsed (portions_of bs)) is c.in-Ok-take_used.ensures.used in
+    let after : c.take_used.new.entities.allocator ≡ after_blocks s all =
+    c.in-Ok-take_used.ensures.ok ∙ ap (after_blocks s) is in
+    let long : dealt all ≡ dealt bs = sym (dealt-unused all) ∙ ap dealt (unused_accounted 0 bs rs inv.laid) in
+    let most = waiting s all inv.sound inv.flushed closes.laid closes.within fits in
+    subst (λ (p : Phase). top c.take_used.new.entities.allocator
+    ≤ max (top p.phase.start) (dealt p.phase.blocks)) c.self.view_is
+    (omega (arith, ap top after, long, most))

@@ -1,0 +1,102 @@
+-- How many slots wait after a close: those that waited before, or no more than were dealt.
+use Rattle.std.proofs.Common.{rules, ◌≡◌, ◌≢◌, ◌⊎◌, inl, inr, sym, ap, ◌∙◌, subst, ℕ, ◌+◌, ◌-◌, ◌≤◌, max}
+use Rattle.std.proofs.Common.{List, ◌++◌, length, take, drop, map, arith, length-append, length-drop, length-take-le}
+use Rattle.std.specs.List.Sorted.{IsPermutation}
+use Rattle.std.proofs.lemmas.List.Sorted.{length_permutation}
+use Rattle.std.proofs.lemmas.Bool.{cases_eq}
+use Rattle.std.proofs.lemmas.Grind.{common_steps}
+use Rattle.ent_handle.specs.Handle.{Handle}
+use Rattle.ent_alloc.specs.Front.{with_front}
+use Rattle.ent_alloc.specs.Portions.{AreUsed, arranged, after_portions, front_of, count_of, reach_of, size_of}
+use Rattle.ent_alloc.specs.Sequential.{Allocator, available, top}
+use Rattle.ent_alloc.specs.Sound.{IsSound}
+use Rattle.ent_alloc.specs.declared.portion.Portion.{Portion}
+use Rattle.ent_alloc.proofs.FrontPools.{with_front-sound}
+use Rattle.ent_alloc.proofs.LaidOut.{flushed-laid_out}
+use Rattle.ent_alloc.proofs.PoolLaw.{top-after_take}
+use Rattle.ent_alloc.proofs.PortionPools.{portions_taken}
+use Rattle.ent_alloc.proofs.Portioned.{front_same, reach_within}
+use Rattle.ent_alloc.proofs.Taken.{length-available}
+use Rattle.ent_blocks.specs.Blocks.{Block, dealt, unused, AreLaid, portions_of, after_blocks}
+use Rattle.ent_blocks.proofs.Dealing.{closed_is, portions_within, size-portions}
+
+module _ (s : Allocator) (ps : List Portion) (sound : IsSound s) (flushed : s.asked ≡ 0)
+    (fits : AreUsed ps) (within : size_of ps ≤ length s.pool) where
+  abbrev front : List Handle
+  front = front_of s.pool ps
+
+  reached : reach_of ps ≤ length s.pool
+  reached = omega (arith, reach_within ps fits)
+
+  front_long : length front ≡ reach_of ps
+  front_long = length_permutation (take (reach_of ps) s.pool) front (front_same s.pool ps fits within)
+      ∙ length-take-le (reach_of ps) s.pool reached
+
+  front_sound : IsSound (with_front s front)
+  front_sound = with_front-sound s front sound flushed (omega (arith, front_long, reached))
+      (subst (λ n. IsPermutation (take n s.pool) front) (sym front_long)
+      (front_same s.pool ps fits within))
+
+  -- with nothing reserved, all that there is to give is the pool
+  pool_long : length (available s) ≡ length s.pool
+  pool_long =
+      let laid = flushed-laid_out s sound flushed in
+      let none = sound.pool in
+      grind (arith, common_steps)
+
+  front_available : length (available (with_front s front)) ≡ length s.pool
+  front_available =
+      let laid = flushed-laid_out (with_front s front) front_sound flushed in
+      let none = front_sound.pool in
+      let long = length-append front (drop (length front) s.pool) in
+      let rest = length-drop (length front) s.pool in
+      let whole : length (with_front s front).pool ≡ length s.pool =
+      omega (arith, long, rest, front_long, reached) in
+      grind (arith, common_steps)
+
+  top_front : top (with_front s front) ≤ max (top s) (size_of ps)
+  top_front =
+      let before = length-available s sound in
+      let after = length-available (with_front s front) front_sound in
+      let made = front_sound.made in
+      let long = reach_within ps fits in
+      omega (arith, before, after, made, long, pool_long, front_available, front_long)
+
+  top_arranged : top (arranged s ps) ≤ max (top s) (size_of ps)
+  top_arranged = by_count (cases_eq (count_of ps) (reach_of ps))
+    where
+      by_count : (count_of ps ≡ reach_of ps) ⊎ (count_of ps ≢ reach_of ps)
+          → top (arranged s ps) ≤ max (top s) (size_of ps)
+      by_count (inl all) =
+          let is : arranged s ps ≡ s = grind (arith, common_steps) in omega (arith, ap top is)
+      by_count (inr short) =
+          let is : arranged s ps ≡ with_front s front = grind (arith, common_steps) in
+          omega (arith, ap top is, top_front)
+
+  arranged_sound : IsSound (arranged s ps)
+  arranged_sound = by_count (cases_eq (count_of ps) (reach_of ps))
+    where
+      by_count : (count_of ps ≡ reach_of ps) ⊎ (count_of ps ≢ reach_of ps) → IsSound (arranged s ps)
+      by_count (inl all) =
+          let is : arranged s ps ≡ s = grind (arith, common_steps) in subst IsSound (sym is) sound
+      by_count (inr short) =
+          let is : arranged s ps ≡ with_front s front = grind (arith, common_steps) in
+          subst IsSound (sym is) front_sound
+
+  top_portions : top (after_portions s ps) ≤ max (top s) (size_of ps)
+  top_portions =
+      let taken = portions_taken s ps fits within (flushed-laid_out s sound flushed).taken flushed in
+      omega (
+        arith,
+        ap top taken,
+        top-after_take (arranged s ps) (count_of ps) arranged_sound,
+        top_arranged,
+      )
+
+pub waiting : (s : Allocator) (blocks : List Block) → IsSound s → s.asked ≡ 0
+    → AreLaid 0 (map unused blocks) → dealt blocks ≤ length s.pool → AreUsed (portions_of blocks)
+    → top (after_blocks s blocks) ≤ max (top s) (dealt blocks)
+waiting s blocks sound flushed laid within fits =
+    let all = top_portions s (portions_of blocks) sound flushed fits
+    (portions_within s blocks laid fits within) in
+    omega (arith, ap top (closed_is s blocks laid fits within), size-portions blocks, all)
