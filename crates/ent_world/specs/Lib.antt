@@ -11,3 +11,4 @@ pub mod Entering
 pub mod Rows
 pub mod BirthsAlone
 pub mod Named
+pub mod InBlocks

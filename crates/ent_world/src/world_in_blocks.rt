@@ -1,0 +1,313 @@
+ghost use Rattle.std.specs.Prelude.{◌≡◌, ◌↔◌, ◌⊎◌, ◌-◌, ◌<◌, ◌≤◌, ◌^◌, length, map, sum_by};
+ghost use Rattle.std.specs.Prelude.{All, IfOk, IfErr, OnOk, IsTrue};
+ghost use Rattle.ent_blocks.specs.Blocks.{blocks_of, blocks_from, unused, are_among, accounted};
+ghost use Rattle.ent_blocks.specs.Faults.{IsErrWith, IsMissing};
+ghost use Rattle.ent_blocks.specs.declared.undealt.DealError.TheVariants as failed;
+ghost use Rattle.ent_blocks.specs.declared.unended.EndError.TheVariants as unended;
+ghost use Rattle.ent_world.specs.World.{IsWorld};
+ghost use Rattle.ent_world.specs.InBlocks.{world_dealt, world_after};
+
+use crate::BlockNumbering;
+use crate::view::View;
+use crate::world::World;
+use ent_blocks::{BlockReserver, Blocks, Deal, DealError, EndError, open_in_blocks};
+use ent_storage::Storage;
+use std::alloc::Global;
+use std::marker::Model;
+
+/// A world whose allocator is dealt in blocks, and that has no number yet.
+#[derive(Drop)]
+pub struct WorldDeal<J: BlockNumbering> {
+    deal: Deal<J>,
+    storage: Storage,
+    phase: u64,
+    alloc: Global,
+}
+
+impl<J: BlockNumbering> Model for WorldDeal<J> {
+    ghost use Rattle.ent_world.specs.InBlocks.{DealtWorld, dealt_code, IsKeptInBlocks};
+
+    ghost Value = { DealtWorld };
+
+    ghost coded = { dealt_code };
+
+    ghost view = { λ d. record {
+      blocks = d.deal;
+      phase = d.phase;
+      entities = d.storage.entities;
+    } };
+
+    ghost invariant = { λ d. IsKeptInBlocks d.deal d.phase d.storage };
+}
+
+/// A world whose allocator is dealt in blocks: its callers reserve, each from a block of its own, and
+/// read the rest of it.
+#[derive(Drop)]
+pub struct WorldInBlocks<J: BlockNumbering> {
+    blocks: Blocks<J>,
+    storage: Storage,
+    phase: u64,
+    alloc: Global,
+}
+
+impl<J: BlockNumbering> Model for WorldInBlocks<J> {
+    ghost use Rattle.ent_world.specs.InBlocks.{WorldInBlocks, in_blocks_code, IsKeptInBlocks};
+
+    ghost Value = { WorldInBlocks };
+
+    ghost coded = { in_blocks_code };
+
+    ghost view = { λ w. record {
+      blocks = w.blocks;
+      phase = w.phase;
+      entities = w.storage.entities;
+    } };
+
+    ghost invariant = { λ w. IsKeptInBlocks w.blocks.phase w.phase w.storage };
+}
+
+/// A world in blocks that was not closed, and goes on.
+#[derive(Drop)]
+pub struct UnendedWorld<J: BlockNumbering> {
+    /// The world as it was.
+    pub world: WorldInBlocks<J>,
+    /// All the reservers that were handed in, as they were.
+    pub reservers: Vec<BlockReserver<J>>,
+    /// Why it was not closed.
+    pub error: EndError,
+}
+
+impl World {
+    /// Deals the front of the pool in blocks of these sizes, one after the other: a block is smaller
+    /// where the pool ends. It makes room for an entity of each handle that is dealt, which stays when
+    /// the world is closed again.
+    ///
+    /// # Errors
+    ///
+    /// The world as it was, and [`DealError::NeedsFlush`] or [`DealError::Memory`]. No sizes take no
+    /// memory.
+    pub fn open_in_blocks<J: BlockNumbering>(
+        self,
+        sizes: &[u32],
+    ) -> Result<WorldDeal<J>, (World, DealError)>
+        ensures start { IfOk result (λ d. world_dealt d.blocks d.phase d.entities ≡ self) }
+        ensures blocks { IfOk result (λ d. d.blocks.blocks
+            ≡ blocks_from 0 (length self.allocator.pool) sizes.now) }
+        ensures needs_flush { IsErrWith result (λ refused. refused.1 ≡ failed.NeedsFlush)
+            ↔ (0 < self.allocator.asked) }
+        ensures memory { IsErrWith result (λ refused. refused.1 ≡ failed.Memory)
+            → 0 < length sizes.now }
+        ensures err { IfErr result (λ refused. refused.0 ≡ self) }
+    {
+        let World {
+            entities,
+            mut storage,
+            phase,
+            alloc,
+        } = self;
+        let room = wanted(sizes).min(entities.left());
+        if !entities.needs_flush() && storage.reserve(room as usize).is_err() {
+            let world = World {
+                entities,
+                storage,
+                phase,
+                alloc,
+            };
+            return Err((world, DealError::Memory));
+        }
+        match open_in_blocks(alloc, entities, sizes) {
+            Ok(deal) => Ok(WorldDeal {
+                deal,
+                storage,
+                phase,
+                alloc,
+            }),
+            Err(undealt) => {
+                let (entities, error) = undealt.into_parts();
+                let world = World {
+                    entities,
+                    storage,
+                    phase,
+                    alloc,
+                };
+                Err((world, error))
+            }
+        }
+    }
+}
+
+/// How many handles blocks of these sizes have at most.
+fn wanted(sizes: &[u32]) -> u32
+    ensures enough { (sum_by (λ n. n) sizes.now ≤ result) ⊎ (result ≡ 2 ^ 32 - 1) }
+    ensures within { result ≤ sum_by (λ n. n) sizes.now }
+{
+    let mut all = 0_u32;
+    for size in sizes {
+        all = all.saturating_add(*size);
+    }
+    all
+}
+
+impl<J: BlockNumbering> WorldDeal<J> {
+    /// The world under this number, which no other phase has, and a reserver of each block, in the
+    /// order of the sizes. It takes no memory.
+    pub fn numbered(self, number: u64) -> (WorldInBlocks<J>, Vec<BlockReserver<J>>)
+        requires stands_for { J.blocks_of number ≡ self.blocks }
+        ensures blocks { result.0.blocks ≡ record { number = number; phase = self.blocks } }
+        ensures phase { result.0.phase ≡ self.phase }
+        ensures entities { result.0.entities ≡ self.entities }
+        ensures reservers { blocks_of result.1.items ≡ self.blocks.blocks }
+        ensures of { All (λ r. r.number ≡ number) result.1.items }
+    {
+        let WorldDeal {
+            deal,
+            storage,
+            phase,
+            alloc,
+        } = self;
+        let (blocks, reservers) = deal.numbered(number);
+        let world = WorldInBlocks {
+            blocks,
+            storage,
+            phase,
+            alloc,
+        };
+        (world, reservers)
+    }
+}
+
+impl<J: BlockNumbering> WorldInBlocks<J> {
+    /// The blocks from which callers reserve, each with a [`BlockReserver`] of its own.
+    pub fn blocks(&self) -> &Blocks<J>
+        ensures { result.now ≡ self.now.blocks }
+    {
+        &self.blocks
+    }
+
+    /// The world as it was opened.
+    pub fn view(&self) -> View<'_>
+        ensures phase { result.phase ≡ self.now.phase }
+        ensures entities { result.entities ≡ self.now.entities }
+    {
+        View::new(&self.storage, self.phase)
+    }
+
+    /// Ends the phase with all its reservers, as [`Blocks::close`] does. Nothing of the world but its
+    /// allocator changes.
+    ///
+    /// # Errors
+    ///
+    /// As of [`Blocks::close`], with the world and the reservers as they were.
+    pub fn close(self, reservers: Vec<BlockReserver<J>>) -> Result<World, UnendedWorld<J>>
+        ensures after { let before = world_dealt self.blocks.phase self.phase self.entities in
+            IfOk result (λ w. w ≡ world_after before (blocks_of reservers.items)) }
+        ensures world { IfOk result IsWorld }
+        ensures of { OnOk result (All (λ r. r.number ≡ self.blocks.number) reservers.items) }
+        ensures all { OnOk result
+            (map unused (blocks_of reservers.items) ≡ self.blocks.phase.blocks) }
+        ensures other_phase { IsErrWith result (λ u. u.error ≡ unended.OtherPhase)
+            ↔ ¬ (All (λ r. r.number ≡ self.blocks.number) reservers.items) }
+        ensures order { IsErrWith result (λ u. u.error ≡ unended.Order)
+            ↔ (All (λ r. r.number ≡ self.blocks.number) reservers.items
+            × ¬ (IsTrue (are_among self.blocks.phase.blocks (blocks_of reservers.items)))) }
+        ensures missing { IsErrWith result (λ u.
+            IsMissing (length self.blocks.phase.blocks - length reservers.items) u.error)
+            ↔ (All (λ r. r.number ≡ self.blocks.number) reservers.items
+            × (IsTrue (are_among self.blocks.phase.blocks (blocks_of reservers.items))
+            × (length reservers.items < length self.blocks.phase.blocks))) }
+        ensures memory { IsErrWith result (λ u. u.error ≡ unended.Memory)
+            → 0 < length self.blocks.phase.blocks }
+        ensures handed_back { IfErr result (λ u. (u.world ≡ self)
+            × (u.reservers.items ≡ reservers.items)) }
+    {
+        let WorldInBlocks {
+            blocks,
+            storage,
+            phase,
+            alloc,
+        } = self;
+        match blocks.close(reservers) {
+            Ok(entities) => {
+                // Its contract says that the state is sound.
+                let _cursor = entities.cursor();
+                Ok(World {
+                    entities,
+                    storage,
+                    phase,
+                    alloc,
+                })
+            }
+            Err(unended) => {
+                let (blocks, reservers, error) = unended.into_parts();
+                let world = WorldInBlocks {
+                    blocks,
+                    storage,
+                    phase,
+                    alloc,
+                };
+                Err(UnendedWorld {
+                    world,
+                    reservers,
+                    error,
+                })
+            }
+        }
+    }
+
+    /// Ends the phase although some reservers are lost, as [`Blocks::close_lost`] does: what is left of
+    /// a lost one's block counts as used. Nothing of the world but its allocator changes.
+    ///
+    /// # Errors
+    ///
+    /// As of [`Blocks::close_lost`], with the world and the reservers as they were.
+    pub fn close_lost(self, reservers: Vec<BlockReserver<J>>) -> Result<World, UnendedWorld<J>>
+        ensures after { let before = world_dealt self.blocks.phase self.phase self.entities in
+            IfOk result (λ w. w ≡ world_after before
+            (accounted self.blocks.phase.blocks (blocks_of reservers.items))) }
+        ensures world { IfOk result IsWorld }
+        ensures of { OnOk result (All (λ r. r.number ≡ self.blocks.number) reservers.items) }
+        ensures among { OnOk result
+            (IsTrue (are_among self.blocks.phase.blocks (blocks_of reservers.items))) }
+        ensures other_phase { IsErrWith result (λ u. u.error ≡ unended.OtherPhase)
+            ↔ ¬ (All (λ r. r.number ≡ self.blocks.number) reservers.items) }
+        ensures order { IsErrWith result (λ u. u.error ≡ unended.Order)
+            ↔ (All (λ r. r.number ≡ self.blocks.number) reservers.items
+            × ¬ (IsTrue (are_among self.blocks.phase.blocks (blocks_of reservers.items)))) }
+        ensures memory { IsErrWith result (λ u. u.error ≡ unended.Memory)
+            → 0 < length self.blocks.phase.blocks }
+        ensures handed_back { IfErr result (λ u. (u.world ≡ self)
+            × (u.reservers.items ≡ reservers.items)) }
+    {
+        let WorldInBlocks {
+            blocks,
+            storage,
+            phase,
+            alloc,
+        } = self;
+        match blocks.close_lost(reservers) {
+            Ok(entities) => {
+                let _cursor = entities.cursor();
+                Ok(World {
+                    entities,
+                    storage,
+                    phase,
+                    alloc,
+                })
+            }
+            Err(unended) => {
+                let (blocks, reservers, error) = unended.into_parts();
+                let world = WorldInBlocks {
+                    blocks,
+                    storage,
+                    phase,
+                    alloc,
+                };
+                Err(UnendedWorld {
+                    world,
+                    reservers,
+                    error,
+                })
+            }
+        }
+    }
+}
