@@ -2,3 +2,5 @@ pub mod Drawing
 pub mod Filling
 pub mod Running
 pub mod Queues
+pub mod FrameInBlocks
+pub mod Unframed
