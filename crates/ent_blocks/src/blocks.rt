@@ -328,6 +328,8 @@ impl<J: BlockNumbering> Blocks<J> {
             ↔ (All (λ r. r.number ≡ self.number) reservers.items
             × (IsTrue (are_among self.phase.blocks (blocks_of reservers.items))
             × (length reservers.items < length self.phase.blocks))) }
+        ensures missing_count { IfErr result (λ u. (n : ℕ) → IsMissing n u.error
+            → n ≡ length self.phase.blocks - length reservers.items) }
         ensures memory { IsErrWith result (λ u. u.error ≡ failed.Memory)
             → 0 < length self.phase.blocks }
         ensures handed_back { IfErr result (λ u. (u.blocks ≡ self)

@@ -1,4 +1,4 @@
-ghost use Rattle.std.specs.Prelude.{◌≡◌, ◌↔◌, ◌⊎◌, ◌-◌, ◌<◌, ◌≤◌, ◌^◌, length, map, sum_by};
+ghost use Rattle.std.specs.Prelude.{◌≡◌, ℕ, ◌↔◌, ◌⊎◌, ◌-◌, ◌<◌, ◌≤◌, ◌^◌, length, map, sum_by};
 ghost use Rattle.std.specs.Prelude.{All, IfOk, IfErr, OnOk, IsTrue};
 ghost use Rattle.ent_blocks.specs.Blocks.{blocks_of, blocks_from, unused, are_among, accounted};
 ghost use Rattle.ent_blocks.specs.Faults.{IsErrWith, IsMissing};
@@ -215,6 +215,8 @@ impl<J: BlockNumbering> WorldInBlocks<J> {
             ↔ (All (λ r. r.number ≡ self.blocks.number) reservers.items
             × (IsTrue (are_among self.blocks.phase.blocks (blocks_of reservers.items))
             × (length reservers.items < length self.blocks.phase.blocks))) }
+        ensures missing_count { IfErr result (λ u. (n : ℕ) → IsMissing n u.error
+            → n ≡ length self.blocks.phase.blocks - length reservers.items) }
         ensures memory { IsErrWith result (λ u. u.error ≡ unended.Memory)
             → 0 < length self.blocks.phase.blocks }
         ensures handed_back { IfErr result (λ u. (u.world ≡ self)

@@ -8,3 +8,7 @@ returns-in-Err-clause-other_phase g c =
 pub returns-in-Err-clause-order : goal.returns-in-Err-clause-order
 returns-in-Err-clause-order g c =
     rw (c.into_parts-blocks.ensures.error, sym c.self.view_is) c.in-Err.ensures.order
+
+pub returns-in-Err-clause-missing_count : goal.returns-in-Err-clause-missing_count
+returns-in-Err-clause-missing_count g c =
+    rw (c.into_parts-blocks.ensures.error, sym c.self.view_is) c.in-Err.ensures.missing_count
