@@ -1,3 +1,4 @@
 pub mod Drawn
 pub mod Filled
 pub mod FilledQueues
+pub mod Whole

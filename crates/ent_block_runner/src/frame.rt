@@ -1,5 +1,6 @@
-ghost use Rattle.std.specs.Prelude.{◌≡◌, ◌≢◌, ◌<◌, ◌≤◌, ◌^◌, ◌↔◌, ◌⊎◌, [], length, All, IfOk, IfErr};
-ghost use Rattle.ent_blocks.specs.Blocks.{blocks_of};
+ghost use Rattle.std.specs.Prelude.{◌≡◌, ◌≢◌, ◌<◌, ◌≤◌, ◌^◌, ◌↔◌, ◌⊎◌, [], length, map, All, IfOk, IfErr};
+ghost use Rattle.ent_blocks.specs.Blocks.{blocks_of, unused};
+ghost use Rattle.ent_blocks.specs.declared.unended.EndError.TheVariants as unended;
 ghost use Rattle.ent_blocks.specs.Faults.{IsErrWith};
 ghost use Rattle.ent_block_runner.specs.FrameInBlocks.{EndsInBlocks, StopsInBlocks, view_in_blocks};
 ghost use Rattle.ent_block_runner.specs.Queues.{HaveStopped, HaveIssued};
@@ -115,6 +116,10 @@ where
         (blocks_of reservers.items) queues (blocks_of left))) }
     ensures unended_of { IfErr result (IfUnended (λ _ left _ _.
         All (λ r. r.number ≡ opened.blocks.number) left)) }
+
+    // If the reservers are those of all blocks, in their order, the world is closed unless memory runs out.
+    ensures whole { map unused (blocks_of reservers.items) ≡ opened.blocks.phase.blocks
+        → IfErr result (IfUnended (λ _ _ error _. error ≡ unended.Memory)) }
 
     // All systems ran, and the sync point stopped.
     ensures stopped { IfErr result (IfSyncStopped (λ world fault queues.

@@ -1,3 +1,7 @@
+use Rattle.std.proofs.Common.{◌≡◌, All, length}
+use Rattle.std.proofs.lemmas.List.{length-map}
+use Rattle.ent_blocks.specs.Blocks.{Reserver, blocks_of}
+use Rattle.ent_block_runner.proofs.Whole.{whole}
 use Rattle.ent_block_runner.proofs.frame.run_frame_in_blocks.Goals as goal
 
 -- Whether all reservers are of the phase that the systems were given: it is that of the world.
@@ -12,3 +16,14 @@ returns-in-Ok-apply-clause-other_phase g c = rw c.blocks-2.ensures at c.in-Ok.en
 
 pub returns-in-Err-apply-clause-other_phase : goal.returns-in-Err-apply-clause-other_phase
 returns-in-Err-apply-clause-other_phase g c = rw c.blocks-2.ensures at c.in-Ok.ensures.other_phase
+
+pub returns-in-Err-close-clause-whole : goal.returns-in-Err-close-clause-whole
+returns-in-Err-close-clause-whole g c all =
+    let e = c.in-Err-close.ensures in
+    let left = c.in-Ok.filled.1.items in
+    whole c.args.opened.blocks.phase.blocks (blocks_of c.args.reservers.items) (blocks_of left)
+    c.in-Ok.filled.0.items c.in-Err-close.unended.error (length left)
+    (All (λ (r : Reserver). r.number ≡ c.args.opened.blocks.number) left)
+    (rw c.blocks-2.ensures at c.in-Ok.ensures.of) all c.in-Ok.ensures.ok.used
+    (length-map left (λ (r : Reserver). r.block)) e.other_phase.0 (λ is. (e.order.0 is).1)
+    e.missing_count (λ is. (e.missing.0 is).1.1)
