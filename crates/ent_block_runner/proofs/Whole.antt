@@ -39,6 +39,13 @@ length_used [] queues = refl
 length_used (r ∷ before) [] = refl
 length_used (r ∷ before) (queue ∷ queues) = ap suc (length_used before queues)
 
+-- which blocks they are does not depend on how many were used
+pub unused_used : (before : List Block) (queues : List (List Command))
+    → map unused (blocks_after_queues before queues) ≡ map unused before
+unused_used [] queues = refl
+unused_used (r ∷ before) [] = refl
+unused_used (r ∷ before) (queue ∷ queues) = ap (λ bs. unused r ∷ bs) (unused_used before queues)
+
 only_memory : (e : EndError) → (e ≡ unended.OtherPhase → ⊥) → (e ≡ unended.Order → ⊥)
     → ((n : ℕ) → IsMissing n e → ⊥) → e ≡ unended.Memory
 only_memory unended.OtherPhase phase order none = absurd (phase refl)

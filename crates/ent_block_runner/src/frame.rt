@@ -1,4 +1,4 @@
-ghost use Rattle.std.specs.Prelude.{◌≡◌, ◌≢◌, ◌<◌, ◌≤◌, ◌^◌, ◌↔◌, ◌⊎◌, [], length, map, All, IfOk, IfErr};
+ghost use Rattle.std.specs.Prelude.{◌≡◌, ◌≢◌, ◌<◌, ◌≤◌, ◌^◌, ◌↔◌, ◌⊎◌, [], length, map, All, IfOk, OnOk, IfErr};
 ghost use Rattle.ent_blocks.specs.Blocks.{blocks_of, unused};
 ghost use Rattle.ent_blocks.specs.declared.unended.EndError.TheVariants as unended;
 ghost use Rattle.ent_blocks.specs.Faults.{IsErrWith};
@@ -82,6 +82,7 @@ where
     ensures ok { IfOk result (λ ended. EndsInBlocks S.may_issue systems.now opened
         (blocks_of reservers.items) ended.1.queues.items ended.0 ended.1.sync.born.items
         ended.1.sync.faults.items) }
+    ensures all { OnOk result (map unused (blocks_of reservers.items) ≡ opened.blocks.phase.blocks) }
     ensures world { IfOk result (λ ended. IsWorld ended.0) }
     ensures flushed { IfOk result (λ ended. ended.0.allocator.asked ≡ 0) }
 

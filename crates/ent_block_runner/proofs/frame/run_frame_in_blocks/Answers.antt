@@ -1,7 +1,7 @@
-use Rattle.std.proofs.Common.{◌≡◌, All, length}
+use Rattle.std.proofs.Common.{◌≡◌, sym, ap, ◌∙◌, All, length, map}
 use Rattle.std.proofs.lemmas.List.{length-map}
-use Rattle.ent_blocks.specs.Blocks.{Reserver, blocks_of}
-use Rattle.ent_block_runner.proofs.Whole.{whole}
+use Rattle.ent_blocks.specs.Blocks.{Reserver, blocks_of, unused}
+use Rattle.ent_block_runner.proofs.Whole.{whole, unused_used}
 use Rattle.ent_block_runner.proofs.frame.run_frame_in_blocks.Goals as goal
 
 -- Whether all reservers are of the phase that the systems were given: it is that of the world.
@@ -27,3 +27,8 @@ returns-in-Err-close-clause-whole g c all =
     (rw c.blocks-2.ensures at c.in-Ok.ensures.of) all c.in-Ok.ensures.ok.used
     (length-map left (λ (r : Reserver). r.block)) e.other_phase.0 (λ is. (e.order.0 is).1)
     e.missing_count (λ is. (e.missing.0 is).1.1)
+
+pub returns-in-Ok-apply-clause-all : goal.returns-in-Ok-apply-clause-all
+returns-in-Ok-apply-clause-all g c =
+    sym (unused_used (blocks_of c.args.reservers.items) c.in-Ok.filled.0.items)
+    ∙ ap (map unused) (sym c.in-Ok.ensures.ok.used) ∙ c.in-Ok-close.ensures.all
