@@ -14,6 +14,7 @@ pub mod Histories
 pub mod Settling
 pub mod Merging
 pub mod Closing
+pub mod GivenApart
 pub mod Losing
 pub mod Seating
 pub mod Laws

@@ -2,7 +2,7 @@
 use Rattle.std.proofs.lemmas.Bool.{cases_eq}
 use Rattle.std.proofs.Common.{rules, ◌≡◌, ℕ, ◌+◌, ◌-◌, ◌*◌, ◌^◌, ◌<◌, ◌≤◌, ℤ, pos, ◌+ℤ◌, ◌-ℤ◌, ◌≤ℤ◌}
 use Rattle.std.proofs.Common.{get_or, List, [], ◌∷◌, length, take, drop, sym, ap, subst, ◌∙◌, arith}
-use Rattle.std.proofs.Common.{All, Contains, ◌⊎◌, neg_ℤ, zero-add, Ok, Err}
+use Rattle.std.proofs.Common.{All, AllPairs, Contains, ◌⊎◌, ◌≢◌, neg_ℤ, zero-add, refl, map, Ok, Err}
 use Rattle.std.proofs.lemmas.Grind.{common_steps}
 use Rattle.std.specs.Prelude.{Result, Bool, true, false, cond, nat_le}
 use Rattle.std.specs.List.{sum_by}
@@ -21,22 +21,25 @@ use Rattle.ent_alloc.specs.Entities.{Entities}
 use Rattle.ent_alloc.specs.Limits.{quota}
 use Rattle.ent_alloc.specs.Sequential.{Allocator, available, cursor, top, asked_at, pool_at, listed}
 use Rattle.ent_alloc.specs.Sequential.{settled}
-use Rattle.ent_alloc.specs.Sound.{IsSound}
+use Rattle.ent_alloc.specs.Sound.{IsSound, IsLive}
 use Rattle.ent_alloc.specs.History as history
 use Rattle.ent_alloc.proofs.Taken.{length-available}
 use Rattle.ent_alloc.proofs.LaidOut.{flushed-laid_out}
 use Rattle.ent_alloc.proofs.Meaning.{asked_at-is}
-use Rattle.ent_alloc.proofs.Replies.{listed-IsPermutation}
+use Rattle.ent_alloc.proofs.Replies.{listed-IsPermutation, not_apart}
+use Rattle.ent_alloc.proofs.Histories.{given_in-distinct}
 use Rattle.ent_shared.specs.declared.record.Reservation.{Reservation}
 use Rattle.ent_shared.specs.declared.record.Record.{Record}
 use Rattle.ent_shared.specs.declared.rule.Opening.{Opening}
 use Rattle.ent_shared.specs.Record.{low, own_reservations, requested_by}
 use Rattle.ent_shared.specs.Phase.{after_loss}
 use Rattle.ent_shared.specs.Rule.{Follow, HasItsReply, IsStart, IsClosed}
-use Rattle.ent_shared.specs.Order.{history_of, handles_of}
+use Rattle.ent_shared.specs.Order.{history_of, handles_of, as_call, own_of_all}
 use Rattle.ent_shared.proofs.Words.{requested}
 use Rattle.ent_shared.proofs.Records.{all_own}
 use Rattle.ent_shared.proofs.Closing.{asked_in_all, cursor_least, cursor_greatest, final_cursor}
+use Rattle.ent_shared.proofs.GivenApart.{some_differ}
+use Rattle.ent_shared.proofs.Settling.{IsLater, legal_from}
 
 -- what lies inside the front of a list is in it
 front_contains : (xs : List Handle) (k n asked : ℕ) → k + n ≤ asked → All (Contains (take asked xs))
@@ -98,6 +101,8 @@ pub record Lost (here start : Allocator) (count : ℕ) (records : List Record) (
         ≡ after_loss start asked
     pub given : All (λ (r : Record). All (Contains (take asked start.pool))
         (handles_of (own_reservations r.entries))) records
+    pub none_live : All (λ h. ¬ (IsLive start h)) (take asked start.pool)
+    pub distinct : AllPairs (λ g h. g ≢ h) (handles_of (own_of_all records))
 
 -- the two numbers that are set
 module _ (start : Allocator) (sound : IsSound start) (flushed : start.asked ≡ 0) where
@@ -111,6 +116,11 @@ module _ (start : Allocator) (sound : IsSound start) (flushed : start.asked ≡ 
       → settled start given asked ≡ after_loss start asked
   loss_is given asked le which = search
       (rules, flushed-laid_out, take_all, length-take, drop_all, zero-add)
+
+  -- none of the pool is alive
+  pool_not_live : All (λ h. ¬ (IsLive start h)) start.pool
+  pool_not_live = subst (All (λ h. ¬ (IsLive start h))) all_pool (λ k d lt alive.
+      not_apart (get_or (available start) k d) ((sound.live _ alive).apart k d lt))
 
   -- the cursor of the allocator that is left
   cursor-loss : (asked : ℕ) → cursor (after_loss start asked) ≡ cursor start -ℤ pos asked
@@ -157,6 +167,12 @@ module _ (start : Allocator) (sound : IsSound start) (flushed : start.asked ≡ 
             rw (sym all_pool) (reservations_contain start asked _
             (λ j c l. All-contains (HasItsReply start) k.log _ k.replied (own j c l))
             (λ j c l. All-contains W k.log _ log_within (own j c l)));
+        none_live = All-take (λ h. ¬ (IsLive start h)) asked start.pool pool_not_live;
+        distinct =
+            let itself : IsLater start start =
+            record { sound = sound; available_is = refl; made_is = refl } in
+            some_differ records k.log k.some (given_in-distinct start (map as_call k.log) sound
+            (legal_from start start k.log at itself k.follow k.replied));
       }
 
 pub lost : (entities : Entities) (start : Allocator) (n count room : ℕ) (key : Opening)

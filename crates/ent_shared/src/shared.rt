@@ -14,6 +14,7 @@ ghost use Rattle.ent_shared.specs.Moves.{after_meeting};
 ghost use Rattle.ent_shared.specs.Phase.{IsPhase, records_of};
 ghost use Rattle.ent_shared.specs.Rule.{IsClosed, least_floor};
 ghost use Rattle.ent_shared.specs.Order.{reservations_of, history_of, handles_given, Respects};
+ghost use Rattle.ent_shared.specs.Order.{handles_of, own_of_all};
 ghost use Rattle.ent_alloc.specs.declared.refused.Refused.TheVariants.{Quota};
 
 use crate::reserver::Reserver;
@@ -293,9 +294,17 @@ impl Shared {
             → cursor result.allocator
             ≡ cursor (after_history self.start (history_of (records_of reservers.items))) }
 
-        // What the reservers that are here were given is reserved.
+        // What the reservers that are here were given is reserved. No handle was given to two of
+        // them, and none was alive.
         ensures given { All (λ r. All (Contains result.allocator.taken) (handles_given r.own))
             reservers.items }
+        ensures distinct { AllPairs (λ g h. g ≢ h)
+            (handles_of (own_of_all (records_of reservers.items))) }
+        ensures not_live { All (λ h. ¬ (IsLive self.start h)) result.allocator.taken }
+
+        // A flush brings to life exactly what is reserved.
+        ensures brings_to_life { (h : HandleValue) → IsLive (after_flush result.allocator) h
+            ↔ (IsLive self.start h ⊎ Contains result.allocator.taken h) }
     {
         let Shared {
             mut entities,

@@ -8,6 +8,7 @@ ghost use Rattle.ent_alloc.specs.Sound.{IsLive};
 ghost use Rattle.ent_shared.specs.Record.{requested_by};
 ghost use Rattle.ent_shared.specs.Phase.{IsOf, records_of, after_loss};
 ghost use Rattle.ent_shared.specs.Order.{reservations_of, history_of, handles_given, Respects};
+ghost use Rattle.ent_shared.specs.Order.{handles_of, own_of_all};
 ghost use Rattle.ent_world.specs.World.{IsWorld};
 ghost use Rattle.ent_world.specs.OpenWorld.{IsOpenWorld};
 ghost use Rattle.ent_world.specs.Rows.{AreRows};
@@ -157,9 +158,17 @@ impl OpenWorld {
         ensures whole { length reservers.items ≡ self.shared.count → cursor result.allocator
             ≡ cursor (after_history self.shared.start (history_of (records_of reservers.items))) }
 
-        // What the reservers that are here were given is reserved.
+        // What the reservers that are here were given is reserved. No handle was given to two of
+        // them, and none was alive.
         ensures given { All (λ r. All (Contains result.allocator.taken) (handles_given r.own))
             reservers.items }
+        ensures distinct { AllPairs (λ g h. g ≢ h)
+            (handles_of (own_of_all (records_of reservers.items))) }
+        ensures not_live { All (λ h. ¬ (IsLive self.shared.start h)) result.allocator.taken }
+
+        // A flush brings to life exactly what is reserved.
+        ensures brings_to_life { (h : HandleValue) → IsLive (after_flush result.allocator) h
+            ↔ (IsLive self.shared.start h ⊎ Contains result.allocator.taken h) }
     {
         let OpenWorld {
             shared,

@@ -1,12 +1,13 @@
 use Rattle.std.proofs.Common.{take, rules, arith, ◌≡◌, ◌≤ℤ◌, ap, ◌∙◌, to_z, of_z, w64, All}
-use Rattle.std.proofs.Common.{Contains, List}
+use Rattle.std.proofs.Common.{Contains, List, ⊎_elim}
 use Rattle.std.proofs.lemmas.Grind.{common_steps}
 use Rattle.ent_handle.specs.Handle.{Handle}
 use Rattle.ent_alloc.specs.Sequential.{cursor}
 use Rattle.ent_shared.specs.declared.record.Record.{Record}
 use Rattle.ent_shared.specs.Record.{own_reservations}
 use Rattle.ent_shared.specs.Order.{handles_of, handles_given}
-use Rattle.ent_shared.specs.Phase.{Shared, records_of}
+use Rattle.ent_alloc.proofs.Flushes.{live-after_flush, live-stays, taken-lives}
+use Rattle.ent_shared.specs.Phase.{Shared, records_of, after_loss}
 use Rattle.ent_shared.proofs.Losing.{lost, Lost}
 use Rattle.ent_shared.proofs.Merging.{length-records_of, sum_by-records_of, all_owners}
 use Rattle.ent_shared.proofs.shared.Shared.close_lost.Goals as goal
@@ -85,3 +86,20 @@ returns-clause-given c =
     let at = (goal.at.returns-clause-given c).After-max-end in
     let l = known at in
     all_reserved at l _ (search (rules, l))
+
+pub returns-clause-distinct : goal.returns-clause-distinct
+returns-clause-distinct c = (known (goal.at.returns-clause-distinct c).After-max-end).distinct
+
+pub returns-clause-not_live : goal.returns-clause-not_live
+returns-clause-not_live c =
+    let l = known (goal.at.returns-clause-not_live c).After-max-end in
+    let left = c.settle.ensures.settled ∙ l.after in
+    search (rules, left, l.none_live)
+
+pub returns-clause-brings_to_life : goal.returns-clause-brings_to_life
+returns-clause-brings_to_life c h =
+    let l = known (goal.at.returns-clause-brings_to_life c).After-max-end in
+    let left = c.settle.ensures.settled ∙ l.after in
+    let lost = after_loss c.args.self.start l.asked in
+    rw left
+    (live-after_flush lost h, ⊎_elim (live-stays lost h) (taken-lives lost h))
