@@ -13,6 +13,11 @@ const PRINTED: &str = include_str!("../../../crates/cases_and_examples/stdout");
 fn each_call_returns_what_it_has_to() {
     start_with(WORDS.lines());
     let ended = cases_and_examples::main(HostRuntime);
-    assert_eq!(printed(), PRINTED);
+    // Line by line, so that a call that differs can be found.
+    let (printed, mut expected) = (printed(), PRINTED.lines());
+    for line in printed.lines() {
+        assert_eq!(Some(line), expected.next());
+    }
+    assert_eq!(None, expected.next());
     ended.expect("no answer differs");
 }

@@ -168,11 +168,11 @@ impl<'a> Case<'a> {
         self.differences.word(self.name);
         self.differences.word(": ");
         self.differences.word(self.call.text.as_str());
-        self.differences.word(" =>");
-        self.differences.word(self.found.text.as_str());
-        self.differences.word(", where ");
+        self.differences.word(" => ");
+        self.differences.word(self.found.text.trim());
+        self.differences.word(", expected ");
         self.differences.word(self.wanted.text.as_str());
-        self.differences.word(" is wanted\n");
+        self.differences.word("\n");
     }
 }
 
