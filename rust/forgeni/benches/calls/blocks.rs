@@ -33,7 +33,7 @@ pub fn tables() {
         println!("| {count} | {:.1} |", each * 1e9 / count as f64);
     }
     println!();
-    println!("| Close and flush, ns a handle | In blocks | Shared | Ratio |");
+    println!("| Close and flush | In blocks | Shared | Ratio |");
     println!("|---|---|---|---|");
     for (name, is_old, spare) in [
         ("new slots, blocks used up", false, 0),
@@ -47,14 +47,14 @@ pub fn tables() {
         println!("| {name} | {a:.2} | {b:.2} | {:.2} |", a / b);
     }
     println!();
-    println!("| A phase of 64 callers that use 10 handles each | Microseconds |");
-    println!("|---|---|");
-    for (name, old) in [("new slots", 0), ("old slots", 64 * 256)] {
-        let frame = |size| median((0..ROUNDS).map(|_| frame(old, size)).collect()) * 1e6;
-        println!("| blocks of 256, {name} | {:.1} |", frame(256));
-        println!("| blocks of 10, {name} | {:.1} |", frame(10));
-        let shared = median((0..ROUNDS).map(|_| shared_frame(old)).collect());
-        println!("| the shared cursor, {name} | {:.1} |", shared * 1e6);
+    println!("| Slots | The shared cursor | Blocks of 10 | Blocks of 64 | Blocks of 256 |");
+    println!("|---|---|---|---|---|");
+    for (name, old) in [("new", 0), ("old", 64 * 256)] {
+        let shared = median((0..ROUNDS).map(|_| shared_frame(old)).collect()) * 1e6;
+        let blocks = [10, 64, 256]
+            .map(|size| median((0..ROUNDS).map(|_| frame(old, size)).collect()) * 1e6)
+            .map(|each| format!("{each:.1} µs"));
+        println!("| {name} | {shared:.1} µs | {} |", blocks.join(" | "));
     }
 }
 
