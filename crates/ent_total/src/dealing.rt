@@ -5,10 +5,11 @@ ghost use Rattle.ent_blocks.specs.declared.undealt.DealError.TheVariants as fail
 ghost use Rattle.ent_total.specs.Faults.{IsErrWith};
 ghost use Rattle.ent_world.specs.InBlocks.{world_dealt};
 
+use crate::BlockNumbering;
 use crate::undealt_world::UndealtWorld;
 use crate::world::World;
 use crate::world_in_blocks::WorldInBlocks;
-use ent_blocks::{BlockNumbering, BlockReserver};
+use ent_blocks::BlockReserver;
 
 /// A world whose allocator is dealt in blocks, and that has no number yet.
 #[derive(Drop)]

@@ -13,6 +13,7 @@ ghost use Rattle.ent_world.specs.Memory.{TakesMemoryAt};
 ghost use Rattle.ent_world.specs.World.{IsWorld};
 ghost use Rattle.ent_world.specs.declared.fault.SyncFault.TheVariants as stop;
 
+use crate::BlockNumbering;
 use crate::queues::Queues;
 use crate::stop::Stop;
 use crate::stopped::Stopped;
@@ -21,7 +22,7 @@ use crate::unframed::Unframed;
 use crate::world::World;
 use crate::world_in_blocks::WorldInBlocks;
 use ent_block_runner::{SystemInBlocks, Unrun};
-use ent_blocks::{BlockNumbering, BlockReserver};
+use ent_blocks::BlockReserver;
 use ent_runner::FrameReport;
 use ent_world::SyncFault;
 use std::alloc::Global;

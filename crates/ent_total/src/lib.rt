@@ -46,6 +46,7 @@ pub use cloning::{clone_world, clone_world_from};
 pub use command_queue::CommandQueue;
 pub use commands::Commands;
 pub use dealing::{WorldDeal, open_in_blocks};
+pub use ent_blocks::BlockNumbering;
 pub use filling::{run_logs, run_to_sync_point};
 pub use frame_error::FrameError;
 pub use framing::run_frame;

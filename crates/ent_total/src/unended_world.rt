@@ -1,7 +1,8 @@
 ghost use Rattle.std.specs.Prelude.{◌≡◌};
 
+use crate::BlockNumbering;
 use crate::world_in_blocks::WorldInBlocks;
-use ent_blocks::{BlockNumbering, BlockReserver, EndError};
+use ent_blocks::{BlockReserver, EndError};
 use std::error::Error;
 use std::fmt;
 

@@ -1,10 +1,11 @@
+use crate::BlockNumbering;
 use crate::queues::Queues;
 use crate::stopped::Stopped;
 use crate::unended_world::UnendedWorld;
 use crate::world::World;
 use crate::world_in_blocks::WorldInBlocks;
 use ent_block_runner::RunError;
-use ent_blocks::{BlockNumbering, BlockReserver};
+use ent_blocks::BlockReserver;
 use std::error::Error;
 use std::fmt;
 

@@ -7,9 +7,10 @@ ghost use Rattle.ent_total.specs.Faults.{IsErrWith};
 ghost use Rattle.ent_world.specs.InBlocks.{world_dealt, world_after};
 ghost use Rattle.ent_world.specs.World.{IsWorld};
 
+use crate::BlockNumbering;
 use crate::unended_world::UnendedWorld;
 use crate::world::World;
-use ent_blocks::{BlockNumbering, BlockReserver, Blocks};
+use ent_blocks::{BlockReserver, Blocks};
 use ent_world::View;
 
 /// A world that is open in blocks: each of its callers reserves from a block of its own. It can be
