@@ -12,6 +12,7 @@ use crate::unended_world::UnendedWorld;
 use crate::world::World;
 use ent_blocks::{BlockReserver, Blocks};
 use ent_world::View;
+use std::fmt;
 
 /// A world that is open in blocks: each of its callers reserves from a block of its own. It can be
 /// read, as it was when it was opened. The phase ends by [`close`](WorldInBlocks::close).
@@ -136,5 +137,13 @@ impl<J: BlockNumbering> WorldInBlocks<J> {
             }),
             Err(unended) => Err(UnendedWorld::of(unended, of_world, spawned)),
         }
+    }
+}
+
+/// It shows how many blocks there are, and says that there is more.
+impl<J: BlockNumbering> fmt::Debug for WorldInBlocks<J> {
+    fn fmt<W: fmt::Write>(&self, f: &mut fmt::Formatter<W>) -> fmt::Result {
+        let blocks = self.world.blocks().count();
+        write!(f, "WorldInBlocks {{ blocks: {blocks}, .. }}")
     }
 }

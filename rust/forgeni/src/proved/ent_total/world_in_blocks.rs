@@ -5,6 +5,7 @@ use crate::proved::ent_total::unended_world::UnendedWorld;
 use crate::proved::ent_total::world::World;
 use crate::proved::ent_blocks::{BlockReserver, Blocks};
 use crate::proved::ent_world::View;
+use core::fmt;
 
 /// A world that is open in blocks: each of its callers reserves from a block of its own. It can be
 /// read, as it was when it was opened. The phase ends by [`close`](WorldInBlocks::close).
@@ -164,5 +165,14 @@ impl WorldInBlocks {
             }),
             Err(unended) => Err(UnendedWorld::of(unended, of_world, spawned)),
         }
+    }
+}
+
+/// It shows how many blocks there are, and says that there is more.
+impl fmt::Debug for WorldInBlocks {
+    #[inline]
+    fn fmt(&self, f: &mut fmt::Formatter<'_>) -> fmt::Result {
+        let blocks = self.world.blocks().count();
+        write!(f, "WorldInBlocks {{ blocks: {blocks}, .. }}")
     }
 }
