@@ -5,6 +5,7 @@ ghost use Rattle.ent_blocks.specs.Blocks.{blocks_of, unused};
 ghost use Rattle.ent_blocks.specs.declared.unended.EndError.TheVariants as unended;
 ghost use Rattle.ent_block_runner.specs.FrameInBlocks.{EndsInBlocks, StopsInBlocks, view_in_blocks};
 ghost use Rattle.ent_block_runner.specs.Queues.{HaveStopped, HaveIssued};
+ghost use Rattle.ent_block_runner.specs.declared.run_error.RunError.{RunError};
 ghost use Rattle.ent_block_runner.specs.declared.run_error.RunError.TheVariants as failed;
 ghost use Rattle.ent_total.specs.Faults.{IsErrWith};
 ghost use Rattle.ent_total.specs.Framing.{HasStop, spawned_after};
@@ -308,7 +309,8 @@ fn hold<J: BlockNumbering>(
 ) -> Unframed<J>
     requires stop { HasStop fault queues.items }
     requires few { length queues.items ≤ 2 ^ 16 }
-    ensures { result ≡ held_in number spawned world fault queues.items }
+    ensures held { result ≡ held_in number spawned world fault queues.items }
+    ensures ran { (why : RunError) → ¬ (IsUnrun why result) }
 {
     let queues = Queues::new(number, queues);
     match fault {

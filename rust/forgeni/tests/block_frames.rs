@@ -805,7 +805,7 @@ fn a_frame_without_a_reserver_of_each_block_ends_later() {
     let unended = world.close(reservers).expect_err("one is of another phase");
     assert_eq!(unended.error, EndError::OtherPhase);
     let (world, mut reservers, _) = unended.into_parts();
-    drop(reservers.pop());
+    reservers.truncate(3);
 
     let mut closed = world.close(reservers).expect("all are here");
     // The queues are of this world alone.
