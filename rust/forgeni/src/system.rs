@@ -84,4 +84,5 @@ systems_behind! {
 
 shows! {
     SystemCommands<'_>:;
+    CommandsInBlocks<'_>: left;
 }

@@ -313,7 +313,8 @@ fn hold(
 ) -> Unframed
     // requires stop { HasStop fault queues.items }
     // requires few { length queues.items ≤ 2 ^ 16 }
-    // ensures { result ≡ held_in number spawned world fault queues.items }
+    // ensures held { result ≡ held_in number spawned world fault queues.items }
+    // ensures ran { (why : RunError) → ¬ (IsUnrun why result) }
 {
     let queues = Queues::new(number, queues);
     match fault {
