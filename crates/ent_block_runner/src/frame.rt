@@ -97,6 +97,7 @@ where
         ↔ ((0 < workers) × (workers ≤ 64) × (length systems.now ≤ 2 ^ 16)
         × (length reservers.items ≡ length systems.now)
         × ¬ (All (λ r. r.number ≡ opened.blocks.number) reservers.items)) }
+    ensures memory_some { IsErrWith result (IsUnrun failed.Memory) → 0 < length systems.now }
     ensures unrun { IfErr result (IfUnrun (λ world _ _. world ≡ opened)) }
     ensures handed_back { IfErr result (IfUnrun (λ _ left error.
         error ≢ failed.Lost → left ≡ reservers.items)) }

@@ -1,4 +1,4 @@
-//! What systems in blocks need before they run: a crew, and room for what they hand back.
+//! What systems in blocks need before they run: a reserver each, a crew, and room for what they hand back.
 ghost use Rattle.std.specs.Prelude.{◌≡◌, ◌≢◌, ◌<◌, ◌≤◌, ◌^◌, ◌↔◌, ◌⊎◌, [], length, All, IfOk, OnOk, IsErrOf};
 ghost use Rattle.std.specs.Prelude.{IsTrue, vec_capacity};
 ghost use Rattle.ent_block_runner.specs.Running.{AreReady};
@@ -7,6 +7,7 @@ ghost use Rattle.ent_block_runner.specs.declared.run_error.RunError.TheVariants 
 use crate::BlockNumbering;
 use crate::run_error::{RunError, Unrun};
 use ent_blocks::{BlockReserver, Blocks};
+use ent_handle::Memory;
 use ent_runner::Crew;
 use std::alloc::Global;
 
@@ -24,25 +25,21 @@ pub(crate) struct Room<J: BlockNumbering, O> {
     pub(crate) reservers: Vec<BlockReserver<J>>,
 }
 
-/// Room for that many systems, if each has a reserver of the phase.
+/// Whether that many systems may run, each with a reserver of the phase.
 ///
 /// # Errors
 ///
-/// Any [`RunError`] but [`RunError::Lost`]. Of those, the first that holds.
-pub(crate) fn prepare<J: BlockNumbering, O: Drop>(
-    alloc: Global,
+/// Any [`RunError`] but [`RunError::Memory`] and [`RunError::Lost`]. Of those, the first that holds.
+pub(crate) fn check<J: BlockNumbering>(
     blocks: &Blocks<J>,
     reservers: &[BlockReserver<J>],
     systems: usize,
     workers: usize,
-) -> Result<Room<J, O>, RunError>
-    ensures crew { IfOk result (λ room. (room.crew.jobs ≡ systems) × (room.crew.workers ≡ workers)) }
+) -> Result<(), RunError>
+    ensures some { OnOk result (0 < workers) }
     ensures few { OnOk result (workers ≤ 64) }
+    ensures within { OnOk result (systems ≤ 2 ^ 16) }
     ensures ready { OnOk result (AreReady blocks.now systems reservers.now) }
-    ensures empty { IfOk result (λ room.
-        (room.outputs.items ≡ []) × (room.reservers.items ≡ [])) }
-    ensures outputs { IfOk result (λ room. systems ≤ vec_capacity room.outputs) }
-    ensures reservers { IfOk result (λ room. systems ≤ vec_capacity room.reservers) }
     ensures of_workers { IsErrOf result failed.Workers ↔ ((workers ≡ 0) ⊎ (64 < workers)) }
     ensures of_systems { IsErrOf result failed.Systems
         ↔ ((0 < workers) × (workers ≤ 64) × (2 ^ 16 < systems)) }
@@ -53,6 +50,7 @@ pub(crate) fn prepare<J: BlockNumbering, O: Drop>(
         ↔ ((0 < workers) × (workers ≤ 64) × (systems ≤ 2 ^ 16)
         × (length reservers.now ≡ systems)
         × ¬ (All (λ r. r.number ≡ blocks.now.number) reservers.now)) }
+    ensures not_memory { ¬ (IsErrOf result failed.Memory) }
     ensures not_lost { ¬ (IsErrOf result failed.Lost) }
 {
     if workers == 0 || workers > WORKERS {
@@ -67,19 +65,32 @@ pub(crate) fn prepare<J: BlockNumbering, O: Drop>(
     if !are_of(blocks, reservers) {
         return Err(RunError::OtherPhase);
     }
-    let Ok(crew) = Crew::new(alloc, systems, workers) else {
-        return Err(RunError::Memory);
-    };
-    let Ok(outputs) = Vec::with_capacity(alloc, systems) else {
-        return Err(RunError::Memory);
-    };
-    let Ok(returned) = Vec::with_capacity(alloc, systems) else {
-        return Err(RunError::Memory);
-    };
+    Ok(())
+}
+
+/// Room for that many systems.
+///
+/// # Errors
+///
+/// `Memory`, if there is no memory for it.
+pub(crate) fn prepare<J: BlockNumbering, O: Drop>(
+    alloc: Global,
+    systems: usize,
+    workers: usize,
+) -> Result<Room<J, O>, Memory>
+    requires some { 0 < workers }
+    requires few { workers ≤ 64 }
+    requires within { systems ≤ 2 ^ 16 }
+    ensures crew { IfOk result (λ room. (room.crew.jobs ≡ systems) × (room.crew.workers ≡ workers)) }
+    ensures empty { IfOk result (λ room.
+        (room.outputs.items ≡ []) × (room.reservers.items ≡ [])) }
+    ensures outputs { IfOk result (λ room. systems ≤ vec_capacity room.outputs) }
+    ensures reservers { IfOk result (λ room. systems ≤ vec_capacity room.reservers) }
+{
     Ok(Room {
-        crew,
-        outputs,
-        reservers: returned,
+        crew: Crew::new(alloc, systems, workers)?,
+        outputs: Vec::with_capacity(alloc, systems)?,
+        reservers: Vec::with_capacity(alloc, systems)?,
     })
 }
 

@@ -5,7 +5,7 @@ ghost use Rattle.ent_block_runner.specs.Running.{HaveFilled, IsBrokenOff};
 ghost use Rattle.ent_block_runner.specs.declared.run_error.RunError.TheVariants as failed;
 
 use crate::BlockNumbering;
-use crate::room::{Room, WORKERS, prepare, unrun};
+use crate::room::{Room, WORKERS, check, prepare, unrun};
 use crate::run_error::{RunError, Unrun};
 use crate::splitting::split;
 use crate::stage::BlockStage;
@@ -49,7 +49,8 @@ use std::thread::Threads;
 /// [`Unrun`] has the first of these that holds.
 ///
 /// - [`RunError::Workers`], [`RunError::Systems`], [`RunError::Reservers`], [`RunError::OtherPhase`],
-///   [`RunError::Memory`]: no system ran, and the reservers are handed back as they were.
+///   [`RunError::Memory`]: no system ran, and the reservers are handed back as they were. No systems
+///   take no memory.
 /// - [`RunError::Lost`]: a system returned an error, or systems are left and no worker has memory for
 ///   another one. All logs and reservers are dropped: [`Blocks::close_lost`] ends the phase.
 ///
@@ -82,6 +83,8 @@ where
         ↔ ((0 < workers) × (workers ≤ 64) × (length systems.now ≤ 2 ^ 16)
         × (length reservers.items ≡ length systems.now)
         × ¬ (All (λ r. r.number ≡ blocks.now.number) reservers.items)) }
+    ensures memory_some { IsErrWith result (λ u. u.error ≡ failed.Memory)
+        → 0 < length systems.now }
     ensures handed_back { IfErr result (λ u. u.error ≢ failed.Lost
         → u.reservers.items ≡ reservers.items) }
 
@@ -91,9 +94,14 @@ where
     ensures lost_some { IsErrWith result (λ u. u.error ≡ failed.Lost) → 0 < length systems.now }
     ensures lost_reservers { IfErr result (λ u. u.error ≡ failed.Lost → u.reservers.items ≡ []) }
 {
-    let room = match prepare(alloc, blocks, &reservers, systems.len(), workers) {
-        Ok(room) => room,
-        Err(error) => return Err(unrun(reservers, error)),
+    if let Err(error) = check(blocks, &reservers, systems.len(), workers) {
+        return Err(unrun(reservers, error));
+    }
+    if systems.is_empty() {
+        return Ok((Vec::new(alloc), reservers));
+    }
+    let Ok(room) = prepare(alloc, systems.len(), workers) else {
+        return Err(unrun(reservers, RunError::Memory));
     };
     let Room {
         crew,

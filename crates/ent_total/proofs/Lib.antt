@@ -2,5 +2,6 @@ pub mod Recorded
 pub mod Replied
 pub mod Unused
 pub mod Walking
+mod Held
 mod Refusals
 pub mod ImageEnd

@@ -67,7 +67,7 @@ IsCounted (Err frame.Lost) before after = after ≡ before
 IsCounted (Err (frame.Unapplied queues)) before after = after ≡ before
 IsCounted (Err (frame.Stopped stopped)) before after = after ≡ 0
 
--- For private contracts and proofs: how many are counted after a sync point that stopped so.
+-- How many are counted after a sync point that stopped so: none if it had flushed.
 abbrev pub spawned_after : SyncFault → ℕ → ℕ
 spawned_after fault.FlushMemory spawned = spawned
 spawned_after (fault.Memory system command done so_far) spawned = 0

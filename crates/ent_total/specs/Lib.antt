@@ -9,3 +9,4 @@ pub mod Framing
 pub mod Issuing
 pub mod Sharing
 pub mod Image
+pub mod Unframed

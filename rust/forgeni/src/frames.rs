@@ -13,7 +13,9 @@ use std::sync::{Mutex, PoisonError};
 
 pub use crate::kit::thread::{StdThreads, Threads as Join};
 pub use crate::proved::ent_block_runner::{run_in_blocks, RunError, Unrun};
-pub use crate::proved::ent_total::{FrameError, LogError, Unbegun};
+pub use crate::proved::ent_runner::FrameReport;
+pub use crate::proved::ent_total::{fill_in_blocks, run_frame_in_blocks};
+pub use crate::proved::ent_total::{FrameError, LogError, Unbegun, Unframed};
 
 /// Runs each system once, on that many workers side by side, and then the sync point. It returns
 /// the report of the sync point.

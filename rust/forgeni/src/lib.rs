@@ -62,18 +62,12 @@ mod waiting;
 mod world;
 mod world_phase;
 
-pub use blocks::{BlockError, BlockReserver, BlockSize, Blocks};
-pub use blocks::{DealError, EndError, Undealt, Unended};
+pub use blocks::*;
 pub use component::{Birth, ComponentId};
 pub use entities::{Entities, Freed, Living, State};
-pub use errors::{Absent, AllocError, FreeError, ImageFault, OutOfMemory, Refused, ReserveError};
-pub use errors::{StorageImageFault, WorldImageFault};
+pub use errors::*;
 #[cfg(feature = "std")]
-pub use frames::{
-    run_frame, run_frame_on, run_in_blocks, run_logs, run_logs_on, run_to_sync_point,
-};
-#[cfg(feature = "std")]
-pub use frames::{FrameError, Join, LogError, RunError, StdThreads, Unbegun, Unrun};
+pub use frames::*;
 pub use handle::{Handle, ParseHandleError};
 pub use handle_map::{HandleMap, InsertError, Uninserted};
 pub use lent::Lent;
@@ -88,10 +82,6 @@ pub use sparse_map::SparseMap;
 pub use storage::{Bundle, Items, Storage, StorageError};
 pub use sync::{Fault, FaultKind, GoOnError, Queues, Report, Stop, Stopped, SyncError};
 #[cfg(feature = "std")]
-pub use system::{system, BlockCommands, BlockSystem, LogCommands, LogSystem};
-#[cfg(feature = "std")]
-pub use system::{System, SystemCommands};
-pub use world::{
-    CommandQueue, Commands, FinishError, OpenWorld, Unfinished, Unopened, View, World,
-};
+pub use system::*;
+pub use world::*;
 pub use world_phase::LentCommands;

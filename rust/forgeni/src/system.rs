@@ -6,9 +6,9 @@ use alloc::boxed::Box;
 use alloc::sync::Arc;
 use std::sync::{Mutex, PoisonError};
 
-pub use crate::proved::ent_block_runner::{BlockCommands, BlockSystem};
+pub use crate::proved::ent_block_runner::{BlockCommands, BlockSystem, SystemInBlocks};
 pub use crate::proved::ent_log_runner::LogSystem;
-pub use crate::proved::ent_queue::Commands as SystemCommands;
+pub use crate::proved::ent_queue::{Commands as SystemCommands, CommandsInBlocks};
 pub use crate::proved::ent_runner::System;
 
 /// Fills the log of one system, and reserves by a reserver that is lent to it. `C` is the caller's type of
@@ -36,22 +36,22 @@ pub fn system<F: Fn(&View<'_>, &mut SystemCommands<'_>) -> Ran>(run: F) -> F {
     run
 }
 
-impl<F: Fn(&View<'_>, &mut SystemCommands<'_>) -> Ran> System for F {
-    fn run(&self, view: &View<'_>, commands: &mut SystemCommands<'_>) -> Ran {
-        self(view, commands)
-    }
+/// Closures are systems.
+macro_rules! closures {
+    ($([$($of:ident)?] $system:path: $($name:ident: $type:ty),*;)*) => {$(
+        impl<$($of,)? F: Fn($($type),*) -> Ran> $system for F {
+            fn run(&self, $($name: $type),*) -> Ran {
+                self($($name),*)
+            }
+        }
+    )*};
 }
 
-impl<C, F: Fn(&mut LogCommands<'_, C>) -> Ran> LogSystem<C> for F {
-    fn run(&self, commands: &mut LogCommands<'_, C>) -> Ran {
-        self(commands)
-    }
-}
-
-impl<C, F: Fn(&mut BlockCommands<'_, C>) -> Ran> BlockSystem<C> for F {
-    fn run(&self, commands: &mut BlockCommands<'_, C>) -> Ran {
-        self(commands)
-    }
+closures! {
+    [] System: view: &View<'_>, commands: &mut SystemCommands<'_>;
+    [] SystemInBlocks: view: &View<'_>, commands: &mut CommandsInBlocks<'_>;
+    [C] LogSystem<C>: commands: &mut LogCommands<'_, C>;
+    [C] BlockSystem<C>: commands: &mut BlockCommands<'_, C>;
 }
 
 /// A system that changes what it borrows.
@@ -84,4 +84,5 @@ systems_behind! {
 
 shows! {
     SystemCommands<'_>:;
+    CommandsInBlocks<'_>: left;
 }

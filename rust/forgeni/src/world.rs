@@ -2,14 +2,15 @@
 
 use crate::errors::fails;
 use crate::numbers::next_number;
-use crate::proved::ent_total::{clone_world, clone_world_from, new_world, open, read_world};
+use crate::proved::ent_total::{clone_world, clone_world_from, new_world};
+use crate::proved::ent_total::{open, open_in_blocks, read_world};
 use crate::shown::shows;
 use crate::world_phase::closed;
-use crate::{Limits, OutOfMemory, ShareError, WorldImageFault};
+use crate::{BlockReserver, Limits, OutOfMemory, ShareError, WorldImageFault};
 use alloc::vec::Vec;
 
-pub use crate::proved::ent_total::{CommandQueue, Commands, FinishError, OpenWorld};
-pub use crate::proved::ent_total::{Unfinished, Unopened, World};
+pub use crate::proved::ent_total::{CommandQueue, Commands, FinishError, OpenWorld, UndealtWorld};
+pub use crate::proved::ent_total::{UnendedWorld, Unfinished, Unopened, World, WorldInBlocks};
 pub use crate::proved::ent_world::View;
 
 impl World {
@@ -156,6 +157,41 @@ impl World {
             world: closed(phase).0,
             error: ShareError::Memory,
         })
+    }
+
+    /// Opens the world in blocks of these sizes: each caller gets a reserver of its own block, so its
+    /// handles depend on no other caller, and on no thread. A block is smaller where the world has no more
+    /// handles. [`WorldInBlocks::close`] gives the world back.
+    ///
+    /// Callers may be systems: with the feature `std`, `run_frame_in_blocks` runs them, and
+    /// `fill_in_blocks` runs them and says how much of its block each used.
+    ///
+    /// ```
+    /// use forgeni::World;
+    ///
+    /// let (open, mut reservers) = World::new().open_in_blocks(&[64, 64])?;
+    /// let one = open.blocks().reserve(&mut reservers[1])?;
+    /// assert_eq!(one.index(), 64);
+    /// let mut world = open.close(reservers)?;
+    /// world.flush()?;
+    /// assert!(world.contains(one));
+    /// // What was left of the blocks is given next, in the same order.
+    /// assert_eq!(world.spawn(&[])?.index(), 0);
+    /// # Ok::<(), Box<dyn std::error::Error + Send + Sync>>(())
+    /// ```
+    ///
+    /// # Errors
+    ///
+    /// [`UndealtWorld`] has the error, and the world as it was: [`DealError::NeedsFlush`], or
+    /// [`DealError::Memory`].
+    ///
+    /// [`DealError::NeedsFlush`]: crate::DealError::NeedsFlush
+    /// [`DealError::Memory`]: crate::DealError::Memory
+    pub fn open_in_blocks(
+        self,
+        sizes: &[u32],
+    ) -> Result<(WorldInBlocks, Vec<BlockReserver>), UndealtWorld> {
+        Ok(open_in_blocks(self, sizes)?.numbered(next_number()))
     }
 }
 

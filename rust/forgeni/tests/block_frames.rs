@@ -1,13 +1,18 @@
-//! Systems that fill logs from blocks: whatever the number of workers, the spawns of each are the next handles
-//! of its own block.
+//! Systems that fill logs and queues from blocks: whatever the number of workers, the spawns of each are the next
+//! handles of its own block.
 
-use crate::common::{flushed, small, Model};
+use crate::blocks::{close, dealt};
+use crate::common::{flushed, seeds, small, Model, Numbers};
 use forgeni::{
-    run_in_blocks, BlockCommands, BlockReserver, BlockSystem, Blocks, EndError, Entities,
+    fill_in_blocks, run_frame_in_blocks, run_in_blocks, Birth, BlockCommands, BlockReserver,
+    BlockSize, BlockSystem, Blocks, CommandsInBlocks, ComponentId, DealError, EndError, Entities,
+    Limits, SystemInBlocks, Unframed, View, World, WorldInBlocks,
 };
 use forgeni::{
-    Entry, Handle, HandleMap, Log, OutOfMemory, ReserveError, RunError, StdThreads, SyncPoint,
+    Entry, Handle, HandleMap, Log, OutOfMemory, ReserveError, RunError, StdThreads, SyncError,
+    SyncPoint,
 };
+use std::collections::BTreeMap;
 use std::panic::{catch_unwind, resume_unwind, AssertUnwindSafe};
 use std::sync::Barrier;
 
@@ -312,4 +317,616 @@ fn no_systems_fill_no_logs() {
         assert_eq!(logs.expect("memory").len(), 0);
         assert!(blocks.close(reservers).is_ok());
     }
+}
+
+const HP: ComponentId = ComponentId(0);
+const AGE: ComponentId = ComponentId(1);
+
+/// What a system of a world does. A living entity is named by its number among those that it sees.
+#[derive(Clone, Copy, Debug)]
+enum Step {
+    Spawn(i64),
+    SpawnMany(u32, i64),
+    /// Changes what it has spawned last.
+    InsertLast(i64),
+    Insert(usize, i64),
+    Remove(usize),
+    Despawn(usize),
+    /// Says that memory ran out, or panics.
+    Memory,
+    Panic,
+}
+
+/// A system of a world.
+#[derive(Clone)]
+struct Script(Vec<Step>);
+
+impl SystemInBlocks for Script {
+    fn run(&self, view: &View<'_>, commands: &mut CommandsInBlocks<'_>) -> Result<(), OutOfMemory> {
+        let living = view.by_birth()?;
+        let at = |rank: usize| living.get(rank % living.len().max(1)).copied();
+        let mut last = None;
+        for step in &self.0 {
+            match *step {
+                Step::Spawn(value) => match commands.spawn_with(&[(HP, value)]) {
+                    Ok(one) => last = Some(one),
+                    Err(refused) => refused.or_memory()?,
+                },
+                Step::SpawnMany(count, value) => {
+                    match commands.spawn_many_with(count, &[(HP, value)]) {
+                        Ok(all) => last = all.last().copied().or(last),
+                        Err(refused) => refused.or_memory()?,
+                    }
+                }
+                Step::InsertLast(value) => {
+                    if let Some(one) = last {
+                        commands.insert_with(one, &[(AGE, value)])?;
+                    }
+                }
+                Step::Insert(rank, value) => {
+                    if let Some(one) = at(rank) {
+                        commands.insert_with(one, &[(AGE, value)])?;
+                    }
+                }
+                Step::Remove(rank) => {
+                    if let Some(one) = at(rank) {
+                        commands.remove(one, HP)?;
+                    }
+                }
+                Step::Despawn(rank) => {
+                    if let Some(one) = at(rank) {
+                        commands.despawn(one)?;
+                    }
+                }
+                Step::Memory => return Err(OutOfMemory),
+                // The panic prints nothing.
+                Step::Panic => resume_unwind(Box::new("the system")),
+            }
+        }
+        Ok(())
+    }
+}
+
+/// A command as the model has it: on which entity, and what becomes of its components.
+enum Command {
+    Spawn(Handle, i64),
+    Refused,
+    Insert(Handle, i64),
+    Remove(Handle),
+    Despawn(Handle),
+}
+
+/// A world as its rules say it, whose systems run one after the other.
+struct ModelWorld {
+    allocator: Model,
+    frame: u64,
+    entities: BTreeMap<Handle, (Birth, BTreeMap<u8, i64>)>,
+}
+
+impl ModelWorld {
+    fn new(slots: u32, generations: u32) -> Self {
+        ModelWorld {
+            allocator: Model::new(slots, generations),
+            frame: 0,
+            entities: BTreeMap::new(),
+        }
+    }
+
+    fn by_birth(&self) -> Vec<Handle> {
+        let key = |(one, (birth, _)): (&Handle, &(Birth, _))| {
+            (birth.frame, birth.system, birth.ordinal, *one)
+        };
+        let mut all: Vec<_> = self.entities.iter().map(key).collect();
+        all.sort_unstable();
+        all.into_iter().map(|it| it.3).collect()
+    }
+
+    /// What a system issues, and how much of its block it uses.
+    fn issue(&self, script: &Script, living: &[Handle], block: &[Handle]) -> (usize, Vec<Command>) {
+        let at = |rank: usize| living.get(rank % living.len().max(1)).copied();
+        let (mut used, mut last, mut commands) = (0, None, vec![]);
+        for step in &script.0 {
+            let rest = &block[used..];
+            match *step {
+                Step::Spawn(_) | Step::SpawnMany(..) => {
+                    let (count, value) = match *step {
+                        Step::Spawn(value) => (1, value),
+                        Step::SpawnMany(count, value) => (count as usize, value),
+                        _ => unreachable!(),
+                    };
+                    let Some(given) = rest.get(..count) else {
+                        commands.push(Command::Refused);
+                        continue;
+                    };
+                    used += count;
+                    // Old handles in reverse order, then new ones.
+                    let (old, fresh): (Vec<Handle>, Vec<Handle>) = given
+                        .iter()
+                        .partition(|it| it.index() < self.allocator.made);
+                    let listed = old.into_iter().rev().chain(fresh);
+                    let before = commands.len();
+                    commands.extend(listed.map(|one| Command::Spawn(one, value)));
+                    if let Some(Command::Spawn(one, _)) = commands[before..].last() {
+                        last = Some(*one);
+                    }
+                }
+                Step::InsertLast(value) => {
+                    commands.extend(last.map(|one| Command::Insert(one, value)))
+                }
+                Step::Insert(rank, value) => {
+                    commands.extend(at(rank).map(|one| Command::Insert(one, value)))
+                }
+                Step::Remove(rank) => commands.extend(at(rank).map(Command::Remove)),
+                Step::Despawn(rank) => commands.extend(at(rank).map(Command::Despawn)),
+                Step::Memory | Step::Panic => unreachable!(),
+            }
+        }
+        (used, commands)
+    }
+
+    /// A frame of these systems with blocks of these sizes. Returns how much each system used, what was born, and
+    /// how many faults there were.
+    fn frame(&mut self, sizes: &[u32], scripts: &[Script]) -> (Vec<usize>, Vec<Handle>, usize) {
+        let (blocks, living) = (dealt(&self.allocator, sizes), self.by_birth());
+        let issue = |(script, block): (&Script, &Vec<Handle>)| self.issue(script, &living, block);
+        let (used, queues): (Vec<usize>, Vec<_>) = scripts.iter().zip(&blocks).map(issue).unzip();
+        let mut born = close(&mut self.allocator, &blocks, &used);
+        born.sort_unstable();
+        for (system, queue) in (0..).zip(&queues) {
+            let spawned = queue.iter().filter_map(|it| match it {
+                Command::Spawn(one, _) => Some(*one),
+                _ => None,
+            });
+            for (ordinal, one) in (0..).zip(spawned) {
+                let birth = Birth {
+                    frame: self.frame,
+                    system,
+                    ordinal,
+                };
+                self.entities.insert(one, (birth, BTreeMap::new()));
+            }
+        }
+        self.frame += 1;
+        let commands = queues.into_iter().flatten();
+        let faults = commands.filter(|it| !self.apply(it)).count();
+        (used, born, faults)
+    }
+
+    /// Whether the command had an effect.
+    fn apply(&mut self, command: &Command) -> bool {
+        let (Command::Spawn(one, _)
+        | Command::Insert(one, _)
+        | Command::Remove(one)
+        | Command::Despawn(one)) = command
+        else {
+            return false;
+        };
+        let Some((_, items)) = self.entities.get_mut(one) else {
+            return false;
+        };
+        match *command {
+            Command::Spawn(_, value) => drop(items.insert(HP.0, value)),
+            Command::Insert(_, value) => drop(items.insert(AGE.0, value)),
+            Command::Remove(_) => drop(items.remove(&HP.0)),
+            Command::Despawn(_) => {
+                self.entities.remove(one);
+                self.allocator.free(*one).expect("alive");
+            }
+            Command::Refused => unreachable!(),
+        }
+        true
+    }
+
+    /// Compares all that can be told of the world.
+    fn expect(&self, world: &World) {
+        let all = world.by_birth().expect("memory");
+        assert_eq!((all, world.frame()), (self.by_birth(), self.frame));
+        for (one, (birth, items)) in &self.entities {
+            assert_eq!(world.birth(*one), Some(*birth));
+            let found = world.items(*one).expect("alive");
+            let found: BTreeMap<u8, i64> = found.map(|(id, value)| (id.0, value)).collect();
+            assert_eq!(&found, items);
+        }
+        // What is given next.
+        let (mut next, pool) = (world.try_clone().expect("memory"), self.allocator.pool());
+        for one in pool.iter().take(40) {
+            assert_eq!(next.spawn(&[]), Ok(*one));
+        }
+    }
+}
+
+fn small_world(slots: u32, generations: u32) -> World {
+    World::with_limits(Limits::new(slots, generations).expect("limits"))
+}
+
+fn image_of(world: &World) -> Vec<u8> {
+    let mut image = vec![];
+    world.write_image(&mut image).expect("memory");
+    image
+}
+
+fn open(world: World, sizes: &[u32]) -> (WorldInBlocks, Vec<BlockReserver>) {
+    world.open_in_blocks(sizes).expect("memory")
+}
+
+fn any_step(numbers: &mut Numbers) -> Step {
+    let (rank, value) = (numbers.below(50) as usize, numbers.below(100) as i64);
+    match numbers.below(9) {
+        0..3 => Step::Spawn(value),
+        3 => Step::SpawnMany(numbers.below(4) as u32, value),
+        4 => Step::InsertLast(value),
+        5 => Step::Insert(rank, value),
+        6 => Step::Remove(rank),
+        _ => Step::Despawn(rank),
+    }
+}
+
+/// Five frames, each with the sizes of its blocks and its systems.
+fn any_frames(numbers: &mut Numbers) -> Vec<(Vec<u32>, Vec<Script>)> {
+    let script = |numbers: &mut Numbers| {
+        let steps = numbers.below(9);
+        Script((0..steps).map(|_| any_step(numbers)).collect())
+    };
+    let frame = |numbers: &mut Numbers| {
+        let systems = numbers.below(9) as usize;
+        let sizes = (0..systems).map(|_| numbers.below(6) as u32).collect();
+        (sizes, (0..systems).map(|_| script(numbers)).collect())
+    };
+    (0..5).map(|_| frame(numbers)).collect()
+}
+
+#[test]
+fn frames_in_blocks_are_those_of_the_model_on_any_number_of_workers() {
+    seeds(150, |seed| {
+        let mut numbers = Numbers::of(seed);
+        // Few slots and generations: blocks end with the pool, and slots retire.
+        let (slots, generations) = (5 + numbers.below(60) as u32, 1 + numbers.below(4) as u32);
+        let frames = any_frames(&mut numbers);
+        let mut model = ModelWorld::new(slots, generations);
+        let mut worlds = WORKERS.map(|_| Some(small_world(slots, generations)));
+        for (sizes, scripts) in &frames {
+            let (used, born, faults) = model.frame(sizes, scripts);
+            let mut images = vec![];
+            for (workers, world) in WORKERS.iter().zip(&mut worlds) {
+                let (opened, reservers) = open(world.take().expect("a world"), sizes);
+                // In one call, or in three.
+                let (after, report) = if workers % 2 == 1 {
+                    let ran =
+                        run_frame_in_blocks(&StdThreads, opened, reservers, scripts, *workers);
+                    let (after, report) = ran.expect("memory");
+                    (after, report.sync)
+                } else {
+                    let ran = fill_in_blocks(&StdThreads, &opened, reservers, scripts, *workers);
+                    let (queues, reservers) = ran.expect("memory");
+                    let told: Vec<usize> = reservers.iter().map(|it| it.used() as usize).collect();
+                    assert_eq!((queues.len(), &told), (scripts.len(), &used));
+                    let mut after = opened.close(reservers).expect("all are here");
+                    let report = after.apply(queues).expect("memory");
+                    (after, report)
+                };
+                let mut all = report.born.clone();
+                all.sort_unstable();
+                assert_eq!((&all, report.faults.len()), (&born, faults));
+                images.push((image_of(&after), report.born));
+                *world = Some(after);
+            }
+            assert!(images.iter().all(|it| *it == images[0]), "seed {seed}");
+            model.expect(worlds[0].as_ref().expect("a world"));
+        }
+    });
+}
+
+#[test]
+fn sizes_follow_what_was_used() {
+    let mut images = vec![];
+    for workers in WORKERS {
+        let (mut world, mut sizes) = (World::new(), [BlockSize::new(150); 4]);
+        // How many a system spawns, one after the other, and what its size then is.
+        for (wanted, then) in [
+            ([0, 10, 64, 100], [64, 64, 128, 128]),
+            ([1, 70, 100, 100], [64, 128, 150, 150]),
+            ([64, 0, 200, 33], [128, 64, 150, 66]),
+        ] {
+            let systems = wanted.map(|count| Script(vec![Step::Spawn(7); count]));
+            let (opened, reservers) = open(world, &sizes.map(|it| it.size()));
+            let ran = fill_in_blocks(&StdThreads, &opened, reservers, &systems, workers);
+            let (queues, reservers) = ran.expect("memory");
+            for ((size, reserver), wanted) in sizes.iter_mut().zip(&reservers).zip(wanted) {
+                assert_eq!(reserver.used(), size.size().min(wanted as u32));
+                size.adapt(reserver.used());
+            }
+            assert_eq!(sizes.map(|it| it.size()), then);
+            world = opened.close(reservers).expect("all are here");
+            // Refused spawns are faults.
+            let report = world.apply(queues).expect("memory");
+            let spawns: usize = wanted.iter().sum();
+            assert_eq!(report.born.len() + report.faults.len(), spawns);
+        }
+        images.push(image_of(&world));
+    }
+    assert!(images.iter().all(|it| *it == images[0]));
+}
+
+/// A world with six slots that wait and two that live, and the handles that three blocks of ten have.
+fn used_world() -> (World, Vec<Handle>) {
+    let (mut world, mut model) = (small_world(1000, 9), Model::new(1000, 9));
+    for _ in 0..8 {
+        world.spawn(&[]).expect("a slot");
+        model.alloc().expect("a slot");
+    }
+    for one in world.by_birth().expect("memory").iter().skip(2) {
+        world.despawn(*one).expect("alive");
+        model.free(*one).expect("alive");
+    }
+    let mut pool = model.pool();
+    pool.truncate(30);
+    pool.sort_unstable();
+    (world, pool)
+}
+
+/// Flushes a world that was closed without its reservers: all handles of the blocks are born, without components.
+fn expect_all_born(mut world: World, blocks: &[Handle]) {
+    assert!(world.needs_flush());
+    world.flush().expect("memory");
+    assert_eq!(world.len(), 32);
+    for one in blocks {
+        assert_eq!(world.items(*one).expect("alive").count(), 0);
+    }
+}
+
+#[test]
+fn after_a_system_of_a_world_stops_or_panics_the_world_is_there() {
+    for workers in WORKERS {
+        let first = Script(vec![Step::Spawn(1), Step::Despawn(0)]);
+        let systems = |last| {
+            [
+                first.clone(),
+                Script(vec![]),
+                Script(vec![Step::Spawn(1), last]),
+            ]
+        };
+
+        // A system that says that memory ran out: the frame hands the world back.
+        let (world, blocks) = used_world();
+        let (opened, reservers) = open(world, &[10; 3]);
+        let ran = run_frame_in_blocks(
+            &StdThreads,
+            opened,
+            reservers,
+            &systems(Step::Memory),
+            workers,
+        );
+        let Err(Unframed::Unrun {
+            world,
+            reservers,
+            error,
+        }) = ran
+        else {
+            panic!("a system stopped")
+        };
+        assert_eq!((error, reservers.len()), (RunError::Lost, 0));
+        assert_eq!(world.view().by_birth().expect("memory").len(), 2);
+        expect_all_born(world.close_lost(reservers).expect("memory"), &blocks);
+
+        // One that panics: systems that only fill queues leave it.
+        let (opened, reservers) = open(used_world().0, &[10; 3]);
+        let systems = systems(Step::Panic);
+        let running =
+            AssertUnwindSafe(|| fill_in_blocks(&StdThreads, &opened, reservers, &systems, workers));
+        let panic = catch_unwind(running).expect_err("the system's panic");
+        assert_eq!(panic.downcast_ref(), Some(&"the system"));
+        let unended = opened.close(vec![]).expect_err("none is here");
+        assert_eq!(unended.error, EndError::Missing { count: 3 });
+        assert_eq!(unended.to_string(), "missing reservers: 3");
+        let closed = unended.world.close_lost(unended.reservers);
+        expect_all_born(closed.expect("memory"), &blocks);
+
+        // The panic of a frame that ends in its own sync point is handed on too.
+        let (opened, reservers) = open(used_world().0, &[10; 3]);
+        let running = AssertUnwindSafe(|| {
+            run_frame_in_blocks(&StdThreads, opened, reservers, &systems, workers)
+        });
+        let panic = catch_unwind(running).expect_err("the system's panic");
+        assert_eq!(panic.downcast_ref(), Some(&"the system"));
+    }
+}
+
+#[test]
+fn the_first_fault_of_a_frame_in_blocks_is_returned_and_all_comes_back() {
+    let one = Script(vec![Step::Spawn(1)]);
+    for (systems, workers, error) in [
+        (2, 0, RunError::Workers),
+        (2, 65, RunError::Workers),
+        (65_537, 65, RunError::Workers),
+        (65_537, 64, RunError::Systems),
+        (1, 64, RunError::Reservers),
+        (3, 1, RunError::Reservers),
+        (0, 1, RunError::Reservers),
+    ] {
+        let systems = vec![one.clone(); systems];
+        let (opened, reservers) = open(used_world().0, &[10, 10]);
+        let ran = fill_in_blocks(&StdThreads, &opened, reservers, &systems, workers);
+        let unrun = ran.expect_err("refused");
+        assert_eq!(unrun.error, error);
+        let ran = run_frame_in_blocks(&StdThreads, opened, unrun.reservers, &systems, workers);
+        let unframed = ran.expect_err("refused");
+        assert_eq!(unframed.to_string(), error.to_string());
+        let Unframed::Unrun {
+            world,
+            reservers,
+            error: told,
+        } = unframed
+        else {
+            panic!("{unframed}")
+        };
+        assert_eq!(told, error);
+        let systems = vec![one.clone(); 2];
+        let ran = run_frame_in_blocks(&StdThreads, world, reservers, &systems, 1);
+        let (world, report) = ran.expect("all is as it was");
+        assert_eq!((world.len(), report.sync.born.len()), (4, 2));
+    }
+    let (opened, mut reservers) = open(used_world().0, &[10, 10]);
+    let (_other, mut others) = open(used_world().0, &[10, 10]);
+    std::mem::swap(&mut reservers[1], &mut others[1]);
+    let ran = run_frame_in_blocks(&StdThreads, opened, reservers, &vec![one; 2], 2);
+    let Err(Unframed::Unrun {
+        reservers, error, ..
+    }) = ran
+    else {
+        panic!("a reserver of another phase")
+    };
+    assert_eq!((error, reservers.len()), (RunError::OtherPhase, 2));
+}
+
+/// All systems ran, and a block has no system: the world isn't closed. Then it is, with the reserver that was missing.
+#[test]
+fn a_frame_without_a_reserver_of_each_block_ends_later() {
+    let systems = vec![Script(vec![Step::Spawn(5), Step::Spawn(6)]); 2];
+    let (opened, mut reservers) = open(used_world().0, &[10; 3]);
+    let last = reservers.pop().expect("three");
+    let ran = run_frame_in_blocks(&StdThreads, opened, reservers, &systems, 2);
+    let unframed = ran.expect_err("one is missing");
+    assert_eq!(unframed.to_string(), "missing reservers: 1");
+    let Unframed::Unended { unended, queues } = unframed else {
+        panic!("{unframed}")
+    };
+    let (world, mut reservers, error) = unended.into_parts();
+    assert_eq!(error, EndError::Missing { count: 1 });
+    assert!(reservers.iter().all(|it| it.used() == 2));
+
+    // Neither in another order, nor with one of another phase.
+    reservers.insert(0, last);
+    let unended = world.close(reservers).expect_err("in another order");
+    assert_eq!(unended.error, EndError::Order);
+    let (world, mut reservers, _) = unended.into_parts();
+    reservers.rotate_left(1);
+    let (_other, mut others) = open(World::new(), &[1]);
+    reservers.append(&mut others);
+    let unended = world.close(reservers).expect_err("one is of another phase");
+    assert_eq!(unended.error, EndError::OtherPhase);
+    let (world, mut reservers, _) = unended.into_parts();
+    reservers.truncate(3);
+
+    let mut closed = world.close(reservers).expect("all are here");
+    // The queues are of this world alone.
+    let Err(SyncError::OtherWorld(queues)) = World::new().apply(queues) else {
+        panic!("the queues are of another world")
+    };
+    let report = closed.apply(queues).expect("memory");
+    assert_eq!((report.born.len(), closed.len()), (4, 6));
+}
+
+#[test]
+fn a_world_is_opened_in_blocks_only_after_a_flush() {
+    let (opened, mut reservers) = open(World::new(), &[2]);
+    let one = opened
+        .blocks()
+        .reserve(&mut reservers[0])
+        .expect("a handle");
+    assert_eq!(opened.blocks().count(), 1);
+    let closed = opened.close(reservers).expect("all are here");
+    let undealt = closed.open_in_blocks(&[2]).expect_err("it needs a flush");
+    assert_eq!(undealt.to_string(), "a flush is needed first");
+    let (mut world, error) = undealt.into_parts();
+    assert_eq!(error, DealError::NeedsFlush);
+    world.flush().expect("memory");
+    assert!(world.contains(one));
+
+    // Spawns before the phase are counted on after it: no two entities have the same birth.
+    let (cart, (opened, reservers)) = (world.spawn(&[]).expect("a slot"), open(world, &[]));
+    let mut world = opened.close(reservers).expect("none is missing");
+    let horse = world.spawn(&[]).expect("a slot");
+    let ordinal = |one| world.birth(one).expect("alive").ordinal;
+    assert_eq!((ordinal(cart), ordinal(horse)), (0, 1));
+}
+
+#[test]
+fn no_systems_make_a_frame_in_blocks() {
+    for workers in WORKERS {
+        let (world, _) = used_world();
+        let (opened, reservers) = open(world, &[]);
+        let ran = run_frame_in_blocks(&StdThreads, opened, reservers, &[] as &[Script], workers);
+        let (world, report) = ran.expect("no memory is needed");
+        assert_eq!((world.len(), world.frame()), (2, 1));
+        assert!(report.sync.born.is_empty() && report.queues.is_empty());
+    }
+}
+
+/// Closures are systems too, and those of several types go into one list.
+#[test]
+fn systems_of_several_types_run_together() {
+    type Boxed<'a> =
+        Box<dyn Fn(&View<'_>, &mut CommandsInBlocks<'_>) -> Result<(), OutOfMemory> + Sync + 'a>;
+    let value = 9;
+    let systems: [Boxed<'_>; 2] = [
+        Box::new(|_, commands| {
+            assert_eq!(commands.left(), 1);
+            let one = commands.spawn_with(&[(HP, value)]).expect("a handle");
+            let refused = commands.spawn_with(&[]).expect_err("it is used up");
+            assert_eq!(refused, ReserveError::Space { wanted: 1, left: 0 });
+            commands.insert_with(one, &[(AGE, 1)])
+        }),
+        Box::new(|view, commands| commands.despawn(view.by_birth()?[0])),
+    ];
+    let (opened, reservers) = open(used_world().0, &[1, 0]);
+    let ran = run_frame_in_blocks(&StdThreads, opened, reservers, &systems, 2);
+    let (world, report) = ran.expect("memory");
+    let one = report.sync.born[0];
+    assert_eq!(
+        (world.get(one, HP), world.get(one, AGE)),
+        (Some(9), Some(1))
+    );
+    assert_eq!((world.len(), report.sync.faults.len()), (2, 1));
+}
+
+/// More than 70,000 handles in one frame: of slots that wait, and of new ones.
+#[test]
+fn large_frames_in_blocks() {
+    const EACH: u32 = 20_000;
+    let mut images = vec![];
+    for workers in WORKERS {
+        let mut world = World::new();
+        for _ in 0..30_000 {
+            world.spawn(&[]).expect("a slot");
+        }
+        for one in world.by_birth().expect("memory") {
+            world.despawn(one).expect("alive");
+        }
+        let script = Script(vec![
+            Step::SpawnMany(EACH - 2, 1),
+            Step::Spawn(2),
+            Step::Spawn(3),
+            Step::Spawn(4),
+        ]);
+        let (opened, reservers) = open(world, &[EACH; 4]);
+        let ran = run_frame_in_blocks(&StdThreads, opened, reservers, &vec![script; 4], workers);
+        let (world, report) = ran.expect("memory");
+        assert_eq!((report.sync.born.len(), world.len()), (80_000, 80_000));
+        assert_eq!(report.sync.faults.len(), 4);
+        for (nth, one) in (0..).zip(world.by_birth().expect("memory")) {
+            let (system, ordinal) = (nth / EACH, nth % EACH);
+            assert_eq!(
+                world.birth(one),
+                Some(Birth {
+                    frame: 0,
+                    system,
+                    ordinal
+                })
+            );
+            let value = 1 + i64::from(ordinal.saturating_sub(EACH - 3));
+            assert_eq!(world.get(one, HP), Some(value));
+            // The first block and half of the second are of slots that wait, the last one first.
+            assert_eq!(one.generation(), if one.index() < 30_000 { 2 } else { 1 });
+            let start = system * EACH;
+            let block = start..start + EACH;
+            let place = if one.index() < 30_000 {
+                29_999 - one.index()
+            } else {
+                one.index()
+            };
+            assert!(block.contains(&place), "{one} of system {system}");
+        }
+        images.push(image_of(&world));
+    }
+    assert!(images.iter().all(|it| *it == images[0]));
 }

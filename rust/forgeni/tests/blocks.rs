@@ -16,7 +16,7 @@ fn opened(entities: Entities, sizes: &[u32]) -> (Blocks, Vec<BlockReserver>) {
 type Reply = Result<Vec<Handle>, BlockError>;
 
 /// The handles of each block, as the definition has them: the next ones of the pool.
-fn dealt(model: &Model, sizes: &[u32]) -> Vec<Vec<Handle>> {
+pub fn dealt(model: &Model, sizes: &[u32]) -> Vec<Vec<Handle>> {
     let mut pool = model.pool().into_iter();
     let next = |size: &u32| pool.by_ref().take(*size as usize).collect();
     sizes.iter().map(next).collect()
@@ -44,7 +44,7 @@ fn replies(made: u32, block: &[Handle], requests: &[u32]) -> (usize, Vec<Reply>)
 
 /// The model after the phase and its flush: so many handles of each block are alive, and the others come
 /// first in the pool.
-fn close(model: &mut Model, blocks: &[Vec<Handle>], used: &[usize]) -> Vec<Handle> {
+pub fn close(model: &mut Model, blocks: &[Vec<Handle>], used: &[usize]) -> Vec<Handle> {
     let mut born: Vec<Handle> = vec![];
     let mut pool = vec![];
     for (block, used) in blocks.iter().zip(used) {

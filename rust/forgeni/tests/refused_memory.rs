@@ -1585,34 +1585,51 @@ fn a_flush_of_a_world() {
 #[cfg(feature = "std")]
 mod frames {
     use super::*;
-    use forgeni::{run_frame, FrameError, SystemCommands, View};
+    use forgeni::{
+        run_frame, run_frame_in_blocks, BlockReserver, CommandsInBlocks, DealError, EndError,
+        FrameError, RunError, SystemCommands, UndealtWorld, Unframed, View, WorldInBlocks,
+    };
 
-    type Systems = [fn(&View<'_>, &mut SystemCommands<'_>) -> Result<(), OutOfMemory>; 3];
+    /// Systems that issue by commands of this type.
+    macro_rules! systems {
+        ($module:ident, $commands:ident) => {
+            mod $module {
+                use super::*;
 
-    fn launch(_: &View<'_>, commands: &mut SystemCommands<'_>) -> Result<(), OutOfMemory> {
-        commands
-            .spawn_many_with(4, &MANY)
-            .map_or_else(ReserveError::or_memory, |_| Ok(()))
+                type Ran = Result<(), OutOfMemory>;
+
+                pub fn launch(_: &View<'_>, commands: &mut $commands<'_>) -> Ran {
+                    commands
+                        .spawn_many_with(4, &MANY)
+                        .map_or_else(ReserveError::or_memory, |_| Ok(()))
+                }
+
+                pub fn change(view: &View<'_>, commands: &mut $commands<'_>) -> Ran {
+                    for one in view.with(HP)? {
+                        commands.insert_with(one, &MANY[1..])?;
+                        commands.remove(one, HP)?;
+                    }
+                    Ok(())
+                }
+
+                /// Twice, so that there are faults.
+                fn clear(view: &View<'_>, commands: &mut $commands<'_>) -> Ran {
+                    for one in view.by_birth()? {
+                        commands.despawn(one)?;
+                        commands.despawn(one)?;
+                    }
+                    Ok(())
+                }
+
+                pub const SYSTEMS: [fn(&View<'_>, &mut $commands<'_>) -> Ran; 3] =
+                    [launch, change, clear];
+            }
+        };
     }
 
-    fn change(view: &View<'_>, commands: &mut SystemCommands<'_>) -> Result<(), OutOfMemory> {
-        for one in view.with(HP)? {
-            commands.insert_with(one, &MANY[1..])?;
-            commands.remove(one, HP)?;
-        }
-        Ok(())
-    }
-
-    /// Twice, so that there are faults.
-    fn clear(view: &View<'_>, commands: &mut SystemCommands<'_>) -> Result<(), OutOfMemory> {
-        for one in view.by_birth()? {
-            commands.despawn(one)?;
-            commands.despawn(one)?;
-        }
-        Ok(())
-    }
-
-    const SYSTEMS: Systems = [launch, change, clear];
+    systems!(of_one_cursor, SystemCommands);
+    systems!(of_blocks, CommandsInBlocks);
+    use of_one_cursor::{change, launch, SYSTEMS};
 
     /// What a frame with ample memory makes of that world.
     fn after_a_frame() -> (Vec<Fault>, Vec<Told>) {
@@ -1673,6 +1690,105 @@ mod frames {
             before > 0 && lost > 0 && unapplied > 0 && stopped > 0,
             "{before}, {lost}, {unapplied}, {stopped}"
         );
+    }
+
+    /// What a frame in blocks comes to: the world and its faults, or what comes back.
+    type Framed = Result<(World, Vec<Fault>), Unframed>;
+
+    fn run(world: WorldInBlocks, reservers: Vec<BlockReserver>) -> Framed {
+        let ran = run_frame_in_blocks(&StdThreads, world, reservers, &of_blocks::SYSTEMS, 1);
+        ran.map(|(world, report)| (world, report.sync.faults))
+    }
+
+    /// Blocks of six handles.
+    fn framed(world: World) -> Result<Framed, UndealtWorld> {
+        world
+            .open_in_blocks(&[6; 3])
+            .map(|(world, reservers)| run(world, reservers))
+    }
+
+    #[test]
+    fn a_frame_in_blocks_refused_on_one_thread() {
+        let memory = framed(two()).expect("memory").expect("memory");
+        let wanted = (memory.1, all(&memory.0));
+        let mut seen = [0; 6];
+        each_in_turn(|refusal| {
+            let world = two();
+            let (done, refused) = refusing(refusal, || framed(world));
+            let (mut world, case) = match done {
+                Ok(Ok((world, faults))) => {
+                    assert_eq!((faults, all(&world)), wanted);
+                    return refused;
+                }
+                Err(undealt) => {
+                    assert_eq!(undealt.error, DealError::Memory);
+                    assert_eq!(all(&undealt.world), all(&two()));
+                    let again = framed(undealt.world).expect("memory").expect("memory");
+                    assert_eq!((again.1, all(&again.0)), wanted);
+                    (again.0, 0)
+                }
+                Ok(Err(Unframed::Unrun {
+                    world,
+                    reservers,
+                    error: RunError::Lost,
+                })) => {
+                    let mut world = world.close_lost(reservers).expect("memory");
+                    assert_eq!(all(&world), all(&two()));
+                    world.flush().expect("memory");
+                    assert_eq!(world.len(), 2 + 3 * 6);
+                    (world, 1)
+                }
+                Ok(Err(Unframed::Unrun {
+                    world,
+                    reservers,
+                    error,
+                })) => {
+                    assert_eq!((error, reservers.len()), (RunError::Memory, 3));
+                    let again = run(world, reservers).expect("memory");
+                    assert_eq!((again.1, all(&again.0)), wanted);
+                    (again.0, 2)
+                }
+                Ok(Err(Unframed::Unended { unended, queues })) => {
+                    assert_eq!(unended.error, EndError::Memory);
+                    let closed = unended.world.close(unended.reservers);
+                    let mut world = closed.expect("memory");
+                    let faults = world.apply(queues).expect("memory").faults;
+                    assert_eq!((faults, all(&world)), wanted);
+                    (world, 3)
+                }
+                Ok(Err(Unframed::Unapplied { mut world, queues })) => {
+                    let faults = ended(&mut world, Err(SyncError::Memory(queues)));
+                    assert_eq!((faults, all(&world)), wanted);
+                    (world, 4)
+                }
+                Ok(Err(Unframed::Stopped { mut world, stopped })) => {
+                    let faults = ended(&mut world, Err(SyncError::Stopped(stopped)));
+                    assert_eq!((faults, all(&world)), wanted);
+                    (world, 5)
+                }
+            };
+            seen[case] += 1;
+            world.spawn(&[]).expect("nothing is reserved any more");
+            refused
+        });
+        assert!(seen.iter().all(|times| *times > 0), "{seen:?}");
+    }
+
+    /// What is left of a block is lost with its reserver. To end such a phase may take memory, and it may be done again.
+    #[test]
+    fn a_world_in_blocks_closed_without_its_reservers() {
+        each_in_turn(|refusal| {
+            let (opened, _) = two().open_in_blocks(&[6; 3]).expect("memory");
+            let (closed, refused) = refusing(refusal, || opened.close_lost(vec![]));
+            let closed = closed.or_else(|unended| {
+                assert_eq!(unended.error, EndError::Memory);
+                unended.world.close_lost(unended.reservers)
+            });
+            let mut world = closed.expect("memory");
+            world.flush().expect("memory");
+            assert_eq!(world.len(), 2 + 3 * 6);
+            refused
+        });
     }
 
     /// Allocations fail only on the worker that runs the system: starting a thread needs memory, and Rust has no form

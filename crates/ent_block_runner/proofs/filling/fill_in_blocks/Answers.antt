@@ -24,10 +24,10 @@ returns-clause-of g c =
     _ c.args.blocks.now c.deref-2.result.now (ready g (goal.at.returns-clause-of g c).After-work) _ _
     c.in-Some.ensures.count _ c.in-Ok.ensures.crew.0 c.in-Some.done.items c.in-Some.ensures.done)
 
-pub returns-in_default-clause-lost : goal.returns-in_default-clause-lost
-returns-in_default-clause-lost g c lost =
+pub returns-in_default-work-clause-lost : goal.returns-in_default-work-clause-lost
+returns-in_default-work-clause-lost g c lost =
     rw (sym c.deref-2.ensures.value)
     (lost_off g.S.SystemInBlocks.may_issue g.S.SystemInBlocks.may_leave c.args.systems.now
     _ c.args.blocks.now c.deref-2.result.now
-    (ready g (goal.at.returns-in_default-clause-lost g c).After-work) _ _
-    c.in_default.ensures.count _ c.in-Ok.ensures.crew.0 c.in_default.ensures.broken_off)
+    (ready g (goal.at.returns-in_default-work-clause-lost g c).After-work) _ _
+    c.in_default-work.ensures.count _ c.in-Ok.ensures.crew.0 c.in_default-work.ensures.broken_off)

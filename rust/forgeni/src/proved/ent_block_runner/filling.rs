@@ -2,7 +2,7 @@
 
 use alloc::vec::Vec;
 use crate::proved::ent_block_runner::queue_stage::QueueStage;
-use crate::proved::ent_block_runner::room::{Room, WORKERS, prepare, unrun};
+use crate::proved::ent_block_runner::room::{Room, WORKERS, check, prepare, unrun};
 use crate::proved::ent_block_runner::run_error::{RunError, Unrun};
 use crate::proved::ent_block_runner::splitting::split;
 use crate::proved::ent_block_runner::system_in_blocks::SystemInBlocks;
@@ -25,7 +25,8 @@ use crate::kit::thread::Threads;
 /// [`Unrun`] has the first of these that holds.
 ///
 /// - [`RunError::Workers`], [`RunError::Systems`], [`RunError::Reservers`], [`RunError::OtherPhase`],
-///   [`RunError::Memory`]: no system ran, and the reservers are handed back as they were.
+///   [`RunError::Memory`]: no system ran, and the reservers are handed back as they were. No systems
+///   take no memory.
 /// - [`RunError::Lost`]: a system returned an error, or systems are left and no worker has memory for
 ///   another one. All queues and reservers are dropped: [`Blocks::close_lost`] ends the phase.
 ///
@@ -48,6 +49,8 @@ use crate::kit::thread::Threads;
 ///     ↔ ((0 < workers) × (workers ≤ 64) × (length systems.now ≤ 2 ^ 16)
 ///     × (length reservers.items ≡ length systems.now)
 ///     × ¬ (All (λ r. r.number ≡ blocks.now.number) reservers.items)) }
+/// ensures memory_some { IsErrWith result (λ u. u.error ≡ failed.Memory)
+///     → 0 < length systems.now }
 /// ensures handed_back { IfErr result (λ u. u.error ≢ failed.Lost
 ///     → u.reservers.items ≡ reservers.items) }
 ///
@@ -72,9 +75,14 @@ where
     R: Threads + Sync,
     S: SystemInBlocks + Sync,
 {
-    let room = match prepare(blocks, &reservers, systems.len(), workers) {
-        Ok(room) => room,
-        Err(error) => return Err(unrun(reservers, error)),
+    if let Err(error) = check(blocks, &reservers, systems.len(), workers) {
+        return Err(unrun(reservers, error));
+    }
+    if systems.is_empty() {
+        return Ok((Vec::new(), reservers));
+    }
+    let Ok(room) = prepare(systems.len(), workers) else {
+        return Err(unrun(reservers, RunError::Memory));
     };
     let Room {
         crew,

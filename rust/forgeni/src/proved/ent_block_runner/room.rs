@@ -1,10 +1,11 @@
 // Made of crates/ent_block_runner/src/room.rt by rust/erase. It isn't edited by hand.
 
-//! What systems in blocks need before they run: a crew, and room for what they hand back.
+//! What systems in blocks need before they run: a reserver each, a crew, and room for what they hand back.
 use alloc::vec::Vec;
 use crate::kit::vec::FallibleVec;
 use crate::proved::ent_block_runner::run_error::{RunError, Unrun};
 use crate::proved::ent_blocks::{BlockReserver, Blocks};
+use crate::proved::ent_handle::Memory;
 use crate::proved::ent_runner::Crew;
 
 /// How many workers there may be.
@@ -20,25 +21,22 @@ pub(super) struct Room<O> {
     pub(super) reservers: Vec<BlockReserver>,
 }
 
-/// Room for that many systems, if each has a reserver of the phase.
+/// Whether that many systems may run, each with a reserver of the phase.
 ///
 /// # Errors
 ///
-/// Any [`RunError`] but [`RunError::Lost`]. Of those, the first that holds.
+/// Any [`RunError`] but [`RunError::Memory`] and [`RunError::Lost`]. Of those, the first that holds.
 #[inline]
-pub(super) fn prepare<O>(
+pub(super) fn check(
     blocks: &Blocks,
     reservers: &[BlockReserver],
     systems: usize,
     workers: usize,
-) -> Result<Room<O>, RunError>
-    // ensures crew { IfOk result (λ room. (room.crew.jobs ≡ systems) × (room.crew.workers ≡ workers)) }
+) -> Result<(), RunError>
+    // ensures some { OnOk result (0 < workers) }
     // ensures few { OnOk result (workers ≤ 64) }
+    // ensures within { OnOk result (systems ≤ 2 ^ 16) }
     // ensures ready { OnOk result (AreReady blocks.now systems reservers.now) }
-    // ensures empty { IfOk result (λ room.
-    //     (room.outputs.items ≡ []) × (room.reservers.items ≡ [])) }
-    // ensures outputs { IfOk result (λ room. systems ≤ vec_capacity room.outputs) }
-    // ensures reservers { IfOk result (λ room. systems ≤ vec_capacity room.reservers) }
     // ensures of_workers { IsErrOf result failed.Workers ↔ ((workers ≡ 0) ⊎ (64 < workers)) }
     // ensures of_systems { IsErrOf result failed.Systems
     //     ↔ ((0 < workers) × (workers ≤ 64) × (2 ^ 16 < systems)) }
@@ -49,6 +47,7 @@ pub(super) fn prepare<O>(
     //     ↔ ((0 < workers) × (workers ≤ 64) × (systems ≤ 2 ^ 16)
     //     × (length reservers.now ≡ systems)
     //     × ¬ (All (λ r. r.number ≡ blocks.now.number) reservers.now)) }
+    // ensures not_memory { ¬ (IsErrOf result failed.Memory) }
     // ensures not_lost { ¬ (IsErrOf result failed.Lost) }
 {
     if workers == 0 || workers > WORKERS {
@@ -63,19 +62,32 @@ pub(super) fn prepare<O>(
     if !are_of(blocks, reservers) {
         return Err(RunError::OtherPhase);
     }
-    let Ok(crew) = Crew::new(systems, workers) else {
-        return Err(RunError::Memory);
-    };
-    let Ok(outputs) = Vec::with_capacity_fallibly(systems) else {
-        return Err(RunError::Memory);
-    };
-    let Ok(returned) = Vec::with_capacity_fallibly(systems) else {
-        return Err(RunError::Memory);
-    };
+    Ok(())
+}
+
+/// Room for that many systems.
+///
+/// # Errors
+///
+/// `Memory`, if there is no memory for it.
+#[inline]
+pub(super) fn prepare<O>(
+    systems: usize,
+    workers: usize,
+) -> Result<Room<O>, Memory>
+    // requires some { 0 < workers }
+    // requires few { workers ≤ 64 }
+    // requires within { systems ≤ 2 ^ 16 }
+    // ensures crew { IfOk result (λ room. (room.crew.jobs ≡ systems) × (room.crew.workers ≡ workers)) }
+    // ensures empty { IfOk result (λ room.
+    //     (room.outputs.items ≡ []) × (room.reservers.items ≡ [])) }
+    // ensures outputs { IfOk result (λ room. systems ≤ vec_capacity room.outputs) }
+    // ensures reservers { IfOk result (λ room. systems ≤ vec_capacity room.reservers) }
+{
     Ok(Room {
-        crew,
-        outputs,
-        reservers: returned,
+        crew: Crew::new(systems, workers)?,
+        outputs: Vec::with_capacity_fallibly(systems)?,
+        reservers: Vec::with_capacity_fallibly(systems)?,
     })
 }
 

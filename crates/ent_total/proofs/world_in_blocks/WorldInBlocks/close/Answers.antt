@@ -1,0 +1,11 @@
+use Rattle.ent_total.proofs.world_in_blocks.WorldInBlocks.close.Goals as goal
+
+-- The error is that of the world below.
+pub returns-in-Err-clause-other_phase : goal.returns-in-Err-clause-other_phase
+returns-in-Err-clause-other_phase g c = rw c.of.ensures.error c.in-Err.ensures.other_phase
+
+pub returns-in-Err-clause-order : goal.returns-in-Err-clause-order
+returns-in-Err-clause-order g c = rw c.of.ensures.error c.in-Err.ensures.order
+
+pub returns-in-Err-clause-missing_count : goal.returns-in-Err-clause-missing_count
+returns-in-Err-clause-missing_count g c = rw c.of.ensures.error c.in-Err.ensures.missing_count

@@ -1,0 +1,149 @@
+ghost use Rattle.std.specs.Prelude.{◌≡◌, ℕ, ◌↔◌, ◌-◌, ◌<◌, length, map};
+ghost use Rattle.std.specs.Prelude.{All, IfOk, IfErr, OnOk, IsTrue};
+ghost use Rattle.ent_blocks.specs.Blocks.{blocks_of, unused, are_among, accounted};
+ghost use Rattle.ent_blocks.specs.Faults.{IsMissing};
+ghost use Rattle.ent_blocks.specs.declared.unended.EndError.TheVariants as unended;
+ghost use Rattle.ent_total.specs.Faults.{IsErrWith};
+ghost use Rattle.ent_world.specs.InBlocks.{world_dealt, world_after};
+ghost use Rattle.ent_world.specs.World.{IsWorld};
+
+use crate::BlockNumbering;
+use crate::unended_world::UnendedWorld;
+use crate::world::World;
+use ent_blocks::{BlockReserver, Blocks};
+use ent_world::View;
+use std::fmt;
+
+/// A world that is open in blocks: each of its callers reserves from a block of its own. It can be
+/// read, as it was when it was opened. The phase ends by [`close`](WorldInBlocks::close).
+#[must_use]
+#[derive(Drop)]
+pub struct WorldInBlocks<J: BlockNumbering> {
+    pub(crate) world: ent_world::WorldInBlocks<J>,
+    pub(crate) of_world: u64,
+    pub(crate) spawned: u32,
+}
+
+impl<J: BlockNumbering> WorldInBlocks<J> {
+    /// The blocks from which callers reserve, each with a [`BlockReserver`] of its own.
+    #[must_use]
+    pub fn blocks(&self) -> &Blocks<J>
+        ensures { result.now ≡ self.now.world.blocks }
+    {
+        self.world.blocks()
+    }
+
+    /// All that can be read of the world, as a system of a frame reads it.
+    #[must_use]
+    pub fn view(&self) -> View<'_>
+        ensures phase { result.phase ≡ self.now.world.phase }
+        ensures entities { result.entities ≡ self.now.world.entities }
+    {
+        self.world.view()
+    }
+
+    /// Ends the phase with all its reservers, in their order. What they reserved is reserved in the
+    /// world, and what is left of their blocks is given next, in the same order.
+    ///
+    /// # Errors
+    ///
+    /// [`UnendedWorld`] has the world and the reservers as they were, and the first of these that
+    /// holds.
+    ///
+    /// - [`EndError::OtherPhase`](ent_blocks::EndError): a reserver is of another phase.
+    /// - [`EndError::Order`](ent_blocks::EndError): the reservers aren't in their order.
+    /// - [`EndError::Missing`](ent_blocks::EndError): some are missing.
+    ///   [`close_lost`](WorldInBlocks::close_lost) ends the phase without them.
+    /// - [`EndError::Memory`](ent_blocks::EndError): memory ran out.
+    pub fn close(self, reservers: Vec<BlockReserver<J>>) -> Result<World, UnendedWorld<J>>
+        ensures after { let before = world_dealt self.world.blocks.phase self.world.phase
+            self.world.entities in
+            IfOk result (λ w. w.world ≡ world_after before (blocks_of reservers.items)) }
+        ensures world { IfOk result (λ w. IsWorld w.world) }
+        ensures number { IfOk result (λ w. w.number ≡ self.of_world) }
+        ensures spawned { IfOk result (λ w. w.spawned ≡ self.spawned) }
+        ensures of { OnOk result (All (λ r. r.number ≡ self.world.blocks.number) reservers.items) }
+        ensures all { OnOk result
+            (map unused (blocks_of reservers.items) ≡ self.world.blocks.phase.blocks) }
+        ensures other_phase { IsErrWith result (λ u. u.error ≡ unended.OtherPhase)
+            ↔ ¬ (All (λ r. r.number ≡ self.world.blocks.number) reservers.items) }
+        ensures order { IsErrWith result (λ u. u.error ≡ unended.Order)
+            ↔ (All (λ r. r.number ≡ self.world.blocks.number) reservers.items
+            × ¬ (IsTrue (are_among self.world.blocks.phase.blocks (blocks_of reservers.items)))) }
+        ensures missing { IsErrWith result (λ u.
+            IsMissing (length self.world.blocks.phase.blocks - length reservers.items) u.error)
+            ↔ (All (λ r. r.number ≡ self.world.blocks.number) reservers.items
+            × (IsTrue (are_among self.world.blocks.phase.blocks (blocks_of reservers.items))
+            × (length reservers.items < length self.world.blocks.phase.blocks))) }
+        ensures missing_count { IfErr result (λ u. (n : ℕ) → IsMissing n u.error
+            → n ≡ length self.world.blocks.phase.blocks - length reservers.items) }
+        ensures memory { IsErrWith result (λ u. u.error ≡ unended.Memory)
+            → 0 < length self.world.blocks.phase.blocks }
+        ensures handed_back { IfErr result (λ u. (u.world ≡ self)
+            × (u.reservers.items ≡ reservers.items)) }
+    {
+        let WorldInBlocks {
+            world,
+            of_world,
+            spawned,
+        } = self;
+        match world.close(reservers) {
+            Ok(world) => Ok(World {
+                world,
+                number: of_world,
+                spawned,
+            }),
+            Err(unended) => Err(UnendedWorld::of(unended, of_world, spawned)),
+        }
+    }
+
+    /// Ends the phase although some reservers are lost. What is left of a lost one's block counts as
+    /// reserved too: a [`World::flush`] brings it to life, without components.
+    ///
+    /// # Errors
+    ///
+    /// As of [`close`](WorldInBlocks::close), but for the missing ones.
+    pub fn close_lost(self, reservers: Vec<BlockReserver<J>>) -> Result<World, UnendedWorld<J>>
+        ensures after { let before = world_dealt self.world.blocks.phase self.world.phase
+            self.world.entities in
+            IfOk result (λ w. w.world ≡ world_after before
+            (accounted self.world.blocks.phase.blocks (blocks_of reservers.items))) }
+        ensures world { IfOk result (λ w. IsWorld w.world) }
+        ensures number { IfOk result (λ w. w.number ≡ self.of_world) }
+        ensures spawned { IfOk result (λ w. w.spawned ≡ self.spawned) }
+        ensures of { OnOk result (All (λ r. r.number ≡ self.world.blocks.number) reservers.items) }
+        ensures among { OnOk result
+            (IsTrue (are_among self.world.blocks.phase.blocks (blocks_of reservers.items))) }
+        ensures other_phase { IsErrWith result (λ u. u.error ≡ unended.OtherPhase)
+            ↔ ¬ (All (λ r. r.number ≡ self.world.blocks.number) reservers.items) }
+        ensures order { IsErrWith result (λ u. u.error ≡ unended.Order)
+            ↔ (All (λ r. r.number ≡ self.world.blocks.number) reservers.items
+            × ¬ (IsTrue (are_among self.world.blocks.phase.blocks (blocks_of reservers.items)))) }
+        ensures memory { IsErrWith result (λ u. u.error ≡ unended.Memory)
+            → 0 < length self.world.blocks.phase.blocks }
+        ensures handed_back { IfErr result (λ u. (u.world ≡ self)
+            × (u.reservers.items ≡ reservers.items)) }
+    {
+        let WorldInBlocks {
+            world,
+            of_world,
+            spawned,
+        } = self;
+        match world.close_lost(reservers) {
+            Ok(world) => Ok(World {
+                world,
+                number: of_world,
+                spawned,
+            }),
+            Err(unended) => Err(UnendedWorld::of(unended, of_world, spawned)),
+        }
+    }
+}
+
+/// It shows how many blocks there are, and says that there is more.
+impl<J: BlockNumbering> fmt::Debug for WorldInBlocks<J> {
+    fn fmt<W: fmt::Write>(&self, f: &mut fmt::Formatter<W>) -> fmt::Result {
+        let blocks = self.world.blocks().count();
+        write!(f, "WorldInBlocks {{ blocks: {blocks}, .. }}")
+    }
+}

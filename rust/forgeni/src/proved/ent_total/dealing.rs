@@ -1,0 +1,94 @@
+// Made of crates/ent_total/src/dealing.rt by rust/erase. It isn't edited by hand.
+
+//! A world is opened in blocks.
+use alloc::vec::Vec;
+use crate::proved::ent_total::undealt_world::UndealtWorld;
+use crate::proved::ent_total::world::World;
+use crate::proved::ent_total::world_in_blocks::WorldInBlocks;
+use crate::proved::ent_blocks::BlockReserver;
+
+/// A world whose allocator is dealt in blocks, and that has no number yet.
+pub struct WorldDeal {
+    pub(super) deal: crate::proved::ent_world::WorldDeal,
+    pub(super) of_world: u64,
+    pub(super) spawned: u32,
+}
+
+/// Deals the front of the world's pool in blocks of these sizes, one after the other: a block is
+/// smaller where the pool ends. It makes room for an entity of each handle that is dealt.
+///
+/// # Errors
+///
+/// [`UndealtWorld`] has the world as it was, and [`DealError::NeedsFlush`](crate::proved::ent_blocks::DealError) or
+/// [`DealError::Memory`](crate::proved::ent_blocks::DealError). No sizes take no memory.
+///
+/// <details><summary>Contract</summary>
+///
+/// In the words of the folder `specs/` of crate `ent_total`:
+///
+/// ```text
+/// ensures of_world { IfOk result (λ d. d.of_world ≡ world.number) }
+/// ensures spawned { IfOk result (λ d. d.spawned ≡ world.spawned) }
+/// ensures start { IfOk result (λ d.
+///     world_dealt d.deal.blocks d.deal.phase d.deal.entities ≡ world.world) }
+/// ensures blocks { IfOk result (λ d. d.deal.blocks.blocks
+///     ≡ blocks_from 0 (length world.world.allocator.pool) sizes.now) }
+/// ensures needs_flush { IsErrWith result (λ u. u.error ≡ failed.NeedsFlush)
+///     ↔ (0 < world.world.allocator.asked) }
+/// ensures memory { IsErrWith result (λ u. u.error ≡ failed.Memory) → 0 < length sizes.now }
+/// ensures handed_back { IfErr result (λ u. u.world ≡ world) }
+/// ```
+///
+/// </details>
+#[inline]
+pub fn open_in_blocks(
+    world: World,
+    sizes: &[u32],
+) -> Result<WorldDeal, UndealtWorld> {
+    let World {
+        world,
+        number,
+        spawned,
+    } = world;
+    match world.open_in_blocks(sizes) {
+        Ok(deal) => Ok(WorldDeal {
+            deal,
+            of_world: number,
+            spawned,
+        }),
+        Err((world, error)) => {
+            let world = World {
+                world,
+                number,
+                spawned,
+            };
+            Err(UndealtWorld { world, error })
+        }
+    }
+}
+
+impl WorldDeal {
+    /// The world under this number, which no other phase has, and a reserver of each block, in the
+    /// order of the sizes. It takes no memory.
+    #[inline]
+    pub(crate) fn numbered(self, number: u64) -> (WorldInBlocks, Vec<BlockReserver>)
+        // requires stands_for { J.blocks_of number ≡ self.deal.blocks }
+        // ensures of_world { result.0.of_world ≡ self.of_world }
+        // ensures spawned { result.0.spawned ≡ self.spawned }
+        // ensures world { result.0.world ≡ record {
+        //   blocks = record { number = number; phase = self.deal.blocks };
+        //   phase = self.deal.phase;
+        //   entities = self.deal.entities;
+        // } }
+        // ensures reservers { blocks_of result.1.items ≡ self.deal.blocks.blocks }
+        // ensures of { All (λ r. r.number ≡ number) result.1.items }
+    {
+        let (world, reservers) = self.deal.numbered(number);
+        let world = WorldInBlocks {
+            world,
+            of_world: self.of_world,
+            spawned: self.spawned,
+        };
+        (world, reservers)
+    }
+}
