@@ -4,6 +4,7 @@ ghost use Rattle.std.specs.Prelude.{◌≡◌, ℕ, ◌+◌, ◌-◌, ◌^◌, �
 ghost use Rattle.std.specs.Prelude.{◌≤ℤ◌, neg_ℤ, length};
 ghost use Rattle.ent_alloc.specs.Sequential.{top, cursor, available, asked_at, pool_at};
 ghost use Rattle.ent_alloc.specs.Sequential.{reply_from, listed_alone, settled, after_take};
+ghost use Rattle.ent_alloc.specs.Sequential.{before_requests};
 ghost use Rattle.ent_alloc.specs.Span.{IsSpanOf};
 ghost use Rattle.ent_alloc.specs.Entities.{HasRowsOfLiving};
 
@@ -72,6 +73,19 @@ impl Entities {
         let span = Span::new(self.cursor(), n);
         self.requests = self.requests.and(n, available);
         span
+    }
+
+    /// Cancels all requests since the last flush, so that no flush is needed. What they were given,
+    /// and what a refused one passed over, can be given again, in the same order. The caller drops
+    /// the handles that it got from them, or reserves them again.
+    ///
+    /// It takes constant time, and no memory.
+    pub fn cancel_requests(&mut self)
+        ensures cancelled { self.new.allocator ≡ before_requests self.old.allocator }
+        ensures rows { self.new.rows ≡ self.old.rows }
+        ensures rows_of_living { HasRowsOfLiving self.new }
+    {
+        self.requests = Requests::none();
     }
 
     /// What the request that passed these positions was given: the old handles first, in the order
