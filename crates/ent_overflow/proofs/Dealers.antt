@@ -1,5 +1,5 @@
 -- The dealer's one reservation, and the reservers that come after it.
-use Rattle.std.proofs.Common.{rules, ◌≡◌, refl, sym, ap, ◌∙◌, subst, ℕ, zero, suc, ◌+◌, ◌<◌, ◌≤◌}
+use Rattle.std.proofs.Common.{rules, ◌≡◌, refl, sym, ap, ◌∙◌, subst, ℕ, zero, suc, ◌+◌, ◌^◌, ◌<◌, ◌≤◌}
 use Rattle.std.proofs.Common.{ℤ, ◌≤ℤ◌, List, [], ◌∷◌, ◌++◌, length, take, drop, get_or, arith, Contains, All, map}
 use Rattle.std.specs.Prelude.{Result}
 use Rattle.std.proofs.lemmas.Grind.{common_steps}
@@ -8,8 +8,10 @@ use Rattle.std.proofs.lemmas.List.Elements.{All-nil, All-head, All-tail}
 use Rattle.std.proofs.lemmas.Int.{ints}
 use Rattle.ent_handle.specs.Handle.{Handle}
 use Rattle.ent_alloc.specs.Limits.{quota}
+use Rattle.ent_alloc.specs.Sequential.{Allocator}
+use Rattle.ent_alloc.specs.Sound.{IsSound}
 use Rattle.ent_alloc.specs.declared.refused.Refused.{Refused}
-use Rattle.ent_blocks.specs.Blocks.{Block, dealt, unused, AreLaid}
+use Rattle.ent_blocks.specs.Blocks.{Block, dealt, unused, blocks_from, AreLaid, AreDealt}
 use Rattle.ent_shared.specs.declared.record.RecordEntry.{RecordEntry}
 use Rattle.ent_shared.specs.declared.record.RecordEntry.TheVariants.{Own, Met}
 use Rattle.ent_shared.specs.declared.record.Reservation.{Reservation}
@@ -21,8 +23,8 @@ use Rattle.ent_shared.specs.Phase.{Shared, Reserver, IsOf as IsReserverOf}
 use Rattle.ent_shared.specs.Replies.{Reserves}
 use Rattle.ent_shared.specs.Order.{as_call, own_of_all, by_falling_high}
 use Rattle.ent_alloc.proofs.ListLaws.{All-left, All-right}
-use Rattle.ent_blocks.proofs.Openings.{none_used}
-use Rattle.ent_overflow.specs.Overflow.{Phase, Caller, IsOf, IsFresh, HasDealt, IsDealer}
+use Rattle.ent_blocks.proofs.Openings.{none_used, are_dealt, length-from}
+use Rattle.ent_overflow.specs.Overflow.{Phase, Caller, IsOf, IsFresh, IsPhase, HasDealt, IsDealer}
 use Rattle.ent_overflow.specs.Overflow.{past_records, past_history, blocks_of}
 
 -- one block more
@@ -125,3 +127,22 @@ blocks_more before after bs k b met laid lt there is so_far =
     ∙ map-append (λ (c : Caller). c.block) before (record { block = unused b; past = met } ∷ [])
     ∙ (λ i. so_far i ++ (same ∙ there) i ∷ [])
     ∙ sym (take_more bs k b lt)
+
+pub all_fresh : (s : Shared) (rs : List Reserver) → All (IsReserverOf s) rs
+    → All (λ (r : Reserver). r.own.entries ≡ []) rs → All (IsFresh s) rs
+all_fresh s rs of nothing k d lt = record { of = of k d lt; nothing = nothing k d lt }
+
+-- what the opening leaves
+pub opened : (s : Allocator) (sizes : List ℕ) (shared : Shared) (dealer : Reserver)
+    (blocks : List Block) (d : ℕ) → s.asked ≡ 0 → IsSound shared.start → shared.start ≡ s
+    → shared.count ≡ length sizes + 1 → blocks ≡ blocks_from 0 (length s.pool) sizes
+    → dealt blocks < 2 ^ 32 → IsReserverOf shared dealer → d ≡ dealt blocks
+    → IsDealer d dealer.own → IsPhase shared dealer blocks
+opened s sizes shared dealer blocks d flushed sound start count is few of deals dealer_is = record {
+  lie = subst (λ (t : Allocator). AreDealt t blocks) (sym start)
+      (subst (AreDealt s) (sym is) (are_dealt s sizes (subst IsSound start sound) flushed
+      (subst (λ (bs : List Block). dealt bs < 2 ^ 32) is few)));
+  of = of;
+  deals = subst (λ n. IsDealer n dealer.own) deals dealer_is;
+  count = let long = ap length is ∙ length-from 0 (length s.pool) sizes in omega arith;
+}

@@ -5,6 +5,7 @@ use Rattle.std.specs.Prelude.{List, [], ◌∷◌, ◌++◌, length, map, refl}
 use Rattle.std.specs.List.{All, Contains}
 use Rattle.std.specs.Coded.{Coded, code_by, coded×, coded_ℕ, coded_list}
 use Rattle.ent_alloc.specs.History as history
+use Rattle.ent_alloc.specs.Sound.{IsSound}
 use Rattle.ent_shared.specs.declared.record.Reservation.{Reservation}
 use Rattle.ent_shared.specs.declared.record.RecordEntry.TheVariants.{Own}
 use Rattle.ent_shared.specs.declared.record.Record.{Record}
@@ -94,6 +95,7 @@ pub record IsPhase (shared : Shared) (dealer : Reserver) (blocks : List Block) :
 
 -- What was used lies in the pool of a flushed allocator.
 pub record AreUsedOf (phase : Blocks) : Type 0 where
+  pub sound : IsSound phase.start
   pub flushed : phase.start.asked ≡ 0
   pub laid : AreLaid 0 (map unused phase.blocks)
   pub within : dealt phase.blocks ≤ length phase.start.pool

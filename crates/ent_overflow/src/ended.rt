@@ -106,9 +106,9 @@ impl Ended {
             parts,
             requested,
         } = self;
-        if take_used(alloc, &mut entities, &parts).is_err() {
+        let Ok(()) = take_used(alloc, &mut entities, &parts) else {
             return Err(Ended::new(entities, parts, requested));
-        }
+        };
         Ok(entities)
     }
 }

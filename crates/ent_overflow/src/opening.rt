@@ -52,13 +52,16 @@ pub fn open_with_overflow(
     let Ok(ends) = Vec::with_capacity(alloc, count + 1) else {
         return Err((entities, Memory));
     };
+    let Ok(returned) = Vec::with_capacity(alloc, count + 1) else {
+        return Err((entities, Memory));
+    };
     let (shared, mut reservers) = share(alloc, entities, count + 1)?;
     let Some(mut dealer) = reservers.pop() else {
         unreachable!()
     };
     deal(&shared, &mut dealer, dealt(&parts));
     hand_out(&shared, &mut dealer, &parts, &mut reservers, &mut callers);
-    Ok((Overflow::new(shared, dealer, parts, ends, reservers), callers))
+    Ok((Overflow::new(shared, dealer, parts, ends, returned), callers))
 }
 
 /// Gives each block one of the reservers, which comes after the dealer from then on.
@@ -75,8 +78,6 @@ fn hand_out(
     requires none { callers.old.items ≡ [] }
     requires room { length parts.now ≤ vec_capacity callers.old }
     ensures dealer { dealer.new ≡ dealer.old }
-    ensures reservers { reservers.new.items ≡ [] }
-    ensures capacity { vec_capacity reservers.new ≡ vec_capacity reservers.old }
     ensures blocks { blocks_of callers.new.items ≡ parts.now }
     ensures own { All (IsOf (record { shared = shared.now; dealer = dealer.old; blocks = parts.now }))
         callers.new.items }

@@ -1,7 +1,8 @@
 ghost use Rattle.std.specs.Prelude.{◌≡◌, ℕ, ◌+◌, ◌-◌, ◌<◌, ◌≤◌, ◌<ℤ◌, ◌↔◌, ◌++◌, ◌∷◌, []};
-ghost use Rattle.std.specs.Prelude.{length, take, drop, map, sum, IsPermutation, All, AllPairs};
+ghost use Rattle.std.specs.Prelude.{length, take, drop, map, sum, All, AllPairs, Contains};
 ghost use Rattle.std.specs.Prelude.{Ok, Err, vec_len};
 ghost use Rattle.std.specs.Vec.{vec_capacity};
+ghost use Rattle.ent_handle.specs.Handle.{Handle as HandleValue};
 ghost use Rattle.ent_alloc.specs.Sequential.{reply_from, listed, listed_alone, after_take};
 ghost use Rattle.ent_alloc.specs.History.{IsLegal, given_in, requests_of};
 ghost use Rattle.ent_alloc.specs.declared.refused.Refused.TheVariants.{Quota};
@@ -170,9 +171,9 @@ impl Overflow {
         // Behind the blocks comes what the shared cursor gave.
         ensures blocks { result.phase.blocks ≡ blocks_of callers.items
             ++ past_block (dealt self.blocks) (length (given_in (past_history callers.items))) }
-        ensures handles { let given = given_in (past_history callers.items) in
-            IsPermutation given
-            (take (length given) (drop (dealt self.blocks) self.shared.start.pool)) }
+        ensures handles { let given = given_in (past_history callers.items) in (h : HandleValue) →
+            Contains given h
+            ↔ Contains (take (length given) (drop (dealt self.blocks) self.shared.start.pool)) h }
 
         // What was requested past a block is as if it had been requested one after the other, when
         // all blocks were reserved.
@@ -201,9 +202,7 @@ impl Overflow {
         let requested = entities.asked() - u64::from(before);
         let given = entities.reserved() - before;
         entities.cancel_requests();
-        if given > 0 {
-            ends.push_reserved(Part::new(before, given).with_used(given));
-        }
+        append_past(&mut ends, before, given);
         Ended::new(entities, ends, requested)
     }
 }
@@ -221,5 +220,15 @@ fn take_apart(callers: Vec<OverflowReserver>, ends: &mut Vec<Part>, reservers: &
         let OverflowReserver { part, past } = caller;
         ends.push_reserved(part);
         reservers.push_reserved(past);
+    }
+}
+
+/// Appends what came from the shared cursor, as one more block. There is room for it.
+fn append_past(ends: &mut Vec<Part>, before: u32, given: u32)
+    requires { vec_len ends.old + 1 ≤ vec_capacity ends.old }
+    ensures { ends.new.items ≡ ends.old.items ++ past_block before given }
+{
+    if given > 0 {
+        ends.push_reserved(Part::new(before, given).with_used(given));
     }
 }

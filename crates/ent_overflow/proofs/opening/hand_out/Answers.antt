@@ -59,7 +59,6 @@ loop-part-preserved c =
       );
       len = omega (arith, c.push_reserved.ensures.len, i.len);
       room = omega (arith, c.push_reserved.ensures.capacity, i.room);
-      capacity = c.in-Some.ensures.capacity ∙ i.capacity;
     }
 
 pub returns-clause-nothing : goal.returns-clause-nothing

@@ -16,5 +16,4 @@ invariant-loop-part l = record {
   left : length l.reservers.items + l.part-index ≡ length l.parts;
   len : vec_len l.callers ≡ l.part-index;
   room : length l.parts ≤ vec_capacity l.callers;
-  capacity : vec_capacity l.reservers ≡ vec_capacity l.initial.reservers;
 }
