@@ -75,19 +75,6 @@ impl Entities {
         span
     }
 
-    /// Cancels all requests since the last flush, so that no flush is needed. What they were given,
-    /// and what a refused one passed over, can be given again, in the same order. The caller drops
-    /// the handles that it got from them, or reserves them again.
-    ///
-    /// It takes constant time, and no memory.
-    pub fn cancel_requests(&mut self)
-        ensures cancelled { self.new.allocator ≡ before_requests self.old.allocator }
-        ensures rows { self.new.rows ≡ self.old.rows }
-        ensures rows_of_living { HasRowsOfLiving self.new }
-    {
-        self.requests = Requests::none();
-    }
-
     /// What the request that passed these positions was given: the old handles first, in the order
     /// of their positions, then the fresh ones. It may be asked at any time until the next flush,
     /// also after later requests.
@@ -189,6 +176,19 @@ impl Entities {
     {
         u64::from(self.slots.waiting()) + u64::from(self.room())
     }
+}
+
+/// Cancels all requests since the last flush, so that no flush is needed. What they were given, and
+/// what a refused one passed over, can be given again, in the same order. So the caller drops the
+/// handles that it got from them, or reserves them again.
+///
+/// It takes constant time, and no memory.
+pub fn cancel_requests(entities: &mut Entities)
+    ensures cancelled { entities.new.allocator ≡ before_requests entities.old.allocator }
+    ensures rows { entities.new.rows ≡ entities.old.rows }
+    ensures rows_of_living { HasRowsOfLiving entities.new }
+{
+    entities.requests = Requests::none();
 }
 
 /// How far a position is below the top.

@@ -16,7 +16,7 @@ ghost use Rattle.ent_overflow.specs.Overflow.{past_history, past_block, IsInOrde
 use crate::dealing::dealt;
 use crate::ended::Ended;
 use crate::overflow_reserver::OverflowReserver;
-use ent_alloc::{Entities, Refused, Reserved};
+use ent_alloc::{Entities, Refused, Reserved, cancel_requests};
 use ent_blocks::{Part, take_many, take_one};
 use ent_handle::Handle;
 use ent_shared::{Reserver, Shared};
@@ -201,7 +201,7 @@ impl Overflow {
         let mut entities = shared.close(reservers);
         let requested = entities.asked() - u64::from(before);
         let given = entities.reserved() - before;
-        entities.cancel_requests();
+        cancel_requests(&mut entities);
         append_past(&mut ends, before, given);
         Ended::new(entities, ends, requested)
     }

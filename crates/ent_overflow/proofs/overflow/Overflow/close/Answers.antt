@@ -113,7 +113,7 @@ new-requires c =
     let n = length (given_in (past_history c.args.callers.items)) in
     let all = all_are (goal.at.new-requires c).After-close-entities in
     let b = (goal.at.new-requires c).After-close-entities in
-    let start = start_is b c.cancel_requests.new.self.allocator
+    let start = start_is b c.cancel_requests.new.entities.allocator
     c.cancel_requests.ensures.cancelled in
     let ends = ends_are b c.reserved.result c.append_past.new.ends.items c.reserved.ensures
     c.append_past.ensures in
@@ -135,7 +135,7 @@ pub returns-clause-start : goal.returns-clause-start
 returns-clause-start c =
     ap (λ (e : Ended). e.phase.start) c.new.ensures
     ∙ start_is (goal.at.returns-clause-start c).After-close-entities
-    c.cancel_requests.new.self.allocator c.cancel_requests.ensures.cancelled
+    c.cancel_requests.new.entities.allocator c.cancel_requests.ensures.cancelled
     ∙ ap (λ (q : Phase). q.shared.start) c.self.view_is
 
 pub returns-clause-blocks : goal.returns-clause-blocks
