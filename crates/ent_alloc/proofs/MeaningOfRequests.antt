@@ -1,15 +1,18 @@
 -- What `lower` and `settle` leave is the allocator after those requests.
 use Rattle.std.proofs.Common.{rules, ◌≡◌, ℕ, ◌+◌, ◌-◌, ◌<◌, ◌≤◌, ◌^◌, length, take, drop, arith}
+use Rattle.std.proofs.Common.{sym, ap, ◌∙◌, refl, []}
 use Rattle.std.proofs.lemmas.Grind.{common_steps}
 use Rattle.std.proofs.lemmas.Bool.{cases_lt, le-leb, cond-true}
 use Rattle.std.proofs.lemmas.List.{append-nil, length-take, take_all, drop_all, drop-drop}
 use Rattle.std.proofs.Math.Seq.{take-add}
 use Rattle.ent_alloc.specs.Roster.{Roster}
-use Rattle.ent_alloc.specs.Sequential.{Allocator, after_take, settled}
+use Rattle.ent_alloc.specs.Sequential.{Allocator, after_take, settled, before_requests}
+use Rattle.ent_alloc.specs.Sound.{IsSound}
 use Rattle.ent_alloc.specs.Entities.{idle, allocator_of, AreReserved}
-use Rattle.ent_alloc.proofs.Soundness.{after_take-sound}
+use Rattle.ent_alloc.proofs.Soundness.{after_take-sound, IsSound-moved}
 use Rattle.ent_alloc.proofs.Settled.{settled-sound}
-use Rattle.ent_alloc.proofs.Meaning.{length_left, drop_rest, length-idle, rest_is}
+use Rattle.ent_alloc.proofs.Meaning.{length_left, drop_rest, length-idle, rest_is, available_is}
+use Rattle.ent_alloc.proofs.Meaning.{AreReserved-flushed}
 
 -- a request that there is enough for
 pub lower_served : (r : Roster) (asked given n : ℕ) → given ≡ asked → asked + n ≤ length r.pending
@@ -73,3 +76,21 @@ module _ (r : Roster) (was_asked was_given : ℕ) (s : Allocator) (reserved : Ar
       → AreReserved r asked given
   settled_reserved asked given small ordered reachable all =
       search (rules, rest_is, length-idle, settled_view, settled-sound)
+
+-- ---- cancel_requests
+
+module _ (r : Roster) (asked given : ℕ) (s : Allocator) (reserved : AreReserved r asked given)
+    (view : allocator_of r asked given ≡ s) where
+  pub cancelled_view : allocator_of r 0 0 ≡ before_requests s
+  cancelled_view =
+      (λ i. record (allocator_of r 0 0) {
+        pool = sym (available_is r asked given reserved.given_least) i;
+      }) ∙ ap before_requests view
+
+  pub cancelled_reserved : AreReserved r 0 0
+  cancelled_reserved =
+      let all = available_is r asked given reserved.given_least in
+      let sound : IsSound (allocator_of r 0 0) =
+      IsSound-moved (allocator_of r asked given) [] [] (idle r) 0 reserved.sound (sym all)
+      (sym all) (λ _. refl) in
+      AreReserved-flushed r sound reserved.rows

@@ -151,6 +151,10 @@ settled s given asked = record s {
   asked = s.asked + asked;
 }
 
+-- the allocator before all requests since the last flush
+abbrev pub before_requests : Allocator → Allocator
+before_requests s = record s { pool = available s; taken = []; aside = []; asked = 0 }
+
 -- how much had been asked if the cursor is high
 abbrev pub asked_at : ℕ → ℤ → ℕ
 asked_at top (pos high) = top - high

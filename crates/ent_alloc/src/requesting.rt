@@ -4,6 +4,7 @@ ghost use Rattle.std.specs.Prelude.{◌≡◌, ℕ, ◌+◌, ◌-◌, ◌^◌, �
 ghost use Rattle.std.specs.Prelude.{◌≤ℤ◌, neg_ℤ, length};
 ghost use Rattle.ent_alloc.specs.Sequential.{top, cursor, available, asked_at, pool_at};
 ghost use Rattle.ent_alloc.specs.Sequential.{reply_from, listed_alone, settled, after_take};
+ghost use Rattle.ent_alloc.specs.Sequential.{before_requests};
 ghost use Rattle.ent_alloc.specs.Span.{IsSpanOf};
 ghost use Rattle.ent_alloc.specs.Entities.{HasRowsOfLiving};
 
@@ -175,6 +176,19 @@ impl Entities {
     {
         u64::from(self.slots.waiting()) + u64::from(self.room())
     }
+}
+
+/// Cancels all requests since the last flush, so that no flush is needed. What they were given, and
+/// what a refused one passed over, can be given again, in the same order. So the caller drops the
+/// handles that it got from them, or reserves them again.
+///
+/// It takes constant time, and no memory.
+pub fn cancel_requests(entities: &mut Entities)
+    ensures cancelled { entities.new.allocator ≡ before_requests entities.old.allocator }
+    ensures rows { entities.new.rows ≡ entities.old.rows }
+    ensures rows_of_living { HasRowsOfLiving entities.new }
+{
+    entities.requests = Requests::none();
 }
 
 /// How far a position is below the top.

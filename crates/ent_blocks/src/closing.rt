@@ -9,7 +9,7 @@ use ent_handle::Memory;
 use std::alloc::Global;
 
 /// Takes what was used of these blocks, and leaves what is left of them in the pool.
-pub(crate) fn take_used(
+pub fn take_used(
     alloc: Global,
     entities: &mut Entities,
     blocks: &[Part],

@@ -3,7 +3,7 @@ use std::marker::Model;
 
 /// The block of one caller, and how many of its handles are used.
 #[derive(Drop)]
-pub(crate) struct Part {
+pub struct Part {
     before: u32,
     size: u32,
     used: u32,
@@ -27,7 +27,7 @@ impl Part {
     ghost use Rattle.ent_blocks.specs.Blocks.{after_use, portion_of, is_same};
 
     /// A block of `size` handles, of which none is used, after the first `before` of the pool.
-    pub(crate) fn new(before: u32, size: u32) -> Self
+    pub fn new(before: u32, size: u32) -> Self
         ensures { result ≡ record { before = before; size = size; used = 0 } }
     {
         Part {
@@ -38,21 +38,21 @@ impl Part {
     }
 
     /// How many handles of the pool stand before the block.
-    pub(crate) fn before(&self) -> u32
+    pub fn before(&self) -> u32
         ensures { result ≡ self.now.before }
     {
         self.before
     }
 
     /// How many handles the block has.
-    pub(crate) fn size(&self) -> u32
+    pub fn size(&self) -> u32
         ensures { result ≡ self.now.size }
     {
         self.size
     }
 
     /// How many of them are used.
-    pub(crate) fn used(&self) -> u32
+    pub fn used(&self) -> u32
         ensures value { result ≡ self.now.used }
         ensures within { result ≤ self.now.size }
     {
@@ -60,7 +60,7 @@ impl Part {
     }
 
     /// How many handles of the block are left.
-    pub(crate) fn left(&self) -> u32
+    pub fn left(&self) -> u32
         ensures value { result ≡ self.now.size - self.now.used }
         ensures within { self.now.used ≤ self.now.size }
     {
@@ -68,7 +68,7 @@ impl Part {
     }
 
     /// Uses the next `n` handles of the block.
-    pub(crate) fn advance(&mut self, n: u32)
+    pub fn advance(&mut self, n: u32)
         requires { self.old.used + n ≤ self.old.size }
         ensures { self.new ≡ after_use self.old n }
     {
@@ -76,7 +76,7 @@ impl Part {
     }
 
     /// The block as a portion of what there is to give.
-    pub(crate) fn portion(&self) -> Portion
+    pub fn portion(&self) -> Portion
         ensures value { result ≡ portion_of self.now }
         ensures used { self.now.used ≤ self.now.size }
     {
@@ -87,14 +87,14 @@ impl Part {
     }
 
     /// Whether it is the same block, however many of its handles are used.
-    pub(crate) fn is_same(&self, other: &Part) -> bool
+    pub fn is_same(&self, other: &Part) -> bool
         ensures { result ≡ is_same self.now other.now }
     {
         self.before == other.before && self.size == other.size
     }
 
     /// The same block, with this many handles used.
-    pub(crate) fn with_used(&self, used: u32) -> Self
+    pub fn with_used(&self, used: u32) -> Self
         requires { used ≤ self.now.size }
         ensures { result ≡ record self.now { used = used } }
     {

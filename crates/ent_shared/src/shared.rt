@@ -80,6 +80,14 @@ impl Shared {
         self.count
     }
 
+    /// The allocator as it was when the phase was opened. It stays so until the close.
+    pub fn opened(&self) -> &Entities
+        ensures start { result.now.allocator ≡ self.now.start }
+        ensures rows { result.now.rows ≡ self.now.rows }
+    {
+        &self.entities
+    }
+
     /// Whether the handle was alive when the phase was opened. It takes constant time.
     pub fn is_alive(&self, handle: Handle) -> bool
         ensures { result ≡ set.contains self.now.start.live handle }

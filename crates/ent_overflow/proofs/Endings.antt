@@ -1,0 +1,208 @@
+-- The end of a phase, in the numbers of its code.
+use Rattle.std.proofs.Common.{◌≡◌, ◌≢◌, refl, sym, ap, ◌∙◌, subst, ℕ, zero, suc, ◌+◌, ◌<◌, ◌≤◌, ◌≤ℤ◌}
+use Rattle.std.proofs.Common.{◌<ℤ◌, List, [], ◌∷◌, ◌++◌, map, All, AllPairs, Contains, ◌↔◌, ◌⊎◌, arith}
+use Rattle.std.proofs.Common.{length, take, drop, sum, IsPermutation, length-append, inl, inr}
+use Rattle.std.proofs.lemmas.Grind.{common_steps}
+use Rattle.std.proofs.lemmas.List.{length-take-le, length-take, length-drop, map-append}
+use Rattle.std.proofs.lemmas.List.Sums.{sum_by-cons}
+use Rattle.std.proofs.lemmas.List.Elements.{All-head, All-tail, All-contains}
+use Rattle.std.proofs.lemmas.List.Elements.{Contains-append_right, Contains-append_cases}
+use Rattle.std.proofs.lemmas.List.Sorted.{length_permutation, Contains-permutation}
+use Rattle.std.proofs.lemmas.List.Sorted.{IsPermutation-sym}
+use Rattle.std.proofs.Math.Seq.{take-add}
+use Rattle.ent_handle.specs.Handle.{Handle}
+use Rattle.ent_alloc.specs.Sequential.{Allocator, available, after_take, before_requests}
+use Rattle.ent_alloc.specs.History as history
+use Rattle.ent_alloc.specs.Sound.{IsSound, AreApart}
+use Rattle.ent_alloc.proofs.LaidOut.{flushed-laid_out}
+use Rattle.ent_alloc.proofs.Histories.{after_history-takes, given_in-legal}
+use Rattle.ent_alloc.proofs.ListLaws.{AllPairs-left, AllPairs-across, AllPairs-IsPermutation}
+use Rattle.ent_alloc.proofs.PoolLaw.{after_takes, after_takes-sound, available-after_takes}
+use Rattle.ent_alloc.proofs.PoolLaw.{limits-after_takes, live-after_takes, made-after_takes}
+use Rattle.ent_alloc.proofs.PoolLaw.{asked-after_takes, asked-after_take, limits-after_take}
+use Rattle.ent_alloc.proofs.PoolLaw.{live-after_take, made-after_take, taken_is}
+use Rattle.ent_alloc.proofs.Replies.{not_apart, apart_both}
+use Rattle.ent_alloc.proofs.RequestLaws.{given_by, taken-after_takes}
+use Rattle.ent_alloc.proofs.Soundness.{after_take-sound}
+use Rattle.ent_alloc.proofs.Taken.{available-after_take, after_take-served}
+use Rattle.ent_blocks.specs.Blocks.{Block, dealt, unused, AreLaid}
+use Rattle.ent_overflow.specs.Overflow.{past_block}
+
+-- what else the two have, if both begin with the same handles and no slot is there twice
+also_behind : (front xs ys : List Handle) → AllPairs AreApart (front ++ xs)
+    → IsPermutation (front ++ xs) (front ++ ys) → (h : Handle) → Contains xs h → Contains ys h
+also_behind front xs ys apart same h has =
+    elim (Contains-append_cases front ys h (Contains-permutation (front ++ xs) (front ++ ys) h same
+    (Contains-append_right front xs h has))) [
+      | inl before ↦ absurd (not_apart h
+          (All-contains (AreApart h) xs h
+          (All-contains (λ g. All (AreApart g) xs) front h (AllPairs-across AreApart front xs apart)
+          before) has))
+      | inr behind ↦ behind
+    ]
+
+-- requests were made
+pub some_requested : (s : Allocator) (calls : List history.Call) → history.IsLegal s calls
+    → sum (history.requests_of calls) ≡ 0 → calls ≡ []
+some_requested s [] legal none = refl
+some_requested s (call ∷ calls) legal none =
+    let first = legal.0 in
+    let more = sum_by-cons (λ x. x) call.requested (history.requests_of calls) in
+    absurd (omega arith)
+
+-- a flushed allocator, of which d handles were reserved first, and then these calls were made
+module _ (s : Allocator) (sound : IsSound s) (flushed : s.asked ≡ 0) (d : ℕ)
+    (enough : d ≤ length s.pool) (calls : List history.Call)
+    (legal : history.IsLegal (after_take s d) calls) where
+  abbrev first : Allocator
+  first = after_take s d
+
+  abbrev requests : List ℕ
+  requests = history.requests_of calls
+
+  abbrev given : List Handle
+  given = history.given_in calls
+
+  abbrev last : Allocator
+  last = after_takes first requests
+
+  abbrev front : List Handle
+  front = take d s.pool
+
+  first_sound : IsSound first
+  first_sound = after_take-sound s d sound
+
+  last_sound : IsSound last
+  last_sound = after_takes-sound first requests first_sound
+
+  all_in_pool : available s ≡ s.pool
+  all_in_pool = let l = flushed-laid_out s sound flushed in λ i. l.taken i ++ (l.aside i ++ s.pool)
+
+  last_available : available last ≡ s.pool
+  last_available = available-after_takes first requests first_sound
+      ∙ available-after_take s d sound ∙ all_in_pool
+
+  first_taken : first.taken ≡ front
+  first_taken = ap (λ (t : Allocator). t.taken) (after_take-served s d enough)
+      ∙ ap (λ (hs : List Handle). hs ++ front) (flushed-laid_out s sound flushed).taken
+
+  moved : IsPermutation (front ++ given) last.taken
+  moved = subst (λ (hs : List Handle). IsPermutation (hs ++ given) last.taken) first_taken
+      (subst (λ (hs : List Handle). IsPermutation (first.taken ++ hs) last.taken)
+      (sym (given_in-legal first calls legal)) (taken-after_takes first requests))
+
+  pub long : length last.taken ≡ d + length given
+  long =
+      let same = length_permutation (front ++ given) last.taken moved in
+      let both = length-append front given in
+      let few = length-take-le d s.pool enough in
+      omega arith
+
+  pub within : d + length given ≤ length s.pool
+  within =
+      let long = long in
+      let cut : length last.taken ≡ length (take (length last.taken) s.pool) =
+      ap length (taken_is last ∙ ap (take (length last.taken)) last_available) in
+      let most = length-take (length last.taken) s.pool in
+      omega arith
+
+  abbrev behind : List Handle
+  behind = take (length given) (drop d s.pool)
+
+  taken_both : last.taken ≡ front ++ behind
+  taken_both = taken_is last
+      ∙ (λ i. take (long i) (last_available i))
+      ∙ take-add d (length given) s.pool
+
+  apart_both_parts : AllPairs AreApart (front ++ behind)
+  apart_both_parts = subst (AllPairs AreApart) taken_both
+      (AllPairs-left AreApart last.taken (last.aside ++ last.pool) last_sound.apart)
+
+  same_both : IsPermutation (front ++ given) (front ++ behind)
+  same_both = subst (IsPermutation (front ++ given)) taken_both moved
+
+  back_both : IsPermutation (front ++ behind) (front ++ given)
+  back_both = IsPermutation-sym (front ++ given) (front ++ behind) same_both
+
+  pub same_handles : (h : Handle) → Contains given h ↔ Contains behind h
+  same_handles h = (
+    also_behind front given behind
+        (AllPairs-IsPermutation AreApart apart_both (front ++ behind) (front ++ given) back_both
+        apart_both_parts) same_both h,
+    also_behind front behind given apart_both_parts back_both h,
+  )
+
+  pub all_asked : last.asked ≡ d + sum requests
+  all_asked =
+      let one = asked-after_take s d in
+      let others = asked-after_takes first requests in
+      omega arith
+
+  pub taken_back : before_requests last ≡ s
+  taken_back =
+      let l = flushed-laid_out s sound flushed in
+      let limits = limits-after_takes first requests ∙ limits-after_take s d in
+      let live = live-after_takes first requests ∙ live-after_take s d in
+      let made = made-after_takes first requests ∙ made-after_take s d in
+      λ i. record {
+        limits = limits i;
+        live = live i;
+        pool = last_available i;
+        taken = sym l.taken i;
+        aside = sym l.aside i;
+        made = made i;
+        asked = sym flushed i;
+      }
+
+-- one more block
+laid_more : (before : ℕ) (xs ys : List Block) → AreLaid before xs → AreLaid (before + dealt xs) ys
+    → AreLaid before (xs ++ ys)
+laid_more before [] ys laid more = subst (λ n. AreLaid n ys) (omega arith) more
+laid_more before (x ∷ xs) ys laid more = (
+  laid.0,
+  laid.1,
+  laid_more (before + x.size) xs ys laid.2 (subst (λ n. AreLaid n ys) (omega arith) more),
+)
+
+past_some : (before n : ℕ) → past_block before (suc n)
+    ≡ record { before = before; size = suc n; used = suc n } ∷ []
+past_some before n = grind (arith, common_steps)
+
+past_laid : (before n : ℕ) → AreLaid before (map unused (past_block before n))
+past_laid before zero = tt
+past_laid before (suc n) =
+    subst (λ (bs : List Block). AreLaid before (map unused bs)) (sym (past_some before n))
+    (refl, refl, tt)
+
+past_dealt : (before n : ℕ) → dealt (past_block before n) ≡ n
+past_dealt before zero = refl
+past_dealt before (suc n) = ap dealt (past_some before n) ∙ omega arith
+
+dealt-append : (xs ys : List Block) → dealt (xs ++ ys) ≡ dealt xs + dealt ys
+dealt-append [] ys = omega arith
+dealt-append (x ∷ xs) ys = let rest = dealt-append xs ys in omega arith
+
+dealt-unused : (xs : List Block) → dealt (map unused xs) ≡ dealt xs
+dealt-unused [] = refl
+dealt-unused (x ∷ xs) = ap (λ n. x.size + n) (dealt-unused xs)
+
+module _ (blocks used : List Block) (laid : AreLaid 0 blocks) (all : map unused used ≡ blocks)
+    (n : ℕ) where
+  pub ends_laid : AreLaid 0 (map unused (used ++ past_block (dealt blocks) n))
+  ends_laid =
+      let is : map unused (used ++ past_block (dealt blocks) n)
+      ≡ blocks ++ map unused (past_block (dealt blocks) n) =
+      map-append unused used (past_block (dealt blocks) n)
+      ∙ ap (λ (bs : List Block). bs ++ map unused (past_block (dealt blocks) n)) all in
+      let from : dealt blocks ≡ 0 + dealt blocks = omega arith in
+      subst (AreLaid 0) (sym is)
+      (laid_more 0 blocks (map unused (past_block (dealt blocks) n)) laid
+      (subst (λ k. AreLaid k (map unused (past_block (dealt blocks) n))) from
+      (past_laid (dealt blocks) n)))
+
+  pub ends_dealt : dealt (used ++ past_block (dealt blocks) n) ≡ dealt blocks + n
+  ends_dealt =
+      let both = dealt-append used (past_block (dealt blocks) n) in
+      let more = past_dealt (dealt blocks) n in
+      let same = sym (dealt-unused used) ∙ ap dealt all in
+      omega arith

@@ -1,0 +1,6 @@
+use Rattle.std.proofs.Common.{◌≡◌, ◌+◌, drop}
+use Rattle.ent_blocks.specs.Blocks.{dealt}
+use Rattle.ent_overflow.proofs.dealing.dealt.Given as goal
+
+abbrev pub invariant-loop-part : goal.invariant-loop-part
+invariant-loop-part l = l.count + dealt (drop l.part-index l.parts) ≡ dealt l.parts

@@ -1,0 +1,19 @@
+use Rattle.std.proofs.Common.{◌≡◌, ◌+◌, ◌≤◌, length, take, vec_len, All}
+use Rattle.std.specs.Prelude.{vec_capacity}
+use Rattle.ent_overflow.specs.Overflow.{IsOf, IsFresh, blocks_of}
+use Rattle.ent_overflow.proofs.Dealers.{IsUnused}
+use Rattle.ent_overflow.proofs.opening.hand_out.Given as goal
+
+-- so far each block has a reserver, and there is one for each block that is left
+abbrev pub invariant-loop-part : goal.invariant-loop-part
+invariant-loop-part l = record {
+  dealer : l.dealer ≡ l.initial.dealer;
+  blocks : blocks_of l.callers.items ≡ take l.part-index l.parts;
+  own : All (IsOf (record { shared = l.shared; dealer = l.initial.dealer; blocks = l.parts }))
+      l.callers.items;
+  unused : All IsUnused l.callers.items;
+  fresh : All (IsFresh l.shared) l.reservers.items;
+  left : length l.reservers.items + l.part-index ≡ length l.parts;
+  len : vec_len l.callers ≡ l.part-index;
+  room : length l.parts ≤ vec_capacity l.callers;
+}

@@ -1,0 +1,16 @@
+use Rattle.std.proofs.Common.{◌≡◌, ◌+◌, ◌≤◌, ◌++◌, length, vec_len}
+use Rattle.std.specs.Prelude.{vec_capacity}
+use Rattle.ent_overflow.specs.Overflow.{blocks_of, past_of}
+use Rattle.ent_overflow.proofs.overflow.take_apart.Given as goal
+
+-- those that came so far
+abbrev pub invariant-loop-caller : goal.invariant-loop-caller
+invariant-loop-caller l = record {
+  all : l.yielded ++ l.caller-iterator.rest.items ≡ l.fn.callers.items;
+  ends : l.ends.items ≡ l.initial.ends.items ++ blocks_of l.yielded;
+  reservers : l.reservers.items ≡ l.initial.reservers.items ++ past_of l.yielded;
+  ends_fit : vec_len l.ends + length l.caller-iterator.rest.items ≤ vec_capacity l.ends;
+  reservers_fit : vec_len l.reservers + length l.caller-iterator.rest.items
+      ≤ vec_capacity l.reservers;
+  room : vec_capacity l.ends ≡ vec_capacity l.initial.ends;
+}
