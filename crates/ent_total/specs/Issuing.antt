@@ -8,6 +8,7 @@ use Rattle.ent_alloc.specs.Sequential.{Allocator, cursor, after_flush}
 use Rattle.ent_alloc.specs.History.{IsLegal, after_history, given_in}
 use Rattle.ent_alloc.specs.Sound.{IsLive}
 use Rattle.ent_shared.specs.Order.{reservations_of, history_of, handles_given, Respects}
+use Rattle.ent_shared.specs.Order.{handles_of, own_of_all}
 use Rattle.ent_alloc.specs.declared.refused.Refused.TheVariants.{Space, Quota}
 use Rattle.ent_shared.specs.Record.{requested_by}
 use Rattle.ent_shared.specs.Phase.{Shared, Reserver, reserver_code, IsOf, records_of, after_loss}
@@ -134,8 +135,9 @@ pub record IsClosed (opened : Opened) (returned : List Reserver) (after : World)
 
 -- The phase ended with those of its reservers that are returned: the world is the one that was
 -- opened, and a front of the pool is reserved. It counts what these have requested, and of the
--- others no more than their quota. It has all handles that these got. If all are returned, it counts
--- exactly what they have requested, and the cursor is where their history leaves it.
+-- others no more than their quota. It has all handles that these got: they differ, and none was
+-- alive. A flush brings to life just what is reserved. If all are returned, it counts exactly what
+-- they have requested, and the cursor is where their history leaves it.
 pub record IsClosedLost (opened : Opened) (returned : List Reserver) (after : World) : Type 0 where
   pub phase : after.phase ≡ opened.phase
   pub entities : after.entities ≡ opened.entities
@@ -151,6 +153,9 @@ pub record IsClosedLost (opened : Opened) (returned : List Reserver) (after : Wo
       → cursor after.allocator
       ≡ cursor (after_history opened.shared.start (history_of (records_of returned)))
   pub given : AreTaken after.allocator returned
+  pub distinct : AllPairs (λ g h. g ≢ h) (handles_of (own_of_all (records_of returned)))
+  pub not_live : All (λ h. ¬ (IsLive opened.shared.start h)) after.allocator.taken
+  pub brings_to_life : BringsToLife opened.shared.start after.allocator after.allocator.taken
 
 -- each is stored as the tuple of its parts
 abbrev pub world_opening_code : Coded WorldOpening

@@ -10,6 +10,7 @@ ghost use Rattle.ent_alloc.specs.Entities.{HasRowsOfLiving};
 ghost use Rattle.ent_shared.specs.Record.{requested_by};
 ghost use Rattle.ent_shared.specs.Phase.{IsOf, records_of, after_loss};
 ghost use Rattle.ent_shared.specs.Order.{reservations_of, history_of, handles_given, Respects};
+ghost use Rattle.ent_shared.specs.Order.{handles_of, own_of_all};
 ghost use Rattle.ent_total.specs.Faults.{IsErrWith};
 ghost use Rattle.ent_total.specs.Sharing.{MayReturn, all_returned};
 ghost use Rattle.ent_total.specs.Closing.{IsMissing, count_missing};
@@ -163,10 +164,20 @@ impl<J: Numbering> Shared<J> {
             → cursor entities.allocator ≡ cursor (after_history self.shared.start
             (history_of (records_of (all_returned self reservers.items))))) }
 
-        // What the reservers that are here were given is reserved.
+        // What the reservers that are here were given is reserved. No handle was given to two of
+        // them, and none was alive.
         ensures given { IfOk result (λ entities.
             All (λ r. All (Contains entities.allocator.taken) (handles_given r.own))
             (all_returned self reservers.items)) }
+        ensures distinct { OnOk result (AllPairs (λ g h. g ≢ h)
+            (handles_of (own_of_all (records_of (all_returned self reservers.items))))) }
+        ensures not_live { IfOk result (λ entities.
+            All (λ h. ¬ (IsLive self.shared.start h)) entities.allocator.taken) }
+
+        // A flush brings to life exactly what is reserved.
+        ensures brings_to_life { IfOk result (λ entities. (h : HandleValue) →
+            IsLive (after_flush entities.allocator) h
+            ↔ (IsLive self.shared.start h ⊎ Contains entities.allocator.taken h)) }
 
         // When it succeeds, when it is refused, and what holds then.
         ensures may_return { OnOk result (MayReturn self reservers.items) }

@@ -14,4 +14,7 @@ returns c =
       asked = ensured.asked;
       whole = ensured.whole;
       given = record { given = ensured.given };
+      distinct = ensured.distinct;
+      not_live = ensured.not_live;
+      brings_to_life = record { lives = ensured.brings_to_life };
     }
