@@ -5,6 +5,7 @@
 
 mod commands;
 mod filling;
+mod frame;
 mod queue_stage;
 mod room;
 mod run_error;
@@ -17,6 +18,7 @@ mod system_in_blocks;
 
 pub use commands::BlockCommands;
 pub use filling::fill_in_blocks;
+pub use frame::{Unframed, run_frame_in_blocks};
 pub use run_error::{RunError, Unrun};
 pub use running::run_in_blocks;
 pub use source::BlockSource;

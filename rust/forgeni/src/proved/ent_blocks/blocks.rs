@@ -313,6 +313,8 @@ impl Blocks {
     ///     ≡ after_blocks self.phase.start (blocks_of reservers.items)) }
     /// ensures rows { IfOk result (λ entities. entities.rows ≡ self.phase.rows) }
     /// ensures rows_of_living { IfOk result HasRowsOfLiving }
+    /// ensures waiting { IfOk result (λ entities.
+    ///     top entities.allocator ≤ max (top self.phase.start) (dealt self.phase.blocks)) }
     ///
     /// // No handle was given twice, and none was alive.
     /// ensures distinct { IfOk result (λ entities.
@@ -338,6 +340,8 @@ impl Blocks {
     ///     ↔ (All (λ r. r.number ≡ self.number) reservers.items
     ///     × (IsTrue (are_among self.phase.blocks (blocks_of reservers.items))
     ///     × (length reservers.items < length self.phase.blocks))) }
+    /// ensures missing_count { IfErr result (λ u. (n : ℕ) → IsMissing n u.error
+    ///     → n ≡ length self.phase.blocks - length reservers.items) }
     /// ensures memory { IsErrWith result (λ u. u.error ≡ failed.Memory)
     ///     → 0 < length self.phase.blocks }
     /// ensures handed_back { IfErr result (λ u. (u.blocks ≡ self)
@@ -391,6 +395,8 @@ impl Blocks {
     ///     self.phase.start (accounted self.phase.blocks (blocks_of reservers.items))) }
     /// ensures rows { IfOk result (λ entities. entities.rows ≡ self.phase.rows) }
     /// ensures rows_of_living { IfOk result HasRowsOfLiving }
+    /// ensures waiting { IfOk result (λ entities.
+    ///     top entities.allocator ≤ max (top self.phase.start) (dealt self.phase.blocks)) }
     ///
     /// // No handle is taken twice, and none was alive. A flush brings to life exactly these.
     /// ensures distinct { IfOk result (λ entities.
@@ -436,6 +442,8 @@ impl Blocks {
         //     self.phase.start (accounted self.phase.blocks (blocks_of reservers.items))) }
         // ensures rows { IfOk result (λ entities. entities.rows ≡ self.phase.rows) }
         // ensures rows_of_living { IfOk result HasRowsOfLiving }
+        // ensures waiting { IfOk result (λ entities.
+        //     top entities.allocator ≤ max (top self.phase.start) (dealt self.phase.blocks)) }
         // ensures distinct { IfOk result (λ entities.
         //     AllPairs (λ g h. g ≢ h) entities.allocator.taken) }
         // ensures not_live { IfOk result (λ entities.

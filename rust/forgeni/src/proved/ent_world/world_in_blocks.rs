@@ -1,0 +1,372 @@
+// Made of crates/ent_world/src/world_in_blocks.rt by rust/erase. It isn't edited by hand.
+
+use alloc::vec::Vec;
+use crate::proved::ent_world::view::View;
+use crate::proved::ent_world::world::World;
+use crate::proved::ent_alloc::Entities;
+use crate::proved::ent_blocks::{BlockReserver, Blocks, Deal, DealError, EndError, open_in_blocks};
+use crate::proved::ent_storage::Storage;
+
+/// A world of which contracts also see the rows: the numbers that its allocator keeps with its living
+/// handles. A phase in blocks has them too, so they are in what its number stands for.
+pub struct PlacedWorld {
+    entities: Entities,
+    storage: Storage,
+    phase: u64,
+}
+
+/// A world whose allocator is dealt in blocks, and that has no number yet.
+pub struct WorldDeal {
+    deal: Deal,
+    storage: Storage,
+    phase: u64,
+}
+
+/// A world whose allocator is dealt in blocks: its callers reserve, each from a block of its own, and
+/// read the rest of it.
+pub struct WorldInBlocks {
+    blocks: Blocks,
+    storage: Storage,
+    phase: u64,
+}
+
+/// A world in blocks that was not closed, and goes on.
+pub struct UnendedWorld {
+    /// The world as it was.
+    pub world: WorldInBlocks,
+    /// All the reservers that were handed in, as they were.
+    pub reservers: Vec<BlockReserver>,
+    /// Why it was not closed.
+    pub error: EndError,
+}
+
+impl World {
+    /// The same world, of which contracts also see the rows. It takes no memory.
+    ///
+    /// <details><summary>Contract</summary>
+    ///
+    /// In the words of the folder `specs/` of crate `ent_world`:
+    ///
+    /// ```text
+    /// ensures { result.world ≡ self }
+    /// ```
+    ///
+    /// </details>
+    #[inline]
+    pub fn placed(self) -> PlacedWorld {
+        let World {
+            entities,
+            storage,
+            phase,
+        } = self;
+        PlacedWorld {
+            entities,
+            storage,
+            phase,
+        }
+    }
+
+    /// Deals the front of the pool in blocks of these sizes, as [`PlacedWorld::open_in_blocks`] does.
+    ///
+    /// # Errors
+    ///
+    /// The world as it was, and [`DealError::NeedsFlush`] or [`DealError::Memory`]. No sizes take no
+    /// memory.
+    ///
+    /// <details><summary>Contract</summary>
+    ///
+    /// In the words of the folder `specs/` of crate `ent_world`:
+    ///
+    /// ```text
+    /// ensures start { IfOk result (λ d. world_dealt d.blocks d.phase d.entities ≡ self) }
+    /// ensures blocks { IfOk result (λ d. d.blocks.blocks
+    ///     ≡ blocks_from 0 (length self.allocator.pool) sizes.now) }
+    /// ensures needs_flush { IsErrWith result (λ refused. refused.1 ≡ failed.NeedsFlush)
+    ///     ↔ (0 < self.allocator.asked) }
+    /// ensures memory { IsErrWith result (λ refused. refused.1 ≡ failed.Memory)
+    ///     → 0 < length sizes.now }
+    /// ensures err { IfErr result (λ refused. refused.0 ≡ self) }
+    /// ```
+    ///
+    /// </details>
+    #[inline]
+    pub fn open_in_blocks(
+        self,
+        sizes: &[u32],
+    ) -> Result<WorldDeal, (World, DealError)> {
+        self.placed().open_in_blocks(sizes)
+    }
+}
+
+impl PlacedWorld {
+    /// Deals the front of the pool in blocks of these sizes, one after the other: a block is smaller
+    /// where the pool ends. It makes room for an entity of each handle that is dealt, which stays when
+    /// the world is closed again.
+    ///
+    /// # Errors
+    ///
+    /// The world as it was, and [`DealError::NeedsFlush`] or [`DealError::Memory`]. No sizes take no
+    /// memory.
+    ///
+    /// <details><summary>Contract</summary>
+    ///
+    /// In the words of the folder `specs/` of crate `ent_world`:
+    ///
+    /// ```text
+    /// ensures start { IfOk result (λ d. world_dealt d.blocks d.phase d.entities ≡ self.world) }
+    /// ensures rows { IfOk result (λ d. d.blocks.rows ≡ self.rows) }
+    /// ensures blocks { IfOk result (λ d. d.blocks.blocks
+    ///     ≡ blocks_from 0 (length self.world.allocator.pool) sizes.now) }
+    /// ensures needs_flush { IsErrWith result (λ refused. refused.1 ≡ failed.NeedsFlush)
+    ///     ↔ (0 < self.world.allocator.asked) }
+    /// ensures memory { IsErrWith result (λ refused. refused.1 ≡ failed.Memory)
+    ///     → 0 < length sizes.now }
+    /// ensures err { IfErr result (λ refused. refused.0 ≡ self.world) }
+    /// ```
+    ///
+    /// </details>
+    #[inline]
+    pub fn open_in_blocks(
+        self,
+        sizes: &[u32],
+    ) -> Result<WorldDeal, (World, DealError)> {
+        let PlacedWorld {
+            entities,
+            mut storage,
+            phase,
+        } = self;
+        let room = wanted(sizes).min(entities.left());
+        if !entities.needs_flush() && storage.reserve(room as usize).is_err() {
+            let world = World {
+                entities,
+                storage,
+                phase,
+            };
+            return Err((world, DealError::Memory));
+        }
+        match open_in_blocks(entities, sizes) {
+            Ok(deal) => Ok(WorldDeal {
+                deal,
+                storage,
+                phase,
+            }),
+            Err(undealt) => {
+                let (entities, error) = undealt.into_parts();
+                let world = World {
+                    entities,
+                    storage,
+                    phase,
+                };
+                Err((world, error))
+            }
+        }
+    }
+}
+
+/// How many handles blocks of these sizes have at most.
+#[inline]
+fn wanted(sizes: &[u32]) -> u32
+    // ensures enough { (sum_by (λ n. n) sizes.now ≤ result) ⊎ (result ≡ 2 ^ 32 - 1) }
+    // ensures within { result ≤ sum_by (λ n. n) sizes.now }
+{
+    let mut all = 0_u32;
+    for size in sizes {
+        all = all.saturating_add(*size);
+    }
+    all
+}
+
+impl WorldDeal {
+    /// The world under this number, which no other phase has, and a reserver of each block, in the
+    /// order of the sizes. It takes no memory.
+    #[inline]
+    pub(crate) fn numbered(self, number: u64) -> (WorldInBlocks, Vec<BlockReserver>)
+        // requires stands_for { J.blocks_of number ≡ self.blocks }
+        // ensures blocks { result.0.blocks ≡ record { number = number; phase = self.blocks } }
+        // ensures phase { result.0.phase ≡ self.phase }
+        // ensures entities { result.0.entities ≡ self.entities }
+        // ensures reservers { blocks_of result.1.items ≡ self.blocks.blocks }
+        // ensures of { All (λ r. r.number ≡ number) result.1.items }
+    {
+        let WorldDeal {
+            deal,
+            storage,
+            phase,
+        } = self;
+        let (blocks, reservers) = deal.numbered(number);
+        let world = WorldInBlocks {
+            blocks,
+            storage,
+            phase,
+        };
+        (world, reservers)
+    }
+}
+
+impl WorldInBlocks {
+    /// The blocks from which callers reserve, each with a [`BlockReserver`] of its own.
+    ///
+    /// <details><summary>Contract</summary>
+    ///
+    /// In the words of the folder `specs/` of crate `ent_world`:
+    ///
+    /// ```text
+    /// ensures { result.now ≡ self.now.blocks }
+    /// ```
+    ///
+    /// </details>
+    #[inline]
+    pub fn blocks(&self) -> &Blocks {
+        &self.blocks
+    }
+
+    /// The world as it was opened.
+    ///
+    /// <details><summary>Contract</summary>
+    ///
+    /// In the words of the folder `specs/` of crate `ent_world`:
+    ///
+    /// ```text
+    /// ensures phase { result.phase ≡ self.now.phase }
+    /// ensures entities { result.entities ≡ self.now.entities }
+    /// ```
+    ///
+    /// </details>
+    #[inline]
+    pub fn view(&self) -> View<'_> {
+        View::new(&self.storage, self.phase)
+    }
+
+    /// Ends the phase with all its reservers, as [`Blocks::close`] does. Nothing of the world but its
+    /// allocator changes.
+    ///
+    /// # Errors
+    ///
+    /// As of [`Blocks::close`], with the world and the reservers as they were.
+    ///
+    /// <details><summary>Contract</summary>
+    ///
+    /// In the words of the folder `specs/` of crate `ent_world`:
+    ///
+    /// ```text
+    /// ensures after { let before = world_dealt self.blocks.phase self.phase self.entities in
+    ///     IfOk result (λ w. w ≡ world_after before (blocks_of reservers.items)) }
+    /// ensures world { IfOk result IsWorld }
+    /// ensures of { OnOk result (All (λ r. r.number ≡ self.blocks.number) reservers.items) }
+    /// ensures all { OnOk result
+    ///     (map unused (blocks_of reservers.items) ≡ self.blocks.phase.blocks) }
+    /// ensures other_phase { IsErrWith result (λ u. u.error ≡ unended.OtherPhase)
+    ///     ↔ ¬ (All (λ r. r.number ≡ self.blocks.number) reservers.items) }
+    /// ensures order { IsErrWith result (λ u. u.error ≡ unended.Order)
+    ///     ↔ (All (λ r. r.number ≡ self.blocks.number) reservers.items
+    ///     × ¬ (IsTrue (are_among self.blocks.phase.blocks (blocks_of reservers.items)))) }
+    /// ensures missing { IsErrWith result (λ u.
+    ///     IsMissing (length self.blocks.phase.blocks - length reservers.items) u.error)
+    ///     ↔ (All (λ r. r.number ≡ self.blocks.number) reservers.items
+    ///     × (IsTrue (are_among self.blocks.phase.blocks (blocks_of reservers.items))
+    ///     × (length reservers.items < length self.blocks.phase.blocks))) }
+    /// ensures missing_count { IfErr result (λ u. (n : ℕ) → IsMissing n u.error
+    ///     → n ≡ length self.blocks.phase.blocks - length reservers.items) }
+    /// ensures memory { IsErrWith result (λ u. u.error ≡ unended.Memory)
+    ///     → 0 < length self.blocks.phase.blocks }
+    /// ensures handed_back { IfErr result (λ u. (u.world ≡ self)
+    ///     × (u.reservers.items ≡ reservers.items)) }
+    /// ```
+    ///
+    /// </details>
+    #[inline]
+    pub fn close(self, reservers: Vec<BlockReserver>) -> Result<World, UnendedWorld> {
+        let WorldInBlocks {
+            blocks,
+            storage,
+            phase,
+        } = self;
+        match blocks.close(reservers) {
+            Ok(entities) => {
+                // Its contract says that the state is sound.
+                let _cursor = entities.cursor();
+                Ok(World {
+                    entities,
+                    storage,
+                    phase,
+                })
+            }
+            Err(unended) => {
+                let (blocks, reservers, error) = unended.into_parts();
+                let world = WorldInBlocks {
+                    blocks,
+                    storage,
+                    phase,
+                };
+                Err(UnendedWorld {
+                    world,
+                    reservers,
+                    error,
+                })
+            }
+        }
+    }
+
+    /// Ends the phase although some reservers are lost, as [`Blocks::close_lost`] does: what is left of
+    /// a lost one's block counts as used. Nothing of the world but its allocator changes.
+    ///
+    /// # Errors
+    ///
+    /// As of [`Blocks::close_lost`], with the world and the reservers as they were.
+    ///
+    /// <details><summary>Contract</summary>
+    ///
+    /// In the words of the folder `specs/` of crate `ent_world`:
+    ///
+    /// ```text
+    /// ensures after { let before = world_dealt self.blocks.phase self.phase self.entities in
+    ///     IfOk result (λ w. w ≡ world_after before
+    ///     (accounted self.blocks.phase.blocks (blocks_of reservers.items))) }
+    /// ensures world { IfOk result IsWorld }
+    /// ensures of { OnOk result (All (λ r. r.number ≡ self.blocks.number) reservers.items) }
+    /// ensures among { OnOk result
+    ///     (IsTrue (are_among self.blocks.phase.blocks (blocks_of reservers.items))) }
+    /// ensures other_phase { IsErrWith result (λ u. u.error ≡ unended.OtherPhase)
+    ///     ↔ ¬ (All (λ r. r.number ≡ self.blocks.number) reservers.items) }
+    /// ensures order { IsErrWith result (λ u. u.error ≡ unended.Order)
+    ///     ↔ (All (λ r. r.number ≡ self.blocks.number) reservers.items
+    ///     × ¬ (IsTrue (are_among self.blocks.phase.blocks (blocks_of reservers.items)))) }
+    /// ensures memory { IsErrWith result (λ u. u.error ≡ unended.Memory)
+    ///     → 0 < length self.blocks.phase.blocks }
+    /// ensures handed_back { IfErr result (λ u. (u.world ≡ self)
+    ///     × (u.reservers.items ≡ reservers.items)) }
+    /// ```
+    ///
+    /// </details>
+    #[inline]
+    pub fn close_lost(self, reservers: Vec<BlockReserver>) -> Result<World, UnendedWorld> {
+        let WorldInBlocks {
+            blocks,
+            storage,
+            phase,
+        } = self;
+        match blocks.close_lost(reservers) {
+            Ok(entities) => {
+                let _cursor = entities.cursor();
+                Ok(World {
+                    entities,
+                    storage,
+                    phase,
+                })
+            }
+            Err(unended) => {
+                let (blocks, reservers, error) = unended.into_parts();
+                let world = WorldInBlocks {
+                    blocks,
+                    storage,
+                    phase,
+                };
+                Err(UnendedWorld {
+                    world,
+                    reservers,
+                    error,
+                })
+            }
+        }
+    }
+}
