@@ -132,10 +132,11 @@ class Cases:
             value = self.spoil_value(value)
         text = json.dumps(value, ensure_ascii=self.rarely(0.5), indent=self.pick([None, None, 1]), separators=self.pick([None, (",", ":")]))
         shown = self.pick([["--show", "births"], ["--show=handles"], []])
-        # With a handle or few slots a report may depend on which system reserved first.
-        depends = shown == ["--show=handles"] or '"handle"' in text or '"slots"' in text
+        blocks = self.pick([[], ["--blocks", self.pick(["1", "2", "7", "300"])]])
+        # With a handle or few slots a report may depend on which system reserved first, but in blocks.
+        depends = not blocks and (shown == ["--show=handles"] or '"handle"' in text or '"slots"' in text)
         workers = [] if depends else self.pick([[], ["--workers", "3"]])
-        return "spawnrun", ["run", *shown, *workers], text.encode()
+        return "spawnrun", ["run", *shown, *workers, *blocks], text.encode()
 
     # Traces.
 
@@ -154,9 +155,9 @@ class Cases:
 
     def line(self):
         program = self.pick(["spawnrun", "spawnrun", "tracecheck"])
-        options = ["--slots", "--generations", "--workers", "--show", "--help", "--worker", "--slot", "--shows", "--halp", "--generation", "--x", "--", "--version", "--versoin", "-V"]
+        options = ["--slots", "--generations", "--workers", "--blocks", "--show", "--help", "--worker", "--slot", "--shows", "--halp", "--generation", "--x", "--", "--version", "--versoin", "-V"]
         values = ["1", "0", "+3", "-1", "64", "65", "4294967295", "4294967296", "2147483648", "9223372036854775808", "", "1.5", "births", "handles", "birth", "handel", "x", "é"]
-        others = ["run", "replay", "-h", "-x", "-", "rerun", "repaly", "ru", "help", "more", "--slots=2", "--show=", "--help=1", "--workers=2", "-hx", "-Vx", "-hV", "--version=1", "-é"]
+        others = ["run", "replay", "-h", "-x", "-", "rerun", "repaly", "ru", "help", "more", "--slots=2", "--show=", "--help=1", "--workers=2", "--blocks=2", "-hx", "-Vx", "-hV", "--version=1", "-é"]
         others += ["examples/one_caller.txt", "examples/data/reuse.json", "README.md", "examples"]
         words = [self.pick(["run", "replay"])] if program == "spawnrun" and self.rarely(0.6) else []
         for _ in range(self.random.randrange(4)):

@@ -43,7 +43,7 @@ CLASSES = {RIGHT: "allocator", GHOST: "ghost type"}
 # What each difference of a class needs as an import.
 NEEDS = {"collect_in": "crate::kit::vec::CollectIn", "list call": "crate::kit::vec::FallibleVec", "padded": "crate::kit::padded"}
 # What goes of what is imported from there, and what stays, or may be called.
-MODEL, GLOBAL, ERROR = "std::marker::Model", "std::alloc::Global", "thiserror::Error"
+MODEL, GLOBAL, ERROR, BRAND = "std::marker::Model", "std::alloc::Global", "thiserror::Error", "std::marker::Brand"
 IMPORTS = named(
     "std: fmt mem slice; std::alloc: AllocError AllocFailed; std::cmp: Ordering; std::collections: BTreeMap LinkedList; std::error: Error;"
     "std::hash: Hash Hasher; std::marker: PhantomData; std::num: NonZeroU32 NonZeroU64; std::sync: Arc; std::thread: Threads join_mut; std::vec: IntoIter;"
@@ -487,10 +487,10 @@ class Reader:
         if new in self.unit.packages | PRELUDE:
             self.use("refused", f"an import named `{new}`")
         self.imports[new] = whole if foreign else ""
-        self.names[0] |= {new: RIGHT} if foreign and whole == GLOBAL else {}
+        self.names[0] |= {new: {GLOBAL: RIGHT, BRAND: GHOST}[whole]} if foreign and whole in (GLOBAL, BRAND) else {}
         is_ghost = not foreign and self.knows("ghost", old)
         self.note("count", "ghost trait") if is_ghost else None
-        self.left.append(not (foreign and whole in (MODEL, GLOBAL, ERROR) or is_ghost))
+        self.left.append(not (foreign and whole in (MODEL, GLOBAL, ERROR, BRAND) or is_ghost))
         self.cut(mark) if not self.left[-1] else foreign and self.use("import", whole)
 
     def after_use(self, mark, notes):

@@ -6,7 +6,7 @@ use Rattle.std.specs.List.{flat_map, Contains}
 use Rattle.std.specs.Coded.{Coded, code_by, coded×, coded_ℕ, coded_list}
 use Rattle.std.specs.FinMap as maps
 use Rattle.ent_handle.specs.Handle.{Handle, handle_cmp, handle_code}
-use Rattle.ent_alloc.specs.Sequential.{Allocator, allocator_code}
+use Rattle.ent_alloc.specs.Sequential.{Allocator, allocator_code, opening}
 use Rattle.ent_alloc.specs.Portions.{made_for}
 use Rattle.ent_alloc.specs.declared.portion.Portion.{Portion}
 use Rattle.ent_alloc.specs.Sound.{IsSound}
@@ -79,6 +79,14 @@ pub record Blocks : Type 0 where
   pub start : Allocator
   pub rows : maps.FinMap handle_cmp ℕ
   pub blocks : List Block
+
+-- those of an allocator that nobody uses
+abbrev pub no_blocks : Blocks
+no_blocks = record {
+  start = opening (record { slots = 1; generations = 1 });
+  rows = maps.empty;
+  blocks = [];
+}
 
 -- the block is one of those of this phase
 abbrev pub IsOf : Blocks → Block → Type 0

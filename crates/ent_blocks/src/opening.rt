@@ -102,6 +102,14 @@ fn out_of_memory(entities: Entities) -> Undealt
     }
 }
 
+/// A number stands for nothing by itself. A function that is proved for every `J` may be called with
+/// `Brand` for it, and the proof of that call picks what the numbers stand for.
+impl BlockNumbering for std::marker::Brand {
+    ghost use Rattle.ent_blocks.specs.Blocks.{no_blocks};
+
+    ghost blocks_of = { λ _. no_blocks };
+}
+
 impl<J: BlockNumbering> Deal<J> {
     /// The phase under this number, which no other phase has, and a reserver of each block, in the
     /// order of the sizes. It takes no memory.

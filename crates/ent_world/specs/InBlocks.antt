@@ -3,11 +3,16 @@ use Rattle.std.specs.Prelude.{◌≡◌, ℕ, ◌≤◌, List, refl}
 use Rattle.std.specs.Coded.{Coded, code_by, coded×, coded_ℕ}
 use Rattle.std.specs.FinMap as map
 use Rattle.ent_handle.specs.Handle.{handle_code}
-use Rattle.ent_alloc.specs.Sequential.{top}
+use Rattle.ent_alloc.specs.Sequential.{Allocator, top}
 use Rattle.ent_blocks.specs.Blocks.{Block, Blocks, Phase, blocks_code, phase_code, after_blocks, dealt}
 use Rattle.ent_storage.specs.EntityMap.{EntityMap, Store, entity_code}
-use Rattle.ent_world.specs.Rows.{AreRows}
-use Rattle.ent_world.specs.World.{World, IsWorld}
+use Rattle.ent_world.specs.Rows.{AreRows, Rows}
+use Rattle.ent_world.specs.World.{World, IsWorld, world_code}
+
+-- a world, and the row that its allocator keeps with each living handle
+pub record PlacedWorld : Type 0 where
+  pub world : World
+  pub rows : Rows
 
 -- the blocks of the allocator, the number of the world's phase, and the entities that live
 pub record DealtWorld : Type 0 where
@@ -30,6 +35,13 @@ world_dealt blocks phase entities =
 abbrev pub world_after : World → List Block → World
 world_after w blocks = record w { allocator = after_blocks w.allocator blocks }
 
+-- For invariants: it is a world, its rows are the places, and there is room for the next occupant of each
+-- slot that waits.
+pub record IsPlaced (s : Allocator) (rows : Rows) (phase : ℕ) (store : Store) : Type 0 where
+  pub world : IsWorld (record { allocator = s; phase = phase; entities = store.entities })
+  pub rows_are : AreRows rows store.places store.entities
+  pub room : top s ≤ store.spare
+
 -- For invariants: it was a world with nothing reserved, its rows are the places, and there is room for
 -- the next occupant of each slot that waits, also if all slots of the blocks do.
 pub record IsKeptInBlocks (blocks : Blocks) (phase : ℕ) (store : Store) : Type 0 where
@@ -40,6 +52,11 @@ pub record IsKeptInBlocks (blocks : Blocks) (phase : ℕ) (store : Store) : Type
   pub room_dealt : dealt blocks.blocks ≤ store.spare
 
 -- each is stored as the tuple of its parts
+abbrev pub placed_code : Coded PlacedWorld
+placed_code =
+    code_by (World × Rows) (coded× world_code (map.code handle_code coded_ℕ))
+    (λ w. (w.world, w.rows)) (λ p. record { world = p.0; rows = p.1 }) (λ _. refl)
+
 abbrev pub dealt_code : Coded DealtWorld
 dealt_code =
     code_by (Blocks × (ℕ × EntityMap))

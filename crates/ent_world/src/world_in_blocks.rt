@@ -10,10 +10,41 @@ ghost use Rattle.ent_world.specs.InBlocks.{world_dealt, world_after};
 use crate::BlockNumbering;
 use crate::view::View;
 use crate::world::World;
+use ent_alloc::Entities;
 use ent_blocks::{BlockReserver, Blocks, Deal, DealError, EndError, open_in_blocks};
 use ent_storage::Storage;
 use std::alloc::Global;
 use std::marker::Model;
+
+/// A world of which contracts also see the rows: the numbers that its allocator keeps with its living
+/// handles. A phase in blocks has them too, so they are in what its number stands for.
+#[derive(Drop)]
+pub struct PlacedWorld {
+    entities: Entities,
+    storage: Storage,
+    phase: u64,
+    alloc: Global,
+}
+
+impl Model for PlacedWorld {
+    ghost use Rattle.ent_world.specs.InBlocks.{PlacedWorld, placed_code, IsPlaced};
+
+    ghost Value = { PlacedWorld };
+
+    ghost coded = { placed_code };
+
+    ghost view = { λ w. record {
+      world = record {
+        allocator = w.entities.allocator;
+        phase = w.phase;
+        entities = w.storage.entities;
+      };
+      rows = w.entities.rows;
+    } };
+
+    ghost invariant = { λ w.
+        IsPlaced w.entities.allocator w.entities.rows w.phase w.storage };
+}
 
 /// A world whose allocator is dealt in blocks, and that has no number yet.
 #[derive(Drop)]
@@ -78,9 +109,25 @@ pub struct UnendedWorld<J: BlockNumbering> {
 }
 
 impl World {
-    /// Deals the front of the pool in blocks of these sizes, one after the other: a block is smaller
-    /// where the pool ends. It makes room for an entity of each handle that is dealt, which stays when
-    /// the world is closed again.
+    /// The same world, of which contracts also see the rows. It takes no memory.
+    pub fn placed(self) -> PlacedWorld
+        ensures { result.world ≡ self }
+    {
+        let World {
+            entities,
+            storage,
+            phase,
+            alloc,
+        } = self;
+        PlacedWorld {
+            entities,
+            storage,
+            phase,
+            alloc,
+        }
+    }
+
+    /// Deals the front of the pool in blocks of these sizes, as [`PlacedWorld::open_in_blocks`] does.
     ///
     /// # Errors
     ///
@@ -99,7 +146,34 @@ impl World {
             → 0 < length sizes.now }
         ensures err { IfErr result (λ refused. refused.0 ≡ self) }
     {
-        let World {
+        self.placed().open_in_blocks(sizes)
+    }
+}
+
+impl PlacedWorld {
+    /// Deals the front of the pool in blocks of these sizes, one after the other: a block is smaller
+    /// where the pool ends. It makes room for an entity of each handle that is dealt, which stays when
+    /// the world is closed again.
+    ///
+    /// # Errors
+    ///
+    /// The world as it was, and [`DealError::NeedsFlush`] or [`DealError::Memory`]. No sizes take no
+    /// memory.
+    pub fn open_in_blocks<J: BlockNumbering>(
+        self,
+        sizes: &[u32],
+    ) -> Result<WorldDeal<J>, (World, DealError)>
+        ensures start { IfOk result (λ d. world_dealt d.blocks d.phase d.entities ≡ self.world) }
+        ensures rows { IfOk result (λ d. d.blocks.rows ≡ self.rows) }
+        ensures blocks { IfOk result (λ d. d.blocks.blocks
+            ≡ blocks_from 0 (length self.world.allocator.pool) sizes.now) }
+        ensures needs_flush { IsErrWith result (λ refused. refused.1 ≡ failed.NeedsFlush)
+            ↔ (0 < self.world.allocator.asked) }
+        ensures memory { IsErrWith result (λ refused. refused.1 ≡ failed.Memory)
+            → 0 < length sizes.now }
+        ensures err { IfErr result (λ refused. refused.0 ≡ self.world) }
+    {
+        let PlacedWorld {
             entities,
             mut storage,
             phase,

@@ -1,6 +1,15 @@
 -- What the words of a subcommand give: the values of its options.
 use Rattle.std.proofs.Common.{rules, ◌≡◌, ℕ, Bool, true, false, List, [], ◌∷◌, cond}
-use Rattle.std.proofs.Common.{refl, inl, inr, codes, Option, Some, None, is_some}
+use Rattle.std.proofs.Common.{refl, sym, ap, subst, ◌∙◌, ◌<◌, lit<, inl, inr, codes, Option, Some, None, is_some}
+use Rattle.std.proofs.Common.{IfSome}
+use Rattle.std.specs.Prelude.{Result}
+use Rattle.std.specs.Str.Parse.{ExplainsUnsignedError, HasUnsignedDigitsIfOk, ParsesUnsigned, digits_value}
+use Rattle.std.specs.Str.Parse.{without_leading_plus}
+use Rattle.std.specs.declared.num.ParseIntError.{ParseIntError}
+use Rattle.clap.specs.Matches.{ReadsOne, one_text}
+use Rattle.clap.proofs.WalkLemmas.{one_text-rows}
+use Rattle.cli.specs.Options.{option_number}
+use Rattle.cli.proofs.Numbers.{number_read}
 use Rattle.std.specs.Prelude.{option_map}
 use Rattle.std.specs.Option.{option_map_or}
 use Rattle.std.specs.List.{AllByRecursion, slice_index_or}
@@ -16,11 +25,14 @@ use Rattle.spawnrun_lib.specs.declared.show.Show.{Show}
 use Rattle.spawnrun_lib.specs.declared.show.Show.TheVariants.{Births, Handles}
 use Rattle.std.specs.Borrow.{Bor}
 use Rattle.std.specs.Str.{bytes_eq}
+use Rattle.clap.specs.Words.{one_of}
 use Rattle.cli.specs.Options.{HasNumber, generations_option, number_option, slots_option}
-use Rattle.spawnrun_lib.specs.CommandLine.{HasShow, program, references_to}
+use Rattle.spawnrun_lib.specs.CommandLine.{HasShow, MayHaveBlocks, blocks_option, most_handles}
+use Rattle.spawnrun_lib.specs.CommandLine.{optional_number, program, references_to}
 use Rattle.spawnrun_lib.specs.CommandLine.{show_option, show_text, shown, workers_option}
-use Rattle.spawnrun_lib.proofs.ParsedOptions.{none_of, Fits, HasValue, IsOption, IsRequest}
-use Rattle.spawnrun_lib.proofs.ParsedOptions.{option-has_value}
+use Rattle.spawnrun_lib.proofs.ParsedOptions.{none_of, Fits, HasValue, IsOption, IsOptional}
+use Rattle.spawnrun_lib.proofs.ParsedOptions.{IsRequest, MayHaveValue, option-has_value}
+use Rattle.spawnrun_lib.proofs.ParsedOptions.{optional-has_value}
 
 -- the options as building leaves them
 abbrev slots_rule : Rule
@@ -38,8 +50,11 @@ workers_rule = filled workers_option
 abbrev show_rule : Rule
 show_rule = filled (show_option (references_to shown))
 
+abbrev blocks_rule : Rule
+blocks_rule = filled blocks_option
+
 abbrev run_rules : List Rule
-run_rules = workers_rule ∷ show_rule ∷ filled help_rule ∷ []
+run_rules = workers_rule ∷ blocks_rule ∷ show_rule ∷ filled help_rule ∷ []
 
 slots-option : IsOption replay_rules slots_rule
 slots-option = search rules
@@ -50,6 +65,9 @@ generations-option = search rules
 workers-option : IsOption run_rules workers_rule
 workers-option = search rules
 
+blocks-option : IsOptional run_rules blocks_rule
+blocks-option = search rules
+
 show-option : IsOption run_rules show_rule
 show-option = search rules
 
@@ -57,10 +75,13 @@ help-request : (c : List Rule) → IsRequest c (filled help_rule)
 help-request c = record { asks = refl; default = refl; named = refl }
 
 replay-fits : AllByRecursion (Fits replay_rules) replay_rules
-replay-fits = (inl slots-option, (inl generations-option, (inr (help-request replay_rules), tt)))
+replay-fits = (inl slots-option, (inl generations-option, (inr (inr (help-request replay_rules)), tt)))
 
 run-fits : AllByRecursion (Fits run_rules) run_rules
-run-fits = (inl workers-option, (inl show-option, (inr (help-request run_rules), tt)))
+run-fits = (
+  inl workers-option,
+  (inr (inl blocks-option), (inl show-option, (inr (inr (help-request run_rules)), tt))),
+)
 
 abbrev pub replay_shape : Shape
 replay_shape = slice_index_or (built program).subs 0 (new_shape [])
@@ -72,6 +93,14 @@ number_from : (option : Text) (most : ℕ) (default : Text) (rows : List Row)
     → HasValue (filled (number_option option most default)) rows → HasNumber option most rows
 number_from option most default rows value = search (rules, accepts-Accepts)
 
+optional_from : (option : Text) (most : ℕ) (rows : List Row)
+    → HasValue (filled (optional_number option most)) rows → HasNumber option most rows
+optional_from option most rows value = search (rules, accepts-Accepts)
+
+blocks_from : (rows : List Row) → MayHaveValue blocks_rule rows → MayHaveBlocks rows
+blocks_from rows (inl none) = inl none
+blocks_from rows (inr value) = inr (optional_from (codes "blocks") most_handles rows value)
+
 show_from : (rows : List Row) → HasValue show_rule rows → HasShow rows
 show_from rows value = search rules
 
@@ -81,7 +110,7 @@ pub data IsAsked (found : Option (Text × List Row)) : Type 0 where
       → HasNumber (codes "slots") 4294967295 rows
       → HasNumber (codes "generations") 2147483647 rows → IsAsked found
   asks_run : (rows : List Row) → found ≡ Some (codes "run", rows) → HasNumber (codes "workers") 64
-      rows → HasShow rows → IsAsked found
+      rows → MayHaveBlocks rows → HasShow rows → IsAsked found
 
 replay_options : (words : List Text) → level_fault replay_shape [] nothing_held words false [] ≡ []
     → IsAsked (Some (rows_at replay_shape words))
@@ -95,7 +124,8 @@ run_options : (words : List Text) → level_fault run_shape [] nothing_held word
 run_options words e =
     let value = option-has_value run_rules run-fits run_shape words e in
     asks_run _ refl (number_from _ _ _ _ (value workers_rule workers-option (inl refl)))
-    (show_from _ (value show_rule show-option (inr (inl refl))))
+    (blocks_from _ (optional-has_value run_rules run-fits run_shape words e blocks_rule blocks-option))
+    (show_from _ (value show_rule show-option (inr (inr (inl refl)))))
 
 -- a subcommand is required, and there are two
 stopped : (stop : Option (Text × List Text)) (rows : List Row) → entered_fault (built program) stop
@@ -143,3 +173,22 @@ pub shows_by : (found : Found) (r : Option (Bor Text)) (text : Bor Text) (test :
     → first_of (codes "show") (rows_of found) ≡ Some (show_text (cond test Handles Births))
 shows_by found r text test has reads is tested =
     let read = show_read found r has reads in search rules
+
+-- what `FromStr` promises of a number of 32 bits
+abbrev number_gives : Text → Result ℕ ParseIntError → Type 0
+number_gives text r = ParsesUnsigned 32 10 text r × ExplainsUnsignedError 10 text r
+    × HasUnsignedDigitsIfOk text r
+
+-- the number that the getter of `--blocks` reads, if there is one
+pub blocks_read : (found : Found) (r : Option ℕ) → MayHaveBlocks (rows_of found)
+    → (one_text found (codes "blocks") ≡ None → r ≡ None)
+    → ((text : Text) → one_text found (codes "blocks") ≡ Some text → ReadsOne number_gives text r)
+    → (option_number (codes "blocks") (rows_of found) ≡ r) × IfSome r (λ size. 0 < size)
+blocks_read found r (inl absent) none reads =
+    let is : r ≡ None = none (one_text-rows found (codes "blocks") ∙ absent) in (
+      ap (option_map (λ text. digits_value 10 (without_leading_plus text))) absent ∙ sym is,
+      subst (λ (r : Option ℕ). IfSome r (λ size. 0 < size)) (sym is) tt,
+    )
+blocks_read found r (inr number) none reads =
+    let read = number_read 32 (codes "blocks") most_handles found r (lit< tt) number reads in
+    (read.4 ∙ sym read.1, subst (λ (r : Option ℕ). IfSome r (λ size. 0 < size)) (sym read.1) read.2)

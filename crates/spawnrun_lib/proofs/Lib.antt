@@ -11,7 +11,9 @@ pub mod FramesAlone
 pub mod Parts
 pub mod OneText
 pub mod NextFrame
+pub mod NextInBlocks
 pub mod OneReport
+pub mod OneTextInBlocks
 pub mod GivenOnce
 pub mod FewSystems
 pub mod NoRefusal

@@ -78,7 +78,7 @@ same_targets view names (target.Handle h) hs ks a b = a ∙ sym b
 same_targets view names (target.Each id) hs ks a b = one_list_with id view.entities hs ks a b
 same_targets view names (target.Birth birth) hs ks a b = same_of_birth view birth hs ks a b
 
-same_on_each : (view : View) (names : Bindings) (on : Target) (command : Handle → Command)
+pub same_on_each : (view : View) (names : Bindings) (on : Target) (command : Handle → Command)
     (cs ds : List Command) → OnEach view names on command cs → OnEach view names on command ds → cs
     ≡ ds
 same_on_each view names on command cs ds a b = search (rules, same_targets)

@@ -79,6 +79,10 @@ pub record HasValue (a : Rule) (rows : List Row) : Type 0 where
   pub is : one_of a.id rows ≡ Some (read_as (reading_by a) text)
   pub passes : value_passes a text ≡ true
 
+-- or have none
+abbrev pub MayHaveValue : Rule → List Row → Type 0
+MayHaveValue a rows = (one_of a.id rows ≡ None) ⊎ HasValue a rows
+
 module _ (c : List Rule) where
   -- an option that takes one value, and is the command's only argument of its id
   pub record IsOption (a : Rule) : Type 0 where
@@ -86,6 +90,14 @@ module _ (c : List Rule) where
     pub set : action_of a ≡ Set
     pub one : a.range ≡ Some (record { start_inclusive = 1; end_inclusive = 1 })
     pub default : (text : Text) × (a.defaults ≡ text ∷ []) × (value_passes a text ≡ true)
+    pub named : a.index ≡ None
+
+  -- an option that takes one value and has no default, and is the command's only argument of its id
+  pub record IsOptional (a : Rule) : Type 0 where
+    pub own : arg_by_id c a.id ≡ Some a
+    pub set : action_of a ≡ Set
+    pub one : a.range ≡ Some (record { start_inclusive = 1; end_inclusive = 1 })
+    pub default : a.defaults ≡ []
     pub named : a.index ≡ None
 
   abbrev pub Among : Rule → List Rule → Type 0
@@ -99,7 +111,7 @@ module _ (c : List Rule) where
     pub named : a.index ≡ None
 
   abbrev pub Fits : Rule → Type 0
-  Fits a = IsOption a ⊎ IsRequest a
+  Fits a = IsOption a ⊎ (IsOptional a ⊎ IsRequest a)
 
   -- the row has one value, and the argument of its id accepts it
   pub record IsGood (r : Row) : Type 0 where
@@ -117,31 +129,38 @@ module _ (c : List Rule) where
   Good-append [] ys good more = more
   Good-append (x ∷ xs) ys good more = (good.0, Good-append xs ys good.1 more)
 
-  new_row-good : (a : Rule) → IsOption a → (text : Text) (source : ValueSource)
+  new_row-good : (a : Rule) → arg_by_id c a.id ≡ Some a → (text : Text) (source : ValueSource)
       → value_passes a text ≡ true → IsGood (new_row a text source)
-  new_row-good a plain_option text source passes = search rules
+  new_row-good a own text source passes = search rules
 
   -- a use that doesn't fail adds a good row
-  set-good : (a : Rule) → IsOption a → (values : List Text) (rows : List Row) → Good rows
+  set-good : (a : Rule) → arg_by_id c a.id ≡ Some a → (values : List Text) (rows : List Row) → Good rows
       → or_else (range_kinds 1 1 (length values)) (set_fault false a (values_or_missing a values)
       rows) ≡ []
       → Good (used_as Set a.id (reading_by a) (values_or_missing a values) rows)
-  set-good a plain_option [] rows good e = search rules
-  set-good a plain_option (text ∷ more ∷ others) rows good e = search rules
-  set-good a plain_option (text ∷ []) rows good e =
+  set-good a own [] rows good e = search rules
+  set-good a own (text ∷ more ∷ others) rows good e = search rules
+  set-good a own (text ∷ []) rows good e =
       let parts = none_of _ _ e in
       let absent : has_row a.id rows ≡ false = not_again (has_row a.id rows) parts.0 in
       let passes : value_passes a text ≡ true = passed _ _ (none_of _ _ parts.1).0 in
       simp (without-absent a rows absent, with_values-absent a text CommandLine rows absent)
-      (Good-append rows _ good (new_row-good a plain_option text CommandLine passes, tt))
+      (Good-append rows _ good (new_row-good a own text CommandLine passes, tt))
+
+  single-good : (a : Rule) → arg_by_id c a.id ≡ Some a → action_of a ≡ Set
+      → a.range ≡ Some (record { start_inclusive = 1; end_inclusive = 1 }) → (values : List Text)
+      (rows : List Row) → use_fault false a values rows ≡ [] → Good rows → Good (used a values rows)
+  single-good a own set one values rows e good =
+      subst (λ action. Good (used_as action a.id (reading_by a) (values_or_missing a values) rows))
+      (sym set) (set-good a own values rows good (rw (one, set) at e))
 
   used-good : (a : Rule) → Fits a → (values : List Text) (rows : List Row)
       → use_fault false a values rows ≡ [] → Good rows → Good (used a values rows)
-  used-good a (inr request) values rows e good = absurd (search rules)
+  used-good a (inr (inr request)) values rows e good = absurd (search rules)
+  used-good a (inr (inl optional)) values rows e good =
+      single-good a optional.own optional.set optional.one values rows e good
   used-good a (inl plain_option) values rows e good =
-      subst (λ action. Good (used_as action a.id (reading_by a) (values_or_missing a values) rows))
-      (sym plain_option.set)
-      (set-good a plain_option values rows good (rw (plain_option.one, plain_option.set) at e))
+      single-good a plain_option.own plain_option.set plain_option.one values rows e good
 
   used_by_id-good : (found : Option Rule) → IfSome found Fits
       → (values : List Text) (rows : List Row) → Good rows
@@ -238,26 +257,27 @@ module _ (c : List Rule) where
 
     -- ---- defaults
 
-    -- an option that wasn't used gets the row of its default, and a request none
+    -- an option that wasn't used gets the row of its default, and others none
     default_row-added : (a : Rule) (plain_option : IsOption a) (rows : List Row)
         → has_row a.id rows ≡ false → default_rows a.id (reading_by a) a.defaults rows ≡ rows
         ++ new_row a plain_option.default.0 DefaultValue ∷ []
     default_row-added a plain_option rows is =
         search (rules, plain_option.default.1, with_values-absent)
 
-    request-adds_none : (a : Rule) → IsRequest a → (rows : List Row)
+    adds_none : (a : Rule) → a.defaults ≡ [] → (rows : List Row)
         → default_rows a.id (reading_by a) a.defaults rows ≡ rows
-    request-adds_none a request rows = search rules
+    adds_none a none rows = search rules
 
     default-good : (a : Rule) → Fits a → (rows : List Row) → Good rows → Good (with_default rows a)
-    default-good a (inr request) rows good = search (rules, request-adds_none a request rows)
+    default-good a (inr (inr request)) rows good = search (rules, adds_none a request.default rows)
+    default-good a (inr (inl optional)) rows good = search (rules, adds_none a optional.default rows)
     default-good a (inl plain_option) rows good = go (has_row a.id rows) refl
       where
         go : (has : Bool) → has_row a.id rows ≡ has
             → Good (cond has rows (default_rows a.id (reading_by a) a.defaults rows))
         go true is = good
         go false is = rw (default_row-added a plain_option rows is)
-            (Good-append rows _ good (new_row-good a plain_option _ _ plain_option.default.2, tt))
+            (Good-append rows _ good (new_row-good a plain_option.own _ _ plain_option.default.2, tt))
 
     defaults-good : (xs : List Rule) → AllByRecursion Fits xs → (rows : List Row) → Good rows
         → Good (fold with_default rows xs)
@@ -282,7 +302,8 @@ module _ (c : List Rule) where
 
     default-keeps : (a : Rule) → Fits a → (id : Text) (rows : List Row) → has_row id rows ≡ true
         → has_row id (with_default rows a) ≡ true
-    default-keeps a (inr request) id rows e = search (rules, request-adds_none a request rows)
+    default-keeps a (inr (inr request)) id rows e = search (rules, adds_none a request.default rows)
+    default-keeps a (inr (inl optional)) id rows e = search (rules, adds_none a optional.default rows)
     default-keeps a (inl plain_option) id rows e =
         grind (arith, common_steps, default_row-added a plain_option rows, has_row-append)
 
@@ -299,11 +320,11 @@ module _ (c : List Rule) where
 
     -- ---- the walk, and what the rows give
 
-    value-found : (a : Rule) → IsOption a → (rows : List Row) → Good rows → has_row a.id rows ≡ true
-        → HasValue a rows
-    value-found a plain_option [] good e = cc
-    value-found a plain_option (r ∷ rs) good e =
-        let found = go (bytes_eq r.id a.id) refl e (value-found a plain_option rs good.1) in
+    value-found : (a : Rule) → arg_by_id c a.id ≡ Some a → (rows : List Row) → Good rows
+        → has_row a.id rows ≡ true → HasValue a rows
+    value-found a own [] good e = cc
+    value-found a own (r ∷ rs) good e =
+        let found = go (bytes_eq r.id a.id) refl e (value-found a own rs good.1) in
         record { text = found.0; written = found.1; is = found.2; passes = found.3 }
       where
         go : (same : Bool) → bytes_eq r.id a.id ≡ same → (same || has_row a.id rs) ≡ true
@@ -317,9 +338,28 @@ module _ (c : List Rule) where
         go true is h rest =
             let held = good.0 in
             let same : r.id ≡ a.id = (bytes_eq-Decides r.id a.id).0 is in
-            let both : Some held.rule ≡ Some a = cc (held.own, plain_option.own, same) in
+            let both : Some held.rule ≡ Some a = cc (held.own, own, same) in
             let rule_is : held.rule ≡ a = cc in
             search rules
+
+    none-found : (id : Text) (rows : List Row) → has_row id rows ≡ false → one_of id rows ≡ None
+    none-found id [] e = refl
+    none-found id (r ∷ rs) e = go (bytes_eq r.id id) refl e (none-found id rs)
+      where
+        go : (same : Bool) → bytes_eq r.id id ≡ same → (same || has_row id rs) ≡ false
+            → (has_row id rs ≡ false → one_of id rs ≡ None)
+            → option_and_then row_text
+            (cond same (Some r) (find (λ x. bytes_eq x.id id) rs)) ≡ None
+        go true is h rest = cc
+        go false is h rest = rest h
+
+    value-or_none : (a : Rule) → arg_by_id c a.id ≡ Some a → (rows : List Row) → Good rows
+        → MayHaveValue a rows
+    value-or_none a own rows good = go (has_row a.id rows) refl
+      where
+        go : (has : Bool) → has_row a.id rows ≡ has → MayHaveValue a rows
+        go true is = inr (value-found a own rows good is)
+        go false is = inl (none-found a.id rows is)
 
     module _ (t : Shape) where
       abbrev s : Shape
@@ -356,3 +396,11 @@ module _ (c : List Rule) where
       option-has_value words e a plain_option among =
           let walked_rows = walk-good words (walk_from nothing_held) tt (none_of _ _ e).0 in
           search (rules, settle-good, none_of, value-found, defaults-good, defaults-add)
+
+      -- and one without a default has one at most
+      pub optional-has_value : (words : List Text) → level_fault s [] nothing_held words false [] ≡ []
+          → (a : Rule) → IsOptional a → MayHaveValue a (rows_after c [] words)
+      optional-has_value words e a optional =
+          let walked_rows = walk-good words (walk_from nothing_held) tt (none_of _ _ e).0 in
+          let good : Good (rows_after c [] words) = search (rules, settle-good, none_of, defaults-good) in
+          value-or_none a optional.own (rows_after c [] words) good

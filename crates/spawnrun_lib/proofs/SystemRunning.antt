@@ -4,7 +4,6 @@ use Rattle.std.proofs.Common.{get_or, drop, inr, append_assoc, append-nil, arith
 use Rattle.std.proofs.lemmas.List.{drop_more}
 use Rattle.ent_handle.specs.Handle.{Handle}
 use Rattle.ent_queue.specs.Command.{Command}
-use Rattle.ent_queue.specs.Commands.{Issued, queue_of}
 use Rattle.ent_world.specs.OpenWorld.{View}
 use Rattle.ent_script.specs.declared.operation.Operation.{Operation}
 use Rattle.spawnrun_lib.specs.Issuing.{Bindings, unbound, IssuesAll, MayIssue, StopsAmong}
@@ -27,10 +26,10 @@ pub has_begun : (view : View) (ops : List Operation) (start : List Command)
 has_begun view ops start lists none = search (rules, append-nil)
 
 pub has_gone_on : (view : View) (ops : List Operation) (i : ℕ) (op : Operation)
-    (start : List Command) (before after : Issued) (lists lists_after : List (List Handle)) → i
-    < length ops → op ≡ get_or ops i op → HasRun view ops i (names_of lists) start (queue_of before)
+    (start : List Command) (before after : List Command) (lists lists_after : List (List Handle)) → i
+    < length ops → op ≡ get_or ops i op → HasRun view ops i (names_of lists) start before
     → HasIssued view op before after lists lists_after
-    → HasRun view ops (i + 1) (names_of lists_after) start (queue_of after)
+    → HasRun view ops (i + 1) (names_of lists_after) start after
 has_gone_on view ops i op start before after lists lists_after within is run step =
     let from : drop i ops ≡ op ∷ drop (i + 1) ops = cc (drop_more ops i op within) in
     record {

@@ -4,7 +4,6 @@ use Rattle.std.specs.Prelude.{OnErr}
 use Rattle.ent_handle.specs.Handle.{Handle}
 use Rattle.ent_handle.specs.declared.memory.Memory.{Memory}
 use Rattle.ent_queue.specs.Command.{Command}
-use Rattle.ent_queue.specs.Commands.{Issued, queue_of}
 use Rattle.ent_world.specs.OpenWorld.{View}
 use Rattle.ent_script.specs.declared.operation.Operation.{Operation}
 use Rattle.ent_script.specs.declared.target.Target.{Target}
@@ -14,13 +13,13 @@ use Rattle.spawnrun_lib.specs.Parts.{names_of, HasIssuedOn, HasStoppedAmong, Has
 use Rattle.spawnrun_lib.specs.Parts.{HasStopped}
 
 pub issued_on : (view : View) (names : Bindings) (on : Target) (command : Handle → Command)
-    (before after : Issued) (hs : List Handle) (result : Result (Unit {0}) Memory)
-    → IsTargeted view names on hs → OnOk result (queue_of after ≡ queue_of before ++ map command hs)
+    (before after : List Command) (hs : List Handle) (result : Result (Unit {0}) Memory)
+    → IsTargeted view names on hs → OnOk result (after ≡ before ++ map command hs)
     → OnOk result (HasIssuedOn view names on command before after)
 issued_on view names on command before after hs it targeted queue = search rules
 
 pub stopped_on : (view : View) (names : Bindings) (on : Target) (command : Handle → Command)
-    (before after : Issued) (hs : List Handle) (result : Result (Unit {0}) Memory)
+    (before after : List Command) (hs : List Handle) (result : Result (Unit {0}) Memory)
     → IsTargeted view names on hs → OnErr result (HasStoppedAmong hs command before after)
     → OnErr result (HasStoppedOn view names on command before after)
 stopped_on view names on command before after hs it targeted stopped = search rules
@@ -31,7 +30,7 @@ on_error it P holds = search rules
 
 -- the operation is a change of its target
 pub stopped_in : (view : View) (lists : List (List Handle)) (op : Operation) (on : Target)
-    (command : Handle → Command) (before after : Issued) (result : Result (Unit {0}) Memory)
+    (command : Handle → Command) (before after : List Command) (result : Result (Unit {0}) Memory)
     → ((issued : List Command) → StopsOnEach view (names_of lists) on command issued
     → Stops view (names_of lists) op issued)
     → OnErr result (HasStoppedOn view (names_of lists) on command before after)

@@ -15,7 +15,10 @@ use Rattle.clap.proofs.OnLiterals.{clap_on_literals}
 use Rattle.std.specs.Borrow.{Bor}
 use Rattle.clap.specs.Takes.{built_takes, entered_passes}
 use Rattle.cli.specs.Options.{HasNumber}
-use Rattle.spawnrun_lib.specs.CommandLine.{HasShow, program, program_of, references_to, shown}
+use Rattle.spawnrun_lib.specs.CommandLine.{AsksFor, HasRun, HasShow, MayHaveBlocks, program, program_of}
+use Rattle.spawnrun_lib.specs.CommandLine.{references_to, shown}
+use Rattle.spawnrun_lib.specs.declared.task.Task.{Task}
+use Rattle.spawnrun_lib.specs.declared.task.Task.TheVariants.{Replay, Run, RunInBlocks}
 use Rattle.spawnrun_lib.proofs.MovedFaults.{level_fault-moved}
 use Rattle.spawnrun_lib.proofs.MovedNames.{moved_shape, rows_after-moved}
 use Rattle.spawnrun_lib.proofs.MovedTakes.{level_passes-moved}
@@ -154,8 +157,15 @@ replay_asked found rows it same = search rules
 
 pub run_asked : (found : Option (Text × List Row)) (rows : List Row) → IsAsked found → found
     ≡ Some (codes "run", rows)
-    → HasNumber (codes "workers") 64 rows × HasShow rows
+    → HasNumber (codes "workers") 64 rows × MayHaveBlocks rows × HasShow rows
 run_asked found rows it same = search rules
+
+-- what the options of a run ask for
+pub run_task : (words : List Text) (rows : List Row) (task : Task) → subcommand_of program words
+    ≡ Some (codes "run", rows) → HasRun rows task → AsksFor words task
+run_task words rows (Replay limits) is has = absurd has
+run_task words rows (Run workers show) is has = (rows, is, has)
+run_task words rows (RunInBlocks size workers show) is has = (rows, is, has)
 
 -- there is no third subcommand
 pub none_other : (found : Option (Text × List Row)) → IsAsked found

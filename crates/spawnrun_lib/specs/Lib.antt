@@ -6,8 +6,10 @@ pub mod FrameAlone
 pub mod FrameText
 pub mod WorldText
 pub mod Report
+pub mod ReportInBlocks
 pub mod Given
 pub mod Course
+pub mod CourseInBlocks
 pub mod ScriptAlone
 pub mod SameReport
 pub mod Wants

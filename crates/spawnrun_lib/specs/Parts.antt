@@ -3,7 +3,6 @@
 use Rattle.std.specs.Prelude.{◌≡◌, List, [], ◌∷◌, ◌++◌, map, slice_index_or}
 use Rattle.ent_handle.specs.Handle.{Handle}
 use Rattle.ent_queue.specs.Command.{Command, Insert, Remove, Despawn}
-use Rattle.ent_queue.specs.Commands.{Issued, queue_of}
 use Rattle.ent_world.specs.OpenWorld.{View}
 use Rattle.ent_script.specs.declared.operation.Operation.{Operation}
 use Rattle.ent_script.specs.declared.target.Target.{Target}
@@ -24,16 +23,16 @@ command_on change.Despawn h = Despawn h
 
 -- The change was issued for each handle of the target.
 pub record HasIssuedOn (view : View) (names : Bindings) (on : Target) (command : Handle → Command)
-    (before after : Issued) : Type 0 where
+    (before after : List Command) : Type 0 where
   pub issued : List Command
-  pub queue : queue_of after ≡ queue_of before ++ issued
+  pub queue : after ≡ before ++ issued
   pub may : OnEach view names on command issued
 
 -- The operation has issued its commands, and the names stand for these lists then.
-pub record HasIssued (view : View) (op : Operation) (before after : Issued)
+pub record HasIssued (view : View) (op : Operation) (before after : List Command)
     (lists lists_after : List (List Handle)) : Type 0 where
   pub issued : List Command
-  pub queue : queue_of after ≡ queue_of before ++ issued
+  pub queue : after ≡ before ++ issued
   pub may : Issues view (names_of lists) op issued
   pub names : names_of lists_after ≡ names_after (names_of lists) op issued
 
@@ -41,21 +40,21 @@ pub record HasIssued (view : View) (op : Operation) (before after : Issued)
 
 -- The change was issued for some first handles, and not for all.
 pub record HasStoppedAmong (handles : List Handle) (command : Handle → Command)
-    (before after : Issued) : Type 0 where
+    (before after : List Command) : Type 0 where
   pub done : List Handle
   pub missing : Handle
   pub others : List Handle
   pub all : done ++ missing ∷ others ≡ handles
-  pub queue : queue_of after ≡ queue_of before ++ map command done
+  pub queue : after ≡ before ++ map command done
 
 pub record HasStoppedOn (view : View) (names : Bindings) (on : Target) (command : Handle → Command)
-    (before after : Issued) : Type 0 where
+    (before after : List Command) : Type 0 where
   pub issued : List Command
-  pub queue : queue_of after ≡ queue_of before ++ issued
+  pub queue : after ≡ before ++ issued
   pub may : StopsOnEach view names on command issued
 
-pub record HasStopped (view : View) (op : Operation) (before after : Issued)
+pub record HasStopped (view : View) (op : Operation) (before after : List Command)
     (lists : List (List Handle)) : Type 0 where
   pub issued : List Command
-  pub queue : queue_of after ≡ queue_of before ++ issued
+  pub queue : after ≡ before ++ issued
   pub may : Stops view (names_of lists) op issued

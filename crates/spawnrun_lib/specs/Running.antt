@@ -9,6 +9,7 @@ use Rattle.spawnrun_lib.specs.declared.show.Show.TheVariants.{Births}
 use Rattle.ent_alloc.specs.History.{AreGivenOnce}
 use Rattle.spawnrun_lib.specs.Given.{handles_in_run}
 use Rattle.spawnrun_lib.specs.Report.{Execution, IsReport, IsReportOf}
+use Rattle.spawnrun_lib.specs.ReportInBlocks.{IsTextInBlocks}
 use Rattle.spawnrun_lib.specs.SameReport.{IsWithoutHandles, HasEnoughSlots, TellsNoRefusal}
 use Rattle.spawnrun_lib.specs.ScriptAlone.{text_alone}
 use Rattle.spawnrun_lib.specs.Found.{TellsOfScript}
@@ -38,6 +39,13 @@ pub record IsScriptReport (script : Script) (workers : ℕ) (show : Show) (text 
 abbrev pub Runs : ℕ → Show → List ℕ → List ℕ → Type 0
 Runs workers show input text = (script : Script) × (script_of_text input ≡ Ok script)
     × IsScriptReport script workers show text
+
+-- The text is that of the script that the input means, in blocks of this size, and the script has no
+-- other one. So it is the same however many workers there are, and in whatever order they ran.
+abbrev pub RunsInBlocks : ℕ → Show → List ℕ → List ℕ → Type 0
+RunsInBlocks size show input text = (script : Script) × (script_of_text input ≡ Ok script)
+    × IsTextInBlocks script size show text
+    × ((other : List ℕ) → IsTextInBlocks script size show other → text ≡ other)
 
 -- The input means no script. The refusal has what the first test wants that it fails, and what that
 -- found.

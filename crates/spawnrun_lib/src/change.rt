@@ -1,14 +1,13 @@
 ghost use Rattle.std.specs.Prelude.{◌≡◌, ◌++◌, ◌∷◌, [], map, OnOk, OnErr};
-ghost use Rattle.ent_queue.specs.Commands.{IsReady, Extends, queue_of};
 ghost use Rattle.spawnrun_lib.specs.Issuing.{OnEach};
 ghost use Rattle.spawnrun_lib.specs.Parts.{names_of, command_on, HasIssuedOn};
 ghost use Rattle.spawnrun_lib.specs.Parts.{HasStoppedAmong, HasStoppedOn};
 ghost use Rattle.spawnrun_lib.specs.Rolls.{IsRollOf};
 
 use crate::bindings::Bindings;
+use crate::issue::Issue;
 use crate::roll::Roll;
 use ent_handle::{ComponentId, Handle, Memory};
-use ent_queue::Commands;
 use ent_script::{Bundle, Target};
 use ent_world::View;
 
@@ -25,23 +24,22 @@ pub(crate) enum Change<'a> {
 
 impl Change<'_> {
     /// Issues the change for each handle of the target, in order.
-    #[tactic(auto, using(ent_queue::proofs::Extending::extends_then))]
-    pub(crate) fn on_target(
+    pub(crate) fn on_target<Q: Issue>(
         self,
         view: &View<'_>,
         target: Target,
         names: &Bindings,
         roll: &mut Roll,
-        commands: &mut Commands<'_>,
+        commands: &mut Q,
     ) -> Result<(), Memory>
-        requires ready { IsReady commands.old }
+        requires ready { Q.is_ready commands.old }
         requires roll { IsRollOf view.now roll.old }
         ensures roll { IsRollOf view.now roll.new }
-        ensures extends { Extends commands.old commands.new }
+        ensures extends { Q.extends commands.old commands.new }
         ensures issued { OnOk result (HasIssuedOn view.now (names_of names.now) target
-            (command_on self.entry) commands.old commands.new) }
+            (command_on self.entry) (Q.commands commands.old) (Q.commands commands.new)) }
         ensures stopped { OnErr result (HasStoppedOn view.now (names_of names.now) target
-            (command_on self.entry) commands.old commands.new) }
+            (command_on self.entry) (Q.commands commands.old) (Q.commands commands.new)) }
     {
         match target {
             Target::Name(name) => self.on_each(names.get(name), commands),
@@ -55,14 +53,13 @@ impl Change<'_> {
     }
 
     /// Issues the change for each of the handles, in order.
-    #[tactic(auto, using(ent_queue::proofs::Extending::extends_then))]
-    fn on_each(self, handles: &[Handle], commands: &mut Commands<'_>) -> Result<(), Memory>
-        requires { IsReady commands.old }
-        ensures extends { Extends commands.old commands.new }
-        ensures ok { OnOk result (queue_of commands.new
-            ≡ queue_of commands.old ++ map (command_on self.entry) handles.now) }
+    fn on_each<Q: Issue>(self, handles: &[Handle], commands: &mut Q) -> Result<(), Memory>
+        requires { Q.is_ready commands.old }
+        ensures extends { Q.extends commands.old commands.new }
+        ensures ok { OnOk result (Q.commands commands.new
+            ≡ Q.commands commands.old ++ map (command_on self.entry) handles.now) }
         ensures stopped { OnErr result (HasStoppedAmong handles.now (command_on self.entry)
-            commands.old commands.new) }
+            (Q.commands commands.old) (Q.commands commands.new)) }
     {
         for handle in handles {
             self.on_one(*handle, commands)?;
@@ -71,17 +68,17 @@ impl Change<'_> {
     }
 
     /// Issues the change for one handle.
-    fn on_one(self, handle: Handle, commands: &mut Commands<'_>) -> Result<(), Memory>
-        requires { IsReady commands.old }
-        ensures extends { Extends commands.old commands.new }
-        ensures ok { OnOk result (queue_of commands.new
-            ≡ queue_of commands.old ++ command_on self.entry handle ∷ []) }
-        ensures err { OnErr result (queue_of commands.new ≡ queue_of commands.old) }
+    fn on_one<Q: Issue>(self, handle: Handle, commands: &mut Q) -> Result<(), Memory>
+        requires { Q.is_ready commands.old }
+        ensures extends { Q.extends commands.old commands.new }
+        ensures ok { OnOk result (Q.commands commands.new
+            ≡ Q.commands commands.old ++ command_on self.entry handle ∷ []) }
+        ensures err { OnErr result (Q.commands commands.new ≡ Q.commands commands.old) }
     {
         match self {
-            Change::Insert(bundle) => commands.insert(handle, bundle),
-            Change::Remove(id) => commands.remove(handle, id),
-            Change::Despawn => commands.despawn(handle),
+            Change::Insert(bundle) => commands.add_insert(handle, bundle),
+            Change::Remove(id) => commands.add_remove(handle, id),
+            Change::Despawn => commands.add_despawn(handle),
         }
     }
 }

@@ -12,6 +12,7 @@ ghost use Rattle.spawnrun_lib.specs.Work.{HasAdvised, HasDone, HasRefused, input
 use crate::progress::Progress;
 use crate::replaying::replay;
 use crate::running::run;
+use crate::running_in_blocks::run_in_blocks;
 use crate::status::Status;
 use crate::task::{Task, command_line};
 use cli::{LineFault, finish, refuse_line};
@@ -91,6 +92,13 @@ where
                 Task::Run { workers, show } => {
                     run(rt, alloc, input, output, errors, progress, workers, show)
                 }
+                Task::RunInBlocks {
+                    size,
+                    workers,
+                    show,
+                } => run_in_blocks(
+                    rt, alloc, input, output, errors, progress, size, workers, show,
+                ),
             };
             finish(errors, status.number())
         }

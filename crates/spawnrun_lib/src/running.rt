@@ -1,11 +1,12 @@
 //! The run of a script: bytes in, bytes out.
-ghost use Rattle.std.specs.Prelude.{◌≡◌, ◌≢◌, ◌+◌, ◌<◌, ◌≤◌, min, length, IfOk, IfSome, OnOk};
+ghost use Rattle.std.specs.Prelude.{◌≡◌, ◌≢◌, ◌+◌, ◌<◌, ◌≤◌, min, length, Err, IfOk, IfSome, OnOk};
 ghost use Rattle.std.specs.Thread.{IsSync};
+ghost use Rattle.ent_script.specs.Reading.{ReadsAs, script_of_text};
 ghost use Rattle.ent_script.specs.Refusal.{refusal_line};
 ghost use Rattle.devices.specs.Device.{OneFails, Takes, TakesAtMost};
 ghost use Rattle.spawnrun_lib.specs.CommandLine.{AreWorkers};
 ghost use Rattle.spawnrun_lib.specs.Running.{MeansNone, Runs};
-ghost use Rattle.spawnrun_lib.specs.Work.{HasAdvised, HasDone, HasRefused, input_limit};
+ghost use Rattle.spawnrun_lib.specs.Work.{HasAdvised, HasDone, HasRefused, input_limit, refusal_of};
 
 use crate::progress::Progress;
 use crate::script::script_found;
@@ -50,11 +51,7 @@ impl<R: Threads + Sync> Work for Scripts<'_, R> {
                 let report = run_script(rt, alloc, script, workers, show, progress)?;
                 Ok(Product::Output(report))
             }
-            Err(fault) => Ok(Product::Refusal(Refusal {
-                line: refusal_line(alloc, fault)?,
-                wants: script_wants(fault),
-                found: script_found(alloc, &input, fault),
-            })),
+            Err(fault) => Ok(Product::Refusal(no_script(alloc, &input, fault)?)),
         }
     }
 }
@@ -117,6 +114,22 @@ where
 {
     let work = Scripts { rt, workers, show };
     do_work(alloc, input, output, errors, progress, work)
+}
+
+/// What is said of a text that is no script, for this fault that reading it has found.
+///
+/// # Errors
+///
+/// `Memory`, also if it is the fault: want of memory is no refusal.
+pub(crate) fn no_script(alloc: Global, input: &[u8], fault: ReadFault) -> Result<Refusal, Memory>
+    requires { ReadsAs (Err fault) (script_of_text input.now) }
+    ensures { IfOk result (λ refusal. MeansNone input.now (refusal_of refusal)) }
+{
+    Ok(Refusal {
+        line: refusal_line(alloc, fault)?,
+        wants: script_wants(fault),
+        found: script_found(alloc, input, fault),
+    })
 }
 
 // The line that refuses a text that is no script. Want of memory is no refusal.

@@ -1,12 +1,12 @@
 ghost use Rattle.std.specs.Prelude.{◌≡◌, OnOk, OnErr, Some};
-ghost use Rattle.ent_queue.specs.Commands.{IsReady, Extends, queue_of};
 ghost use Rattle.ent_world.specs.OpenWorld.{View};
 ghost use Rattle.ent_script.specs.declared.operation.Operation.TheVariants.{Spawn, SpawnMany};
 ghost use Rattle.spawnrun_lib.specs.Parts.{HasIssued};
 
 use crate::bindings::Bindings;
+use crate::issue::Issue;
 use ent_handle::Memory;
-use ent_queue::{Commands, QueueFault};
+use ent_queue::QueueFault;
 use ent_script::Bundle;
 use std::alloc::Global;
 
@@ -16,44 +16,44 @@ use std::alloc::Global;
 /// # Errors
 ///
 /// `Memory`: nothing was issued.
-pub(crate) fn spawn(
+pub(crate) fn spawn<Q: Issue>(
     alloc: Global,
     bundle: &Bundle,
     binds: Option<usize>,
     names: &mut Bindings,
-    commands: &mut Commands<'_>,
+    commands: &mut Q,
 ) -> Result<(), Memory>
-    requires { IsReady commands.old }
-    ensures extends { Extends commands.old commands.new }
+    requires { Q.is_ready commands.old }
+    ensures extends { Q.extends commands.old commands.new }
     ensures issued { OnOk result ((view : View) → HasIssued view (Spawn bundle.now binds)
-        commands.old commands.new names.old names.new) }
-    ensures err { OnErr result (queue_of commands.new ≡ queue_of commands.old) }
+        (Q.commands commands.old) (Q.commands commands.new) names.old names.new) }
+    ensures err { OnErr result (Q.commands commands.new ≡ Q.commands commands.old) }
 {
     match binds {
         Some(name) => spawn_named(alloc, bundle, name, names, commands),
-        None => match commands.spawn(bundle) {
+        None => match commands.add_spawn(bundle) {
             Err(QueueFault::Memory) => Err(Memory),
             _ => Ok(()),
         },
     }
 }
 
-fn spawn_named(
+fn spawn_named<Q: Issue>(
     alloc: Global,
     bundle: &Bundle,
     name: usize,
     names: &mut Bindings,
-    commands: &mut Commands<'_>,
+    commands: &mut Q,
 ) -> Result<(), Memory>
-    requires { IsReady commands.old }
-    ensures extends { Extends commands.old commands.new }
+    requires { Q.is_ready commands.old }
+    ensures extends { Q.extends commands.old commands.new }
     ensures issued { OnOk result ((view : View) → HasIssued view (Spawn bundle.now (Some name))
-        commands.old commands.new names.old names.new) }
-    ensures err { OnErr result (queue_of commands.new ≡ queue_of commands.old) }
+        (Q.commands commands.old) (Q.commands commands.new) names.old names.new) }
+    ensures err { OnErr result (Q.commands commands.new ≡ Q.commands commands.old) }
 {
     names.reach(name)?;
     let mut list = Vec::with_capacity(alloc, 1)?;
-    match commands.spawn(bundle) {
+    match commands.add_spawn(bundle) {
         Ok(handle) => {
             list.push_reserved(handle);
             names.bind(name, list);
@@ -70,44 +70,44 @@ fn spawn_named(
 /// # Errors
 ///
 /// `Memory`: nothing was issued.
-pub(crate) fn spawn_many(
+pub(crate) fn spawn_many<Q: Issue>(
     count: u32,
     bundle: &Bundle,
     binds: Option<usize>,
     names: &mut Bindings,
-    commands: &mut Commands<'_>,
+    commands: &mut Q,
 ) -> Result<(), Memory>
-    requires { IsReady commands.old }
-    ensures extends { Extends commands.old commands.new }
+    requires { Q.is_ready commands.old }
+    ensures extends { Q.extends commands.old commands.new }
     ensures issued { OnOk result ((view : View) → HasIssued view (SpawnMany count bundle.now binds)
-        commands.old commands.new names.old names.new) }
-    ensures err { OnErr result (queue_of commands.new ≡ queue_of commands.old) }
+        (Q.commands commands.old) (Q.commands commands.new) names.old names.new) }
+    ensures err { OnErr result (Q.commands commands.new ≡ Q.commands commands.old) }
 {
     match binds {
         Some(name) => spawn_many_named(count, bundle, name, names, commands),
-        None => match commands.spawn_many(count, bundle) {
+        None => match commands.add_spawn_many(count, bundle) {
             Err(QueueFault::Memory) => Err(Memory),
             _ => Ok(()),
         },
     }
 }
 
-fn spawn_many_named(
+fn spawn_many_named<Q: Issue>(
     count: u32,
     bundle: &Bundle,
     name: usize,
     names: &mut Bindings,
-    commands: &mut Commands<'_>,
+    commands: &mut Q,
 ) -> Result<(), Memory>
-    requires { IsReady commands.old }
-    ensures extends { Extends commands.old commands.new }
+    requires { Q.is_ready commands.old }
+    ensures extends { Q.extends commands.old commands.new }
     ensures issued { OnOk result ((view : View)
         → HasIssued view (SpawnMany count bundle.now (Some name))
-        commands.old commands.new names.old names.new) }
-    ensures err { OnErr result (queue_of commands.new ≡ queue_of commands.old) }
+        (Q.commands commands.old) (Q.commands commands.new) names.old names.new) }
+    ensures err { OnErr result (Q.commands commands.new ≡ Q.commands commands.old) }
 {
     names.reach(name)?;
-    match commands.spawn_many(count, bundle) {
+    match commands.add_spawn_many(count, bundle) {
         Ok(handles) => {
             names.bind(name, handles);
             Ok(())

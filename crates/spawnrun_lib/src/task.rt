@@ -1,16 +1,17 @@
 //! What the words after the program's name ask for.
 ghost use Rattle.std.specs.Prelude.{◌≡◌, ◌≢◌, [], IfOk, IfErr, OnOk, map, Ok, Some, true, false};
-ghost use Rattle.std.specs.Prelude.{codes};
+ghost use Rattle.std.specs.Prelude.{codes, ◌<◌, IfSome};
 ghost use Rattle.clap.specs.Words.{app_of, fault_of, first_of, rule_of, takes};
 ghost use Rattle.clap.specs.declared.builder.Command.TheViews.{out-Command as fields_of};
 ghost use Rattle.cli.specs.Options.{HasNumber, given, option_number};
-ghost use Rattle.spawnrun_lib.specs.CommandLine.{AreWorkers, AsksFor, HasShow, IsFaultIn, IsFaulty};
-ghost use Rattle.spawnrun_lib.specs.CommandLine.{name_option, program, program_of};
+ghost use Rattle.spawnrun_lib.specs.CommandLine.{AreWorkers, AsksFor, HasRun, HasShow, IsFaultIn};
+ghost use Rattle.spawnrun_lib.specs.CommandLine.{IsFaulty, MayHaveBlocks, blocks_option, name_option};
+ghost use Rattle.spawnrun_lib.specs.CommandLine.{program, program_of};
 ghost use Rattle.spawnrun_lib.specs.CommandLine.{replay_command, run_command};
 ghost use Rattle.spawnrun_lib.specs.CommandLine.{show_text, top_command};
 
 use crate::show::Show;
-use clap::{Arg, ArgMatches, Command};
+use clap::{Arg, ArgAction, ArgMatches, Command};
 use cli::{LineFault, generations_option, limits_of, number_option, slots_option};
 use ent_alloc::Limits;
 use std::alloc::{AllocError, Global};
@@ -57,6 +58,15 @@ pub enum Task {
         /// What names an entity in the output.
         show: Show,
     },
+    /// To run it with a block of handles for each system of a frame.
+    RunInBlocks {
+        /// How many handles a block has, from 1 on.
+        size: u32,
+        /// How many workers run the systems of a frame, from 1 to 64.
+        workers: usize,
+        /// What names an entity in the output.
+        show: Show,
+    },
 }
 
 // An option that takes one of these names.
@@ -76,6 +86,20 @@ fn name_option<'a>(
         .value_parser(names)
         .default_value(default)
         .help(help)
+}
+
+// The option `--blocks`.
+fn blocks_option<'a>(alloc: Global) -> Arg<'a>
+    ensures rule { rule_of result ≡ blocks_option }
+    ensures own { result.global ≡ false }
+{
+    let range = clap::value_parser!(u32).range(1..=i64::from(u32::MAX));
+    Arg::new(alloc, "blocks")
+        .long("blocks")
+        .action(ArgAction::Set)
+        .value_name("N")
+        .value_parser(range)
+        .help("Give each system of a frame a block of N handles")
 }
 
 fn replay_command<'a>(alloc: Global) -> Result<Command<'a>, AllocError>
@@ -105,6 +129,7 @@ fn run_command<'a>(alloc: Global, shown: &'a [&'a str]) -> Result<Command<'a>, A
         .about("Runs the script of frames on standard input")
         .after_help(RUN_END)
         .arg(workers)?
+        .arg(blocks_option(alloc))?
         .arg(show)
 }
 
@@ -140,6 +165,14 @@ fn workers_of(options: &ArgMatches<'_>) -> usize
     options.get_one::<usize>("workers").unwrap()
 }
 
+fn blocks_of(options: &ArgMatches<'_>) -> Option<u32>
+    requires { MayHaveBlocks (given options.now) }
+    ensures number { option_number (codes "blocks") (given options.now) ≡ result }
+    ensures some { IfSome result (λ size. 0 < size) }
+{
+    options.get_one::<u32>("blocks")
+}
+
 fn show_of(options: &ArgMatches<'_>) -> Show
     requires { HasShow (given options.now) }
     ensures { first_of (codes "show") (given options.now) ≡ Some (show_text result) }
@@ -148,6 +181,25 @@ fn show_of(options: &ArgMatches<'_>) -> Show
         Show::Handles
     } else {
         Show::Births
+    }
+}
+
+// The run that the options say.
+fn run_of(options: &ArgMatches<'_>) -> Task
+    requires workers { HasNumber (codes "workers") 64 (given options.now) }
+    requires blocks { MayHaveBlocks (given options.now) }
+    requires show { HasShow (given options.now) }
+    ensures { HasRun (given options.now) result }
+{
+    let workers = workers_of(options);
+    let show = show_of(options);
+    match blocks_of(options) {
+        None => Task::Run { workers, show },
+        Some(size) => Task::RunInBlocks {
+            size,
+            workers,
+            show,
+        },
     }
 }
 
@@ -168,10 +220,7 @@ pub fn command_line<S: AsStr>(alloc: Global, words: &[S]) -> Result<Task, LineFa
     let (name, options) = matches.subcommand().unwrap();
     match name {
         "replay" => Ok(Task::Replay(limits_of(options))),
-        "run" => Ok(Task::Run {
-            workers: workers_of(options),
-            show: show_of(options),
-        }),
+        "run" => Ok(run_of(options)),
         _ => unreachable!(),
     }
 }

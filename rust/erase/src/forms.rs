@@ -68,6 +68,9 @@ pub const OF_RIGHT: &[&str] = &["alloc"];
 /// The type by which a struct has a type parameter that none of its other fields has.
 pub const PHANTOM: &str = "PhantomData";
 
+/// The type that a call passes for a ghost parameter whose meaning its proof picks.
+pub const BRAND: &str = "Brand";
+
 /// Attributes that speak to the prover.
 pub const GHOST_ATTRIBUTES: &[&str] = &["tactic", "cycle"];
 
@@ -720,7 +723,7 @@ const MODULES: &[Module] = &[
         path: "std::marker",
         to: "core::marker",
         names: &["PhantomData"],
-        ghost: GHOST_TRAITS,
+        ghost: &["Model", BRAND],
     },
     module("std::hash", "core::hash", &["Hash", "Hasher"]),
     module("std::mem", "core::mem", &["replace", "swap"]),

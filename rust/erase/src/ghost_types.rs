@@ -1,7 +1,7 @@
 //! Ghost types. A trait of the sources that has ghost members only says nothing to a program, so it goes, and with it
 //! each type parameter that it alone bounds: where it is declared, as an argument, and as what a `PhantomData` is of.
 
-use crate::forms::PHANTOM;
+use crate::forms::{BRAND, PHANTOM};
 use crate::memory::{elements, fields, function, owners};
 use crate::names::{block, parameters_in, Names};
 use crate::source::Source;
@@ -63,6 +63,11 @@ pub(crate) fn phantoms(source: &Source<'_>, names: &Names) -> Vec<(String, Strin
     found
         .map(|(owner, name)| (source.at(owner).to_owned(), source.at(name).to_owned()))
         .collect()
+}
+
+/// Whether an argument here is the type that a call passes for a ghost parameter.
+fn is_brand(source: &Source<'_>, at: usize) -> bool {
+    source.at(at) == BRAND && ["<", ","].contains(&source.before(at)) && source.at(at + 1) == ">"
 }
 
 /// The place after `+ Send + Sync`, if it is here: a ghost parameter of what threads share has it too.
@@ -152,7 +157,7 @@ impl<'a> GhostTypes<'a> {
     /// Whether a ghost parameter is named here.
     pub(crate) fn is_ghost(&self, source: &Source<'_>, at: usize) -> bool {
         let is_it = |it: &(Range<usize>, &str)| it.1 == source.at(at) && it.0.contains(&at);
-        self.parameters.iter().any(is_it)
+        self.parameters.iter().any(is_it) || is_brand(source, at)
     }
 
     /// Whether a field that is a `PhantomData` of a ghost type begins here.

@@ -1,7 +1,7 @@
 //! A call of `replay` or `run` on devices in memory, and what it must write.
 use super::memory::{MemorySink, NEVER};
 use super::source::MemorySource;
-use spawnrun_lib::{Sink, Source, Status, Task, command_line, replay, run};
+use spawnrun_lib::{Sink, Source, Status, Task, command_line, replay, run, run_in_blocks};
 use std::alloc::Global;
 use std::process::Abort;
 use std::thread::Threads;
@@ -44,6 +44,21 @@ where
                 show,
             )
         }
+        Task::RunInBlocks {
+            size,
+            workers,
+            show,
+        } => run_in_blocks(
+            rt,
+            alloc,
+            input,
+            output,
+            &mut errors,
+            &mut (),
+            size,
+            workers,
+            show,
+        ),
     };
     assert!(rt; errors.bytes.is_empty() == (status != Status::Refused));
     status

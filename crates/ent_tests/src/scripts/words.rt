@@ -53,8 +53,34 @@ fn a_run_has_workers_and_shows(rt: HostRuntime) {
     }
 }
 
+const RUNS_IN_BLOCKS: &[(&[&str], u32, usize, Show)] = &[
+    (&["run", "--blocks", "1"], 1, 1, Show::Births),
+    (
+        &["run", "--show=handles", "--blocks=4294967295"],
+        u32::MAX,
+        1,
+        Show::Handles,
+    ),
+    (&["run", "--blocks=3", "--workers=64"], 3, 64, Show::Births),
+];
+
+#[test]
+fn a_run_may_have_blocks(rt: HostRuntime) {
+    for (words, size, workers, show) in RUNS_IN_BLOCKS {
+        let run = Task::RunInBlocks {
+            size: *size,
+            workers: *workers,
+            show: *show,
+        };
+        assert!(rt; task(&rt, rt.alloc(), words) == run);
+    }
+}
+
 const REFUSED: &[&[&str]] = &[
     &[],
+    &["run", "--blocks", "0"],
+    &["run", "--blocks=4294967296"],
+    &["replay", "--blocks", "1"],
     &["replay", "--slots", "0"],
     &["run", "--workers", "65"],
 ];

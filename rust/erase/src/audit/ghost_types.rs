@@ -84,6 +84,9 @@ impl Audit<'_> {
         if self.names.ghost_traits.is_empty() || !may_go_on || !source.is_word(at) {
             return None;
         }
+        if source.at(at) == "Brand" && source.at(at + 1) == ">" {
+            return Some(at + 1);
+        }
         let declares = |other: &usize| source.has(*other, &[source.at(at), ":"]);
         let is_bound = |at: usize| {
             self.names.ghost_traits.contains(source.at(at + 2))

@@ -3,7 +3,7 @@ use Rattle.clap.specs.Words.{kind_of}
 use Rattle.devices.specs.Device.{Takes}
 use Rattle.spawnrun_lib.specs.Status.{exit_number}
 use Rattle.spawnrun_lib.specs.Work.{input_limit}
-use Rattle.spawnrun_lib.proofs.program.execute.Goals.{in-Replay, in-Run}
+use Rattle.spawnrun_lib.proofs.program.execute.Goals.{in-Replay, in-Run, in-RunInBlocks}
 use Rattle.spawnrun_lib.proofs.program.execute.Goals as goal
 
 -- clap's error is of a kind that its rules find
@@ -30,6 +30,10 @@ returns-after-task-clause-reads g c = λ unfailed _ other.
           subst (HaveRead source.failures source.remaining before) (sym w.input-is)
           (λ same. w.run-status.ensures.reads same
           (λ is. other (c.finish.ensures.status ∙ c.number.ensures ∙ ap exit_number (w.status-is ∙ is)))) unfailed
+      | in-RunInBlocks w ↦
+          subst (HaveRead source.failures source.remaining before) (sym w.input-is)
+          (λ same. w.run_in_blocks-status.ensures.reads same
+          (λ is. other (c.finish.ensures.status ∙ c.number.ensures ∙ ap exit_number (w.status-is ∙ is)))) unfailed
     ]
 
 pub returns-after-task-clause-stops : goal.returns-after-task-clause-stops
@@ -37,4 +41,5 @@ returns-after-task-clause-stops g c =
     elim c.match-task.branch [
       | in-Replay w ↦ rw w.input-is w.replay-status.ensures.stops
       | in-Run w ↦ rw w.input-is w.run-status.ensures.stops
+      | in-RunInBlocks w ↦ rw w.input-is w.run_in_blocks-status.ensures.stops
     ]

@@ -3,7 +3,7 @@ use Rattle.clap.specs.Words.{HasKind, fault_of, rows_of, found_of, takes, subcom
 use Rattle.spawnrun_lib.specs.CommandLine.{program}
 use Rattle.cli.proofs.Faults.{found_fault, only_memory}
 use Rattle.spawnrun_lib.proofs.TaskOfWords.{IsProgram-names, MeetsTask-parse, none_other}
-use Rattle.spawnrun_lib.proofs.TaskOfWords.{replay_asked, run_asked}
+use Rattle.spawnrun_lib.proofs.TaskOfWords.{replay_asked, run_asked, run_task}
 use Rattle.spawnrun_lib.proofs.TaskOfWords.{subcommand_met-named, MeetsTask}
 use Rattle.spawnrun_lib.proofs.task.command_line.Given as given
 use Rattle.spawnrun_lib.proofs.task.command_line.Goals.{In_ok-matches, In-replay, In-run}
@@ -60,17 +60,23 @@ limits_of-requires-clause-generations g c =
     let met = met g at.In_ok-matches in
     (replay_asked _ _ met.asked (replay_named g at.In-replay met)).1
 
-pub workers_of-requires : goal.workers_of-requires
-workers_of-requires g c =
-    let at = goal.at.workers_of-requires g c in
+pub run_of-requires-clause-workers : goal.run_of-requires-clause-workers
+run_of-requires-clause-workers g c =
+    let at = goal.at.run_of-requires-clause-workers g c in
     let met = met g at.In_ok-matches in
     (run_asked _ _ met.asked (run_named g at.In-run met)).0
 
-pub show_of-requires : goal.show_of-requires
-show_of-requires g c =
-    let at = goal.at.show_of-requires g c in
+pub run_of-requires-clause-blocks : goal.run_of-requires-clause-blocks
+run_of-requires-clause-blocks g c =
+    let at = goal.at.run_of-requires-clause-blocks g c in
     let met = met g at.In_ok-matches in
     (run_asked _ _ met.asked (run_named g at.In-run met)).1
+
+pub run_of-requires-clause-show : goal.run_of-requires-clause-show
+run_of-requires-clause-show g c =
+    let at = goal.at.run_of-requires-clause-show g c in
+    let met = met g at.In_ok-matches in
+    (run_asked _ _ met.asked (run_named g at.In-run met)).2
 
 pub returns-in-replay-clause-asked : goal.returns-in-replay-clause-asked
 returns-in-replay-clause-asked g c =
@@ -84,13 +90,9 @@ returns-in-replay-clause-asked g c =
 
 pub returns-in-run-clause-asked : goal.returns-in-run-clause-asked
 returns-in-run-clause-asked g c =
-    let at = goal.at.returns-in-run-clause-asked g c in (
-      rows_of (found_of c.unwrap.result.1.now),
-      run_named g at.In-run (met g at.In_ok-matches),
-      c.workers_of.ensures.number,
-      c.workers_of.ensures.within,
-      c.show_of.ensures,
-    )
+    let at = goal.at.returns-in-run-clause-asked g c in
+    run_task (map g.S.AsStr.text c.args.words.now) _ _ (run_named g at.In-run (met g at.In_ok-matches))
+    c.run_of.ensures
 
 pub returns-in-replay-clause-taken : goal.returns-in-replay-clause-taken
 returns-in-replay-clause-taken g c =

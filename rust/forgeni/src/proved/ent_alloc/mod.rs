@@ -38,6 +38,7 @@ pub use living::Living;
 pub use portion::Portion;
 pub use prepared::Prepared;
 pub use refused::Refused;
+pub use requesting::cancel_requests;
 pub use reserve_error::ReserveError;
 pub use reserved::Reserved;
 pub use space::Space;

@@ -188,6 +188,28 @@ impl Entities {
     }
 }
 
+/// Cancels all requests since the last flush, so that no flush is needed. What they were given, and
+/// what a refused one passed over, can be given again, in the same order. So the caller drops the
+/// handles that it got from them, or reserves them again.
+///
+/// It takes constant time, and no memory.
+///
+/// <details><summary>Contract</summary>
+///
+/// In the words of the folder `specs/` of crate `ent_alloc`:
+///
+/// ```text
+/// ensures cancelled { entities.new.allocator ≡ before_requests entities.old.allocator }
+/// ensures rows { entities.new.rows ≡ entities.old.rows }
+/// ensures rows_of_living { HasRowsOfLiving entities.new }
+/// ```
+///
+/// </details>
+#[inline]
+pub fn cancel_requests(entities: &mut Entities) {
+    entities.requests = Requests::none();
+}
+
 /// How far a position is below the top.
 #[inline]
 fn distance(top: u32, position: i64) -> u64

@@ -8,7 +8,7 @@ use crate::proved::ent_handle::Memory;
 
 /// Takes what was used of these blocks, and leaves what is left of them in the pool.
 #[inline]
-pub(super) fn take_used(
+pub(crate) fn take_used(
     entities: &mut Entities,
     blocks: &[Part],
 ) -> Result<(), Memory>

@@ -3,7 +3,7 @@
 use crate::proved::ent_alloc::Portion;
 
 /// The block of one caller, and how many of its handles are used.
-pub(super) struct Part {
+pub struct Part {
     before: u32,
     size: u32,
     used: u32,
@@ -11,10 +11,18 @@ pub(super) struct Part {
 
 impl Part {
     /// A block of `size` handles, of which none is used, after the first `before` of the pool.
+    ///
+    /// <details><summary>Contract</summary>
+    ///
+    /// In the words of the folder `specs/` of crate `ent_blocks`:
+    ///
+    /// ```text
+    /// ensures { result ≡ record { before = before; size = size; used = 0 } }
+    /// ```
+    ///
+    /// </details>
     #[inline]
-    pub(super) fn new(before: u32, size: u32) -> Self
-        // ensures { result ≡ record { before = before; size = size; used = 0 } }
-    {
+    pub fn new(before: u32, size: u32) -> Self {
         Part {
             before,
             size,
@@ -23,42 +31,74 @@ impl Part {
     }
 
     /// How many handles of the pool stand before the block.
+    ///
+    /// <details><summary>Contract</summary>
+    ///
+    /// In the words of the folder `specs/` of crate `ent_blocks`:
+    ///
+    /// ```text
+    /// ensures { result ≡ self.now.before }
+    /// ```
+    ///
+    /// </details>
     #[inline]
-    pub(super) fn before(&self) -> u32
-        // ensures { result ≡ self.now.before }
-    {
+    pub fn before(&self) -> u32 {
         self.before
     }
 
     /// How many handles the block has.
+    ///
+    /// <details><summary>Contract</summary>
+    ///
+    /// In the words of the folder `specs/` of crate `ent_blocks`:
+    ///
+    /// ```text
+    /// ensures { result ≡ self.now.size }
+    /// ```
+    ///
+    /// </details>
     #[inline]
-    pub(super) fn size(&self) -> u32
-        // ensures { result ≡ self.now.size }
-    {
+    pub fn size(&self) -> u32 {
         self.size
     }
 
     /// How many of them are used.
+    ///
+    /// <details><summary>Contract</summary>
+    ///
+    /// In the words of the folder `specs/` of crate `ent_blocks`:
+    ///
+    /// ```text
+    /// ensures value { result ≡ self.now.used }
+    /// ensures within { result ≤ self.now.size }
+    /// ```
+    ///
+    /// </details>
     #[inline]
-    pub(super) fn used(&self) -> u32
-        // ensures value { result ≡ self.now.used }
-        // ensures within { result ≤ self.now.size }
-    {
+    pub fn used(&self) -> u32 {
         self.used
     }
 
     /// How many handles of the block are left.
+    ///
+    /// <details><summary>Contract</summary>
+    ///
+    /// In the words of the folder `specs/` of crate `ent_blocks`:
+    ///
+    /// ```text
+    /// ensures value { result ≡ self.now.size - self.now.used }
+    /// ensures within { self.now.used ≤ self.now.size }
+    /// ```
+    ///
+    /// </details>
     #[inline]
-    pub(super) fn left(&self) -> u32
-        // ensures value { result ≡ self.now.size - self.now.used }
-        // ensures within { self.now.used ≤ self.now.size }
-    {
+    pub fn left(&self) -> u32 {
         self.size - self.used
     }
 
     /// Uses the next `n` handles of the block.
     #[inline]
-    pub(super) fn advance(&mut self, n: u32)
+    pub(crate) fn advance(&mut self, n: u32)
         // requires { self.old.used + n ≤ self.old.size }
         // ensures { self.new ≡ after_use self.old n }
     {
@@ -66,11 +106,19 @@ impl Part {
     }
 
     /// The block as a portion of what there is to give.
+    ///
+    /// <details><summary>Contract</summary>
+    ///
+    /// In the words of the folder `specs/` of crate `ent_blocks`:
+    ///
+    /// ```text
+    /// ensures value { result ≡ portion_of self.now }
+    /// ensures used { self.now.used ≤ self.now.size }
+    /// ```
+    ///
+    /// </details>
     #[inline]
-    pub(super) fn portion(&self) -> Portion
-        // ensures value { result ≡ portion_of self.now }
-        // ensures used { self.now.used ≤ self.now.size }
-    {
+    pub fn portion(&self) -> Portion {
         Portion {
             size: self.size,
             used: self.used,
@@ -78,16 +126,24 @@ impl Part {
     }
 
     /// Whether it is the same block, however many of its handles are used.
+    ///
+    /// <details><summary>Contract</summary>
+    ///
+    /// In the words of the folder `specs/` of crate `ent_blocks`:
+    ///
+    /// ```text
+    /// ensures { result ≡ is_same self.now other.now }
+    /// ```
+    ///
+    /// </details>
     #[inline]
-    pub(super) fn is_same(&self, other: &Part) -> bool
-        // ensures { result ≡ is_same self.now other.now }
-    {
+    pub fn is_same(&self, other: &Part) -> bool {
         self.before == other.before && self.size == other.size
     }
 
     /// The same block, with this many handles used.
     #[inline]
-    pub(super) fn with_used(&self, used: u32) -> Self
+    pub(crate) fn with_used(&self, used: u32) -> Self
         // requires { used ≤ self.now.size }
         // ensures { result ≡ record self.now { used = used } }
     {

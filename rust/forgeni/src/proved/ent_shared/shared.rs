@@ -51,6 +51,23 @@ impl Shared {
         self.count
     }
 
+    /// The allocator as it was when the phase was opened. It stays so until the close.
+    ///
+    /// <details><summary>Contract</summary>
+    ///
+    /// In the words of the folder `specs/` of crate `ent_shared`:
+    ///
+    /// ```text
+    /// ensures start { result.now.allocator ≡ self.now.start }
+    /// ensures rows { result.now.rows ≡ self.now.rows }
+    /// ```
+    ///
+    /// </details>
+    #[inline]
+    pub fn opened(&self) -> &Entities {
+        &self.entities
+    }
+
     /// Whether the handle was alive when the phase was opened. It takes constant time.
     ///
     /// <details><summary>Contract</summary>
@@ -324,9 +341,17 @@ impl Shared {
         //     → cursor result.allocator
         //     ≡ cursor (after_history self.start (history_of (records_of reservers.items))) }
 
-        // What the reservers that are here were given is reserved.
+        // What the reservers that are here were given is reserved. No handle was given to two of
+        // them, and none was alive.
         // ensures given { All (λ r. All (Contains result.allocator.taken) (handles_given r.own))
         //     reservers.items }
+        // ensures distinct { AllPairs (λ g h. g ≢ h)
+        //     (handles_of (own_of_all (records_of reservers.items))) }
+        // ensures not_live { All (λ h. ¬ (IsLive self.start h)) result.allocator.taken }
+
+        // A flush brings to life exactly what is reserved.
+        // ensures brings_to_life { (h : HandleValue) → IsLive (after_flush result.allocator) h
+        //     ↔ (IsLive self.start h ⊎ Contains result.allocator.taken h) }
     {
         let Shared {
             mut entities,

@@ -163,10 +163,20 @@ impl Shared {
     ///     → cursor entities.allocator ≡ cursor (after_history self.shared.start
     ///     (history_of (records_of (all_returned self reservers.items))))) }
     ///
-    /// // What the reservers that are here were given is reserved.
+    /// // What the reservers that are here were given is reserved. No handle was given to two of
+    /// // them, and none was alive.
     /// ensures given { IfOk result (λ entities.
     ///     All (λ r. All (Contains entities.allocator.taken) (handles_given r.own))
     ///     (all_returned self reservers.items)) }
+    /// ensures distinct { OnOk result (AllPairs (λ g h. g ≢ h)
+    ///     (handles_of (own_of_all (records_of (all_returned self reservers.items))))) }
+    /// ensures not_live { IfOk result (λ entities.
+    ///     All (λ h. ¬ (IsLive self.shared.start h)) entities.allocator.taken) }
+    ///
+    /// // A flush brings to life exactly what is reserved.
+    /// ensures brings_to_life { IfOk result (λ entities. (h : HandleValue) →
+    ///     IsLive (after_flush entities.allocator) h
+    ///     ↔ (IsLive self.shared.start h ⊎ Contains entities.allocator.taken h)) }
     ///
     /// // When it succeeds, when it is refused, and what holds then.
     /// ensures may_return { OnOk result (MayReturn self reservers.items) }

@@ -132,9 +132,17 @@ impl OpenWorld {
         // ensures whole { length reservers.items ≡ self.shared.count → cursor result.allocator
         //     ≡ cursor (after_history self.shared.start (history_of (records_of reservers.items))) }
 
-        // What the reservers that are here were given is reserved.
+        // What the reservers that are here were given is reserved. No handle was given to two of
+        // them, and none was alive.
         // ensures given { All (λ r. All (Contains result.allocator.taken) (handles_given r.own))
         //     reservers.items }
+        // ensures distinct { AllPairs (λ g h. g ≢ h)
+        //     (handles_of (own_of_all (records_of reservers.items))) }
+        // ensures not_live { All (λ h. ¬ (IsLive self.shared.start h)) result.allocator.taken }
+
+        // A flush brings to life exactly what is reserved.
+        // ensures brings_to_life { (h : HandleValue) → IsLive (after_flush result.allocator) h
+        //     ↔ (IsLive self.shared.start h ⊎ Contains result.allocator.taken h) }
     {
         let OpenWorld {
             shared,

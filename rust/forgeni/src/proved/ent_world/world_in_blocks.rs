@@ -3,8 +3,17 @@
 use alloc::vec::Vec;
 use crate::proved::ent_world::view::View;
 use crate::proved::ent_world::world::World;
+use crate::proved::ent_alloc::Entities;
 use crate::proved::ent_blocks::{BlockReserver, Blocks, Deal, DealError, EndError, open_in_blocks};
 use crate::proved::ent_storage::Storage;
+
+/// A world of which contracts also see the rows: the numbers that its allocator keeps with its living
+/// handles. A phase in blocks has them too, so they are in what its number stands for.
+pub struct PlacedWorld {
+    entities: Entities,
+    storage: Storage,
+    phase: u64,
+}
 
 /// A world whose allocator is dealt in blocks, and that has no number yet.
 pub struct WorldDeal {
@@ -32,9 +41,32 @@ pub struct UnendedWorld {
 }
 
 impl World {
-    /// Deals the front of the pool in blocks of these sizes, one after the other: a block is smaller
-    /// where the pool ends. It makes room for an entity of each handle that is dealt, which stays when
-    /// the world is closed again.
+    /// The same world, of which contracts also see the rows. It takes no memory.
+    ///
+    /// <details><summary>Contract</summary>
+    ///
+    /// In the words of the folder `specs/` of crate `ent_world`:
+    ///
+    /// ```text
+    /// ensures { result.world ≡ self }
+    /// ```
+    ///
+    /// </details>
+    #[inline]
+    pub fn placed(self) -> PlacedWorld {
+        let World {
+            entities,
+            storage,
+            phase,
+        } = self;
+        PlacedWorld {
+            entities,
+            storage,
+            phase,
+        }
+    }
+
+    /// Deals the front of the pool in blocks of these sizes, as [`PlacedWorld::open_in_blocks`] does.
     ///
     /// # Errors
     ///
@@ -62,7 +94,43 @@ impl World {
         self,
         sizes: &[u32],
     ) -> Result<WorldDeal, (World, DealError)> {
-        let World {
+        self.placed().open_in_blocks(sizes)
+    }
+}
+
+impl PlacedWorld {
+    /// Deals the front of the pool in blocks of these sizes, one after the other: a block is smaller
+    /// where the pool ends. It makes room for an entity of each handle that is dealt, which stays when
+    /// the world is closed again.
+    ///
+    /// # Errors
+    ///
+    /// The world as it was, and [`DealError::NeedsFlush`] or [`DealError::Memory`]. No sizes take no
+    /// memory.
+    ///
+    /// <details><summary>Contract</summary>
+    ///
+    /// In the words of the folder `specs/` of crate `ent_world`:
+    ///
+    /// ```text
+    /// ensures start { IfOk result (λ d. world_dealt d.blocks d.phase d.entities ≡ self.world) }
+    /// ensures rows { IfOk result (λ d. d.blocks.rows ≡ self.rows) }
+    /// ensures blocks { IfOk result (λ d. d.blocks.blocks
+    ///     ≡ blocks_from 0 (length self.world.allocator.pool) sizes.now) }
+    /// ensures needs_flush { IsErrWith result (λ refused. refused.1 ≡ failed.NeedsFlush)
+    ///     ↔ (0 < self.world.allocator.asked) }
+    /// ensures memory { IsErrWith result (λ refused. refused.1 ≡ failed.Memory)
+    ///     → 0 < length sizes.now }
+    /// ensures err { IfErr result (λ refused. refused.0 ≡ self.world) }
+    /// ```
+    ///
+    /// </details>
+    #[inline]
+    pub fn open_in_blocks(
+        self,
+        sizes: &[u32],
+    ) -> Result<WorldDeal, (World, DealError)> {
+        let PlacedWorld {
             entities,
             mut storage,
             phase,

@@ -1,9 +1,9 @@
 // Made of crates/spawnrun_lib/src/change.rt by rust/erase. It isn't edited by hand.
 
 use crate::proved::spawnrun_lib::bindings::Bindings;
+use crate::proved::spawnrun_lib::issue::Issue;
 use crate::proved::spawnrun_lib::roll::Roll;
 use crate::proved::ent_handle::{ComponentId, Handle, Memory};
-use crate::proved::ent_queue::Commands;
 use crate::proved::ent_script::{Bundle, Target};
 use crate::proved::ent_world::View;
 
@@ -21,22 +21,22 @@ pub(super) enum Change<'a> {
 impl Change<'_> {
     /// Issues the change for each handle of the target, in order.
     #[inline]
-    pub(super) fn on_target(
+    pub(super) fn on_target<Q: Issue>(
         self,
         view: &View<'_>,
         target: Target,
         names: &Bindings,
         roll: &mut Roll,
-        commands: &mut Commands<'_>,
+        commands: &mut Q,
     ) -> Result<(), Memory>
-        // requires ready { IsReady commands.old }
+        // requires ready { Q.is_ready commands.old }
         // requires roll { IsRollOf view.now roll.old }
         // ensures roll { IsRollOf view.now roll.new }
-        // ensures extends { Extends commands.old commands.new }
+        // ensures extends { Q.extends commands.old commands.new }
         // ensures issued { OnOk result (HasIssuedOn view.now (names_of names.now) target
-        //     (command_on self.entry) commands.old commands.new) }
+        //     (command_on self.entry) (Q.commands commands.old) (Q.commands commands.new)) }
         // ensures stopped { OnErr result (HasStoppedOn view.now (names_of names.now) target
-        //     (command_on self.entry) commands.old commands.new) }
+        //     (command_on self.entry) (Q.commands commands.old) (Q.commands commands.new)) }
     {
         match target {
             Target::Name(name) => self.on_each(names.get(name), commands),
@@ -51,13 +51,13 @@ impl Change<'_> {
 
     /// Issues the change for each of the handles, in order.
     #[inline]
-    fn on_each(self, handles: &[Handle], commands: &mut Commands<'_>) -> Result<(), Memory>
-        // requires { IsReady commands.old }
-        // ensures extends { Extends commands.old commands.new }
-        // ensures ok { OnOk result (queue_of commands.new
-        //     ≡ queue_of commands.old ++ map (command_on self.entry) handles.now) }
+    fn on_each<Q: Issue>(self, handles: &[Handle], commands: &mut Q) -> Result<(), Memory>
+        // requires { Q.is_ready commands.old }
+        // ensures extends { Q.extends commands.old commands.new }
+        // ensures ok { OnOk result (Q.commands commands.new
+        //     ≡ Q.commands commands.old ++ map (command_on self.entry) handles.now) }
         // ensures stopped { OnErr result (HasStoppedAmong handles.now (command_on self.entry)
-        //     commands.old commands.new) }
+        //     (Q.commands commands.old) (Q.commands commands.new)) }
     {
         for handle in handles {
             self.on_one(*handle, commands)?;
@@ -67,17 +67,17 @@ impl Change<'_> {
 
     /// Issues the change for one handle.
     #[inline]
-    fn on_one(self, handle: Handle, commands: &mut Commands<'_>) -> Result<(), Memory>
-        // requires { IsReady commands.old }
-        // ensures extends { Extends commands.old commands.new }
-        // ensures ok { OnOk result (queue_of commands.new
-        //     ≡ queue_of commands.old ++ command_on self.entry handle ∷ []) }
-        // ensures err { OnErr result (queue_of commands.new ≡ queue_of commands.old) }
+    fn on_one<Q: Issue>(self, handle: Handle, commands: &mut Q) -> Result<(), Memory>
+        // requires { Q.is_ready commands.old }
+        // ensures extends { Q.extends commands.old commands.new }
+        // ensures ok { OnOk result (Q.commands commands.new
+        //     ≡ Q.commands commands.old ++ command_on self.entry handle ∷ []) }
+        // ensures err { OnErr result (Q.commands commands.new ≡ Q.commands commands.old) }
     {
         match self {
-            Change::Insert(bundle) => commands.insert(handle, bundle),
-            Change::Remove(id) => commands.remove(handle, id),
-            Change::Despawn => commands.despawn(handle),
+            Change::Insert(bundle) => commands.add_insert(handle, bundle),
+            Change::Remove(id) => commands.add_remove(handle, id),
+            Change::Despawn => commands.add_despawn(handle),
         }
     }
 }

@@ -7,6 +7,7 @@ use crate::kit::programs::format;
 use crate::proved::spawnrun_lib::progress::Progress;
 use crate::proved::spawnrun_lib::replaying::replay;
 use crate::proved::spawnrun_lib::running::run;
+use crate::proved::spawnrun_lib::running_in_blocks::run_in_blocks;
 use crate::proved::spawnrun_lib::status::Status;
 use crate::proved::spawnrun_lib::task::{Task, command_line};
 use crate::proved::cli::{LineFault, finish, refuse_line};
@@ -94,6 +95,13 @@ where
                 Task::Run { workers, show } => {
                     run(rt, input, output, errors, progress, workers, show)
                 }
+                Task::RunInBlocks {
+                    size,
+                    workers,
+                    show,
+                } => run_in_blocks(
+                    rt, input, output, errors, progress, size, workers, show,
+                ),
             };
             finish(errors, status.number())
         }

@@ -37,11 +37,7 @@ impl<R: Threads + Sync> Work for Scripts<'_, R> {
                 let report = run_script(rt, script, workers, show, progress)?;
                 Ok(Product::Output(report))
             }
-            Err(fault) => Ok(Product::Refusal(Refusal {
-                line: refusal_line(fault)?,
-                wants: script_wants(fault),
-                found: script_found(&input, fault),
-            })),
+            Err(fault) => Ok(Product::Refusal(no_script(&input, fault)?)),
         }
     }
 }
@@ -104,6 +100,23 @@ where
 {
     let work = Scripts { rt, workers, show };
     do_work(input, output, errors, progress, work)
+}
+
+/// What is said of a text that is no script, for this fault that reading it has found.
+///
+/// # Errors
+///
+/// `Memory`, also if it is the fault: want of memory is no refusal.
+#[inline]
+pub(super) fn no_script(input: &[u8], fault: ReadFault) -> Result<Refusal, Memory>
+    // requires { ReadsAs (Err fault) (script_of_text input.now) }
+    // ensures { IfOk result (λ refusal. MeansNone input.now (refusal_of refusal)) }
+{
+    Ok(Refusal {
+        line: refusal_line(fault)?,
+        wants: script_wants(fault),
+        found: script_found(input, fault),
+    })
 }
 
 // The line that refuses a text that is no script. Want of memory is no refusal.

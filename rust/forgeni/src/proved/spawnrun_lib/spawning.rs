@@ -3,8 +3,9 @@
 use alloc::vec::Vec;
 use crate::kit::vec::FallibleVec;
 use crate::proved::spawnrun_lib::bindings::Bindings;
+use crate::proved::spawnrun_lib::issue::Issue;
 use crate::proved::ent_handle::Memory;
-use crate::proved::ent_queue::{Commands, QueueFault};
+use crate::proved::ent_queue::QueueFault;
 use crate::proved::ent_script::Bundle;
 
 /// Spawns one entity, and binds the name to the list of its handle. After a refusal, which the
@@ -14,21 +15,21 @@ use crate::proved::ent_script::Bundle;
 ///
 /// `Memory`: nothing was issued.
 #[inline]
-pub(super) fn spawn(
+pub(super) fn spawn<Q: Issue>(
     bundle: &Bundle,
     binds: Option<usize>,
     names: &mut Bindings,
-    commands: &mut Commands<'_>,
+    commands: &mut Q,
 ) -> Result<(), Memory>
-    // requires { IsReady commands.old }
-    // ensures extends { Extends commands.old commands.new }
+    // requires { Q.is_ready commands.old }
+    // ensures extends { Q.extends commands.old commands.new }
     // ensures issued { OnOk result ((view : View) → HasIssued view (Spawn bundle.now binds)
-    //     commands.old commands.new names.old names.new) }
-    // ensures err { OnErr result (queue_of commands.new ≡ queue_of commands.old) }
+    //     (Q.commands commands.old) (Q.commands commands.new) names.old names.new) }
+    // ensures err { OnErr result (Q.commands commands.new ≡ Q.commands commands.old) }
 {
     match binds {
         Some(name) => spawn_named(bundle, name, names, commands),
-        None => match commands.spawn(bundle) {
+        None => match commands.add_spawn(bundle) {
             Err(QueueFault::Memory) => Err(Memory),
             _ => Ok(()),
         },
@@ -36,21 +37,21 @@ pub(super) fn spawn(
 }
 
 #[inline]
-fn spawn_named(
+fn spawn_named<Q: Issue>(
     bundle: &Bundle,
     name: usize,
     names: &mut Bindings,
-    commands: &mut Commands<'_>,
+    commands: &mut Q,
 ) -> Result<(), Memory>
-    // requires { IsReady commands.old }
-    // ensures extends { Extends commands.old commands.new }
+    // requires { Q.is_ready commands.old }
+    // ensures extends { Q.extends commands.old commands.new }
     // ensures issued { OnOk result ((view : View) → HasIssued view (Spawn bundle.now (Some name))
-    //     commands.old commands.new names.old names.new) }
-    // ensures err { OnErr result (queue_of commands.new ≡ queue_of commands.old) }
+    //     (Q.commands commands.old) (Q.commands commands.new) names.old names.new) }
+    // ensures err { OnErr result (Q.commands commands.new ≡ Q.commands commands.old) }
 {
     names.reach(name)?;
     let mut list = Vec::with_capacity_fallibly(1)?;
-    match commands.spawn(bundle) {
+    match commands.add_spawn(bundle) {
         Ok(handle) => {
             list.push_reserved(handle);
             names.bind(name, list);
@@ -68,22 +69,22 @@ fn spawn_named(
 ///
 /// `Memory`: nothing was issued.
 #[inline]
-pub(super) fn spawn_many(
+pub(super) fn spawn_many<Q: Issue>(
     count: u32,
     bundle: &Bundle,
     binds: Option<usize>,
     names: &mut Bindings,
-    commands: &mut Commands<'_>,
+    commands: &mut Q,
 ) -> Result<(), Memory>
-    // requires { IsReady commands.old }
-    // ensures extends { Extends commands.old commands.new }
+    // requires { Q.is_ready commands.old }
+    // ensures extends { Q.extends commands.old commands.new }
     // ensures issued { OnOk result ((view : View) → HasIssued view (SpawnMany count bundle.now binds)
-    //     commands.old commands.new names.old names.new) }
-    // ensures err { OnErr result (queue_of commands.new ≡ queue_of commands.old) }
+    //     (Q.commands commands.old) (Q.commands commands.new) names.old names.new) }
+    // ensures err { OnErr result (Q.commands commands.new ≡ Q.commands commands.old) }
 {
     match binds {
         Some(name) => spawn_many_named(count, bundle, name, names, commands),
-        None => match commands.spawn_many(count, bundle) {
+        None => match commands.add_spawn_many(count, bundle) {
             Err(QueueFault::Memory) => Err(Memory),
             _ => Ok(()),
         },
@@ -91,22 +92,22 @@ pub(super) fn spawn_many(
 }
 
 #[inline]
-fn spawn_many_named(
+fn spawn_many_named<Q: Issue>(
     count: u32,
     bundle: &Bundle,
     name: usize,
     names: &mut Bindings,
-    commands: &mut Commands<'_>,
+    commands: &mut Q,
 ) -> Result<(), Memory>
-    // requires { IsReady commands.old }
-    // ensures extends { Extends commands.old commands.new }
+    // requires { Q.is_ready commands.old }
+    // ensures extends { Q.extends commands.old commands.new }
     // ensures issued { OnOk result ((view : View)
     //     → HasIssued view (SpawnMany count bundle.now (Some name))
-    //     commands.old commands.new names.old names.new) }
-    // ensures err { OnErr result (queue_of commands.new ≡ queue_of commands.old) }
+    //     (Q.commands commands.old) (Q.commands commands.new) names.old names.new) }
+    // ensures err { OnErr result (Q.commands commands.new ≡ Q.commands commands.old) }
 {
     names.reach(name)?;
-    match commands.spawn_many(count, bundle) {
+    match commands.add_spawn_many(count, bundle) {
         Ok(handles) => {
             names.bind(name, handles);
             Ok(())

@@ -3,7 +3,7 @@
 //! What the words after the program's name ask for.
 
 use crate::proved::spawnrun_lib::show::Show;
-use crate::kit::programs::clap::{Arg, ArgMatches, Command};
+use crate::kit::programs::clap::{Arg, ArgAction, ArgMatches, Command};
 use crate::proved::cli::{LineFault, generations_option, limits_of, number_option, slots_option};
 use crate::proved::ent_alloc::Limits;
 use crate::kit::alloc::AllocError;
@@ -50,6 +50,15 @@ pub enum Task {
         /// What names an entity in the output.
         show: Show,
     },
+    /// To run it with a block of handles for each system of a frame.
+    RunInBlocks {
+        /// How many handles a block has, from 1 on.
+        size: u32,
+        /// How many workers run the systems of a frame, from 1 to 64.
+        workers: usize,
+        /// What names an entity in the output.
+        show: Show,
+    },
 }
 
 // An option that takes one of these names.
@@ -69,6 +78,21 @@ fn name_option<'a>(
         .value_parser(names)
         .default_value(default)
         .help(help)
+}
+
+// The option `--blocks`.
+#[inline]
+fn blocks_option<'a>() -> Arg<'a>
+    // ensures rule { rule_of result ≡ blocks_option }
+    // ensures own { result.global ≡ false }
+{
+    let range = crate::kit::programs::clap::value_parser!(u32).range(1..=i64::from(u32::MAX));
+    Arg::new("blocks")
+        .long("blocks")
+        .action(ArgAction::Set)
+        .value_name("N")
+        .value_parser(range)
+        .help("Give each system of a frame a block of N handles")
 }
 
 #[inline]
@@ -99,6 +123,7 @@ fn run_command<'a>(shown: &'a [&'a str]) -> Result<Command<'a>, AllocError>
         .about("Runs the script of frames on standard input")
         .after_help(RUN_END)
         .arg(workers)?
+        .arg(blocks_option())?
         .arg(show)
 }
 
@@ -138,6 +163,15 @@ fn workers_of(options: &ArgMatches<'_>) -> usize
 }
 
 #[inline]
+fn blocks_of(options: &ArgMatches<'_>) -> Option<u32>
+    // requires { MayHaveBlocks (given options.now) }
+    // ensures number { option_number (codes "blocks") (given options.now) ≡ result }
+    // ensures some { IfSome result (λ size. 0 < size) }
+{
+    options.get_one::<u32>("blocks")
+}
+
+#[inline]
 fn show_of(options: &ArgMatches<'_>) -> Show
     // requires { HasShow (given options.now) }
     // ensures { first_of (codes "show") (given options.now) ≡ Some (show_text result) }
@@ -146,6 +180,26 @@ fn show_of(options: &ArgMatches<'_>) -> Show
         Show::Handles
     } else {
         Show::Births
+    }
+}
+
+// The run that the options say.
+#[inline]
+fn run_of(options: &ArgMatches<'_>) -> Task
+    // requires workers { HasNumber (codes "workers") 64 (given options.now) }
+    // requires blocks { MayHaveBlocks (given options.now) }
+    // requires show { HasShow (given options.now) }
+    // ensures { HasRun (given options.now) result }
+{
+    let workers = workers_of(options);
+    let show = show_of(options);
+    match blocks_of(options) {
+        None => Task::Run { workers, show },
+        Some(size) => Task::RunInBlocks {
+            size,
+            workers,
+            show,
+        },
     }
 }
 
@@ -175,10 +229,7 @@ pub fn command_line<S: AsStr>(words: &[S]) -> Result<Task, LineFault> {
     let (name, options) = matches.subcommand().unwrap();
     match name {
         "replay" => Ok(Task::Replay(limits_of(options))),
-        "run" => Ok(Task::Run {
-            workers: workers_of(options),
-            show: show_of(options),
-        }),
+        "run" => Ok(run_of(options)),
         _ => unreachable!(),
     }
 }

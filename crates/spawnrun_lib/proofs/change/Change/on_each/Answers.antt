@@ -1,16 +1,15 @@
 use Rattle.std.proofs.Common.{rules, arith, ◌≡◌, ◌∙◌, ◌∷◌, ◌+◌, take, append_assoc, drop}
 use Rattle.std.proofs.lemmas.Grind.{common_steps}
 use Rattle.std.proofs.lemmas.List.{map-append, take_more, drop_more, take-append-drop}
-use Rattle.ent_queue.proofs.Extending.{extends_then}
 use Rattle.spawnrun_lib.proofs.Targeted.{on_error}
 use Rattle.spawnrun_lib.proofs.change.Change.on_each.Goals as goal
 
 pub loop-handle-preserved : goal.loop-handle-preserved
-loop-handle-preserved c =
-    grind (arith, common_steps, take_more, extends_then, append_assoc, map-append)
+loop-handle-preserved g c =
+    grind (arith, common_steps, take_more, g.met.Q.Issue.then, append_assoc, map-append)
 
 pub returns-in_err-on_one-clause-stopped : goal.returns-in_err-on_one-clause-stopped
-returns-in_err-on_one-clause-stopped c =
+returns-in_err-on_one-clause-stopped g c =
     let handles = c.args.handles.now in
     let i = c.loop-handle.handle-index in
     let h = c.handle-item.result in

@@ -1,9 +1,6 @@
 use Rattle.std.proofs.Common.{◌∙◌, ap, subst, sym}
 use Rattle.std.specs.Prelude.{Err}
-use Rattle.std.specs.Fmt.InlineText.{inline_text}
 use Rattle.ent_script.specs.Reading.{ReadsAs, script_of_text}
-use Rattle.spawnrun_lib.specs.Found.{TellsOfScript}
-use Rattle.spawnrun_lib.proofs.FaultRead.{fault_read}
 use Rattle.spawnrun_lib.proofs.running.ScriptsWork.make.Goals as goal
 
 pub returns-in_ok-report-in-Ok : goal.returns-in_ok-report-in-Ok
@@ -20,20 +17,10 @@ returns-in_ok-report-in-Ok g c =
       },
     )
 
-pub returns-in_ok-refusal_line-in-Err : goal.returns-in_ok-refusal_line-in-Err
-returns-in_ok-refusal_line-in-Err g c =
-    let fault = c.in-Err.fault in
-    let line = c.in_ok-refusal_line-in-Err in
-    record {
-      fault = fault;
-      means_none =
-          fault_read fault _ line.ensures.refused
-          (subst (λ known. ReadsAs (Err fault) (script_of_text known)) c.deref.ensures.value
-          c.in-Err.ensures.exact);
-      refused = line.ensures.line;
-      wants = c.script_wants.ensures;
-      found =
-          subst (λ known. TellsOfScript known fault (inline_text c.script_found.result))
-          c.deref-in-Err.ensures.value c.script_found.ensures.found;
-      printable = c.script_found.ensures.printable;
-    }
+pub no_script-requires : goal.no_script-requires
+no_script-requires g c =
+    subst (λ known. ReadsAs (Err c.in-Err.fault) (script_of_text known)) (cc (c.deref.ensures.value, c.deref-in-Err.ensures.value))
+    c.in-Err.ensures.exact
+
+pub returns-in_ok-no_script-in-Err : goal.returns-in_ok-no_script-in-Err
+returns-in_ok-no_script-in-Err g c = rw (← c.deref-in-Err.ensures.value) c.in_ok-no_script-in-Err.ensures

@@ -1,8 +1,8 @@
 use Rattle.std.proofs.Common.{◌≡◌, ◌<◌, ◌≤◌, length, arith, ◌^◌, min}
 use Rattle.std.proofs.lemmas.Grind.{common_steps}
 use Rattle.ent_world.proofs.InBlocks.{kept, some_wanted}
-use Rattle.ent_world.proofs.world.World.open_in_blocks.Goals.{else-not-needs_flush-via-then-not-needs_flush+else-is_err, else-not-needs_flush-via-else-not-needs_flush}
-use Rattle.ent_world.proofs.world.World.open_in_blocks.Goals as goal
+use Rattle.ent_world.proofs.world_in_blocks.PlacedWorld.open_in_blocks.Goals.{else-not-needs_flush-via-then-not-needs_flush+else-is_err, else-not-needs_flush-via-else-not-needs_flush}
+use Rattle.ent_world.proofs.world_in_blocks.PlacedWorld.open_in_blocks.Goals as goal
 
 -- room is lacking only where some is wanted
 pub returns-then-is_err-clause-memory : goal.returns-then-is_err-clause-memory
@@ -23,7 +23,7 @@ invariant_of-result g c =
           let all = kept c.in-Ok.deal s c.self.inside.entities.rows c.self.inside.phase
           c.self.inside.storage w.reserve.new.self c.args.sizes.now c.wanted.result
           c.in-Ok.ensures.start c.in-Ok.ensures.rows c.in-Ok.ensures.blocks c.self.invariant.world
-          c.self.invariant.rows c.self.invariant.room flushed w.reserve.ensures.entities
+          c.self.invariant.rows_are c.self.invariant.room flushed w.reserve.ensures.entities
           w.reserve.ensures.places w.reserve.ensures.grows spare few c.wanted.ensures.enough in
           rw same all
       | else-not-needs_flush-via-else-not-needs_flush w ↦ absurd (grind (arith, common_steps, flushed))

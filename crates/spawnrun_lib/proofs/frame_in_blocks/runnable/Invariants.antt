@@ -1,0 +1,9 @@
+use Rattle.std.proofs.Common.{◌≡◌, ◌≤◌, ◌+◌, length, take, drop, vec_len}
+use Rattle.std.specs.Prelude.{vec_capacity}
+use Rattle.spawnrun_lib.proofs.frame_in_blocks.runnable.Given as goal
+
+abbrev pub invariant-loop-system : goal.invariant-loop-system
+invariant-loop-system l = record {
+  runnable : l.runnable.items ≡ take l.system-index l.systems;
+  room : vec_len l.runnable + length (drop l.system-index l.systems) ≤ vec_capacity l.runnable;
+}

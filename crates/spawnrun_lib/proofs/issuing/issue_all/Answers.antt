@@ -1,0 +1,19 @@
+use Rattle.std.proofs.Common.{arith, rules}
+use Rattle.std.proofs.lemmas.Grind.{common_steps}
+use Rattle.std.proofs.lemmas.List.{drop_all}
+use Rattle.spawnrun_lib.proofs.SystemRunning.{has_begun, has_gone_on, has_ended}
+use Rattle.spawnrun_lib.proofs.issuing.issue_all.Goals as goal
+
+pub loop-operation-init : goal.loop-operation-init
+loop-operation-init g c = search (rules, has_begun)
+
+pub loop-operation-preserved : goal.loop-operation-preserved
+loop-operation-preserved g c = search (rules, g.met.Q.Issue.then, has_gone_on)
+
+pub returns-in_err-issue-clause-leaves : goal.returns-in_err-issue-clause-leaves
+returns-in_err-issue-clause-leaves g c empty = grind (arith, common_steps)
+
+pub returns-clause-may : goal.returns-clause-may
+returns-clause-may g c empty =
+    let none = drop_all _ c.args.operations.now c.loop-operation-test.false in
+    has_ended _ _ _ _ _ _ none c.loop-operation.invariant.run empty

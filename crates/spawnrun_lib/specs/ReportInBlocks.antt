@@ -1,0 +1,57 @@
+-- The report of a script whose systems get their handles from blocks. In each frame each system has a
+-- block of its own, so the report follows from the script and the size of the blocks: there is no history
+-- in it, no order in which systems ran, and no word of workers.
+use Rattle.std.specs.Prelude.{◌≡◌, ℕ, ◌+◌, List, [], ◌∷◌, ◌++◌, length, map}
+use Rattle.ent_handle.specs.Handle.{Handle}
+use Rattle.ent_alloc.specs.Sequential.{born}
+use Rattle.ent_blocks.specs.Blocks.{Block, blocks_from}
+use Rattle.ent_queue.specs.Command.{Command}
+use Rattle.ent_world.specs.Effects.{Applied}
+use Rattle.ent_world.specs.InBlocks.{world_after}
+use Rattle.ent_world.specs.Sync.{sync}
+use Rattle.ent_world.specs.World.{World, first_world}
+use Rattle.ent_runner.specs.Frame.{view_of}
+use Rattle.ent_block_runner.specs.Queues.{HaveIssued, blocks_after_queues}
+use Rattle.ent_script.specs.Script.{Script}
+use Rattle.ent_script.specs.declared.operation.Operation.{Operation}
+use Rattle.spawnrun_lib.specs.Issuing.{MayIssue}
+use Rattle.spawnrun_lib.specs.declared.show.Show.{Show}
+use Rattle.spawnrun_lib.specs.FrameText.{frame_text}
+use Rattle.spawnrun_lib.specs.WorldText.{IsWorldText}
+
+-- how many handles the block of each system is to have
+abbrev pub sizes_of : ℕ → List (List Operation) → List ℕ
+sizes_of size systems = map (λ (_ : List Operation). size) systems
+
+-- the blocks of a frame: the front of the pool, in the order of the systems. A block is smaller where the
+-- pool ends
+abbrev pub blocks_of_frame : ℕ → World → List (List Operation) → List Block
+blocks_of_frame size w systems = blocks_from 0 (length w.allocator.pool) (sizes_of size systems)
+
+-- Each system has a queue that it may issue, and the handles of its spawns are the next ones of its block.
+abbrev pub AreQueues : ℕ → World → List (List Operation) → List (List Command) → Type 0
+AreQueues size w systems queues =
+    let blocks = blocks_of_frame size w systems in
+    HaveIssued MayIssue systems (view_of w) w.allocator blocks queues
+    (blocks_after_queues blocks queues)
+
+-- the world after the systems have reserved what these queues say
+abbrev pub reserved_in : ℕ → World → List (List Operation) → List (List Command) → World
+reserved_in size w systems queues =
+    world_after w (blocks_after_queues (blocks_of_frame size w systems) queues)
+
+-- the text of the frames, numbered from here on, and of the world that they leave
+abbrev pub IsTextFrom : List (List ℕ) → ℕ → Show → ℕ → World → List (List (List Operation)) → List ℕ
+    → Type 0
+IsTextFrom names size show number w [] text = IsWorldText names show w.entities text
+IsTextFrom names size show number w (systems ∷ frames) text =
+    (queues : List (List Command)) × (rest : List ℕ) × AreQueues size w systems queues
+    × IsTextFrom names size show (number + 1) (sync queues (reserved_in size w systems queues)).world
+    frames rest
+    × (text ≡ frame_text show number (born (reserved_in size w systems queues).allocator)
+    (sync queues (reserved_in size w systems queues)).faults ++ rest)
+
+-- The text of a script, which begins with nobody, with blocks of this size: it has no other one.
+abbrev pub IsTextInBlocks : Script → ℕ → Show → List ℕ → Type 0
+IsTextInBlocks script size show text =
+    IsTextFrom script.components size show 0 (first_world script.limits) script.frames text

@@ -1,0 +1,96 @@
+//! One frame of a script whose systems get their handles from blocks.
+ghost use Rattle.std.specs.Prelude.{◌≡◌, ℕ, List, IfOk};
+ghost use Rattle.ent_queue.specs.Command.{Command};
+ghost use Rattle.spawnrun_lib.specs.ReportInBlocks.{sizes_of};
+ghost use Rattle.spawnrun_lib.specs.CourseInBlocks.{EndsInBlocks, dealt_blocks};
+
+use crate::BlockNumbering;
+use crate::script_system_in_blocks::ScriptSystemInBlocks;
+use ent_block_runner::run_frame_in_blocks;
+use ent_blocks::DealError;
+use ent_handle::Memory;
+use ent_script::System;
+use ent_world::{PlacedWorld, SyncReport, World, WorldDeal};
+use std::alloc::Global;
+use std::marker::Brand;
+use std::thread::Threads;
+
+/// The systems of a script, as a frame in blocks runs them.
+fn runnable<'a>(
+    alloc: Global,
+    systems: &'a [System],
+) -> Result<Vec<ScriptSystemInBlocks<'a>>, Memory>
+    ensures { IfOk result (λ runnable. runnable.items ≡ systems.now) }
+{
+    let mut runnable = Vec::with_capacity(alloc, systems.len())?;
+    for system in systems {
+        runnable.push_reserved(ScriptSystemInBlocks::new(system));
+    }
+    Ok(runnable)
+}
+
+/// As many handles for each of the systems.
+fn sizes(alloc: Global, size: u32, systems: &[System]) -> Result<Vec<u32>, Memory>
+    ensures { IfOk result (λ sizes. sizes.items ≡ sizes_of size systems.now) }
+{
+    let mut sizes = Vec::with_capacity(alloc, systems.len())?;
+    for _system in systems {
+        sizes.push_reserved(size);
+    }
+    Ok(sizes)
+}
+
+/// Runs the frame in the blocks for which the number 0 stands.
+fn run_dealt<R, J: BlockNumbering + Send + Sync>(
+    rt: &R,
+    alloc: Global,
+    world: PlacedWorld,
+    sizes: &[u32],
+    systems: &[ScriptSystemInBlocks<'_>],
+    workers: usize,
+) -> Result<(World, SyncReport), Memory>
+where
+    R: Threads + Sync,
+    requires stands_for { J.blocks_of 0 ≡ dealt_blocks world sizes.now }
+    requires size { (size : ℕ) × (sizes.now ≡ sizes_of size systems.now) }
+    ensures flushed { IfOk result (λ ended. ended.0.allocator.asked ≡ 0) }
+    ensures went { IfOk result (λ ended. (queues : List (List Command))
+        × EndsInBlocks sizes.now systems.now world.world queues ended.0
+        ended.1.born.items ended.1.faults.items) }
+{
+    let dealt: Result<WorldDeal<J>, (World, DealError)> = world.open_in_blocks(sizes);
+    let Ok(deal) = dealt else {
+        return Err(Memory);
+    };
+    let (opened, reservers) = deal.numbered(0);
+    match run_frame_in_blocks(rt, alloc, opened, reservers, systems, workers) {
+        Ok((world, report)) => Ok((world, report.sync)),
+        Err(_) => Err(Memory),
+    }
+}
+
+/// Runs a frame of these systems on that many workers, each with a block of so many handles, with its
+/// sync point.
+///
+/// # Errors
+///
+/// `Memory` if memory was refused, and then the world is dropped.
+pub(crate) fn run<R>(
+    rt: &R,
+    alloc: Global,
+    world: World,
+    size: u32,
+    systems: &[System],
+    workers: usize,
+) -> Result<(World, SyncReport), Memory>
+where
+    R: Threads + Sync,
+    ensures flushed { IfOk result (λ ended. ended.0.allocator.asked ≡ 0) }
+    ensures went { IfOk result (λ ended. (queues : List (List Command))
+        × EndsInBlocks (sizes_of size systems.now) systems.now world queues ended.0
+        ended.1.born.items ended.1.faults.items) }
+{
+    let runnable = runnable(alloc, systems)?;
+    let sizes = sizes(alloc, size, systems)?;
+    run_dealt::<R, Brand>(rt, alloc, world.placed(), &sizes, &runnable, workers)
+}

@@ -1,0 +1,112 @@
+//! The run of a whole script whose systems get their handles from blocks.
+ghost use Rattle.std.specs.Prelude.{◌≡◌, ℕ, List, IfOk};
+ghost use Rattle.spawnrun_lib.specs.CourseInBlocks.{HaveGoneInBlocks};
+ghost use Rattle.spawnrun_lib.specs.ReportInBlocks.{IsTextInBlocks};
+
+use crate::frame_in_blocks;
+use crate::frame_text::write_frame;
+use crate::progress::Progress;
+use crate::show::Show;
+use crate::world_text::write_world;
+use ent_handle::Memory;
+use ent_script::{Frame, Script};
+use ent_world::World;
+use std::alloc::Global;
+use std::thread::Threads;
+
+/// Runs the frames one after the other, and appends the text of each. The memory of a frame is
+/// freed before the next one runs.
+fn run_frames<R, P: Progress>(
+    rt: &R,
+    alloc: Global,
+    world: World,
+    frames: Vec<Frame>,
+    size: u32,
+    workers: usize,
+    show: Show,
+    progress: &mut P,
+) -> Result<(World, Vec<u8>), Memory>
+where
+    R: Threads + Sync,
+    ensures went { IfOk result (λ ran. (names : List (List ℕ))
+        → HaveGoneInBlocks names size show world ran.0 frames.items ran.1.items) }
+{
+    let count = frames.len();
+    let mut world = world;
+    let mut text = Vec::new(alloc);
+    let mut number = 0;
+    for current in frames {
+        progress.tell(number, count);
+        let (after, report) = frame_in_blocks::run(
+            rt,
+            alloc,
+            world,
+            size,
+            current.systems(),
+            workers,
+        )?;
+        world = after;
+        write_frame(number as u64, &report, show, &mut text)?;
+        number += 1;
+    }
+    Ok((world, text))
+}
+
+/// Runs the frames over a world that begins empty, and appends the text of the world that they
+/// leave.
+fn report<R, P: Progress>(
+    rt: &R,
+    alloc: Global,
+    script: Script,
+    size: u32,
+    workers: usize,
+    show: Show,
+    progress: &mut P,
+) -> Result<Vec<u8>, Memory>
+where
+    R: Threads + Sync,
+    ensures { IfOk result (λ text. IsTextInBlocks script size show text.items) }
+{
+    let (limits, components, frames) = script.into_parts();
+    let world = World::new(alloc, limits);
+    let (world, mut text) = run_frames(rt, alloc, world, frames, size, workers, show, progress)?;
+    write_world(&world, &components, show, &mut text)?;
+    Ok(text)
+}
+
+/// Runs a script over a world that begins empty, on 1 to 64 workers, and returns the report: the
+/// text of each frame and of the world that the last one leaves.
+///
+/// In each frame each system has a block of `size` handles of its own, fewer where the slots end. A
+/// spawn of more than is left of the block is refused, and a later one of fewer is served. So the
+/// handles of a system don't depend on the others, and the report is the same in each run, handles
+/// included, for every number of workers.
+///
+/// Before each frame there is room for all handles of the blocks, so memory grows with the size and
+/// the number of systems. Before each frame `progress` gets how many are done; `()` ignores it.
+///
+/// # Errors
+///
+/// `Memory` if memory was refused at any point of the run, or if there are no workers, more than 64, or
+/// more than 65,536 systems in a frame.
+pub fn run_script_in_blocks<R, P: Progress>(
+    rt: &R,
+    alloc: Global,
+    script: Script,
+    size: u32,
+    workers: usize,
+    show: Show,
+    progress: &mut P,
+) -> Result<Vec<u8>, Memory>
+where
+    R: Threads + Sync,
+    ensures text { IfOk result (λ text. IsTextInBlocks script size show text.items) }
+
+    // The script and the size have one text: this one. It is a law of the definition.
+    ensures only { IfOk result (λ text. (other : List ℕ)
+        → IsTextInBlocks script size show other → text.items ≡ other) }
+{
+    let report = report(rt, alloc, script, size, workers, show, progress);
+    progress.end();
+    report
+}

@@ -1,0 +1,93 @@
+// Made of crates/spawnrun_lib/src/frame_in_blocks.rt by rust/erase. It isn't edited by hand.
+
+//! One frame of a script whose systems get their handles from blocks.
+use alloc::vec::Vec;
+use crate::kit::vec::FallibleVec;
+use crate::proved::spawnrun_lib::script_system_in_blocks::ScriptSystemInBlocks;
+use crate::proved::ent_block_runner::run_frame_in_blocks;
+use crate::proved::ent_blocks::DealError;
+use crate::proved::ent_handle::Memory;
+use crate::proved::ent_script::System;
+use crate::proved::ent_world::{PlacedWorld, SyncReport, World, WorldDeal};
+use crate::kit::thread::Threads;
+
+/// The systems of a script, as a frame in blocks runs them.
+#[inline]
+fn runnable<'a>(
+    systems: &'a [System],
+) -> Result<Vec<ScriptSystemInBlocks<'a>>, Memory>
+    // ensures { IfOk result (λ runnable. runnable.items ≡ systems.now) }
+{
+    let mut runnable = Vec::with_capacity_fallibly(systems.len())?;
+    for system in systems {
+        runnable.push_reserved(ScriptSystemInBlocks::new(system));
+    }
+    Ok(runnable)
+}
+
+/// As many handles for each of the systems.
+#[inline]
+fn sizes(size: u32, systems: &[System]) -> Result<Vec<u32>, Memory>
+    // ensures { IfOk result (λ sizes. sizes.items ≡ sizes_of size systems.now) }
+{
+    let mut sizes = Vec::with_capacity_fallibly(systems.len())?;
+    for _system in systems {
+        sizes.push_reserved(size);
+    }
+    Ok(sizes)
+}
+
+/// Runs the frame in the blocks for which the number 0 stands.
+#[inline]
+fn run_dealt<R>(
+    rt: &R,
+    world: PlacedWorld,
+    sizes: &[u32],
+    systems: &[ScriptSystemInBlocks<'_>],
+    workers: usize,
+) -> Result<(World, SyncReport), Memory>
+where
+    R: Threads + Sync,
+    // requires stands_for { J.blocks_of 0 ≡ dealt_blocks world sizes.now }
+    // requires size { (size : ℕ) × (sizes.now ≡ sizes_of size systems.now) }
+    // ensures flushed { IfOk result (λ ended. ended.0.allocator.asked ≡ 0) }
+    // ensures went { IfOk result (λ ended. (queues : List (List Command))
+    //     × EndsInBlocks sizes.now systems.now world.world queues ended.0
+    //     ended.1.born.items ended.1.faults.items) }
+{
+    let dealt: Result<WorldDeal, (World, DealError)> = world.open_in_blocks(sizes);
+    let Ok(deal) = dealt else {
+        return Err(Memory);
+    };
+    let (opened, reservers) = deal.numbered(0);
+    match run_frame_in_blocks(rt, opened, reservers, systems, workers) {
+        Ok((world, report)) => Ok((world, report.sync)),
+        Err(_) => Err(Memory),
+    }
+}
+
+/// Runs a frame of these systems on that many workers, each with a block of so many handles, with its
+/// sync point.
+///
+/// # Errors
+///
+/// `Memory` if memory was refused, and then the world is dropped.
+#[inline]
+pub(super) fn run<R>(
+    rt: &R,
+    world: World,
+    size: u32,
+    systems: &[System],
+    workers: usize,
+) -> Result<(World, SyncReport), Memory>
+where
+    R: Threads + Sync,
+    // ensures flushed { IfOk result (λ ended. ended.0.allocator.asked ≡ 0) }
+    // ensures went { IfOk result (λ ended. (queues : List (List Command))
+    //     × EndsInBlocks (sizes_of size systems.now) systems.now world queues ended.0
+    //     ended.1.born.items ended.1.faults.items) }
+{
+    let runnable = runnable(systems)?;
+    let sizes = sizes(size, systems)?;
+    run_dealt::<R>(rt, world.placed(), &sizes, &runnable, workers)
+}

@@ -1,0 +1,76 @@
+// Made of crates/spawnrun_lib/src/issuing.rt by rust/erase. It isn't edited by hand.
+
+//! What the operations of a system issue.
+
+use crate::proved::spawnrun_lib::bindings::Bindings;
+use crate::proved::spawnrun_lib::change::Change;
+use crate::proved::spawnrun_lib::issue::Issue;
+use crate::proved::spawnrun_lib::roll::Roll;
+use crate::proved::spawnrun_lib::spawning::{spawn, spawn_many};
+use crate::proved::ent_handle::Memory;
+use crate::proved::ent_script::Operation;
+use crate::proved::ent_world::View;
+
+/// Issues the commands of all operations, one after the other.
+///
+/// # Errors
+///
+/// `Memory`, if memory was refused to one of the operations, and for no other reason. A spawn that is
+/// refused is a command, and the run goes on.
+#[inline]
+pub(super) fn issue_all<Q: Issue>(
+    view: &View<'_>,
+    operations: &[Operation],
+    commands: &mut Q,
+) -> Result<(), Memory>
+    // requires { Q.is_ready commands.old }
+    // ensures extends { Q.extends commands.old commands.new }
+    // ensures may { Q.commands commands.old ≡ []
+    //     → OnOk result (MayIssue operations.now view.now (Q.commands commands.new)) }
+    // ensures leaves { Q.commands commands.old ≡ []
+    //     → OnErr result (MayStop operations.now view.now (Q.commands commands.new)) }
+{
+    let mut names = Bindings::new();
+    let mut roll = Roll::new();
+    for operation in operations {
+        issue(view, operation, &mut names, &mut roll, commands)?;
+    }
+    Ok(())
+}
+
+/// Issues the commands of one operation, and binds its name.
+#[inline]
+fn issue<Q: Issue>(
+    view: &View<'_>,
+    operation: &Operation,
+    names: &mut Bindings,
+    roll: &mut Roll,
+    commands: &mut Q,
+) -> Result<(), Memory>
+    // requires ready { Q.is_ready commands.old }
+    // requires roll { IsRollOf view.now roll.old }
+    // ensures roll { IsRollOf view.now roll.new }
+    // ensures extends { Q.extends commands.old commands.new }
+    // ensures issued { OnOk result (HasIssued view.now operation.now
+    //     (Q.commands commands.old) (Q.commands commands.new) names.old names.new) }
+    // ensures stopped { OnErr result (HasStopped view.now operation.now
+    //     (Q.commands commands.old) (Q.commands commands.new) names.old) }
+{
+    match operation {
+        Operation::Spawn { bundle, binds } => spawn(bundle, *binds, names, commands),
+        Operation::SpawnMany {
+            count,
+            bundle,
+            binds,
+        } => spawn_many(*count, bundle, *binds, names, commands),
+        Operation::Insert { bundle, target } => {
+            Change::Insert(bundle).on_target(view, *target, names, roll, commands)
+        }
+        Operation::Remove { component, target } => {
+            Change::Remove(*component).on_target(view, *target, names, roll, commands)
+        }
+        Operation::Despawn { target } => {
+            Change::Despawn.on_target(view, *target, names, roll, commands)
+        }
+    }
+}
