@@ -26,13 +26,6 @@ pub fn tables() {
         println!("| {threads} | {a:.2} | {b:.2} | {c:.2} | {:.3} |", a / b);
     }
     println!();
-    println!("| Blocks | Opening, ns a block |");
-    println!("|---|---|");
-    for count in [16, 64, 1024] {
-        let each = median((0..ROUNDS).map(|_| opening(count)).collect());
-        println!("| {count} | {:.1} |", each * 1e9 / count as f64);
-    }
-    println!();
     println!("| Close and flush | In blocks | Shared | Ratio |");
     println!("|---|---|---|---|");
     for (name, is_old, spare) in [
@@ -47,14 +40,18 @@ pub fn tables() {
         println!("| {name} | {a:.2} | {b:.2} | {:.2} |", a / b);
     }
     println!();
-    println!("| Slots | The shared cursor | Blocks of 10 | Blocks of 64 | Blocks of 256 |");
-    println!("|---|---|---|---|---|");
+    println!("| Slots | Shared | Blocks of 10 | of 64 | of 256 | Opening alone |");
+    println!("|---|---|---|---|---|---|");
     for (name, old) in [("new", 0), ("old", 64 * 256)] {
         let shared = median((0..ROUNDS).map(|_| shared_frame(old)).collect()) * 1e6;
         let blocks = [10, 64, 256]
             .map(|size| median((0..ROUNDS).map(|_| frame(old, size)).collect()) * 1e6)
             .map(|each| format!("{each:.1} µs"));
-        println!("| {name} | {shared:.1} µs | {} |", blocks.join(" | "));
+        let opening = median((0..ROUNDS).map(|_| opening(old)).collect()) * 1e6;
+        println!(
+            "| {name} | {shared:.1} µs | {} | {opening:.1} µs |",
+            blocks.join(" | ")
+        );
     }
 }
 
@@ -109,8 +106,8 @@ fn opened(entities: Entities, sizes: &[u32]) -> (Blocks, Vec<BlockReserver>) {
     entities.open_in_blocks(sizes).expect("memory")
 }
 
-fn opening(count: usize) -> f64 {
-    let (entities, sizes) = (Entities::new(), vec![256; count]);
+fn opening(old: u32) -> f64 {
+    let (entities, sizes) = (waiting(old), [256; 64]);
     let from = Instant::now();
     let open = black_box(opened(entities, &sizes));
     let seconds = from.elapsed().as_secs_f64();
