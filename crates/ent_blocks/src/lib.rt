@@ -15,16 +15,15 @@ mod taking;
 mod undealt;
 mod unended;
 
+pub use crate::opening::parts_of;
 pub use block_error::BlockError;
 pub use block_reserver::{BlockReserver, again};
 pub use block_size::BlockSize;
 pub use blocks::{Blocks, reserve_iter};
 pub use closing::take_used;
 pub use numbering::BlockNumbering;
-pub use opening::parts_of;
 pub use opening::{Deal, open_in_blocks};
 pub use part::Part;
-pub use taking::take_many;
-pub use taking::take_one;
+pub use taking::{take_many, take_one};
 pub use undealt::{DealError, Undealt};
 pub use unended::{EndError, Unended};

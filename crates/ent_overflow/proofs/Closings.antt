@@ -1,6 +1,6 @@
 -- What the end of a phase says, of the phase and of its callers.
-use Rattle.std.proofs.Common.{◌≡◌, ◌≢◌, sym, ap, ◌∙◌, subst, ℕ, ◌+◌, ◌≤◌, ◌≤ℤ◌, ◌<ℤ◌, List, [], ◌∷◌, ◌↔◌}
-use Rattle.std.proofs.Common.{length, take, drop, sum, All, AllPairs, Contains, arith}
+use Rattle.std.proofs.Common.{◌≡◌, ◌≢◌, ap, ◌∙◌, ◌+◌, ◌≤◌, ◌<ℤ◌, List, [], ◌∷◌, ◌↔◌}
+use Rattle.std.proofs.Common.{length, take, drop, sum, All, AllPairs, Contains}
 use Rattle.std.proofs.lemmas.List.Elements.{All-nil, All-cons, All-head, All-tail}
 use Rattle.ent_handle.specs.Handle.{Handle}
 use Rattle.ent_alloc.specs.Sequential.{Allocator, after_take, before_requests}
@@ -11,7 +11,7 @@ use Rattle.ent_blocks.specs.Blocks.{dealt}
 use Rattle.ent_shared.specs.declared.record.Record.{Record}
 use Rattle.ent_shared.specs.Record.{own_reservations}
 use Rattle.ent_shared.specs.Order.{reservations_of, history_of, Respects}
-use Rattle.ent_shared.specs.Phase.{Shared, Reserver, IsOf as IsReserverOf}
+use Rattle.ent_shared.specs.Phase.{IsOf as IsReserverOf}
 use Rattle.ent_overflow.specs.Overflow.{Phase, Caller, IsOf, IsPhase, IsInOrder, past_of}
 use Rattle.ent_overflow.specs.Overflow.{past_records, past_history}
 use Rattle.ent_overflow.proofs.Splitting.{AreBehind, Splits, all_behind, splits}

@@ -1,8 +1,7 @@
 -- The dealer's one reservation, and the reservers that come after it.
-use Rattle.std.proofs.Common.{rules, ◌≡◌, refl, sym, ap, ◌∙◌, subst, ℕ, zero, suc, ◌+◌, ◌^◌, ◌<◌, ◌≤◌}
-use Rattle.std.proofs.Common.{ℤ, ◌≤ℤ◌, List, [], ◌∷◌, ◌++◌, length, take, drop, get_or, arith, Contains, All, map}
+use Rattle.std.proofs.Common.{rules, ◌≡◌, refl, sym, ap, ◌∙◌, subst, ℕ, zero, suc, ◌+◌, ◌^◌, ◌<◌}
+use Rattle.std.proofs.Common.{◌≤ℤ◌, List, [], ◌∷◌, ◌++◌, length, take, drop, get_or, arith, Contains, All, map}
 use Rattle.std.specs.Prelude.{Result}
-use Rattle.std.proofs.lemmas.Grind.{common_steps}
 use Rattle.std.proofs.lemmas.List.{drop_more, get_or_default, map-append, take_more}
 use Rattle.std.proofs.lemmas.List.Elements.{All-nil, All-head, All-tail}
 use Rattle.std.proofs.lemmas.Int.{ints}
@@ -64,36 +63,36 @@ pub record IsUnused (c : Caller) : Type 0 where
 module _ (p : Phase) (laid : AreLaid 0 p.blocks) (k : ℕ) (b : Block) (lt : k < length p.blocks)
     (there : b ≡ get_or p.blocks k b) (r met : Reserver) (fresh : IsFresh p.shared r)
     (of : IsReserverOf p.shared met) (is : met ≡ record r { own = after_meeting r.own p.dealer.own })
-    where
-  own_is : met.own ≡ after_meeting r.own p.dealer.own
-  own_is = ap (λ (x : Reserver). x.own) is
+  where
+    own_is : met.own ≡ after_meeting r.own p.dealer.own
+    own_is = ap (λ (x : Reserver). x.own) is
 
-  nothing_own : own_reservations met.own.entries ≡ []
-  nothing_own =
-      ap (λ (x : Record). own_reservations x.entries) own_is
-      ∙ ap (λ (es : List RecordEntry).
-      own_reservations (es ++ Met (known_reservations p.dealer.own.entries) ∷ [])) fresh.nothing
+    nothing_own : own_reservations met.own.entries ≡ []
+    nothing_own =
+        ap (λ (x : Record). own_reservations x.entries) own_is
+        ∙ ap (λ (es : List RecordEntry).
+        own_reservations (es ++ Met (known_reservations p.dealer.own.entries) ∷ [])) fresh.nothing
 
-  in_phase : Contains p.blocks (unused (unused b))
-  in_phase =
-      let none : b.used ≡ 0 = ap (λ (x : Block). x.used) there ∙ none_used 0 k p.blocks b laid lt in
-      let same : unused b ≡ b = λ i. record b { used = sym none i } in
-      (k, lt, get_or_default p.blocks k (unused b) b lt ∙ sym there ∙ sym same)
+    in_phase : Contains p.blocks (unused (unused b))
+    in_phase =
+        let none : b.used ≡ 0 = ap (λ (x : Block). x.used) there ∙ none_used 0 k p.blocks b laid lt in
+        let same : unused b ≡ b = λ i. record b { used = sym none i } in
+        (k, lt, get_or_default p.blocks k (unused b) b lt ∙ sym there ∙ sym same)
 
-  pub of_block : IsOf p (record { block = unused b; past = met })
-  of_block = record {
-    block = in_phase;
-    past = of;
-    next = let mark = ap (λ (x : Record). x.mark) own_is in grind (arith, ints, mark);
-    all = subst (All (λ (c : Reservation). c.high ≤ℤ p.dealer.own.mark)) (sym nothing_own)
-        (All-nil (λ (c : Reservation). c.high ≤ℤ p.dealer.own.mark));
-  }
+    pub of_block : IsOf p (record { block = unused b; past = met })
+    of_block = record {
+      block = in_phase;
+      past = of;
+      next = let mark = ap (λ (x : Record). x.mark) own_is in grind (arith, ints, mark);
+      all = subst (All (λ (c : Reservation). c.high ≤ℤ p.dealer.own.mark)) (sym nothing_own)
+          (All-nil (λ (c : Reservation). c.high ≤ℤ p.dealer.own.mark));
+    }
 
-  pub unused_of_block : IsUnused (record { block = unused b; past = met })
-  unused_of_block = record {
-    nothing = nothing_own;
-    whole = ap (λ (x : Record). x.left) own_is ∙ whole_quota p.shared r fresh.of fresh.nothing;
-  }
+    pub unused_of_block : IsUnused (record { block = unused b; past = met })
+    unused_of_block = record {
+      nothing = nothing_own;
+      whole = ap (λ (x : Record). x.left) own_is ∙ whole_quota p.shared r fresh.of fresh.nothing;
+    }
 
 -- nobody has gone past its block
 nothing_past : (callers : List Caller) → All IsUnused callers → own_of_all (past_records callers) ≡ []

@@ -1,11 +1,11 @@
 -- The end of a phase, in the numbers of its code.
-use Rattle.std.proofs.Common.{◌≡◌, ◌≢◌, refl, sym, ap, ◌∙◌, subst, ℕ, zero, suc, ◌+◌, ◌<◌, ◌≤◌, ◌≤ℤ◌}
-use Rattle.std.proofs.Common.{◌<ℤ◌, List, [], ◌∷◌, ◌++◌, map, All, AllPairs, Contains, ◌↔◌, ◌⊎◌, arith}
+use Rattle.std.proofs.Common.{◌≡◌, refl, sym, ap, ◌∙◌, subst, ℕ, zero, suc, ◌+◌, ◌≤◌}
+use Rattle.std.proofs.Common.{List, [], ◌∷◌, ◌++◌, map, All, AllPairs, Contains, ◌↔◌, arith}
 use Rattle.std.proofs.Common.{length, take, drop, sum, IsPermutation, length-append, inl, inr}
 use Rattle.std.proofs.lemmas.Grind.{common_steps}
-use Rattle.std.proofs.lemmas.List.{length-take-le, length-take, length-drop, map-append}
+use Rattle.std.proofs.lemmas.List.{length-take-le, length-take, map-append}
 use Rattle.std.proofs.lemmas.List.Sums.{sum_by-cons}
-use Rattle.std.proofs.lemmas.List.Elements.{All-head, All-tail, All-contains}
+use Rattle.std.proofs.lemmas.List.Elements.{All-contains}
 use Rattle.std.proofs.lemmas.List.Elements.{Contains-append_right, Contains-append_cases}
 use Rattle.std.proofs.lemmas.List.Sorted.{length_permutation, Contains-permutation}
 use Rattle.std.proofs.lemmas.List.Sorted.{IsPermutation-sym}
@@ -15,14 +15,14 @@ use Rattle.ent_alloc.specs.Sequential.{Allocator, available, after_take, before_
 use Rattle.ent_alloc.specs.History as history
 use Rattle.ent_alloc.specs.Sound.{IsSound, AreApart}
 use Rattle.ent_alloc.proofs.LaidOut.{flushed-laid_out}
-use Rattle.ent_alloc.proofs.Histories.{after_history-takes, given_in-legal}
+use Rattle.ent_alloc.proofs.Histories.{given_in-legal}
 use Rattle.ent_alloc.proofs.ListLaws.{AllPairs-left, AllPairs-across, AllPairs-IsPermutation}
 use Rattle.ent_alloc.proofs.PoolLaw.{after_takes, after_takes-sound, available-after_takes}
 use Rattle.ent_alloc.proofs.PoolLaw.{limits-after_takes, live-after_takes, made-after_takes}
 use Rattle.ent_alloc.proofs.PoolLaw.{asked-after_takes, asked-after_take, limits-after_take}
 use Rattle.ent_alloc.proofs.PoolLaw.{live-after_take, made-after_take, taken_is}
 use Rattle.ent_alloc.proofs.Replies.{not_apart, apart_both}
-use Rattle.ent_alloc.proofs.RequestLaws.{given_by, taken-after_takes}
+use Rattle.ent_alloc.proofs.RequestLaws.{taken-after_takes}
 use Rattle.ent_alloc.proofs.Soundness.{after_take-sound}
 use Rattle.ent_alloc.proofs.Taken.{available-after_take, after_take-served}
 use Rattle.ent_blocks.specs.Blocks.{Block, dealt, unused, AreLaid}

@@ -61,7 +61,10 @@ pub fn open_with_overflow(
     };
     deal(&shared, &mut dealer, dealt(&parts));
     hand_out(&shared, &mut dealer, &parts, &mut reservers, &mut callers);
-    Ok((Overflow::new(shared, dealer, parts, ends, returned), callers))
+    Ok((
+        Overflow::new(shared, dealer, parts, ends, returned),
+        callers,
+    ))
 }
 
 /// Gives each block one of the reservers, which comes after the dealer from then on.

@@ -4,10 +4,9 @@ use Rattle.ent_alloc.specs.Sequential.{Allocator, before_requests}
 use Rattle.ent_alloc.specs.Sound.{IsSound}
 use Rattle.ent_alloc.specs.History.{given_in, requests_of, Call}
 use Rattle.ent_blocks.specs.Blocks.{Block, dealt, unused, AreLaid}
-use Rattle.ent_shared.specs.declared.record.Record.{Record}
 use Rattle.ent_shared.specs.Phase.{Reserver, IsOf as IsReserverOf, records_of}
-use Rattle.ent_overflow.specs.Overflow.{Phase, Caller, Ended, IsOf, IsPhase, blocks_of, past_of}
-use Rattle.ent_overflow.specs.Overflow.{past_records, past_history, past_block}
+use Rattle.ent_overflow.specs.Overflow.{Phase, Ended, IsOf, blocks_of, past_of}
+use Rattle.ent_overflow.specs.Overflow.{past_history, past_block}
 use Rattle.ent_overflow.proofs.Closings.{Closed, Ending, own_past, ending}
 use Rattle.ent_overflow.proofs.Endings.{ends_laid, ends_dealt}
 use Rattle.ent_overflow.proofs.overflow.Overflow.close.Goals.{After-close-entities}

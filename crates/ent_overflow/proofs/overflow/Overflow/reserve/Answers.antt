@@ -1,4 +1,4 @@
-use Rattle.std.proofs.Common.{◌≡◌, ap, subst, sym, arith, length}
+use Rattle.std.proofs.Common.{ap, subst, sym, arith, length}
 use Rattle.ent_alloc.specs.Sequential.{Allocator, listed_alone}
 use Rattle.ent_blocks.specs.Blocks.{Block}
 use Rattle.ent_overflow.specs.Overflow.{Phase, Caller, IsOf}
