@@ -26,6 +26,7 @@ fi
 python3 .ci/tokens.py --texts $((cases < 5000 ? 5000 : cases))
 export PROGRAMS=$PWD/rust/forgeni/target/programs
 python3 .ci/cases.py --program "$PROGRAMS/spawnrun"
+python3 .ci/scripts_in_blocks.py --program "$PROGRAMS/spawnrun"
 python3 .ci/cases.py --crate tracecheck --program "$PROGRAMS/tracecheck"
 python3 .ci/changed_replies.py --program "$PROGRAMS/tracecheck"
 python3 .ci/changed_answers.py --program "$PROGRAMS/tracecheck"

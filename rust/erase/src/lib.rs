@@ -37,7 +37,7 @@
 //!   calls `again` returns no `Result`, and no other `clone` is known.
 //! - `alloc: Global` goes, as a parameter and a field, in literals, patterns, arguments and types
 //!   (`src/memory.rs`). A trait with ghost members only is ghost, and so is a type parameter that
-//!   it alone bounds, with its `PhantomData` (`src/ghost_types.rs`).
+//!   it alone bounds, with its `PhantomData` and the argument `Brand` (`src/ghost_types.rs`).
 //! - A list is Rust's own. A call that Rattle's list has otherwise becomes one of the trait
 //!   `FallibleVec`: `push_fallibly`. So a declaration has to show whether a value is a list
 //!   (`src/lists.rs`). Otherwise it is refused.

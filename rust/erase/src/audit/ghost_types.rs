@@ -1,7 +1,7 @@
 //! Ghost traits, and the type parameters that they bound, which the result doesn't have.
 
 use super::{pieces, Audit};
-use crate::forms::PHANTOM;
+use crate::forms::{BRAND, PHANTOM};
 use crate::ghost_types::{after_threads, file_of_module};
 
 impl Audit<'_> {
@@ -84,7 +84,7 @@ impl Audit<'_> {
         if self.names.ghost_traits.is_empty() || !may_go_on || !source.is_word(at) {
             return None;
         }
-        if source.at(at) == "Brand" && source.at(at + 1) == ">" {
+        if source.at(at) == BRAND && source.at(at + 1) == ">" {
             return Some(at + 1);
         }
         let declares = |other: &usize| source.has(*other, &[source.at(at), ":"]);
