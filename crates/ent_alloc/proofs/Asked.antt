@@ -88,8 +88,7 @@ of_refused s n space is = record {
 pub told_one : (s : Allocator) (t : Allocator) (high : ℤ) → IsSound s → high ≡ cursor s
     → t ≡ after_take s 1 → (r : Result Handle Space)
     → listed_alone r ≡ reply_from t.made (pool_at t high) 1 → listed_alone r ≡ reply_to s 1
-told_one s t high sound found step r is =
-    is ∙ ap (λ z. reply_from t.made (pool_at t z) 1) found
+told_one s t high sound found step r is = is ∙ ap (λ z. reply_from t.made (pool_at t z) 1) found
     ∙ ap (λ (x : Allocator). reply_from x.made (pool_at x (cursor s)) 1) step
     ∙ reply-later s (1 ∷ []) 1 sound
 

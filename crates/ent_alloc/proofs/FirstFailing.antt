@@ -36,17 +36,6 @@ failed_before [] more fault is = absurd (none_some fault is)
 failed_before (test ∷ tests) more fault is =
     failed_step test tests more fault (failed_before tests more fault) is test.0 refl
 
--- if all pass, the first of them do
-failed_or_not : (tests more : List Test) → first_failing (tests ++ more) ≡ None
-    → (o : Option ImageFault) → first_failing tests ≡ o → first_failing tests ≡ None
-failed_or_not tests more is None at = at
-failed_or_not tests more is (Some fault) at =
-    absurd (none_some fault (sym is ∙ failed_before tests more fault at))
-
-pub none_before : (tests more : List Test) → first_failing (tests ++ more) ≡ None
-    → first_failing tests ≡ None
-none_before tests more is = failed_or_not tests more is (first_failing tests) refl
-
 passed_step : (test : Test) (tests more : List Test)
     → (first_failing tests ≡ None → first_failing (tests ++ more) ≡ first_failing more)
     → first_failing (test ∷ tests) ≡ None
@@ -71,8 +60,7 @@ module _ (test : ℕ → Test) where
   each_passes from (suc count) each =
       let at : from + 0 ≡ from = omega arith in
       passed (test from) (map test (range_with_len (from + 1) count))
-      (ap (λ k. (test k).0) (sym at) ∙ each 0 (omega arith))
-      ∙ each_passes (from + 1) count (λ k lt.
+      (ap (λ k. (test k).0) (sym at) ∙ each 0 (omega arith)) ∙ each_passes (from + 1) count (λ k lt.
       let next : from + 1 + k ≡ from + suc k = omega arith in
       ap (λ k. (test k).0) next ∙ each (suc k) (omega arith))
 
@@ -83,8 +71,7 @@ module _ (test : ℕ → Test) where
   fails_at from (suc count) zero lt before fails =
       let at : from + 0 ≡ from = omega arith in
       failed (test from) (map test (range_with_len (from + 1) count))
-      (ap (λ k. (test k).0) (sym at) ∙ fails)
-      ∙ ap (λ k. Some (test k).1) (sym at)
+      (ap (λ k. (test k).0) (sym at) ∙ fails) ∙ ap (λ k. Some (test k).1) (sym at)
   fails_at from (suc count) (suc k) lt before fails =
       let at : from + 0 ≡ from = omega arith in
       let next : from + 1 + k ≡ from + suc k = omega arith in
@@ -93,8 +80,7 @@ module _ (test : ℕ → Test) where
       ∙ fails_at (from + 1) count k (omega arith) (λ j below.
       let at_j : from + 1 + j ≡ from + suc j = omega arith in
       ap (λ k. (test k).0) at_j ∙ before (suc j) (omega arith))
-      (ap (λ k. (test k).0) next ∙ fails)
-      ∙ ap (λ k. Some (test k).1) next
+      (ap (λ k. (test k).0) next ∙ fails) ∙ ap (λ k. Some (test k).1) next
 
 -- ---- whether one of some numbers is such
 

@@ -1,7 +1,7 @@
 -- A pool whose front comes in another order: the allocator stays sound, and the roster stands for
 -- it.
-use Rattle.std.proofs.Common.{◌≡◌, ◌⊎◌, inl, inr, sym, ap, ◌∙◌, subst, ℕ, ◌+◌, ◌-◌, ◌<◌, ◌≤◌}
-use Rattle.std.proofs.Common.{List, [], ◌++◌, length, take, drop, reverse, All, AllPairs, arith}
+use Rattle.std.proofs.Common.{◌≡◌, ◌⊎◌, inl, inr, sym, ap, ◌∙◌, subst, ℕ, ◌+◌, ◌-◌, ◌<◌, ◌≤◌, List}
+use Rattle.std.proofs.Common.{[], ◌++◌, length, take, drop, reverse, All, AllPairs, arith}
 use Rattle.std.proofs.Common.{IsPermutation, refl, get_or, slice_get, Some}
 use Rattle.std.proofs.lemmas.List.{length-map, get_or-map, get_or_append_left, get_or-append-add}
 use Rattle.std.proofs.lemmas.List.{get_or-reverse, get_or_default}
@@ -14,9 +14,8 @@ use Rattle.ent_alloc.specs.Slots.{handle_at, roster_of}
 use Rattle.ent_alloc.specs.declared.slot_record.SlotRecord.{SlotRecord}
 use Rattle.ent_alloc.proofs.Portioned.{map-append}
 use Rattle.std.proofs.lemmas.Bool.{cases_lt}
-use Rattle.std.proofs.lemmas.List.{length-append, length-reverse, append_assoc}
-use Rattle.std.proofs.lemmas.List.{append-nil, take-append-drop, reverse-append, reverse-reverse}
-use Rattle.std.proofs.lemmas.List.{take_all}
+use Rattle.std.proofs.lemmas.List.{length-append, length-reverse, append_assoc, append-nil}
+use Rattle.std.proofs.lemmas.List.{take-append-drop, reverse-append, reverse-reverse, take_all}
 use Rattle.std.proofs.lemmas.List.Elements.{All-append, All-weaker, All-take, All-drop}
 use Rattle.std.proofs.lemmas.List.Sorted.{All-permutation, IsPermutation-append_left}
 use Rattle.std.proofs.lemmas.List.Sorted.{IsPermutation-reverse, IsPermutation-trans}
@@ -32,8 +31,8 @@ use Rattle.ent_alloc.proofs.FreshHandles.{fresh-none, get_or-fresh}
 use Rattle.ent_alloc.proofs.LaidOut.{old_ones, IsLaidOut, flushed-laid_out, laid_out-sound}
 use Rattle.ent_alloc.proofs.ListLaws.{All-left, AllPairs-left, AllPairs-IsPermutation}
 use Rattle.ent_alloc.proofs.Reversed.{drop-reverse, take-reverse}
-use Rattle.ent_alloc.proofs.Meaning.{top_is, top_view, length-idle, pending_below, rest_is, none_is}
-use Rattle.ent_alloc.proofs.Meaning.{StandFor, closed}
+use Rattle.ent_alloc.proofs.Meaning.{top_is, length-idle, pending_below, rest_is, none_is, StandFor}
+use Rattle.ent_alloc.proofs.Meaning.{closed}
 
 -- ---- the allocator
 
@@ -162,8 +161,7 @@ module _ (r : Roster) (hs : List Handle) (sound : IsSound (allocator_of r 0 0))
           take_joined r.made (r.limits.slots - r.made) (reverse r.pending) below (length hs)
           (omega (arith, length-idle r, length-reverse r.pending))
           ∙ ap (λ k. take (length hs) (reverse r.pending) ++ fresh r.made (length hs - k))
-          (length-reverse r.pending)
-          ∙ ap (◌++ fresh r.made more)
+          (length-reverse r.pending) ∙ ap (◌++ fresh r.made more)
           (take_all (length hs) (reverse r.pending) (omega (arith, length-reverse r.pending))) in
           subst (λ k. IsPermutation (drop k wide) hs) (sym none)
           (IsPermutation-trans wide (reverse r.pending ++ fresh r.made more) hs
@@ -190,16 +188,14 @@ module _ (r : Roster) (hs : List Handle) (sound : IsSound (allocator_of r 0 0))
   kept_is = by_count (cases_lt (length r.pending) (length hs))
     where
       by_count : (length r.pending < length hs) ⊎ (length hs ≤ length r.pending)
-          → take (length wide - length hs) wide
-          ≡ take (length r.pending - length hs) r.pending
+          → take (length wide - length hs) wide ≡ take (length r.pending - length hs) r.pending
       by_count (inl over) =
           let none : length wide - length hs ≡ 0 = omega (arith, wide_long) in
           let nothing : length r.pending - length hs ≡ 0 = omega arith in
           ap (λ k. take k wide) none ∙ sym (ap (λ k. take k r.pending) nothing)
       by_count (inr within) = ap (λ xs. take (length xs - length hs) xs) (as_many (omega arith))
 
-  pub front_view : allocator_of (turned (grown r more) hs) 0 0
-      ≡ with_front (allocator_of r 0 0) hs
+  pub front_view : allocator_of (turned (grown r more) hs) 0 0 ≡ with_front (allocator_of r 0 0) hs
   front_view =
       let tops : top (allocator_of r 0 0) ≡ length r.pending = top_is r 0 0 (omega arith) sound in
       let kept = take (length r.pending - length hs) r.pending in
@@ -255,9 +251,6 @@ module _ (r : Roster) (requests : Requests) (s : Allocator) (hs : List Handle)
 
   same_at_rest : IsPermutation (take (length hs) (idle r)) hs
   same_at_rest = subst (λ pool. IsPermutation (take (length hs) pool) hs) (sym pool_at_rest) same
-
-  pub top_in : top s ≡ length r.pending
-  top_in = top_view r requests.asked requests.served s reserved view
 
   pub few_in : length hs ≤ length r.pending + (r.limits.slots - r.made)
   few_in = omega (arith, length-idle r, few_at_rest)
@@ -388,8 +381,7 @@ module _ (records : List SlotRecord) where
       let hs = map (handle_at records) is in
       ap slots_of (reverse-append (h ∷ []) hs)
       ∙ map-append (λ (h : Handle). h.index) (reverse hs) (h ∷ [])
-      ∙ ap (◌++ i ∷ []) (slots_waiting is)
-      ∙ sym (reverse-append (i ∷ []) is)
+      ∙ ap (◌++ i ∷ []) (slots_waiting is) ∙ sym (reverse-append (i ∷ []) is)
 
 -- some of a list from its other end
 pub turned_part : (xs ys : List ℕ) (from n : ℕ) → n ≤ length xs - from

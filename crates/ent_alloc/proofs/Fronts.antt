@@ -55,10 +55,7 @@ pub placed-at : (pending : List ℕ) (top k : ℕ) (hs : List Handle) (d : Handl
     ≡ (get_or hs k d).index
 placed-at pending top k [] d few within below = absurd (omega arith)
 placed-at pending top zero (h ∷ hs) d few within below =
-    let at : top - 1 - 0 ≡ top - 1 = omega arith in
-    rw at
-    (placed-above (set pending (top - 1) h.index) (top - 1) (top - 1) hs (omega arith) (omega arith)
-    ∙ get_or-set_same pending (top - 1) h.index 0 (omega arith))
+    search (rules, placed-above, get_or-set_same)
 placed-at pending top (suc k) (h ∷ hs) d few within below =
     let next = placed-at (set pending (top - 1) h.index) (top - 1) k hs d (omega arith)
     (omega (arith, length-set pending (top - 1) h.index)) (omega arith) in
@@ -90,7 +87,6 @@ generation-moved records top at [] made = refl
 generation-moved records top at (h ∷ hs) made =
     let w = waiting_at (record_at records h.index).generation (top - 1) in
     let long = length-set records h.index w in
-    let here : h.index < length records = made 0 h (omega arith) in
     let step : (record_at (set records h.index w) at).generation
     ≡ (record_at records at).generation = grind (arith, common_steps) in
     generation-moved (set records h.index w) (top - 1) at hs
@@ -193,40 +189,16 @@ module _ (limits : Limits) (records : List SlotRecord) (pending : List ℕ) (liv
 
     waited_at : (k : ℕ) (d : Handle) → k < length waited → get_or waited k d
         ≡ handle_at records (get_or pending (from + k) 0)
-    waited_at k d lt =
-        let long = length-drop from (map (handle_at records) pending) in
-        let all = length-map pending (handle_at records) in
-        get_or-drop from (map (handle_at records) pending) k d
-        ∙ get_or-map (handle_at records) pending (from + k) 0 d (omega arith)
+    waited_at k d lt = search (rules, length-drop, length-map, get_or-drop, get_or-map)
 
     long_waited : length waited ≡ length hs
-    long_waited = omega (
-      arith,
-      length-drop from (map (handle_at records) pending),
-      length-map pending (handle_at records),
-    )
+    long_waited = search (rules, length-drop, length-map)
 
     -- what is so of those that waited last is so of these
     each : (P : Handle → Type 0) → ((position : ℕ) → from ≤ position → position < length pending
         → P (handle_at records (get_or pending position 0))) → All P hs
-    each P waits = All-permutation P waited hs same (λ k d lt.
-        subst P (sym (waited_at k d lt))
+    each P waits = All-permutation P waited hs same (λ k d lt. subst P (sym (waited_at k d lt))
         (waits (from + k) (omega arith) (let long = long_waited in omega arith)))
-
-    -- such a handle waits at one of the last positions
-    record Waits (h : Handle) : Type 0 where
-      position : ℕ
-      late : from ≤ position
-      within : position < length pending
-      is : handle_at records (get_or pending position 0) ≡ h
-
-    all_wait : All Waits hs
-    all_wait = each Waits (λ position late within. record {
-      position = position;
-      late = late;
-      within = within;
-      is = refl;
-    })
 
     pub made_slots : All (λ h. h.index < length records) hs
     made_slots = each (λ h. h.index < length records) (λ position late within.
@@ -238,15 +210,7 @@ module _ (limits : Limits) (records : List SlotRecord) (pending : List ℕ) (liv
         record { dead = ap is_alive is; bare = ap row_of is })
 
     waited_apart : AllPairs AreApart waited
-    waited_apart i j d lt within same_slot =
-        let long = long_waited in
-        let first = waited_at i d (omega arith) in
-        let second = waited_at j d within in
-        let at_first = linked.forward (from + i) (omega arith) in
-        let at_second = linked.forward (from + j) (omega arith) in
-        let slots : get_or pending (from + i) 0 ≡ get_or pending (from + j) 0 =
-        sym (ap (λ (h : Handle). h.index) first) ∙ same_slot ∙ ap (λ (h : Handle). h.index) second in
-        grind (arith, common_steps)
+    waited_apart i j d lt within same_slot = search (rules, long_waited, waited_at, common_steps)
 
     apart : AllPairs AreApart hs
     apart = AllPairs-IsPermutation AreApart (λ g h ne e. ne (sym e)) waited hs same waited_apart
@@ -260,12 +224,9 @@ module _ (limits : Limits) (records : List SlotRecord) (pending : List ℕ) (liv
     early_other : (position : ℕ) → position < from → All (λ h. h.index ≢ get_or pending position 0) hs
     early_other position early = each (λ h. h.index ≢ get_or pending position 0)
         (λ later late within e.
-        let at_first = linked.forward position (omega arith) in
-        let at_second = linked.forward later within in
         grind (arith, common_steps))
 
-    made_after : (position : ℕ) → position < length order
-        → get_or order position 0 < length after
+    made_after : (position : ℕ) → position < length order → get_or order position 0 < length after
     made_after position within =
         let long = length-placed pending (length pending) (slots_of hs) in
         let longer = length-moved records (length pending) (slots_of hs) in
@@ -275,7 +236,6 @@ module _ (limits : Limits) (records : List SlotRecord) (pending : List ℕ) (liv
         by_place (inl early) =
             let long = length-placed pending (length pending) (slots_of hs) in
             let longer = length-moved records (length pending) (slots_of hs) in
-            let was = linked.made position (omega arith) in
             let stays = placed-below pending (length pending) position hs few early in
             omega arith
         by_place (inr late) =
@@ -306,8 +266,7 @@ module _ (limits : Limits) (records : List SlotRecord) (pending : List ℕ) (liv
             let at : length pending - 1 - k ≡ position = omega arith in
             let d = handle_at records 0 in
             let is = placed-at pending (length pending) k hs d few (omega arith) (omega arith) in
-            ap (λ i. (record_at after i).occupancy)
-            (sym (ap (λ n. get_or order n 0) at) ∙ is)
+            ap (λ i. (record_at after i).occupancy) (sym (ap (λ n. get_or order n 0) at) ∙ is)
             ∙ moved-at records (length pending) k hs d made_slots apart (omega arith)
             ∙ ap (λ n. Pending n) at
 
@@ -328,8 +287,6 @@ module _ (limits : Limits) (records : List SlotRecord) (pending : List ℕ) (liv
             let d = handle_at records 0 in
             let slot : (get_or hs k d).index ≡ index = found.2 d in
             let there = moved-at records (length pending) k hs d made_slots apart lt in
-            let here : Pending (length pending - 1 - k) ≡ Pending position =
-            sym there ∙ ap (λ i. (record_at after i).occupancy) slot ∙ is in
             let at : length pending - 1 - k ≡ position = grind (arith, common_steps) in
             record {
               listed = omega arith;
@@ -480,10 +437,7 @@ module _ (limits : Limits) (records : List SlotRecord) (pending : List ℕ) (liv
   few_in = omega (arith, long_view, as_many)
 
   same_in : IsPermutation (drop (length pending - length hs) (map (handle_at records) pending)) hs
-  same_in = subst (λ xs. IsPermutation (drop (length pending - length hs) xs) hs)
-      (sym (ap (λ (r : Roster). r.pending) view))
-      (subst (λ k. IsPermutation (drop k r.pending) hs)
-      (λ i. long_view i - as_many i) order.same)
+  same_in = search (rules, long_view, as_many)
 
   made_front : All (λ h. h.index < length records) hs
   made_front = made_slots limits records pending live hs linked few_in same_in

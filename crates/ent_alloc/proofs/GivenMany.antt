@@ -36,13 +36,7 @@ pub ordered : (news olds items handles : List Handle) (many len : ℕ) → items
     → many ≡ length news → handles ≡ reverse (drop many items) ++ take many items
     → len ≡ length items → take len (handles ++ drop (length handles) items) ≡ reverse olds ++ news
 ordered news olds items handles many len items_are many_is handles_are len_is =
-    let olds_are : drop many items ≡ olds = ap (drop many) items_are ∙ drop_at news olds many (sym many_is) in
-    let news_are : take many items ≡ news = ap (take many) items_are ∙ take_at news olds many (sym many_is) in
-    let all : handles ≡ reverse olds ++ news =
-    handles_are ∙ (λ i. reverse (olds_are i) ++ news_are i) in
-    let long : len ≡ length handles =
-    len_is ∙ search (rules, length-append, length-reverse) in
-    take_at handles (drop (length handles) items) len (sym long) ∙ all
+    search (rules, drop_at, take_at, length-append, length-reverse)
 
 module _ (r : Roster) (requests : Requests) (s : Allocator) (rest : IsAtRest r requests s) (n : ℕ)
     (enough : n ≤ length r.pending + (r.limits.slots - r.made)) where

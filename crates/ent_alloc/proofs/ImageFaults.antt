@@ -35,31 +35,15 @@ pub record IsSpelled (slots : List ℕ) (index : ℕ) (s : SlotRecord) : Type 0 
 small_kept : (limits : Limits) → AreLimits limits → (g : ℕ) (t : Occupancy)
     → IsGeneration limits g → number_of t < 2 ^ 32
     → IsSmall (kept (record { generation = g; occupancy = t }))
-small_kept limits within g Alive is fits = record {
-  generation = let most = is.greatest in omega (arith, within.generations);
-  number = fits;
-}
-small_kept limits within g (AliveWithRow row) is fits = record {
-  generation = let most = is.greatest in omega (arith, within.generations);
-  number = fits;
-}
-small_kept limits within g (Pending position) is fits = record {
-  generation = let most = is.greatest in omega (arith, within.generations);
-  number = fits;
-}
+small_kept limits within g Alive is fits = grind (arith, common_steps)
+small_kept limits within g (AliveWithRow row) is fits = grind (arith, common_steps)
+small_kept limits within g (Pending position) is fits = grind (arith, common_steps)
 small_kept limits within g Retired is fits = record { generation = omega arith; number = fits }
 
 first_spelled : (s : SlotRecord) (rest : List ℕ) → IsSmall (kept s)
     → IsSpelled (record_bytes s ++ rest) 0 (kept s)
 first_spelled s rest fits =
-    let words = slot_in_words (kept s) rest in
-    record {
-      generation = ap (λ bytes. word_at bytes 0) words ∙ first_word _ _ _ rest fits.generation;
-      kind = ap (λ bytes. word_at bytes 4) words
-          ∙ second_word (kept s).generation _ _ rest (kind_below s.occupancy);
-      number = ap (λ bytes. word_at bytes 8) words
-          ∙ third_word (kept s).generation (kind_of s.occupancy) _ rest fits.number;
-    }
+    grind (arith, common_steps, slot_in_words, first_word, second_word, kind_below, third_word)
 
 next_spelled : (front more : List ℕ) (n index : ℕ) (s : SlotRecord) → length front ≡ 12 * n
     → IsSpelled more index s → IsSpelled (front ++ more) (n + index) s
@@ -97,10 +81,7 @@ pub length-records : (records : List SlotRecord) → length (flat_map record_byt
     ≡ 12 * length records
 length-records [] = refl
 length-records (r ∷ records) =
-    let joined = length-append (record_bytes r) (flat_map record_bytes records) in
-    let first = length-slot_bytes (kept r) in
-    let others = length-records records in
-    omega arith
+    grind (arith, common_steps, length-append, length-slot_bytes, length-records records)
 
 -- ---- what a slot's words tell
 
@@ -123,10 +104,7 @@ waits_elsewhere : (t : Occupancy) (kind number position : ℕ) → kind ≡ kind
 waits_elsewhere Alive kind number position is at other = grind (arith, common_steps)
 waits_elsewhere (AliveWithRow row) kind number position is at other = grind (arith, common_steps)
 waits_elsewhere Retired kind number position is at other = grind (arith, common_steps)
-waits_elsewhere (Pending q) kind number position is at other = elim (cases_eq q position) [
-  | inl same ↦ absurd (other (ap Pending same))
-  | inr apart ↦ grind (arith, common_steps)
-]
+waits_elsewhere (Pending q) kind number position is at other = grind (arith, common_steps, cases_eq)
 
 has_none : (slots : List ℕ) (waiting index : ℕ) → kind_in slots index ≢ 3
     → has_place slots waiting index ≡ true
@@ -199,13 +177,7 @@ module _ (limits : Limits) (within : AreLimits limits) (records : List SlotRecor
       grind (arith, common_steps)
 
   passes : (k : ℕ) → k < length records → (tested k).0 ≡ true
-  passes k lt =
-      let words = spelled_at k lt in
-      let s = record_at records k in
-      let row = (λ i. is_slot limits.generations (words.generation i) (words.kind i) (words.number i))
-      ∙ row_of_kept limits s.generation s.occupancy (read.generations k lt) in
-      and_from (is_slot limits.generations (generation_of slots k) (kind_in slots k) (number_in slots k))
-      (has_place slots (length pending) k) row (place_of k s.occupancy lt refl)
+  passes k lt = grind (arith, common_steps, spelled_at, row_of_kept, and_from, place_of)
 
   module _ (made : ℕ) where
     abbrev slots_then : List Test
@@ -289,10 +261,7 @@ module _ (limits : Limits) (within : AreLimits limits) (records : List SlotRecor
 
       position_passes : (position : ℕ) → position < length pending
           → get_or pending position 0 ≢ vacant → (position_test made slots (0 + position)).0 ≡ true
-      position_passes position lt other =
-          let at : 0 + position ≡ position = omega arith in
-          let made_there = read.made position lt other in
-          ap (is_taken slots made) at ∙ taken made position (omega arith) lt other (omega arith)
+      position_passes position lt other = grind (arith, common_steps, taken)
 
       pub no_fault : ((position : ℕ) → position < length pending
           → get_or pending position 0 ≢ vacant) → first_failing slots_then ≡ None
@@ -308,10 +277,8 @@ module _ (limits : Limits) (within : AreLimits limits) (records : List SlotRecor
           let at : 0 + position ≡ position = omega arith in
           let none = untaken made position (omega arith) (λ j below waits.
           let there = read.back j position (omega arith) waits in
-          let is_vacant : j ≡ vacant = sym there ∙ free in
           omega (arith, within.slots, few, below)) in
           passed_before (map tested (range_with_len 0 made)) _ slots_pass
           ∙ fails_at (position_test made slots) 0 (length pending) position lt (λ before below.
           position_passes before (omega arith) (first before below))
-          (ap (is_taken slots made) at ∙ none)
-          ∙ ap (λ k. Some (Position k)) at
+          (ap (is_taken slots made) at ∙ none) ∙ ap (λ k. Some (Position k)) at

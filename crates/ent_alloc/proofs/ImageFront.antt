@@ -1,7 +1,7 @@
 -- What the tests of the first forty bytes answer.
-use Rattle.std.proofs.Common.{◌≡◌, ◌≢◌, refl, sym, ap, ◌∙◌, ℕ, ◌+◌, ◌-◌, ◌*◌, ◌^◌, ◌<◌, ◌≤◌, ◌⊎◌, inl, inr}
-use Rattle.std.proofs.Common.{Bool, true, false, ◌&&◌, ◌||◌, eqb, leb, ltb, List, [], ◌∷◌, ◌++◌}
-use Rattle.std.proofs.Common.{length, drop, Option, None, Some, arith}
+use Rattle.std.proofs.Common.{◌≡◌, ◌≢◌, refl, sym, ap, ◌∙◌, ℕ, ◌+◌, ◌-◌, ◌*◌, ◌^◌, ◌<◌, ◌≤◌, ◌⊎◌}
+use Rattle.std.proofs.Common.{inl, inr, Bool, true, false, ◌&&◌, ◌||◌, eqb, leb, ltb, List, [], ◌∷◌}
+use Rattle.std.proofs.Common.{◌++◌, length, drop, Option, None, Some, arith}
 use Rattle.std.specs.Prelude.{nat_eq}
 use Rattle.std.specs.List.{starts_with}
 use Rattle.std.proofs.lemmas.Bool.{eq-eqb, ne_eqb, le-leb, lt-leb, leb-true, ltb-true, lt-ltb}
@@ -12,19 +12,19 @@ use Rattle.std.proofs.lemmas.List.{length-append, drop_at}
 use Rattle.ent_alloc.specs.Limits.{AreLimits}
 use Rattle.ent_alloc.specs.Image.{word, long, magic, version, header_bytes}
 use Rattle.ent_alloc.specs.ImageRecords.{AreNumbers, AreServed}
-use Rattle.ent_alloc.specs.FirstFault.{Test, first_failing, first_fault, word_at, long_at, front_tests}
-use Rattle.ent_alloc.specs.FirstFault.{header_in, in_limits, in_counts, in_requests, header_tests}
-use Rattle.ent_alloc.specs.FirstFault.{slots_tests, header_fault}
+use Rattle.ent_alloc.specs.FirstFault.{Test, first_failing, first_fault, word_at, long_at}
+use Rattle.ent_alloc.specs.FirstFault.{front_tests, header_in, in_limits, in_counts, in_requests}
+use Rattle.ent_alloc.specs.FirstFault.{header_tests, slots_tests, header_fault}
 use Rattle.ent_alloc.specs.declared.image.Header.{Header}
 use Rattle.ent_alloc.specs.declared.image_fault.ImageFault.{ImageFault}
 use Rattle.ent_alloc.specs.declared.image_fault.ImageFault.TheVariants.{Magic, Version, Length}
 use Rattle.ent_alloc.specs.declared.image_fault.ImageFault.TheVariants.{Limits as BadLimits, Counts}
 use Rattle.ent_alloc.specs.declared.image_fault.ImageFault.TheVariants.{Requests}
-use Rattle.ent_alloc.proofs.ImageHeader.{letters, letters_are, header_then, numbers_then, same_longs}
-use Rattle.ent_alloc.proofs.ImageHeader.{length-long, length-header_bytes}
+use Rattle.ent_alloc.proofs.ImageHeader.{letters, letters_are, header_then, numbers_then}
+use Rattle.ent_alloc.proofs.ImageHeader.{same_longs, length-long, length-header_bytes}
 use Rattle.ent_alloc.proofs.ImageWords.{length-word}
 use Rattle.ent_alloc.proofs.ImageWordAt.{word_here, word_past, long_here, long_past}
-use Rattle.ent_alloc.proofs.FirstFailing.{passed, failed, failed_before, passed_before, none_before}
+use Rattle.ent_alloc.proofs.FirstFailing.{passed, failed, failed_before, passed_before}
 
 -- what is not true is false
 pub is_false : (b : Bool) → (b ≡ true → ⊥) → b ≡ false
@@ -94,8 +94,7 @@ module _ (bytes more : List ℕ) (is : bytes ≡ long letters ++ more) where
 
     pub front_passes : number ≡ version → first_failing (front_tests bytes) ≡ None
     front_passes same = to_version
-        ∙ passed (version_test bytes) []
-        (eq-eqb (word_at bytes 8) version (version_is ∙ same))
+        ∙ passed (version_test bytes) [] (eq-eqb (word_at bytes 8) version (version_is ∙ same))
 
 -- ---- the numbers
 
@@ -177,16 +176,6 @@ module _ (bytes : List ℕ) (h : Header) (rest : List ℕ) (fits : AreNumbers h)
   no_header_fault passes =
       passed_before (front_tests bytes) (header_tests (header_in bytes) (length bytes)) front
       ∙ (λ i. first_failing (header_tests (numbers i) (length bytes))) ∙ passes
-
--- what has no fault has none before its slots
-pub header_faultless : (bytes : List ℕ) → first_fault bytes ≡ None → header_fault bytes ≡ None
-header_faultless bytes is =
-    let h = header_in bytes in
-    let header = header_tests h (length bytes) in
-    let slots = slots_tests h.generations h.made h.waiting (drop 40 bytes) in
-    let front = none_before (front_tests bytes) (header ++ slots) is in
-    passed_before (front_tests bytes) header front
-    ∙ none_before header slots (sym (passed_before (front_tests bytes) (header ++ slots) front) ∙ is)
 
 -- a fault of the first ones
 pub front_fault : (bytes : List ℕ) (fault : ImageFault)
@@ -299,8 +288,7 @@ module _ (h : Header) (len : ℕ) (slots : List ℕ) where
         (limits_true h limits)
 
     pub counts_fault : (h.slots < h.made) ⊎ (h.made < h.waiting) → later ≡ Some Counts
-    counts_fault over = to_counts
-        ∙ failed (in_counts h, Counts) from_requests (counts_false h over)
+    counts_fault over = to_counts ∙ failed (in_counts h, Counts) from_requests (counts_false h over)
 
     module _ (few : h.made ≤ h.slots) (wait : h.waiting ≤ h.made) where
       to_requests : later ≡ first_failing from_requests

@@ -1,6 +1,6 @@
 -- What stands before the slots of an image, byte by byte.
-use Rattle.std.proofs.Common.{rules, ◌≡◌, ◌≢◌, refl, sym, ap, ◌∙◌, ℕ, ◌^◌, ◌<◌, List, []}
-use Rattle.std.proofs.Common.{◌++◌, length, arith}
+use Rattle.std.proofs.Common.{rules, ◌≡◌, ◌≢◌, refl, sym, ap, ◌∙◌, ℕ, ◌^◌, ◌<◌, List, ◌++◌, length}
+use Rattle.std.proofs.Common.{arith}
 use Rattle.std.specs.Int.{w64, from_le_bytes}
 use Rattle.std.proofs.lemmas.Nat.{from_le_bytes-to_le_bytes_8}
 use Rattle.std.proofs.lemmas.List.{length-append, append_assoc}
@@ -63,29 +63,7 @@ numbers_then h rest = search (rules, append_assoc)
 pub same_header : (h k : Header) (xs ys : List ℕ) → AreNumbers h → AreNumbers k
     → header_bytes h ++ xs ≡ header_bytes k ++ ys → (h ≡ k) × (xs ≡ ys)
 same_header h k xs ys is_h is_k same =
-    let cut = same_parts 40 (header_bytes h) xs (header_bytes k) ys (length-header_bytes h)
-    (length-header_bytes k) same in
-    let spelled = sym (header_then h []) ∙ ap (◌++ []) cut.0 ∙ header_then k [] in
-    let first = same_longs letters letters _ _ (omega arith) (omega arith) spelled in
-    let second = same_words version version _ _ (omega arith) (omega arith) first.1 in
-    let numbers = sym (numbers_then h []) ∙ second.1 ∙ numbers_then k [] in
-    let slots = same_words h.slots k.slots _ _ is_h.slots is_k.slots numbers in
-    let generations =
-    same_words h.generations k.generations _ _ is_h.generations is_k.generations slots.1 in
-    let made = same_words h.made k.made _ _ is_h.made is_k.made generations.1 in
-    let waiting = same_words h.waiting k.waiting _ _ is_h.waiting is_k.waiting made.1 in
-    let reserved = same_words h.reserved k.reserved _ _ is_h.reserved is_k.reserved waiting.1 in
-    let asked = same_longs h.asked k.asked _ _ is_h.asked is_k.asked reserved.1 in (
-      λ i. record {
-        slots = slots.0 i;
-        generations = generations.0 i;
-        made = made.0 i;
-        waiting = waiting.0 i;
-        reserved = reserved.0 i;
-        asked = asked.0 i;
-      },
-      cut.1,
-    )
+    search (rules, same_parts, length-header_bytes, header_then, same_longs, same_words, numbers_then)
 
 -- ---- what is no header
 
@@ -103,9 +81,7 @@ other_magic number bytes below other h rest same =
 pub other_version : (number : ℕ) (bytes : List ℕ) → number < 2 ^ 32 → number ≢ version
     → (h : Header) (rest : List ℕ) → long letters ++ (word number ++ bytes) ≢ header_bytes h ++ rest
 other_version number bytes below other h rest same =
-    let after = same_longs letters letters _ _ (omega arith) (omega arith)
-    (same ∙ header_then h rest) in
-    other (same_words number version _ _ below (omega arith) after.1).0
+    search (rules, same_longs, header_then, same_words)
 
 -- ---- parts that are appended one by one
 

@@ -1,7 +1,7 @@
 -- What records and pending indexes stand for has an image, which is that of the records in order.
-use Rattle.std.proofs.Common.{◌≡◌, refl, sym, ap, ◌∙◌, ℕ, suc, ◌+◌, ◌^◌, ◌<◌, ◌≤◌}
-use Rattle.std.proofs.Common.{true, cond, eqb, IsTrue, List, [], ◌∷◌, ◌++◌, length, get_or}
-use Rattle.std.proofs.Common.{arith, Option, None, Some, inl, inr}
+use Rattle.std.proofs.Common.{◌≡◌, refl, sym, ap, ◌∙◌, ℕ, suc, ◌+◌, ◌^◌, ◌<◌, ◌≤◌, true, cond, eqb}
+use Rattle.std.proofs.Common.{IsTrue, List, [], ◌∷◌, ◌++◌, length, get_or, arith, Option, None}
+use Rattle.std.proofs.Common.{Some}
 use Rattle.std.specs.List.{flat_map, range_with_len}
 use Rattle.std.specs.FinSet as sets
 use Rattle.std.specs.FinMap as maps
@@ -11,10 +11,8 @@ use Rattle.std.proofs.lemmas.List.{get_or-map, length-map, get_or_past}
 use Rattle.ent_handle.specs.Handle.{Handle}
 use Rattle.ent_alloc.specs.Limits.{Limits, AreLimits}
 use Rattle.ent_alloc.specs.Roster.{Roster}
-use Rattle.ent_alloc.specs.Slots.{is_alive, row_of, record_at, no_slot, handle_at}
-use Rattle.ent_alloc.specs.Slots.{roster_of, AreLinked}
-use Rattle.ent_alloc.specs.Image.{occupied, slot, slot_bytes, slots_bytes, AreSlots}
-use Rattle.ent_alloc.specs.Image.{number_of}
+use Rattle.ent_alloc.specs.Slots.{is_alive, row_of, record_at, handle_at, roster_of, AreLinked}
+use Rattle.ent_alloc.specs.Image.{occupied, slot, slot_bytes, slots_bytes, AreSlots, number_of}
 use Rattle.ent_alloc.specs.ImageRecords.{record_bytes, kept}
 use Rattle.ent_alloc.specs.declared.slot_record.SlotRecord.{SlotRecord}
 use Rattle.ent_alloc.specs.declared.slot_record.Occupancy.{Occupancy}
@@ -23,8 +21,8 @@ use Rattle.ent_alloc.specs.declared.slot_record.Occupancy.TheVariants.{Retired}
 use Rattle.ent_alloc.proofs.Occupants.{is_occupant, contains_occupants}
 use Rattle.ent_alloc.proofs.KeptRows.{row_at, get_rows}
 use Rattle.ent_alloc.proofs.LivingOccupant.{occupant_made, occupant_alive, occupant_generation}
-use Rattle.ent_alloc.proofs.ImageSlots.{Lives, Waits, Gone, became, slot_lives, slot_waits}
-use Rattle.ent_alloc.proofs.ImageSlots.{waiter, no_handle, pending_slot}
+use Rattle.ent_alloc.proofs.ImageSlots.{Lives, Waits, Gone, became, slot_lives, slot_waits, waiter}
+use Rattle.ent_alloc.proofs.ImageSlots.{no_handle, pending_slot}
 
 -- Records and pending indexes that point at each other.
 pub record AreTied (limits : Limits) (records : List SlotRecord) (pending : List ℕ) : Type 0 where
@@ -33,36 +31,20 @@ pub record AreTied (limits : Limits) (records : List SlotRecord) (pending : List
   pub least : (index : ℕ) → index < length records → 1 ≤ (record_at records index).generation
   pub greatest : (index : ℕ) → index < length records
       → (record_at records index).generation ≤ limits.generations
-  pub made : (position : ℕ) → position < length pending
-      → get_or pending position 0 < length records
+  pub made : (position : ℕ) → position < length pending → get_or pending position 0 < length records
   pub forward : (position : ℕ) → position < length pending
       → (record_at records (get_or pending position 0)).occupancy ≡ Pending position
   pub listed : (index position : ℕ) → index < length records
       → (record_at records index).occupancy ≡ Pending position → position < length pending
   pub back : (index position : ℕ) → index < length records
-      → (record_at records index).occupancy ≡ Pending position
-      → get_or pending position 0 ≡ index
+      → (record_at records index).occupancy ≡ Pending position → get_or pending position 0 ≡ index
   pub rows : (index row : ℕ) → index < length records
       → (record_at records index).occupancy ≡ AliveWithRow row → row < 2 ^ 32
 
 pub tied : (limits : Limits) (records : List SlotRecord) (pending : List ℕ) (live : ℕ)
-    → AreLinked limits records pending live
-    → ((index : ℕ) → index < length records
+    → AreLinked limits records pending live → ((index : ℕ) → index < length records
     → number_of (record_at records index).occupancy < 2 ^ 32) → AreTied limits records pending
-tied limits records pending live linked fits = record {
-  limited = linked.limited;
-  few = linked.few;
-  least = linked.least;
-  greatest = linked.greatest;
-  made = linked.made;
-  forward = linked.forward;
-  listed = linked.listed;
-  back = linked.back;
-  rows = λ index row lt is.
-      let below = fits index lt in
-      let same = ap number_of is in
-      omega arith;
-}
+tied limits records pending live linked fits = grind (arith, common_steps)
 
 -- ---- the records
 
@@ -73,8 +55,7 @@ row_alive (Pending position) row is = absurd (grind (arith, common_steps))
 row_alive Retired row is = absurd (grind (arith, common_steps))
 
 kept_row : (r : SlotRecord) (generation row : ℕ) → cond (eqb r.generation generation)
-    (row_of r.occupancy) None
-    ≡ Some row → row_of r.occupancy ≡ Some row
+    (row_of r.occupancy) None ≡ Some row → row_of r.occupancy ≡ Some row
 kept_row r generation row is = grind (arith, common_steps)
 
 no_row : (r : SlotRecord) (generation : ℕ)
@@ -87,11 +68,7 @@ none_past t row none is = grind (arith, common_steps)
 
 row_made : (records : List SlotRecord) (index row : ℕ)
     → row_of (record_at records index).occupancy ≡ Some row → index < length records
-row_made records index row is = elim (cases_lt index (length records)) [
-  | inl lt ↦ lt
-  | inr past ↦ absurd (none_past (row_of (record_at records index).occupancy) row
-      (ap (λ (s : SlotRecord). row_of s.occupancy) (get_or_past records index no_slot past)) is)
-]
+row_made records index row is = grind (arith, common_steps, cases_lt, none_past, get_or_past)
 
 pieces_of : (g : SlotRecord → List ℕ) (f : ℕ → List ℕ) (from : ℕ) (records : List SlotRecord)
     → ((k : ℕ) → k < length records → f (from + k) ≡ g (record_at records k))
@@ -197,11 +174,7 @@ module _ (limits : Limits) (records : List SlotRecord) (pending : List ℕ)
 
   row_kept_at : (index : ℕ) → maps.get stands.rows (handle_at records index)
       ≡ row_of (record_at records index).occupancy
-  row_kept_at index =
-      let g = (record_at records index).generation in
-      let yes : eqb g g ≡ true = eq-eqb g g refl in
-      row_is (handle_at records index) ∙ ap (λ b. cond b
-      (row_of (record_at records index).occupancy) None) yes
+  row_kept_at index = grind (arith, common_steps, eq-eqb, row_is)
 
   waits_at : (index position : ℕ) → index < length records → (record_at records index).occupancy
       ≡ Pending position → (position < length pending)

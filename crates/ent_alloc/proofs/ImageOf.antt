@@ -1,18 +1,18 @@
 -- The image of a sound allocator: its numbers fit, it tells the allocator, and that of what was read
 -- is what was read.
-use Rattle.std.proofs.Common.{◌≡◌, ◌≢◌, refl, sym, ap, ◌∙◌, subst, ℕ, ◌+◌, ◌-◌, ◌*◌, ◌<◌}
-use Rattle.std.proofs.Common.{◌≤◌, List, ◌++◌, length, take, drop, filter, arith, Ok, Err, Result}
-use Rattle.std.proofs.Common.{IfOk, IfErr, IsErrAnd, ◌⊎◌, inl, inr}
+use Rattle.std.proofs.Common.{◌≡◌, ◌≢◌, refl, sym, ap, ◌∙◌, subst, ℕ, ◌+◌, ◌-◌, ◌*◌, ◌<◌, ◌≤◌, List}
+use Rattle.std.proofs.Common.{◌++◌, length, take, drop, filter, arith, Ok, Err, Result, IfOk, IfErr}
+use Rattle.std.proofs.Common.{IsErrAnd, ◌⊎◌, inl, inr}
 use Rattle.ent_alloc.specs.declared.image_fault.ImageFault.{ImageFault}
-use Rattle.ent_alloc.specs.declared.image_fault.ImageFault.TheVariants.{Magic, Version, Limits, Counts}
-use Rattle.ent_alloc.specs.declared.image_fault.ImageFault.TheVariants.{Length, Requests, Slot}
-use Rattle.ent_alloc.specs.declared.image_fault.ImageFault.TheVariants.{Position, Memory}
+use Rattle.ent_alloc.specs.declared.image_fault.ImageFault.TheVariants.{Magic, Version, Limits}
+use Rattle.ent_alloc.specs.declared.image_fault.ImageFault.TheVariants.{Counts, Length, Requests}
+use Rattle.ent_alloc.specs.declared.image_fault.ImageFault.TheVariants.{Slot, Position, Memory}
 use Rattle.std.proofs.lemmas.Grind.{common_steps}
 use Rattle.std.proofs.lemmas.List.{length-append, length-reverse, length-drop, length-take-le}
 use Rattle.ent_alloc.specs.Roster.{Roster}
 use Rattle.ent_alloc.specs.Sequential.{Allocator, available, top, is_old}
 use Rattle.ent_alloc.specs.Sound.{IsSound}
-use Rattle.ent_alloc.specs.Entities.{Entities, idle, allocator_of, entities_of, AreReserved}
+use Rattle.ent_alloc.specs.Entities.{Entities, allocator_of, entities_of, AreReserved}
 use Rattle.ent_alloc.specs.Image.{slot, slot_bytes, slots_bytes, AreSlots, HasImage, roster, header}
 use Rattle.ent_alloc.specs.Image.{header_bytes, image, kept_bytes}
 use Rattle.ent_alloc.specs.ImageRecords.{AreServed, AreNumbers}
@@ -70,31 +70,10 @@ module _ (e : Entities) (has : HasImage e) where
 
   -- how many were requested, and how many of them are reserved
   pub served : AreServed s.asked (length s.taken) (top s + (s.limits.slots - s.made))
-  served =
-      let all = length-append s.taken (s.aside ++ s.pool) in
-      let rest = length-append s.aside s.pool in
-      let pool = ap length has.sound.pool ∙ length-drop s.asked (available s) in
-      let long = long_available in
-      record {
-        asked_in = has.asked;
-        least = omega arith;
-        within = omega arith;
-        all = λ enough. length-taken s has.sound (omega arith);
-      }
+  served = grind (arith, common_steps, length-append, length-drop, long_available, length-taken)
 
   pub numbers_fit : AreNumbers (header e)
-  numbers_fit =
-      let limits = has.sound.limits in
-      let made = has.sound.made in
-      let requests = served in
-      record {
-        slots = limits.slots;
-        generations = omega (arith, limits.generations);
-        made = omega (arith, limits.slots);
-        waiting = omega (arith, limits.slots, few_wait);
-        reserved = omega (arith, limits.slots, requests.within, few_wait);
-        asked = omega (arith, has.asked);
-      }
+  numbers_fit = grind (arith, common_steps, served, few_wait)
 
 -- what the bytes begin with, if they are its image
 pub told : (e : Entities) (h : Header) (rest : List ℕ) → HasImage e → AreNumbers h
@@ -146,28 +125,11 @@ module _ (r : Roster) (asked given : ℕ) (are : AreSlots r)
 module _ (r : Roster) (asked given : ℕ) (are : AreSlots r) (reserved : AreReserved r asked given)
   where
     pub has_image : HasImage (entities_of r asked given)
-    has_image = record {
-      sound = reserved.sound;
-      rows_of_living = are.rows_of_living;
-      rows = are.rows;
-      asked = reserved.asked_in;
-    }
+    has_image = grind (arith, common_steps)
 
     pub image_is : image (entities_of r asked given)
         ≡ header_bytes (numbers r asked given) ++ slots_bytes r
-    image_is =
-        let waits = top_is r asked given reserved.given_least reserved.sound in
-        let given_is = length-take-le given (idle r)
-        (let all = length-idle r in omega (arith, reserved.given_in)) in
-        let slots = roster_is r asked given reserved in
-        λ i. header_bytes (record {
-          slots = r.limits.slots;
-          generations = r.limits.generations;
-          made = r.made;
-          waiting = waits i;
-          reserved = given_is i;
-          asked = asked;
-        }) ++ slots_bytes (slots i)
+    image_is = grind (arith, common_steps, top_is, length-take-le, length-idle, roster_is)
 
 -- ---- what reading returns
 
@@ -195,10 +157,7 @@ pub exact : (bytes : List ℕ) (result : Result Entities ImageFault)
     → (e : Entities) → HasImage e → image e ≡ bytes → (result ≡ Ok e) ⊎ (result ≡ Err Memory)
 exact bytes (Ok d) found has refused e is same =
     inl (ap Ok (same_image d e has is (found ∙ sym same)))
-exact bytes (Err fault) found has refused e is same = elim (memory_or_not fault) [
-  | inl memory ↦ inr (ap Err memory)
-  | inr other ↦ absurd (refused other e is same)
-]
+exact bytes (Err fault) found has refused e is same = grind (arith, common_steps, memory_or_not)
 
 -- it has no more bytes than those of its slots
 pub bounded : (bytes : List ℕ) (result : Result Entities ImageFault)

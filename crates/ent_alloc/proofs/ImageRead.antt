@@ -1,18 +1,17 @@
 -- Slots read one by one: the records and the positions so far point at each other, and where a slot
 -- is refused no allocator has the bytes for its image.
-use Rattle.std.proofs.Common.{◌≡◌, ◌≢◌, refl, sym, ap, ◌∙◌, ℕ, ◌+◌, ◌^◌, ◌<◌}
-use Rattle.std.proofs.Common.{◌≤◌, ◌⊎◌, inl, inr, Bool, true, false, List, [], ◌∷◌}
-use Rattle.std.proofs.Common.{◌++◌, length, get_or, set, take, drop, replicate, arith}
+use Rattle.std.proofs.Common.{◌≡◌, ◌≢◌, refl, sym, ap, ◌∙◌, ℕ, ◌+◌, ◌^◌, ◌<◌, ◌≤◌, ◌⊎◌, inl, inr}
+use Rattle.std.proofs.Common.{Bool, true, false, List, [], ◌∷◌, ◌++◌, length, get_or, set, take}
+use Rattle.std.proofs.Common.{drop, arith}
 use Rattle.std.proofs.lemmas.Grind.{common_steps}
 use Rattle.std.proofs.lemmas.Bool.{cases_lt, cases_eq, false≢true}
 use Rattle.std.proofs.lemmas.List.{length-append, length_push, get_or_push, get_or_append_left}
-use Rattle.std.proofs.lemmas.List.{get_or-set_same, get_or-set_other, length-set, length-replicate}
-use Rattle.std.proofs.lemmas.List.{get_or-replicate, drop_all, take_all, append-nil}
+use Rattle.std.proofs.lemmas.List.{get_or-set_same, get_or-set_other, length-set, drop_all}
+use Rattle.std.proofs.lemmas.List.{take_all, append-nil}
 use Rattle.ent_alloc.specs.Limits.{Limits, AreLimits}
 use Rattle.ent_alloc.specs.Slots.{is_alive, record_at, no_slot, occupants}
 use Rattle.ent_alloc.specs.Image.{number_of}
-use Rattle.ent_alloc.specs.ImageRecords.{IsGeneration, vacant, CanWait}
-use Rattle.ent_alloc.specs.ImageRecords.{with_waiting, AreRead}
+use Rattle.ent_alloc.specs.ImageRecords.{IsGeneration, vacant, CanWait, with_waiting, AreRead}
 use Rattle.ent_alloc.specs.declared.slot_record.SlotRecord.{SlotRecord}
 use Rattle.ent_alloc.specs.declared.slot_record.Occupancy.{Occupancy}
 use Rattle.ent_alloc.specs.declared.slot_record.Occupancy.TheVariants.{Alive, AliveWithRow, Pending}
@@ -25,8 +24,7 @@ use Rattle.ent_alloc.proofs.ImageLinked.{AreTied}
 -- what is so of each record, and of one more
 each_more : (P : ℕ → SlotRecord → Type 0) (records : List SlotRecord) (s : SlotRecord)
     → ((index : ℕ) → index < length records → P index (record_at records index))
-    → P (length records) s
-    → (index : ℕ) → index < length (records ++ s ∷ [])
+    → P (length records) s → (index : ℕ) → index < length (records ++ s ∷ [])
     → P index (record_at (records ++ s ∷ []) index)
 each_more P records s each last index lt = elim (cases_lt index (length records)) [
   | inl before ↦ rw (get_or_append_left records (s ∷ []) no_slot index before) (each index before)
@@ -104,8 +102,7 @@ module _ (limits : Limits) (records : List SlotRecord) (pending : List ℕ) (liv
   ]
 
   -- one that waits
-  read_waiting : (generation position : ℕ) → IsGeneration limits generation
-      → position < 2 ^ 32
+  read_waiting : (generation position : ℕ) → IsGeneration limits generation → position < 2 ^ 32
       → position < length pending → get_or pending position 0 ≡ vacant → length records < vacant
       → AreRead limits (records ++ record { generation = generation; occupancy = Pending position } ∷ [])
       (set pending position (length records)) (live + 0)
@@ -173,22 +170,6 @@ module _ (limits : Limits) (records : List SlotRecord) (pending : List ℕ) (liv
           read_waiting g position within number can.0 can.1 few
 
 -- ---- no slot yet, and all
-
-pub read_none : (limits : Limits) (waiting : ℕ) → AreRead limits [] (replicate waiting vacant) 0
-read_none limits waiting =
-    let each : (position : ℕ) → position < length (replicate waiting vacant)
-    → get_or (replicate waiting vacant) position 0 ≡ vacant =
-    λ position lt. get_or-replicate waiting position vacant 0
-    (omega (arith, length-replicate waiting vacant)) in
-    record {
-      counted = refl;
-      generations = λ index lt. absurd (omega arith);
-      numbers = λ index lt. absurd (omega arith);
-      made = λ position lt taken. absurd (taken (each position lt));
-      forward = λ position lt taken. absurd (taken (each position lt));
-      listed = λ index position lt is. absurd (omega arith);
-      back = λ index position lt is. absurd (omega arith);
-    }
 
 pub read_all : (limits : Limits) (records : List SlotRecord) (pending : List ℕ) (live : ℕ)
     → AreRead limits records pending live → AreLimits limits → length records ≤ limits.slots

@@ -60,8 +60,7 @@ occupancy_at : (records : List SlotRecord) (index : ℕ)
 occupancy_at records index = ap (λ (r : SlotRecord). r.occupancy) (at records index)
 
 generation_at : (records : List SlotRecord) (index : ℕ)
-    → (record_at (map without_row records) index).generation
-    ≡ (record_at records index).generation
+    → (record_at (map without_row records) index).generation ≡ (record_at records index).generation
 generation_at records index = ap (λ (r : SlotRecord). r.generation) (at records index)
 
 occupants_as : (index : ℕ) (records : List SlotRecord)
@@ -85,8 +84,7 @@ handle_as records index = λ i. record { index = index; generation = generation_
 handles_as : (records : List SlotRecord) (pending : List ℕ)
     → map (handle_at (map without_row records)) pending ≡ map (handle_at records) pending
 handles_as records [] = refl
-handles_as records (index ∷ pending) =
-    λ i. handle_as records index i ∷ handles_as records pending i
+handles_as records (index ∷ pending) = λ i. handle_as records index i ∷ handles_as records pending i
 
 -- the same slots, without rows
 pub rowless_is : (limits : Limits) (records : List SlotRecord) (pending : List ℕ)
@@ -139,8 +137,7 @@ rowless_slots limits records pending live linked =
 
 -- what is written of them
 pub rowless_bytes_are : (limits : Limits) (records : List SlotRecord) (pending : List ℕ) (live : ℕ)
-    → AreLinked limits records pending live
-    → flat_map rowless_bytes records
+    → AreLinked limits records pending live → flat_map rowless_bytes records
     ≡ slots_bytes (record (roster_of limits records pending) { rows = maps.empty })
 rowless_bytes_are limits records pending live linked =
     sym (flat_map-map record_bytes without_row records)

@@ -192,7 +192,6 @@ module _ (r : Roster) (are : AreSlots r) where
       are.apart i j no_handle before (omega arith)
       (sym (at i d (omega arith)) ∙ same ∙ at j d (omega arith)) in
       let below : All (λ (x : ℕ). x < r.made) indices = λ k d lt.
-      let made = are.waiting_made k no_handle (omega arith) in
       let is = at k d (omega arith) in
       omega arith in
       let least = length-le_from_distinct_below indices r.made
@@ -335,8 +334,7 @@ same_roster r q is_r is_q limits made long each =
     kept_alike : (r q : Roster) → AreSlots r → AreSlots q → ((index : ℕ) → index < r.made
         → slot r index ≡ slot q index) → (h : Handle) (b : Bool) → set.contains r.live h ≡ b
         → set.contains r.live h ≡ set.contains q.live h → map.get r.rows h ≡ map.get q.rows h
-    kept_alike r q is_r is_q each h true alive same =
-        sym (also_lives r q is_r is_q each h alive).1
+    kept_alike r q is_r is_q each h true alive same = sym (also_lives r q is_r is_q each h alive).1
     kept_alike r q is_r is_q each h false dead same =
         is_r.rows_of_living h (λ alive. false≢true (sym dead ∙ alive))
         ∙ sym (is_q.rows_of_living h (λ alive. false≢true (sym dead ∙ same ∙ alive)))

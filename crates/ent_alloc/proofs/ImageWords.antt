@@ -1,11 +1,10 @@
 -- The words of an image, and its slots, byte by byte.
 use Rattle.std.proofs.Common.{rules, ◌≡◌, refl, sym, ap, ◌∙◌, ℕ, zero, suc, ◌+◌, ◌*◌, ◌^◌, ◌<◌}
-use Rattle.std.proofs.Common.{◌≤◌, List, ◌++◌, length, take, drop, arith}
+use Rattle.std.proofs.Common.{List, ◌++◌, length, take, drop, arith}
 use Rattle.std.specs.Int.{w32, from_le_bytes}
 use Rattle.std.specs.List.{flat_map, range_with_len}
 use Rattle.std.proofs.lemmas.Nat.{from_le_bytes-to_le_bytes_4}
-use Rattle.std.proofs.lemmas.List.{length-append, take_at, drop_at}
-use Rattle.std.proofs.lemmas.List.{drop-drop}
+use Rattle.std.proofs.lemmas.List.{length-append, take_at, drop_at, drop-drop}
 use Rattle.ent_alloc.specs.Image.{word, slot_bytes, kind_of, number_of}
 use Rattle.ent_alloc.specs.declared.slot_record.SlotRecord.{SlotRecord}
 use Rattle.ent_alloc.specs.declared.slot_record.Occupancy.{Occupancy}
@@ -87,8 +86,7 @@ same_slot s t hs ht same =
 -- ---- pieces of one length
 
 module _ (f : ℕ → List ℕ) (n : ℕ) (long : (i : ℕ) → length (f i) ≡ n) where
-  pub length-pieces : (from count : ℕ) → length (flat_map f (range_with_len from count))
-      ≡ n * count
+  pub length-pieces : (from count : ℕ) → length (flat_map f (range_with_len from count)) ≡ n * count
   length-pieces from zero = omega arith
   length-pieces from (suc count) =
       length-append (f from) _ ∙ omega (arith, long from, length-pieces (from + 1) count)
@@ -108,13 +106,3 @@ module _ (f : ℕ → List ℕ) (n : ℕ) (long : (i : ℕ) → length (f i) ≡
       rw more (ap (take n) (sym (drop-drop (n * k) n
       (f from ++ flat_map f (range_with_len (from + 1) count))) ∙ ap (drop (n * k)) cut)
       ∙ piece (from + 1) count k (omega arith) ∙ ap f at)
-
--- pieces that are alike one by one
-pub same_pieces : (f g : ℕ → List ℕ) (from count : ℕ)
-    → ((i : ℕ) → from ≤ i → i < from + count → f i ≡ g i)
-    → flat_map f (range_with_len from count) ≡ flat_map g (range_with_len from count)
-same_pieces f g from zero each = refl
-same_pieces f g from (suc count) each =
-    let rest = same_pieces f g (from + 1) count (λ i least below. each i (omega arith) (omega arith)) in
-    let here = each from (omega arith) (omega arith) in
-    λ k. here k ++ rest k

@@ -73,8 +73,7 @@ laid_out-sound s old h =
       live = λ x alive. record {
         within = h.live_within x alive;
         made = h.live_below x alive;
-        apart = rw all
-            (All-append (AreApart x) old news (h.live_apart x alive)
+        apart = rw all (All-append (AreApart x) old news (h.live_apart x alive)
             (below_never_made s.made s.limits.slots x (h.live_below x alive)));
       };
       one_occupant = h.one_occupant;

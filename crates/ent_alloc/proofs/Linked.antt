@@ -59,10 +59,6 @@ module _ (limits : Limits) (records : List SlotRecord) (pending : List ℕ) (liv
       let waited = waited-reused records from (drop from pending) in
       search (rules, same_generation, position_below, get_or-take, waits, waited, Wait-drop)
 
-  same_map : (is : List ℕ) → map (handle_at alive) is ≡ map (handle_at records) is
-  same_map [] = refl
-  same_map (i ∷ is) = λ k. record { index = i; generation = same_generation i k } ∷ same_map is k
-
   pub roster_of-reuse : roster_of limits alive (take from pending)
       ≡ record (roster_of limits records pending) {
         live = sets.union (roster_of limits records pending).live
@@ -142,12 +138,6 @@ module _ (limits : Limits) (records : List SlotRecord) (pending : List ℕ) (liv
         ≡ new_record
     new_is index past within =
         search (rules, length-append, length-replicate, get_or-append_right, get_or-replicate)
-
-    -- what is so of the generation of each old slot, and of the first one, is so of each slot's
-    generation_in : (P : ℕ → Type 0)
-        → ((index : ℕ) → index < length records → P (record_at records index).generation) → P 1
-        → (index : ℕ) → index < length grown → P (record_at grown index).generation
-    generation_in P each first index within = search (rules, cases_lt, old_stays, new_is)
 
     grown_long : length grown ≡ length records + count
     grown_long = search (rules, length-append, length-replicate)

@@ -162,9 +162,7 @@ get_or-swapped : {X : Type 0} (xs : List X) (a b k : ℕ) (d : X) → a < length
     → get_or (swap xs a b) k d ≡ get_or xs (swapped_from a b k) d
 unfolding swapped_from
 get_or-swapped {X} xs a b k d la lb =
-    let moved : Swapped (λ i. get_or xs i d) (λ i. get_or (swap xs a b) i d) a b = swapped_from_swap
-    xs (swap xs a b) a b d la lb refl in
-    grind (arith, nat_tests)
+    grind (arith, common_steps, Swapped, swapped_from_swap, nat_tests)
 
 module _ {X : Type 0} (R : X → X → Type 0) (both : (x y : X) → R x y → R y x) where
   -- of each two positions

@@ -2,22 +2,16 @@
 use Rattle.std.proofs.Common.{rules, ◌≡◌, ℕ, ◌+◌, ◌-◌, ◌<◌, ◌≤◌, List, [], ◌∷◌, ◌++◌, length, drop}
 use Rattle.std.proofs.Common.{replicate, slice_get, Some, refl, arith, suc, zero, add-zero, subst}
 use Rattle.std.proofs.lemmas.Grind.{common_steps}
-use Rattle.std.proofs.lemmas.List.{length-append, length-take-le, length-drop, drop_more, length-map}
+use Rattle.std.proofs.lemmas.List.{length-append, drop_more, length-map}
 use Rattle.std.proofs.lemmas.List.Elements.{All-tail}
 use Rattle.std.proofs.lemmas.Option.{get_or_from_slice_get}
 use Rattle.ent_handle.specs.Handle.{Handle, IsHandle}
 use Rattle.ent_alloc.specs.Slots.{handle_at}
 use Rattle.ent_alloc.specs.Roster.{Roster}
 use Rattle.ent_alloc.specs.Sequential.{fresh}
-use Rattle.ent_alloc.specs.Reserved.{reserved_handles, IsInRange, handles_of, AreToList}
+use Rattle.ent_alloc.specs.Reserved.{reserved_handles, handles_of, AreToList}
 use Rattle.ent_alloc.specs.declared.slot_record.SlotRecord.{SlotRecord}
 use Rattle.ent_alloc.proofs.FreshHandles.{length-fresh, fresh-next, fresh-none}
-
-pub length-reserved_handles : (r : Roster) (position end index index_end left : ℕ)
-    → IsInRange r position end index index_end left
-    → length (reserved_handles r position end index index_end) ≡ left
-length-reserved_handles r position end index index_end left range =
-    search (rules, length-append, length-take-le, length-drop, length-fresh)
 
 -- a list from where it has an item
 pub drop_at : (hs : List Handle) (k : ℕ) (h : Handle) → k < length hs → slice_get hs k ≡ Some h

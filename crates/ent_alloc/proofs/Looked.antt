@@ -1,8 +1,8 @@
 -- What looking a handle up in the records tells of the pending list, of the fresh handles and of
 -- the rows.
 use Rattle.std.proofs.lemmas.Grind.{common_steps}
-use Rattle.std.proofs.Common.{rules, ◌≡◌, ◌≢◌, ℕ, ◌+◌, ◌-◌, ◌<◌, ◌≤◌, Bool, true, false, cond, ◌&&◌}
-use Rattle.std.proofs.Common.{eqb, ltb, List, length, get_or, set, drop, map, refl, arith}
+use Rattle.std.proofs.Common.{rules, ◌≡◌, ◌≢◌, ℕ, ◌+◌, ◌-◌, ◌<◌, ◌≤◌, Bool, true, false, ◌&&◌, eqb}
+use Rattle.std.proofs.Common.{ltb, List, length, get_or, set, drop, map, refl, arith}
 use Rattle.std.specs.List.{Contains}
 use Rattle.std.specs.FinSet as sets
 use Rattle.std.specs.FinMap as maps
@@ -24,11 +24,10 @@ use Rattle.ent_alloc.specs.Slots.{handle_at, rows_from, is_pending_from, waits_f
 use Rattle.ent_alloc.specs.Slots.{AreLinked}
 use Rattle.ent_alloc.proofs.HandleSets.{Contains-from_stands_in, stands_in-from_Contains}
 use Rattle.ent_alloc.proofs.FreshHandles.{length-fresh, get_or-fresh}
-use Rattle.ent_alloc.proofs.Occupants.{is_occupant, contains_occupants, is_occupant-set, ties, one}
+use Rattle.ent_alloc.proofs.Occupants.{is_occupant, contains_occupants, ties, one}
 use Rattle.ent_alloc.proofs.Occupants.{length-occupants-set}
-use Rattle.ent_alloc.proofs.LivingOccupant.{occupant_made, occupant_alive, occupant_generation}
-use Rattle.ent_alloc.proofs.LivingOccupant.{is_occupant-same_slot, row_at-same_slot}
-use Rattle.ent_alloc.proofs.KeptRows.{row_at, row_at-set, get_rows}
+use Rattle.ent_alloc.proofs.LivingOccupant.{occupant_made, occupant_alive}
+use Rattle.ent_alloc.proofs.KeptRows.{row_at, get_rows}
 
 -- the handle is the next one of a slot that waits at this position or after it
 abbrev pub waits_at : List SlotRecord → Handle → ℕ → Bool
@@ -38,10 +37,6 @@ waits_at records h from =
     (record_at records h.index).generation h.generation)
 
 -- ---- one look-up tells all of a handle
-
-and-false : (b : Bool) → (b && false) ≡ false
-and-false true = refl
-and-false false = refl
 
 module _ (records : List SlotRecord) (h : Handle) where
   pub is_occupant-occupancy : is_occupant records h ≡ lives (occupancy_of records h)
@@ -103,7 +98,6 @@ module _ (limits : Limits) (records : List SlotRecord) (pending : List ℕ) (liv
 pub fresh_yes : (h : Handle) (made count : ℕ) → h.generation ≡ 1 → made ≤ h.index → h.index - made
     < count → stands_in (fresh made count) h ≡ true
 fresh_yes h made count first after within =
-    let at : made + (h.index - made) ≡ h.index = omega arith in
     stands_in-from_Contains (fresh made count) h (
       h.index - made,
       omega (arith, length-fresh made count),
@@ -116,9 +110,6 @@ fresh_no h made count none =
     search (rules, false_from_ne_true, Contains-from_stands_in, length-fresh, get_or-fresh)
 
 -- ---- rows
-
-kept_test : (same gen old : Bool) → (same ≡ true → old ≡ gen) → cond same gen old ≡ old
-kept_test same gen old is = grind (arith, common_steps)
 
 module _ (limits : Limits) (records : List SlotRecord) (pending : List ℕ) (live : ℕ) (h : Handle)
     (row : ℕ) (linked : AreLinked limits records pending live) (lives : is_occupant records h
@@ -154,26 +145,17 @@ module _ (limits : Limits) (records : List SlotRecord) (pending : List ℕ) (liv
 
   pub set_row_keeps_links : AreLinked limits relabelled pending live
   set_row_keeps_links =
-      let as_long : length relabelled ≡ length records = length-set records h.index labelled in
-      let step = length-occupants-set 0 records h.index labelled slot_made in
-      search (rules, one, occupant_alive, generations, others, alive_there, waited)
+      search (rules, length-set, length-occupants-set, slot_made, one, occupant_alive, generations, others)
 
   same_live : sets.from_list {R = handle_cmp} (occupants 0 relabelled)
       ≡ sets.from_list (occupants 0 records)
   same_live =
       sets.same_set handle_cmp_total handle_cmp-IsAntisymmetric _ _ (λ q.
-      let tells = is_occupant-same_slot records h q lives in
-      let set_is = is_occupant-set records h.index labelled q slot_made in
-      let was = occupant_generation records h lives in
       grind (arith, common_steps, contains_occupants relabelled q, contains_occupants records q))
 
   new_rows : maps.from_entries {R = handle_cmp} (rows_from 0 relabelled)
       ≡ maps.insert (maps.from_entries (rows_from 0 records)) h row
-  new_rows =
-      maps.same_map handle_cmp_total handle_cmp-IsAntisymmetric _ _ (λ q.
-      let none = row_at-same_slot records h q lives in
-      let set_is = row_at-set records h.index labelled q slot_made in
-      let was = occupant_generation records h lives in
+  new_rows = maps.same_map handle_cmp_total handle_cmp-IsAntisymmetric _ _ (λ q.
       let put =
       maps.get-insert handle_cmp_total (maps.from_entries (rows_from 0 records)) h row q in
       grind (arith, common_steps, ties q h, get_rows relabelled q, get_rows records q))

@@ -35,7 +35,6 @@ last_first : (pending : List Handle) (h : Handle) → 0 < length pending
     → slice_get pending (length pending - 1) ≡ Some h → reverse pending ≡ h
     ∷ reverse (take (length pending - 1) pending)
 last_first pending h some last =
-    let at : length pending - 1 + 1 ≡ length pending = omega arith in
     let all = take_all (length pending) pending (omega arith) in
     let more = take_more pending (length pending - 1) h (omega arith) in
     search (rules, all, more, get_or_from_slice_get, reverse-append)

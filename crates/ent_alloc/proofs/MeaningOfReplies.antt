@@ -45,8 +45,7 @@ listed_is r asked n below enough =
     let old_part : filter (is_old r.made) (take n (drop asked (idle r))) ≡ take n old =
     search (rules, few, filter-append, all_old_are_old, no_fresh_is_old, append-nil) in
     let fresh_part : filter (is_fresh r.made) (take n (drop asked (idle r))) ≡ fresh at
-    (n - front) =
-    search (rules, few, filter-append, no_old_is_fresh, all_fresh_are_fresh) in
+    (n - front) = search (rules, few, filter-append, no_old_is_fresh, all_fresh_are_fresh) in
     search (rules, take-reverse, reverse-reverse, length-take-le, middle)
 
 -- the reply where there is enough, and where there isn't

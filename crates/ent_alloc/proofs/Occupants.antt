@@ -1,7 +1,7 @@
 -- What the set of occupants holds, and how many they are.
-use Rattle.std.proofs.Common.{rules, ◌≡◌, ℕ, ◌+◌, ◌-◌, ◌<◌, Bool, true, false, cond, ◌&&◌, ◌||◌}
-use Rattle.std.proofs.Common.{eqb, leb, List, [], ◌∷◌, ◌++◌, length, get_or, set, refl, ap, arith}
-use Rattle.std.proofs.Common.{suc, zero, replicate}
+use Rattle.std.proofs.Common.{rules, ◌≡◌, ℕ, ◌+◌, ◌-◌, ◌<◌, Bool, false, cond, ◌&&◌, ◌||◌, eqb, leb}
+use Rattle.std.proofs.Common.{List, [], ◌∷◌, ◌++◌, length, get_or, set, refl, ap, arith, suc, zero}
+use Rattle.std.proofs.Common.{replicate}
 use Rattle.std.proofs.lemmas.Grind.{common_steps}
 use Rattle.std.specs.List.{list_any}
 use Rattle.std.specs.Ordering.{eq_by_cmp}
@@ -35,21 +35,6 @@ ties a b = grind (arith, common_steps)
 abbrev at_from : ℕ → List SlotRecord → Handle → Bool
 at_from index records q = leb index q.index && has_occupant
     (get_or records (q.index - index) no_slot) q.generation
-
-one_occupant : (alive : Bool) (rest : List Handle) (h q : Handle)
-    → list_any (eq_by_cmp handle_cmp q) (cond alive (h ∷ rest) rest)
-    ≡ ((alive && eq_by_cmp handle_cmp q h) || list_any (eq_by_cmp handle_cmp q) rest)
-one_occupant alive rest h q = grind (arith, common_steps)
-
-here : (alive a b h : Bool) → a ≡ b → ((alive && (true && a)) || (false && h))
-    ≡ (true && (alive && b))
-here alive a b h e = grind (arith)
-
-before : (alive a h g : Bool) → ((alive && (false && a)) || (false && h)) ≡ (false && g)
-before alive a h g = grind (arith)
-
-after : (alive a h g : Bool) → h ≡ g → ((alive && (false && a)) || (true && h)) ≡ (true && g)
-after alive a h g e = grind (arith)
 
 at_head : (index : ℕ) (r : SlotRecord) (records : List SlotRecord) (q : Handle)
     → ((is_alive r.occupancy && (eqb q.index index && eqb q.generation r.generation)) || at_from

@@ -61,8 +61,7 @@ live_none live = sets.same_set handle_cmp_total handle_cmp-IsAntisymmetric _ _ (
 live_old : (live : sets.FinSet handle_cmp) (h : Handle) (news olds all : List Handle)
     → all ≡ olds ++ h ∷ []
     → sets.union (sets.union (sets.union live (sets.from_list (h ∷ []))) (sets.from_list news))
-    (sets.from_list olds)
-    ≡ sets.union (sets.union live (sets.from_list news)) (sets.from_list all)
+    (sets.from_list olds) ≡ sets.union (sets.union live (sets.from_list news)) (sets.from_list all)
 live_old live h news olds all is = sets.same_set handle_cmp_total handle_cmp-IsAntisymmetric _ _ (λ q.
     both_in (sets.union live (sets.from_list (h ∷ []))) news olds q
     ∙ ap (λ b. (b || stands_in news q) || stands_in olds q) (contains-union_list live (h ∷ []) q)
@@ -72,11 +71,9 @@ live_old live h news olds all is = sets.same_set handle_cmp_total handle_cmp-IsA
     (ap (λ hs. stands_in hs q) is ∙ list_any-append (eq_by_cmp handle_cmp q) olds (h ∷ []))))
 
 -- a fresh one first
-live_fresh : (live : sets.FinSet handle_cmp) (h : Handle) (news all : List Handle)
-    → all ≡ h ∷ news
+live_fresh : (live : sets.FinSet handle_cmp) (h : Handle) (news all : List Handle) → all ≡ h ∷ news
     → sets.union (sets.union (sets.union live (sets.from_list (h ∷ []))) (sets.from_list news))
-    (sets.from_list [])
-    ≡ sets.union (sets.union live (sets.from_list all)) (sets.from_list [])
+    (sets.from_list []) ≡ sets.union (sets.union live (sets.from_list all)) (sets.from_list [])
 live_fresh live h news all is = sets.same_set handle_cmp_total handle_cmp-IsAntisymmetric _ _ (λ q.
     both_in (sets.union live (sets.from_list (h ∷ []))) news [] q
     ∙ ap (λ b. (b || stands_in news q) || false) (contains-union_list live (h ∷ []) q)
@@ -115,8 +112,7 @@ module _ (r : Roster) (n : ℕ) where
       ∙ live_old r.live h (fresh r.made (suc n - len)) (drop (len - suc n) others)
       (drop (len - suc n) r.pending) all_is in
       let pending_is : take (length others - n) others ≡ take (len - suc n) r.pending =
-      ap (λ k. take k others) kept_is
-      ∙ take-take (len - suc n) (len - 1) r.pending (omega arith) in
+      ap (λ k. take k others) kept_is ∙ take-take (len - suc n) (len - 1) r.pending (omega arith) in
       λ i. record r {
         live = live_is i;
         pending = pending_is i;

@@ -1,6 +1,6 @@
 -- Where a handle stands among those that there were to give at the last flush.
 use Rattle.std.proofs.Common.{rules, ◌≡◌, ℕ, ◌+◌, ◌-◌, ◌<◌, ◌≤◌, true, false, ◌||◌, List, length}
-use Rattle.std.proofs.Common.{get_or, drop, reverse, arith, slice_get, Some}
+use Rattle.std.proofs.Common.{get_or, drop, arith, slice_get, Some}
 use Rattle.std.proofs.lemmas.Grind.{common_steps}
 use Rattle.std.proofs.lemmas.List.{get_or-append-add, get_or_append_left, length-reverse}
 use Rattle.std.proofs.lemmas.List.{get_or-reverse}
@@ -36,7 +36,6 @@ pub waiting_place : (r : Roster) (h : Handle) (n : ℕ) → n < length r.pending
 waiting_place r h n within is =
     let place = length r.pending - 1 - n in
     let long = length-reverse r.pending in
-    let short : place < length (reverse r.pending) = omega arith in
     let inside : place < length (idle r) = omega (arith, length-idle r) in
     let back : length r.pending - 1 - place ≡ n = omega arith in
     search (rules, slice_get-get_or, get_or_append_left, get_or-reverse)

@@ -6,7 +6,7 @@ use Rattle.std.proofs.Common.{le-leb, arith, append-nil}
 use Rattle.std.proofs.lemmas.Grind.{common_steps}
 use Rattle.std.proofs.lemmas.Bool.{cases_lt}
 use Rattle.std.proofs.lemmas.Int.{ints}
-use Rattle.std.proofs.lemmas.List.{take_all, drop-drop, drop_all, length-append}
+use Rattle.std.proofs.lemmas.List.{take_all, drop_all, length-append}
 use Rattle.std.proofs.lemmas.List.Sums.{sum_by-cons}
 use Rattle.std.proofs.Math.Seq.{take-append_seam, drop-append_seam}
 use Rattle.ent_alloc.specs.Sequential.{Allocator, available, top, cursor, after_take, asked_at}
@@ -55,10 +55,6 @@ made-after_take s n = after_take-either (λ t. t.made) s.made s n refl refl
 -- the request is added
 pub asked-after_take : (s : Allocator) (n : ℕ) → (after_take s n).asked ≡ s.asked + n
 asked-after_take s n = after_take-either (λ t. t.asked) (s.asked + n) s n refl refl
-
--- the front of the pool goes, served or not
-pub pool-after_take : (s : Allocator) (n : ℕ) → (after_take s n).pool ≡ drop n s.pool
-pool-after_take s n = grind (arith, common_steps)
 
 -- how many old handles there were
 pub top-after_take : (s : Allocator) (n : ℕ) → IsSound s → top (after_take s n) ≡ top s
@@ -127,13 +123,6 @@ top-after_takes s (n ∷ requests) h = top-after_takes (after_take s n) requests
 pub cursor-after_takes : (s : Allocator) (requests : List ℕ) → IsSound s
     → cursor (after_takes s requests) ≡ cursor s -ℤ pos (sum requests)
 cursor-after_takes s requests h = search (rules, top-after_takes, asked-after_takes, ints)
-
--- the law of the pool
-pub pool-after_takes : (s : Allocator) (requests : List ℕ) → (after_takes s requests).pool
-    ≡ drop (sum requests) s.pool
-pool-after_takes s [] = refl
-pool-after_takes s (n ∷ requests) =
-    search (rules, sum_by-cons, pool-after_take, drop-drop, pool-after_takes (after_take s n) requests)
 
 -- what was left of the pool at a cursor can be told after any requests that follow
 pub pool_at-later : (s : Allocator) (requests : List ℕ) → IsSound s

@@ -57,11 +57,7 @@ module _ (s : Allocator) (ps : List Portion) (fits : AreUsed ps)
     order_few = omega (arith, order_long, reaches)
 
     pub order_slots : AreSlotsOf (take (length is) s.pool) is
-    order_slots = record {
-      front = front;
-      same = subst (λ n. IsPermutation (take n s.pool) front) (sym order_long) same;
-      slots = are;
-    }
+    order_slots = grind (arith, common_steps, same, order_long)
 
     pub order_is : (s' : Allocator) → count ≢ reach
         → ((slots : AreSlotsOf (take (length is) s.pool) is) → s' ≡ with_front s slots.front)
@@ -121,16 +117,7 @@ module _ (s : Allocator) (ps : List Portion) (fits : AreUsed ps)
 
   pub portions_taken : s.taken ≡ [] → s.asked ≡ 0
       → after_take (arranged s ps) count ≡ after_portions s ps
-  portions_taken none flushed = by_count (cases_eq count reach)
-    where
-      by_count : (count ≡ reach) ⊎ (count ≢ reach)
-          → after_take (arranged s ps) count ≡ after_portions s ps
-      by_count (inl all) =
-          let is : arranged s ps ≡ s = grind (arith, common_steps) in
-          ap (λ s. after_take s count) is ∙ front_taken all none flushed
-      by_count (inr short) =
-          let is : arranged s ps ≡ with_front s front = grind (arith, common_steps) in
-          ap (λ s. after_take s count) is ∙ moved_taken short none flushed
+  portions_taken none flushed = grind (arith, common_steps, cases_eq, front_taken, moved_taken)
 
   pub arranged_asked : (arranged s ps).asked ≡ s.asked
   arranged_asked = grind (arith, common_steps)
@@ -141,9 +128,7 @@ pub front_slots : (r : Roster) (requests : Requests) (s : Allocator) (is : List 
     → allocator_of r requests.asked requests.served ≡ s → s.asked ≡ 0
     → is ≡ front_of (slots_of (idle r)) ps → is ≡ slots_of (front_of s.pool ps)
 front_slots r requests s is ps reserved view flushed are =
-    let at_rest = rest_is r requests.asked requests.served s reserved view flushed in
-    are ∙ sym (front-map (λ (h : Handle). h.index) (idle r) ps)
-    ∙ ap (λ (s : Allocator). slots_of (front_of s.pool ps)) at_rest
+    grind (arith, common_steps, rest_is, front-map)
 
 -- the allocator stays sound
 pub after_portions-sound : (s : Allocator) (ps : List Portion) → IsSound s → s.asked ≡ 0

@@ -11,7 +11,7 @@ use Rattle.std.proofs.lemmas.List.Elements.{All-tail}
 use Rattle.std.proofs.lemmas.List.{drop_more, take_more, get_or-drop, take-append-le, drop-take}
 use Rattle.std.proofs.lemmas.List.{get_or_default}
 use Rattle.std.proofs.lemmas.Option.{get_or_from_slice_get}
-use Rattle.std.specs.Prelude.{min, slice_get, Some, ◌==◌, if◌then◌else◌}
+use Rattle.std.specs.Prelude.{min, slice_get, Some}
 use Rattle.std.proofs.Math.Nat.{min-eq_left, min-eq_right}
 use Rattle.std.proofs.lemmas.Bool.{cases_lt}
 use Rattle.std.proofs.lemmas.List.Sorted.{IsPermutation-refl, IsPermutation-append_left}
@@ -28,8 +28,7 @@ others_used p ps fits = All-tail (λ (p : Portion). p.used ≤ p.size) p ps fits
 
 -- ---- where what was used ends
 
-pub reach-none : (p : Portion) (ps : List Portion) → reach_of ps ≡ 0
-    → reach_of (p ∷ ps) ≡ p.used
+pub reach-none : (p : Portion) (ps : List Portion) → reach_of ps ≡ 0 → reach_of (p ∷ ps) ≡ p.used
 reach-none p ps none = grind (arith, common_steps)
 
 pub reach-some : (p : Portion) (ps : List Portion) → 0 < reach_of ps
@@ -72,19 +71,12 @@ module _ {A : Type 0} where
   pub used_none : (pool : List A) (ps : List Portion) → count_of ps ≡ 0 → used_of pool ps ≡ []
   used_none pool [] none = refl
   used_none pool (p ∷ ps) none =
-      let here : p.used ≡ 0 = omega arith in
-      let first : take p.used pool ≡ [] = ap (λ n. take n pool) here in
-      let others = used_none (drop p.size pool) ps (omega arith) in
-      λ i. first i ++ others i
+      grind (arith, common_steps, used_none (drop p.size pool) ps (omega arith))
 
   pub left_none : (pool : List A) (ps : List Portion) → count_of ps ≡ 0 → left_of pool ps ≡ pool
   left_none pool [] none = refl
   left_none pool (p ∷ ps) none =
-      let here : p.used ≡ 0 = omega arith in
-      let first : drop p.used (take p.size pool) ≡ take p.size pool =
-      ap (λ n. drop n (take p.size pool)) here in
-      let others = left_none (drop p.size pool) ps (omega arith) in
-      (λ i. first i ++ others i) ∙ take-append-drop p.size pool
+      grind (arith, common_steps, take-append-drop, left_none (drop p.size pool) ps (omega arith))
 
   pub length-used : (pool : List A) (ps : List Portion) → AreUsed ps → size_of ps ≤ length pool
       → length (used_of pool ps) ≡ count_of ps
@@ -134,8 +126,7 @@ module _ {A : Type 0} where
           by_size (inl less) =
               let n_is : n ≡ more = least ∙ min-eq_right (omega arith) in
               let none : more - n ≡ 0 = omega arith in
-              take-append-le more rest others (omega (arith, length-rest))
-              ∙ ap (take more) rest_is
+              take-append-le more rest others (omega (arith, length-rest)) ∙ ap (take more) rest_is
               ∙ take_of_take more (p.size - p.used) (drop p.used pool) (omega arith)
               ∙ ap (λ n. take n (drop p.used pool)) (sym n_is)
               ∙ sym (append-nil (take n (drop p.used pool)))
@@ -172,8 +163,7 @@ module _ {A : Type 0} where
           let start : reach_of (p ∷ ps) - count_of (p ∷ ps) ≡ 0 = omega arith in
           ap (λ n. drop n (left_of pool (p ∷ ps))) start
           ∙ ap (rest p pool here (omega arith) ++◌) (left_none (drop p.size pool) ps none_used)
-          ∙ rest_and_behind p pool here (omega arith)
-          ∙ ap (λ n. drop n pool) (sym reach)
+          ∙ rest_and_behind p pool here (omega arith) ∙ ap (λ n. drop n pool) (sym reach)
       by_rest (inr some) others =
           let reach = reach-some p ps some in
           let long = length-rest p pool here (omega arith) in
@@ -182,8 +172,7 @@ module _ {A : Type 0} where
           omega (arith, few, here) in
           ap (λ n. drop n (left_of pool (p ∷ ps))) start
           ∙ drop-append-add (rest p pool here (omega arith)) (left_of (drop p.size pool) ps)
-          (reach_of ps - count_of ps)
-          ∙ others ∙ drop-drop (reach_of ps) p.size pool
+          (reach_of ps - count_of ps) ∙ others ∙ drop-drop (reach_of ps) p.size pool
           ∙ ap (λ n. drop n pool) (sym reach)
 
   -- they are what the list begins with, in another order
@@ -207,8 +196,7 @@ module _ {A : Type 0} where
           let none_used : count_of ps ≡ 0 = omega (arith, few) in
           let start : reach_of (p ∷ ps) - count_of (p ∷ ps) ≡ 0 =
           omega (arith, reach-none p ps none) in
-          let us : used_of (drop p.size pool) ps ≡ [] =
-          used_none (drop p.size pool) ps none_used in
+          let us : used_of (drop p.size pool) ps ≡ [] = used_none (drop p.size pool) ps none_used in
           let all : front_of pool (p ∷ ps) ≡ take (reach_of (p ∷ ps)) pool =
           (λ i. (take p.used pool ++ us i) ++ take (start i) (left_of pool (p ∷ ps)))
           ∙ append-nil (take p.used pool ++ []) ∙ append-nil (take p.used pool)
@@ -280,8 +268,7 @@ module _ {A : Type 0} where
           let full : p.used ≡ p.size = omega (arith, few, here) in
           let sum : p.size + count_of ps ≡ p.used + count_of ps = omega arith in
           (λ i. take (full i) pool ++ others (omega (arith, few, here)) i)
-          ∙ sym (take-add p.size (count_of ps) pool)
-          ∙ ap (λ n. take n pool) sum
+          ∙ sym (take-add p.size (count_of ps) pool) ∙ ap (λ n. take n pool) sum
 
   pub left_is_behind : (pool : List A) (ps : List Portion) → AreUsed ps
       → count_of ps ≡ reach_of ps → size_of ps ≤ length pool
@@ -318,30 +305,9 @@ module _ (ps : List Portion) (k : ℕ) (p : Portion) (lt : k < length ps) (is : 
     pub used_at : AreUsed ps → p.used ≤ p.size
     used_at fits = subst (λ (x : Portion). x.used ≤ x.size) (sym is) (fits k p lt)
 
-    pub reach_more : (end before : ℕ) → (if reach_of (drop (k + 1) ps) == 0
-        then (if p.used == 0 then end else before + p.used)
-        else (before + p.size) + reach_of (drop (k + 1) ps))
-        ≡ (if reach_of (drop k ps) == 0 then end else before + reach_of (drop k ps))
-    reach_more end before =
-        joined (reach_of (drop (k + 1) ps))
-        ∙ ap (λ n. if n == 0 then end else before + n) (sym (ap reach_of portion_more))
-      where
-        joined : (r : ℕ) → (if r == 0 then (if p.used == 0 then end else before + p.used)
-            else (before + p.size) + r)
-            ≡ (if (if r == 0 then p.used else p.size + r) == 0 then end
-            else before + (if r == 0 then p.used else p.size + r))
-        joined r = grind (arith, common_steps)
-
     module _ {A : Type 0} (pool : List A) (before : ℕ) where
-      pub used_more : used_of (drop before pool) (drop k ps)
-          ≡ take p.used (drop before pool) ++ used_of (drop (before + p.size) pool) (drop (k + 1) ps)
-      used_more = ap (used_of (drop before pool)) portion_more
-          ∙ ap (λ xs. take p.used (drop before pool) ++ used_of xs (drop (k + 1) ps))
-          (drop-drop p.size before pool)
-
       pub left_more : (more n : ℕ) → n ≡ min (p.size - p.used) more → p.used ≤ p.size
-          → before + p.size ≤ length pool
-          → take more (left_of (drop before pool) (drop k ps))
+          → before + p.size ≤ length pool → take more (left_of (drop before pool) (drop k ps))
           ≡ take n (drop (before + p.used) pool)
           ++ take (more - n) (left_of (drop (before + p.size) pool) (drop (k + 1) ps))
       left_more more n least fits within =
@@ -379,16 +345,13 @@ module _ {A B : Type 0} (f : A → B) where
   map-drop (suc n) [] = refl
   map-drop (suc n) (x ∷ xs) = map-drop n xs
 
-  used-map : (pool : List A) (ps : List Portion) → map f (used_of pool ps)
-      ≡ used_of (map f pool) ps
+  used-map : (pool : List A) (ps : List Portion) → map f (used_of pool ps) ≡ used_of (map f pool) ps
   used-map pool [] = refl
-  used-map pool (p ∷ ps) =
-      map-append (take p.used pool) (used_of (drop p.size pool) ps)
+  used-map pool (p ∷ ps) = map-append (take p.used pool) (used_of (drop p.size pool) ps)
       ∙ (λ i. map-take p.used pool i ++ used-map (drop p.size pool) ps i)
       ∙ ap (λ xs. take p.used (map f pool) ++ used_of xs ps) (map-drop p.size pool)
 
-  left-map : (pool : List A) (ps : List Portion) → map f (left_of pool ps)
-      ≡ left_of (map f pool) ps
+  left-map : (pool : List A) (ps : List Portion) → map f (left_of pool ps) ≡ left_of (map f pool) ps
   left-map pool [] = refl
   left-map pool (p ∷ ps) =
       map-append (drop p.used (take p.size pool)) (left_of (drop p.size pool) ps)
@@ -398,8 +361,4 @@ module _ {A B : Type 0} (f : A → B) where
 
   pub front-map : (pool : List A) (ps : List Portion) → map f (front_of pool ps)
       ≡ front_of (map f pool) ps
-  front-map pool ps =
-      let n = reach_of ps - count_of ps in
-      map-append (used_of pool ps) (take n (left_of pool ps))
-      ∙ (λ i. used-map pool ps i
-      ++ (map-take n (left_of pool ps) ∙ ap (take n) (left-map pool ps)) i)
+  front-map pool ps = grind (arith, common_steps, map-append, used-map, map-take, left-map)

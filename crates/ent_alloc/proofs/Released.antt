@@ -1,7 +1,7 @@
 -- A slot whose occupant is freed, and waits for the next one or is retired: the vectors stay
 -- linked, and the roster loses the occupant.
 use Rattle.std.proofs.Common.{rules, ◌≡◌, ◌≢◌, ℕ, ◌+◌, ◌-◌, ◌<◌, ◌≤◌, true, false, List, [], ◌∷◌}
-use Rattle.std.proofs.Common.{◌++◌, length, get_or, set, refl, ap, ◌∙◌, arith, None, map}
+use Rattle.std.proofs.Common.{◌++◌, length, get_or, set, refl, arith, None, map}
 use Rattle.std.specs.FinSet as sets
 use Rattle.std.specs.FinMap as maps
 use Rattle.std.proofs.lemmas.Bool.{cases_lt, cases_eq, false≢true}
@@ -16,11 +16,10 @@ use Rattle.ent_alloc.specs.declared.slot_record.SlotRecord.{SlotRecord}
 use Rattle.ent_alloc.specs.declared.slot_record.Occupancy.TheVariants.{Pending, Retired}
 use Rattle.ent_alloc.specs.Slots.{occupants, is_alive, row_of, record_at, no_slot, handle_at}
 use Rattle.ent_alloc.specs.Slots.{rows_from, roster_of, AreLinked}
-use Rattle.ent_alloc.proofs.Occupants.{is_occupant, contains_occupants, is_occupant-set, ties, one}
+use Rattle.ent_alloc.proofs.Occupants.{is_occupant, contains_occupants, ties, one}
 use Rattle.ent_alloc.proofs.Occupants.{length-occupants-set}
-use Rattle.ent_alloc.proofs.LivingOccupant.{occupant_made, occupant_alive, occupant_generation}
-use Rattle.ent_alloc.proofs.LivingOccupant.{is_occupant-same_slot, row_at-same_slot}
-use Rattle.ent_alloc.proofs.KeptRows.{row_at-set, get_rows}
+use Rattle.ent_alloc.proofs.LivingOccupant.{occupant_made, occupant_alive}
+use Rattle.ent_alloc.proofs.KeptRows.{get_rows}
 use Rattle.std.proofs.lemmas.Grind.{common_steps}
 
 module _ (limits : Limits) (records : List SlotRecord) (pending : List ℕ) (live : ℕ) (h : Handle)
@@ -43,33 +42,19 @@ module _ (limits : Limits) (records : List SlotRecord) (pending : List ℕ) (liv
     same : record_at changed h.index ≡ left
     same = get_or-set_same records h.index left no_slot made_slot
 
-    same_at : (at : ℕ) → at ≡ h.index → record_at changed at ≡ left
-    same_at at e = ap (record_at changed) e ∙ same
-
     fewer : length (occupants 0 changed) + 1 ≡ length (occupants 0 records)
     fewer = search (rules, length-occupants-set, made_slot, one, occupant_alive)
 
-    generation_in : (P : ℕ → Type 0) → P left.generation
-        → ((index : ℕ) → index < length records → P (record_at records index).generation)
-        → (index : ℕ) → index < length changed → P (record_at changed index).generation
-    generation_in P here each index within = search (rules, length-set, cases_eq, same_at, other)
-
     live_is : sets.from_list {R = handle_cmp} (occupants 0 changed)
         ≡ sets.remove (sets.from_list (occupants 0 records)) h
-    live_is =
-        sets.same_set handle_cmp_total handle_cmp-IsAntisymmetric _ _ (λ q.
-        let tells = is_occupant-same_slot records h q lives in
-        let set_is = is_occupant-set records h.index left q made_slot in
+    live_is = sets.same_set handle_cmp_total handle_cmp-IsAntisymmetric _ _ (λ q.
         let gone =
         sets.contains-remove handle_cmp_total (sets.from_list (occupants 0 records)) h q in
         grind (arith, common_steps, contains_occupants changed q, contains_occupants records q))
 
     rows_is : maps.from_entries {R = handle_cmp} (rows_from 0 changed)
         ≡ maps.remove (maps.from_entries (rows_from 0 records)) h
-    rows_is =
-        maps.same_map handle_cmp_total handle_cmp-IsAntisymmetric _ _ (λ q.
-        let none = row_at-same_slot records h q lives in
-        let set_is = row_at-set records h.index left q made_slot in
+    rows_is = maps.same_map handle_cmp_total handle_cmp-IsAntisymmetric _ _ (λ q.
         let gone = maps.get-remove handle_cmp_total (maps.from_entries (rows_from 0 records)) h q in
         grind (arith, common_steps, ties q h, get_rows changed q, get_rows records q))
 
@@ -91,9 +76,6 @@ module _ (limits : Limits) (records : List SlotRecord) (pending : List ℕ) (liv
       → AreLinked limits released (pending ++ h.index ∷ []) (live - 1)
   release_keeps_links before =
       let less = fewer vacant refl refl in
-      let generation = occupant_generation records h lives in
-      let greatest = linked.greatest h.index made_slot in
-      let long = length-set records h.index vacant in
       let made = made_slot in
       search (rules, length_push, cases_lt, cases_eq, get_or_append_left, get_or_push, apart)
 

@@ -56,9 +56,6 @@ count-none : (from n : ℕ) → count (λ _. false) from n ≡ 0
 count-none from zero = refl
 count-none from (suc n) = search (rules, count-next, count-none (from + 1) n)
 
-either : (a b : Bool) → a ≡ true → (a || b) ≡ true
-either a b is = grind (arith, common_steps)
-
 -- one number more that passes
 count-one_more : (p : ℕ → Bool) (k from n : ℕ) → from ≤ k → k < from + n → p k ≡ false
     → count (λ i. eqb k i || p i) from n ≡ count p from n + 1
@@ -130,8 +127,7 @@ count-alone (h ∷ handles) n alone below =
     let there = has_slot-has handles h (Contains-from_stands_in handles h is) in
     let same = count_alike (has_slot (h ∷ handles)) (has_slot handles) 0 n
     (λ i _ _. grind (arith, common_steps)) in
-    cc)
-    (λ is.
+    cc) (λ is.
     let none : has_slot handles h.index ≡ false = false_from_ne_true _ (λ one.
     let found = has_slot-found handles h.index one in
     let same = alone found.0 h (in_tail h handles found.0 found.1) (0, omega arith, refl) found.2 in

@@ -27,8 +27,7 @@ rows-joined live more rows kept h gone = kept h (λ alive. gone (union_list_keep
 -- one goes, with its row
 pub rows-removed : (live : sets.FinSet handle_cmp) (x : Handle) (rows : maps.FinMap handle_cmp ℕ)
     → AreOf live rows → AreOf (sets.remove live x) (maps.remove rows x)
-rows-removed live x rows kept h gone =
-    maps.get-remove handle_cmp_total rows x h
+rows-removed live x rows kept h gone = maps.get-remove handle_cmp_total rows x h
     ∙ elim (eq_by_cmp handle_cmp h x) as (λ b. eq_by_cmp handle_cmp h x ≡ b
     → cond b None (maps.get rows h) ≡ None) [
       | true ↦ λ _. refl
@@ -40,8 +39,7 @@ rows-removed live x rows kept h gone =
 pub rows-inserted : (live : sets.FinSet handle_cmp) (x : Handle) (row : ℕ)
     (rows : maps.FinMap handle_cmp ℕ) → IsTrue (sets.contains live x) → AreOf live rows
     → AreOf live (maps.insert rows x row)
-rows-inserted live x row rows lives kept h gone =
-    maps.get-insert handle_cmp_total rows x row h
+rows-inserted live x row rows lives kept h gone = maps.get-insert handle_cmp_total rows x row h
     ∙ elim (eq_by_cmp handle_cmp h x) as (λ b. eq_by_cmp handle_cmp h x ≡ b
     → cond b (Some row) (maps.get rows h) ≡ None) [
       | true ↦ λ same. absurd (gone (ap (sets.contains live) (same_handle h x same) ∙ lives))

@@ -1,17 +1,15 @@
 -- Two numbers tell what requests leave of a flushed allocator: how many handles were given, and how
 -- many were asked for.
-use Rattle.std.proofs.Common.{rules, ◌≡◌, ◌∙◌, ℕ, ◌+◌, ◌-◌, ◌<◌, ◌≤◌, List, [], length, sum, Err}
-use Rattle.std.proofs.Common.{arith, append-nil}
-use Rattle.std.proofs.lemmas.Grind.{common_steps}
+use Rattle.std.proofs.Common.{rules, ◌≡◌, ◌∙◌, ℕ, ◌+◌, ◌-◌, ◌≤◌, List, [], length, sum, append-nil}
 use Rattle.std.proofs.lemmas.List.{take_all, drop_all, length-take, length-drop}
 use Rattle.std.proofs.lemmas.List.Sorted.{length_permutation}
-use Rattle.ent_alloc.specs.Sequential.{Allocator, available, top, after_take, reply_to, settled}
+use Rattle.ent_alloc.specs.Sequential.{Allocator, available, top, after_take, settled}
 use Rattle.ent_alloc.specs.Sound.{IsSound}
 use Rattle.ent_alloc.proofs.LaidOut.{flushed-laid_out}
-use Rattle.ent_alloc.proofs.Taken.{length-available, length-pool, after_take-served}
+use Rattle.ent_alloc.proofs.Taken.{length-available, after_take-served}
 use Rattle.ent_alloc.proofs.PoolLaw.{limits-after_takes, live-after_takes, after_takes}
 use Rattle.ent_alloc.proofs.PoolLaw.{after_takes-sound, available-after_takes, made-after_takes}
-use Rattle.ent_alloc.proofs.PoolLaw.{asked-after_takes, taken_is, aside_is, length-taken}
+use Rattle.ent_alloc.proofs.PoolLaw.{asked-after_takes, taken_is, aside_is}
 use Rattle.ent_alloc.proofs.Meaning.{append_parts}
 use Rattle.ent_alloc.proofs.RequestLaws.{given_by, taken-since_flush}
 
@@ -60,19 +58,3 @@ module _ (s : Allocator) (h : IsSound s) (flushed : s.asked ≡ 0) where
       let asked = asked-after_takes s requests in
       let made = made-after_takes s requests in
       search (rules, nothing_taken, nothing_aside, limits-after_takes, live-after_takes)
-
--- as long as something is left, all that was asked for was given
-pub all_given : (s : Allocator) (requests : List ℕ) → IsSound s → s.asked ≡ 0 → 0
-    < length (after_takes s requests).pool → length (given_by s requests) ≡ sum requests
-all_given s requests h flushed some =
-    let t = after_takes s requests in
-    let sound = after_takes-sound s requests h in
-    let asked : t.asked ≡ s.asked + sum requests = asked-after_takes s requests in
-    let long : length t.taken ≡ length (given_by s requests) = length_permutation
-    (given_by s requests) t.taken (taken-since_flush s requests h flushed) in
-    search (rules, length-pool, length-taken)
-
--- after a refusal every request for something is refused, with nothing left
-pub shut : (s : Allocator) (n m : ℕ) → length s.pool < n → 0 < m → reply_to (after_take s n) m
-    ≡ Err (record { wanted = m; left = 0 })
-shut s n m short some = grind (arith, common_steps)

@@ -77,8 +77,6 @@ module _ (s : Allocator) (h : IsSound s) where
   pub left-parts : s.aside ++ s.pool ≡ drop (length s.taken) (old_ones s)
       ++ fresh (after_flush s).made (s.limits.slots - (after_flush s).made)
   left-parts =
-      let fewer : s.limits.slots - s.made - (length s.taken - top s) ≡ s.limits.slots
-      - (s.made + (length s.taken - top s)) = omega arith in
       let joined = drop_joined s.made (s.limits.slots - s.made) (old_ones s) (old_ones_below s)
       (length s.taken) in
       rw made-after_flush (search (rules, drop-append_seam s.taken (s.aside ++ s.pool), joined))

@@ -28,11 +28,9 @@ length-new_waiting position (suc count) = ap (λ n. suc n) (length-new_waiting (
 pub get_or-new_waiting : (position count k : ℕ) (d : SlotRecord) → k < count
     → get_or (new_waiting position count) k d ≡ waiting_at 1 (position + k)
 get_or-new_waiting position zero k d below = absurd (omega arith)
-get_or-new_waiting position (suc count) zero d below =
-    ap (waiting_at 1) (omega arith)
+get_or-new_waiting position (suc count) zero d below = ap (waiting_at 1) (omega arith)
 get_or-new_waiting position (suc count) (suc k) d below =
-    get_or-new_waiting (position + 1) count k d (omega arith)
-    ∙ ap (waiting_at 1) (omega arith)
+    get_or-new_waiting (position + 1) count k d (omega arith) ∙ ap (waiting_at 1) (omega arith)
 
 -- one more
 pub new_waiting-push : (position count : ℕ) → new_waiting position (count + 1)
@@ -57,8 +55,7 @@ new_waiting-push position count = same_lists _ _ (omega (
     by_place k d lt (inr late) =
         let at : length (new_waiting position count) + 0 ≡ k =
         omega (arith, length-new_waiting position count) in
-        get_or-new_waiting position (count + 1) k d lt
-        ∙ ap (waiting_at 1) (omega arith)
+        get_or-new_waiting position (count + 1) k d lt ∙ ap (waiting_at 1) (omega arith)
         ∙ sym (get_or-append-add (new_waiting position count)
         (waiting_at 1 (position + count) ∷ []) 0 d)
         ∙ ap (λ n. get_or (new_waiting position count ++ waiting_at 1 (position + count) ∷ []) n d)
@@ -85,8 +82,7 @@ range-push from count = same_lists _ _ (omega (
     by_place k d lt (inr late) =
         let at : length (range_with_len from count) + 0 ≡ k =
         omega (arith, length-range_with_len from count) in
-        get_or-range_with_len from (count + 1) k d lt
-        ∙ (omega arith)
+        get_or-range_with_len from (count + 1) k d lt ∙ (omega arith)
         ∙ sym (get_or-append-add (range_with_len from count) ((from + count) ∷ []) 0 d)
         ∙ ap (λ n. get_or (range_with_len from count ++ (from + count) ∷ []) n d) at
 
@@ -212,8 +208,7 @@ module _ (limits : Limits) (records : List SlotRecord) (pending : List ℕ) (liv
       where
         by_place : (position < length pending) ⊎ (length pending ≤ position)
             → (record_at grown (get_or order position 0)).occupancy ≡ Pending position
-        by_place (inl old) =
-            ap (λ i. (record_at grown i).occupancy) (old_place position old)
+        by_place (inl old) = ap (λ i. (record_at grown i).occupancy) (old_place position old)
             ∙ ap (λ (r : SlotRecord). r.occupancy)
             (old_stays (get_or pending position 0) (linked.made position old))
             ∙ linked.forward position old

@@ -15,8 +15,7 @@ returns-then-magic-ne-MAGIC-clause-refused c h rest same =
     c.if-magic-ne-MAGIC.true h rest (sym c.read_long-magic.ensures.bytes ∙ same)
 
 pub returns-then-bytes-lt-HEADER-clause-refused : goal.returns-then-bytes-lt-HEADER-clause-refused
-returns-then-bytes-lt-HEADER-clause-refused c =
-    too_short c.args.bytes.now c.if-bytes-lt-HEADER.true
+returns-then-bytes-lt-HEADER-clause-refused c = too_short c.args.bytes.now c.if-bytes-lt-HEADER.true
 
 pub returns-then-version-ne-VERSION-clause-refused : goal.returns-then-version-ne-VERSION-clause-refused
 returns-then-version-ne-VERSION-clause-refused c h rest same =

@@ -172,8 +172,7 @@ returns-in-Some-vacant_position-clause-refused c not_memory r are limits made wa
     (subst (λ (ps : List ℕ). slice_index ps position ≡ vacant) lent
     c.in-Some-vacant_position.ensures.is)
 
-pub returns-in-Some-vacant_position-clause-fault :
-    goal.returns-in-Some-vacant_position-clause-fault
+pub returns-in-Some-vacant_position-clause-fault : goal.returns-in-Some-vacant_position-clause-fault
 returns-in-Some-vacant_position-clause-fault c not_memory =
     let loop = c.loop-slot.invariant in
     let records = c.loop-slot.records.items in

@@ -22,8 +22,7 @@ rest c = search (rules, at_rest, allocator_is)
 
 -- there are as many
 enough : (c : Else-n-left) → IsAtRest c.self.inside.slots c.self.inside.requests
-    c.args.self.now.allocator
-    → c.args.n ≤ length c.self.inside.slots.pending
+    c.args.self.now.allocator → c.args.n ≤ length c.self.inside.slots.pending
     + (c.self.inside.slots.limits.slots - c.self.inside.slots.made)
 enough c rest =
     let many = length_pool c.self.inside.slots c.self.inside.requests c.args.self.now.allocator
@@ -41,12 +40,10 @@ counted c = search (rules)
 
 -- what is left stands for the allocator after the call
 given : (c : In_ok-bring_to_life) → IsAtRest c.self.inside.slots c.self.inside.requests
-    c.args.self.now.allocator
-    → c.args.n ≤ length c.self.inside.slots.pending
+    c.args.self.now.allocator → c.args.n ≤ length c.self.inside.slots.pending
     + (c.self.inside.slots.limits.slots - c.self.inside.slots.made)
     → AreCounted (length c.self.inside.slots.pending) c.args.n c.kept-kept.result
-    c.fresh-fresh.result
-    → StandFor c.bring_to_life.new.self c.self.inside.requests
+    c.fresh-fresh.result → StandFor c.bring_to_life.new.self c.self.inside.requests
     (after_flush (after_take c.args.self.now.allocator c.args.n))
 given c rest enough counts =
     many_given c.self.inside.slots c.self.inside.requests c.args.self.now.allocator rest c.args.n

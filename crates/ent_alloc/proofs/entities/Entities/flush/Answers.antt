@@ -36,8 +36,7 @@ left c counts =
     let view = allocator_is c.self.view_is in
     let inv = c.self.invariant in
     let given = c.self.inside.requests.served in
-    let is =
-    flush_is r c.self.inside.requests.asked given inv.given_least inv.given_in inv.sound in
+    let is = flush_is r c.self.inside.requests.asked given inv.given_least inv.given_in inv.sound in
     closed c.bring_to_life.new.self
     (flushed_roster r (length r.pending - given) (given - length r.pending))
     c.none-self-inside.result (after_flush c.args.self.now.allocator) (search (rules))
