@@ -101,7 +101,8 @@ fn main() {
         components::tables();
         println!();
     }
-    if wanted("layouts") {
+    // Other forms of a map, which the page has no place for: only by its name.
+    if named.iter().any(|it| it == "layouts") {
         layouts::table();
         println!();
     }
