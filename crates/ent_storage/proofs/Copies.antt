@@ -1,13 +1,13 @@
 -- Copies of columns, and the entities that they stand for.
-use Rattle.std.proofs.Common.{◌≡◌, ℕ, ℤ, zero, suc, ◌≤◌, List, [], ◌∷◌, ◌++◌, length}
-use Rattle.std.proofs.Common.{refl, ap, ◌∙◌, arith, inr, suc-ne-zero}
+use Rattle.std.proofs.Common.{◌≡◌, ℕ, ℤ, zero, suc, ◌≤◌, List, [], ◌∷◌, ◌++◌, length, refl, ap, ◌∙◌}
+use Rattle.std.proofs.Common.{arith, inr, suc-ne-zero}
 use Rattle.std.proofs.lemmas.Option.{none-some}
 use Rattle.std.specs.List.{AllZip}
 use Rattle.std.specs.Ordering.{nat_cmp}
 use Rattle.std.specs.FinMap as map
 use Rattle.ent_handle.specs.declared.component.ComponentId.{ComponentId}
 use Rattle.ent_storage.specs.declared.living.Resident.{Resident}
-use Rattle.ent_storage.specs.SparseSet.{Column, Values, no_column, IsDense}
+use Rattle.ent_storage.specs.SparseSet.{Column, Values, IsDense}
 use Rattle.ent_storage.specs.Copies.{IsCopy}
 use Rattle.ent_storage.specs.Living.{column_at, value_at, entities_from, AreColumnsOf, AreInUse}
 use Rattle.ent_storage.proofs.EntitiesOfResidents.{same_from}

@@ -1,10 +1,10 @@
 -- What the words of a subcommand give: the values of its options.
-use Rattle.std.proofs.Common.{rules, ◌≡◌, ℕ, Bool, true, false, List, [], ◌∷◌, cond}
-use Rattle.std.proofs.Common.{refl, sym, ap, subst, ◌∙◌, ◌<◌, lit<, inl, inr, codes, Option, Some, None, is_some}
+use Rattle.std.proofs.Common.{rules, ◌≡◌, ℕ, Bool, true, false, List, [], ◌∷◌, cond, refl, sym, ap}
+use Rattle.std.proofs.Common.{subst, ◌∙◌, ◌<◌, lit<, inl, inr, codes, Option, Some, None, is_some}
 use Rattle.std.proofs.Common.{IfSome}
 use Rattle.std.specs.Prelude.{Result}
-use Rattle.std.specs.Str.Parse.{ExplainsUnsignedError, HasUnsignedDigitsIfOk, ParsesUnsigned, digits_value}
-use Rattle.std.specs.Str.Parse.{without_leading_plus}
+use Rattle.std.specs.Str.Parse.{ExplainsUnsignedError, HasUnsignedDigitsIfOk, ParsesUnsigned}
+use Rattle.std.specs.Str.Parse.{digits_value, without_leading_plus}
 use Rattle.std.specs.declared.num.ParseIntError.{ParseIntError}
 use Rattle.clap.specs.Matches.{ReadsOne, one_text}
 use Rattle.clap.proofs.WalkLemmas.{one_text-rows}
@@ -13,8 +13,8 @@ use Rattle.cli.proofs.Numbers.{number_read}
 use Rattle.std.specs.Prelude.{option_map}
 use Rattle.std.specs.Option.{option_map_or}
 use Rattle.std.specs.List.{AllByRecursion, slice_index_or}
-use Rattle.clap.specs.Words.{Row, Rule, Shape, Text, built, fault_of, subcommand_of}
-use Rattle.clap.specs.Words.{rows_of, first_of, first_value}
+use Rattle.clap.specs.Words.{Row, Rule, Shape, Text, built, fault_of, subcommand_of, rows_of}
+use Rattle.clap.specs.Words.{first_of, first_value}
 use Rattle.clap.specs.declared.parser.matches.Found.{Found}
 use Rattle.clap.proofs.WalkLemmas.{first_value-rows}
 use Rattle.clap.specs.Simple.{new_shape, entered, filled, help_rule, label_of, names_of, rows_at}
@@ -25,11 +25,10 @@ use Rattle.spawnrun_lib.specs.declared.show.Show.{Show}
 use Rattle.spawnrun_lib.specs.declared.show.Show.TheVariants.{Births, Handles}
 use Rattle.std.specs.Borrow.{Bor}
 use Rattle.std.specs.Str.{bytes_eq}
-use Rattle.clap.specs.Words.{one_of}
 use Rattle.cli.specs.Options.{HasNumber, generations_option, number_option, slots_option}
 use Rattle.spawnrun_lib.specs.CommandLine.{HasShow, MayHaveBlocks, blocks_option, most_handles}
-use Rattle.spawnrun_lib.specs.CommandLine.{optional_number, program, references_to}
-use Rattle.spawnrun_lib.specs.CommandLine.{show_option, show_text, shown, workers_option}
+use Rattle.spawnrun_lib.specs.CommandLine.{optional_number, program, references_to, show_option}
+use Rattle.spawnrun_lib.specs.CommandLine.{show_text, shown, workers_option}
 use Rattle.spawnrun_lib.proofs.ParsedOptions.{none_of, Fits, HasValue, IsOption, IsOptional}
 use Rattle.spawnrun_lib.proofs.ParsedOptions.{IsRequest, MayHaveValue, option-has_value}
 use Rattle.spawnrun_lib.proofs.ParsedOptions.{optional-has_value}

@@ -1,5 +1,5 @@
 -- A run in blocks whose first frames are done goes on by one frame, and ends in the text of the script.
-use Rattle.std.proofs.Common.{rules, ◌≡◌, refl, ℕ, ◌+◌, List, [], ◌∷◌, ◌++◌, length, append_assoc}
+use Rattle.std.proofs.Common.{◌≡◌, refl, ℕ, ◌+◌, List, [], ◌∷◌, ◌++◌, length, append_assoc}
 use Rattle.std.proofs.Common.{append-nil, subst, sym}
 use Rattle.std.proofs.lemmas.List.{length-append}
 use Rattle.ent_handle.specs.Handle.{Handle}

@@ -1,18 +1,16 @@
 -- In blocks a script has one text: its queues, its handles and its world follow from the script and the
 -- size of the blocks.
-use Rattle.std.proofs.Common.{rules, ◌≡◌, refl, sym, ap, ◌∙◌, arith, ℕ, zero, suc, ◌+◌, ◌-◌, ◌<◌, ◌≤◌}
-use Rattle.std.proofs.Common.{ℤ, List, [], ◌∷◌, ◌++◌, length, map, take, drop, reverse, subst, Some}
+use Rattle.std.proofs.Common.{◌≡◌, refl, sym, ap, ◌∙◌, arith, ℕ, suc, ◌+◌, ◌-◌, ◌<◌, ◌≤◌, ℤ, List}
+use Rattle.std.proofs.Common.{[], ◌∷◌, ◌++◌, length, take}
 use Rattle.std.proofs.lemmas.Grind.{common_steps}
-use Rattle.std.specs.Prelude.{filter, slice_get}
-use Rattle.std.specs.List.{sum_by}
+use Rattle.std.specs.Prelude.{filter}
 use Rattle.std.proofs.lemmas.List.{ext_get_or, length-append}
 use Rattle.ent_handle.specs.declared.component.ComponentId.{ComponentId}
 use Rattle.ent_handle.specs.Handle.{Handle}
 use Rattle.ent_alloc.specs.Sequential.{Allocator, is_old, is_fresh, listed}
-use Rattle.ent_alloc.specs.declared.refused.Refused.TheVariants.{Space, Quota}
 use Rattle.ent_blocks.specs.Blocks.{Block, rest_of, after_use, blocks_from, lesser}
-use Rattle.ent_queue.specs.Command.{Command, Spawn, SpawnMany, Refused}
-use Rattle.ent_queue.specs.Drawing.{AreDrawnBy, IsDrawnBy, left_of, used_by}
+use Rattle.ent_queue.specs.Command.{Command, Spawn, SpawnMany}
+use Rattle.ent_queue.specs.Drawing.{AreDrawnBy, left_of, used_by}
 use Rattle.ent_world.specs.OpenWorld.{View}
 use Rattle.ent_world.specs.Sync.{sync}
 use Rattle.ent_world.specs.World.{World, first_world}
@@ -22,7 +20,7 @@ use Rattle.ent_script.specs.Script.{Script}
 use Rattle.ent_script.specs.declared.operation.Operation.{Operation}
 use Rattle.ent_script.specs.declared.operation.Operation.TheVariants as operation
 use Rattle.spawnrun_lib.specs.Issuing.{Bindings, unbound, names_after, IsSpawn, IsSpawnMany, Issues}
-use Rattle.spawnrun_lib.specs.Issuing.{IssuesAll, MayIssue}
+use Rattle.spawnrun_lib.specs.Issuing.{IssuesAll}
 use Rattle.spawnrun_lib.specs.ReportInBlocks.{AreQueues, IsTextFrom, IsTextInBlocks, sizes_of}
 use Rattle.spawnrun_lib.specs.ReportInBlocks.{blocks_of_frame, reserved_in}
 use Rattle.spawnrun_lib.specs.declared.show.Show.{Show}

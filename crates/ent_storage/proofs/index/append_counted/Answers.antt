@@ -1,8 +1,7 @@
-use Rattle.std.proofs.Common.{rules, ◌≡◌, ◌+◌, ◌<◌, true, cond, filter, take, length, get_or, ap, sym, ◌∙◌, arith, Bool}
+use Rattle.std.proofs.Common.{rules, ◌≡◌, ◌+◌, ◌<◌, true, cond, filter, take, length, get_or, ap, ◌∙◌, arith, Bool}
 use Rattle.std.proofs.lemmas.List.{take_all}
 use Rattle.std.proofs.lemmas.List.Filters.{length-filter_more}
-use Rattle.ent_handle.specs.Handle.{handle_cmp_total as total}
-use Rattle.ent_handle.specs.Handle.{handle_cmp-IsAntisymmetric as same}
+use Rattle.ent_handle.specs.Handle.{handle_cmp_total as total, handle_cmp-IsAntisymmetric as same}
 use Rattle.ent_storage.proofs.Copied.{first_fit}
 use Rattle.ent_storage.proofs.Counted.{counts, from_sorted_left, left_fits}
 use Rattle.ent_storage.proofs.Overwritten.{is_sorted-filter}

@@ -1,5 +1,5 @@
-use Rattle.std.proofs.Common.{rules, ◌≡◌, ◌<◌, ◌≤◌, ◌^◌, sym, ap, ◌∙◌, arith, length, ℕ, Option, subst}
-use Rattle.std.proofs.Common.{is_some, false, None, inl, inr, refl}
+use Rattle.std.proofs.Common.{rules, ◌≡◌, ◌≤◌, sym, ap, ◌∙◌, arith, length, subst, is_some, false}
+use Rattle.std.proofs.Common.{None, inl, inr, refl}
 use Rattle.std.specs.Prelude.{option_and_then}
 use Rattle.std.specs.FinMap as map
 use Rattle.std.proofs.lemmas.Bool.{false≢true}
@@ -12,9 +12,9 @@ use Rattle.ent_storage.specs.Image.{IsStored}
 use Rattle.ent_storage.specs.FirstFault.{IsNoEntity, HasFault}
 use Rattle.ent_storage.specs.declared.image_fault.StorageImageFault.TheVariants.{Entity}
 use Rattle.ent_storage.proofs.ImageEntities.{stored_alike}
-use Rattle.ent_storage.proofs.ImageRead.{too_few, too_wide, damaged, bytes_more, each_more, only_more}
-use Rattle.ent_storage.proofs.ImageRead.{new_here, places_more, stored_end, nothing_left, is_read, width_told}
-use Rattle.ent_storage.proofs.ImageRead.{all_first, wide}
+use Rattle.ent_storage.proofs.ImageRead.{too_few, too_wide, damaged, bytes_more, each_more}
+use Rattle.ent_storage.proofs.ImageRead.{only_more, new_here, places_more, stored_end, nothing_left}
+use Rattle.ent_storage.proofs.ImageRead.{is_read, width_told, all_first, wide}
 use Rattle.ent_storage.proofs.storage.Storage.read_image.Goals as goal
 
 pub returns-then-bytes-lt4-clause-refused : goal.returns-then-bytes-lt4-clause-refused
