@@ -15,15 +15,14 @@ mod taking;
 mod undealt;
 mod unended;
 
+pub(crate) use crate::proved::ent_blocks::opening::parts_of;
 pub use block_error::BlockError;
 pub use block_reserver::{BlockReserver, again};
 pub use block_size::BlockSize;
 pub use blocks::{Blocks, reserve_iter};
 pub(crate) use closing::take_used;
-pub(crate) use opening::parts_of;
 pub use opening::{Deal, open_in_blocks};
 pub use part::Part;
-pub(crate) use taking::take_many;
-pub(crate) use taking::take_one;
+pub(crate) use taking::{take_many, take_one};
 pub use undealt::{DealError, Undealt};
 pub use unended::{EndError, Unended};
