@@ -7,7 +7,7 @@ use Rattle.std.specs.Ordering.{nat_cmp}
 use Rattle.std.specs.FinMap as map
 use Rattle.ent_handle.specs.declared.component.ComponentId.{ComponentId}
 use Rattle.ent_storage.specs.declared.living.Resident.{Resident}
-use Rattle.ent_storage.specs.SparseSet.{Column, Values, no_column, IsDense}
+use Rattle.ent_storage.specs.SparseSet.{Column, Values, IsDense}
 use Rattle.ent_storage.specs.Copies.{IsCopy}
 use Rattle.ent_storage.specs.Living.{column_at, value_at, entities_from, AreColumnsOf, AreInUse}
 use Rattle.ent_storage.proofs.EntitiesOfResidents.{same_from}

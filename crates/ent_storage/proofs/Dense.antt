@@ -1,5 +1,5 @@
 -- The dense and the sparse vector of a component: what they stand for, after each change.
-use Rattle.std.proofs.Common.{rules, ◌≡◌, ◌≢◌, ℕ, ℤ, ◌+◌, ◌<◌, ◌≤◌, false, ◌⊎◌, inl, inr, List}
+use Rattle.std.proofs.Common.{rules, ◌≡◌, ◌≢◌, ℕ, ℤ, ◌<◌, ◌≤◌, false, ◌⊎◌, inl, inr, List}
 use Rattle.std.proofs.Common.{[], ◌∷◌, ◌++◌, length, set, get_or, Some, None, slice_get, sym, ◌∙◌}
 use Rattle.std.proofs.Common.{arith, ltb, lt-ltb}
 use Rattle.std.proofs.lemmas.Option.{same_Some, some_pair_parts, slice_get_within, none-some}

@@ -1,5 +1,5 @@
 -- The numbers of an image, byte by byte.
-use Rattle.std.proofs.Common.{rules, ◌≡◌, refl, sym, ap, ◌∙◌, ℕ, ◌^◌, ◌<◌, List, ◌++◌, length, take}
+use Rattle.std.proofs.Common.{◌≡◌, refl, sym, ap, ◌∙◌, ℕ, ◌^◌, ◌<◌, List, ◌++◌, length, take}
 use Rattle.std.proofs.Common.{drop}
 use Rattle.std.specs.Int.{w32, w64, from_le_bytes}
 use Rattle.std.proofs.lemmas.Nat.{from_le_bytes-to_le_bytes_4, from_le_bytes-to_le_bytes_8}

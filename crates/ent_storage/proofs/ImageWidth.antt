@@ -1,6 +1,6 @@
 -- Each component that an entity has is below the width.
-use Rattle.std.proofs.Common.{◌≡◌, refl, sym, ap, ◌∙◌, ℕ, ℤ, ◌<◌, ◌≤◌, List, length, get_or, Option}
-use Rattle.std.proofs.Common.{Some, None, arith, inl, inr, slice_get, true, false, is_some}
+use Rattle.std.proofs.Common.{◌≡◌, refl, sym, ap, ◌∙◌, ℕ, ℤ, ◌<◌, ◌≤◌, List, Option}
+use Rattle.std.proofs.Common.{Some, None, arith, inl, inr, slice_get}
 use Rattle.std.specs.List.{All}
 use Rattle.std.specs.Prelude.{option_and_then}
 use Rattle.std.specs.FinMap as finite
@@ -10,8 +10,8 @@ use Rattle.std.proofs.lemmas.Option.{same_Some, none-some}
 use Rattle.ent_handle.specs.declared.component.ComponentId.{ComponentId}
 use Rattle.ent_handle.specs.Handle.{Handle, handle_cmp}
 use Rattle.ent_storage.specs.EntityMap.{Entity, Store, value_of}
-use Rattle.ent_storage.specs.Image.{is_held, width}
-use Rattle.ent_storage.specs.Indexed.{IsIndexed, entity_of, map_of, handles_by_place}
+use Rattle.ent_storage.specs.Image.{width}
+use Rattle.ent_storage.specs.Indexed.{IsIndexed, map_of, handles_by_place}
 use Rattle.ent_storage.specs.Living.{LivingEntity}
 use Rattle.ent_storage.proofs.ImageEntities.{not_held}
 use Rattle.ent_storage.proofs.ImageHeld.{some_held}

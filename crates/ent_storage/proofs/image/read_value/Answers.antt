@@ -1,7 +1,6 @@
-use Rattle.std.proofs.Common.{rules, ◌≡◌, ◌≢◌, ◌<◌, ◌++◌, ℕ, ℤ, List, Option, None, Some, [], ◌∷◌}
-use Rattle.std.proofs.Common.{length, sym, ap, ◌∙◌, arith, get_or}
+use Rattle.std.proofs.Common.{rules, ◌≡◌, ◌≢◌, ◌<◌, ◌++◌, ℕ, ℤ, List, Option, None, Some, ◌∷◌}
+use Rattle.std.proofs.Common.{length, ap, ◌∙◌, arith, get_or}
 use Rattle.std.specs.Int.{w64, cast_unsigned}
-use Rattle.std.proofs.lemmas.Grind.{common_steps}
 use Rattle.std.proofs.lemmas.List.{length-append}
 use Rattle.ent_storage.specs.Image.{value_bytes, long}
 use Rattle.ent_storage.proofs.ImageBytes.{length-long}

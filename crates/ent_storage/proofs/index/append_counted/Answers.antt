@@ -1,4 +1,4 @@
-use Rattle.std.proofs.Common.{rules, ◌≡◌, ◌+◌, ◌<◌, true, cond, filter, take, length, get_or, ap, sym, ◌∙◌, arith, Bool}
+use Rattle.std.proofs.Common.{rules, ◌≡◌, ◌+◌, ◌<◌, true, cond, filter, take, length, get_or, ap, ◌∙◌, arith, Bool}
 use Rattle.std.proofs.lemmas.List.{take_all}
 use Rattle.std.proofs.lemmas.List.Filters.{length-filter_more}
 use Rattle.ent_handle.specs.Handle.{handle_cmp_total as total}

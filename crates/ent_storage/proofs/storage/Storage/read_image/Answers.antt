@@ -1,5 +1,5 @@
-use Rattle.std.proofs.Common.{rules, ◌≡◌, ◌<◌, ◌≤◌, ◌^◌, sym, ap, ◌∙◌, arith, length, ℕ, Option, subst}
-use Rattle.std.proofs.Common.{is_some, false, None, inl, inr, refl}
+use Rattle.std.proofs.Common.{rules, ◌≡◌, ◌≤◌, sym, ap, ◌∙◌, arith, length, subst}
+use Rattle.std.proofs.Common.{is_some, None, inl, inr, refl}
 use Rattle.std.specs.Prelude.{option_and_then}
 use Rattle.std.specs.FinMap as map
 use Rattle.std.proofs.lemmas.Bool.{false≢true}

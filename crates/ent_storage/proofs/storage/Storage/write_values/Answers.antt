@@ -1,8 +1,7 @@
-use Rattle.std.proofs.Common.{◌≡◌, ◌++◌, ap, sym, ◌∙◌, subst, arith, Option, IfSome, ℤ}
+use Rattle.std.proofs.Common.{◌++◌, ap, sym, ◌∙◌, subst, arith, Option, IfSome, ℤ}
 use Rattle.std.specs.Int.{w64}
 use Rattle.std.specs.Int.RustNames.{FitsSigned}
 use Rattle.std.proofs.lemmas.List.{append_assoc}
-use Rattle.ent_handle.specs.declared.component.ComponentId.{ComponentId}
 use Rattle.ent_storage.specs.EntityMap.{value_of}
 use Rattle.ent_storage.specs.Image.{value_bytes, values_bytes, component}
 use Rattle.ent_storage.proofs.ImageValues.{values_more, below_more}
