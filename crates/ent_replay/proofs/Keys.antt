@@ -8,16 +8,12 @@ use Rattle.std.specs.Ordering.{nat_cmp}
 use Rattle.std.specs.FinMap as finite
 use Rattle.std.proofs.lemmas.Bool.{cases_eq, eq-eqb, ne_eqb}
 use Rattle.ent_replay.proofs.Maps.{get-inserted, get-insert_other}
-use Rattle.ent_replay.specs.declared.trace.reservation.Reservation.{Reservation}
 use Rattle.ent_replay.specs.declared.trace.placed.Placed.{Placed}
 use Rattle.ent_replay.specs.Checker.{reservations_of, requested_in, ComesAfter, AreSteady, IsLatest}
 use Rattle.ent_replay.specs.Checker.{IsChecking, IsKeyed, AreKeyed, keys_after, raised}
 use Rattle.ent_handle.specs.Handle.{Handle}
 use Rattle.ent_alloc.specs.Sequential.{Allocator, available}
 use Rattle.ent_replay.proofs.Lists.{all_push}
-
-abbrev requested : Reservation → ℕ
-requested r = r.requested
 
 -- one more is requested
 pub requested-push : (run : List Placed) (p : Placed) → requested_in

@@ -351,17 +351,11 @@ module _ (s : Allocator) (start l : Lineup) (all : List Placed) (blocked : finit
       let d = length-append start.placed.items start.rest.items in
       omega arith
 
-  pub over_fewer : length l.rest.items ≤ length start.rest.items
-  over_fewer = let a = counted in let b = h.grown in omega arith
-
   pub over_stuck : length l.rest.items ≡ length start.rest.items → NoneFits (reached s l) l.rest.items
   over_stuck same =
       let a = counted in
       let b = h.still (omega arith) in
       subst (λ (ps : List Placed). NoneFits (after s ps) l.rest.items) (sym b.0) b.1
-
-  pub over_whole : AreAnswered s (lines_of (all_of start)) → l.rest.items ≡ []
-  over_whole all_fit = (h.whole all_fit).0
 
 -- what is some is something
 pub some_of : {X : Type 0} (o : Option X) → is_some o ≡ true → (v : X) × (o ≡ Some v)
@@ -422,16 +416,6 @@ module _ (s : Allocator) (start l next : Lineup) (before : ℕ) (h : Settling s 
           no_items next.rest.items (omega arith)
     ]);
   }
-
-  pub Settling-stuck : before ≤ length l.rest.items → NoneFits (reached s l) l.rest.items
-  Settling-stuck over = let a = h.fewer in h.stuck (omega arith)
-
-  pub Settling-whole : before ≤ length l.rest.items → AreAnswered s (lines_of (all_of start))
-      → l.rest.items ≡ []
-  Settling-whole over all = elim (h.whole all) [
-    | inl first ↦ let a = first.1 in absurd (omega arith)
-    | inr gone ↦ gone
-  ]
 
 -- the position of a lineup is one that its allocator counts
 module _ (s : Allocator) (l : Lineup) (h : IsLineup s l) where

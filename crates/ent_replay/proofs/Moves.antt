@@ -89,9 +89,6 @@ pub data Move (s : MachineState) (e : Event) : Type 0 where
 closed : (s : MachineState) → is_busy s ≡ false → s.calls ≡ finite.empty
 closed s quiet = empty_of_len s.calls (grind (arith, nat_tests))
 
-err_not_ok : {T E : Type 0} (x : T) (e : E) → Err e ≡ Ok x → ⊥
-err_not_ok x e is = cc
-
 -- a fault
 faulty : (s : MachineState) (e : Event) (why : ReplayFault) → ran_out (Err why) ≡ false
     → on_event s e ≡ (Err why, s) → reservations s e ≡ [] → Move s e

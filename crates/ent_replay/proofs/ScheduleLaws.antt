@@ -23,9 +23,6 @@ use Rattle.ent_replay.proofs.ScheduleWords.{parts_nonempty, without_empty_end-co
 
 -- ---- lines of events
 
-abbrev read_events : List Event → Result (List Event) ReadFault
-read_events events = Ok events
-
 abbrev read_fault : ReadFault → Result (List Event) ReadFault
 read_fault fault = Err fault
 

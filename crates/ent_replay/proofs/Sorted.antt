@@ -7,7 +7,6 @@ use Rattle.std.proofs.lemmas.Grind.{common_steps}
 use Rattle.std.specs.List.{AllByRecursion}
 use Rattle.std.specs.List.Sorted.{ties, IsNonDecreasingBy}
 use Rattle.std.specs.Ordering.{nat_cmp, is_lt}
-use Rattle.std.specs.declared.cmp.Ordering.TheVariants.{Less, Equal, Greater}
 use Rattle.std.proofs.lemmas.Bool.{le-ltb}
 use Rattle.std.proofs.lemmas.List.Elements.{All-head, All-tail, All-cons, All-filter, filter-append}
 use Rattle.std.proofs.lemmas.List.Elements.{All-from_recursion, recursion_from_All}
@@ -28,13 +27,6 @@ key p = p.key
 
 abbrev pub tie : Placed → Placed → Bool
 tie = ties (λ x y. is_lt (nat_cmp (key x) (key y)))
-
-not_less : (b : Bool) → is_lt (cond b Equal Greater) ≡ false
-not_less b = search rules
-
-less_if : (a b : Bool) → is_lt (cond a Less (cond b Equal Greater)) ≡ a
-less_if true b = refl
-less_if false b = not_less b
 
 tie_is : (p q : Placed) → tie p q ≡ (not (nat_lt p.key q.key) && not (nat_lt q.key p.key))
 tie_is p q = search rules

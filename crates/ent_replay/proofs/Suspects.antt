@@ -33,15 +33,6 @@ module _ (seen : finite.FinMap nat_cmp ℕ) (rest : List Placed) (index : ℕ) (
       (left_other p q [] (λ e. apart (sym e)))
       ∙ append-nil (filter (is_of q) (take index rest)) ∙ h q is
 
-  pub AreSeen-again : (v : ℕ) → finite.get seen p.reservation.caller ≡ Some v
-      → AreSeen seen rest (index + 1)
-  AreSeen-again v found q is = elim (cases_eq q p.reservation.caller) [
-    | inl same ↦
-        let no : Some v ≡ None = sym found ∙ ap (finite.get seen) (sym same) ∙ is in
-        absurd cc
-    | inr apart ↦ others q apart is
-  ]
-
   pub AreSeen-next : (key : ℕ) → AreSeen (finite.insert seen p.reservation.caller key) rest (index + 1)
   AreSeen-next key q is = elim (cases_eq q p.reservation.caller) [
     | inl same ↦

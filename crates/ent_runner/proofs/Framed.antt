@@ -104,10 +104,6 @@ queue_is : (queues : List (List Command)) (n : ℕ) (q : List Command) → slice
 queue_is queues n q at = get_or_from_slice_get queues n q [] at
 
 module _ (queues : List (List Command)) (P : ℕ → List Command → Type 0) where
-  -- the jobs of one worker, and what its reserver gained by them
-  abbrev Gain : ℕ → Record → List Command → Record → Type 0
-  Gain n before queue after = Gains before queue after × P n queue
-
   all_gain : (a : Record) (mine : List ℕ) (b : Record)
       → DidAll (λ n before queue after. Gains before queue after × P n queue) queues a mine b
       → Gains a (commands_of queues mine) b

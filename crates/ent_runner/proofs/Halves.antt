@@ -3,10 +3,9 @@ use Rattle.std.proofs.Common.{◌≡◌, ◌-◌, ◌<◌, ◌≤◌, ℕ, List,
 use Rattle.std.proofs.Common.{⊎_elim, sym, refl}
 use Rattle.std.proofs.lemmas.Bool.{cases_lt}
 use Rattle.std.proofs.lemmas.List.{length-append, get_or_append_left, get_or-append_right}
-use Rattle.ent_alloc.proofs.ListLaws.{All-left, All-right}
-use Rattle.ent_runner.specs.Claims.{Claims, IsClaimerOf}
+use Rattle.ent_runner.specs.Claims.{Claims}
 use Rattle.ent_runner.specs.declared.worker.Worker.{Worker}
-use Rattle.ent_runner.specs.Worker.{HaveAllWorked, AreReady, IsNewWorker}
+use Rattle.ent_runner.specs.Worker.{HaveAllWorked}
 
 module _ {O L : Type 0} (may leave : ℕ → L → O → L → Type 0) (may_have : L → Type 0)
     (claims : Claims) where
@@ -54,28 +53,3 @@ module _ {O L : Type 0} (may leave : ℕ → L → O → L → Type 0) (may_have
       → HaveDone before (first' ++ second') (front ++ back)
   both_worked first first' second second' before front back parts one other =
       rw (sym parts) (joined first first' second second' front back one other)
-
-  -- Each part of the workers is ready, if all are and neither part is empty.
-  pub front_ready : (first second lent : List L) (front back team : List (Worker O))
-      → first ++ second ≡ lent → front ++ back ≡ team → 0 < length front
-      → length first ≡ length front → AreReady may_have claims lent team
-      → AreReady may_have claims first front
-  front_ready first second lent front back team lent_is team_is some same ready = record {
-    some = some;
-    count = same;
-    own = All-left may_have first second (rw lent_is ready.own);
-    each = All-left (λ (w : Worker O). IsClaimerOf claims w.claimer × IsNewWorker w) front back
-        (rw team_is ready.each);
-  }
-
-  pub back_ready : (first second lent : List L) (front back team : List (Worker O))
-      → first ++ second ≡ lent → front ++ back ≡ team → 0 < length back
-      → length second ≡ length back → AreReady may_have claims lent team
-      → AreReady may_have claims second back
-  back_ready first second lent front back team lent_is team_is some same ready = record {
-    some = some;
-    count = same;
-    own = All-right may_have first second (rw lent_is ready.own);
-    each = All-right (λ (w : Worker O). IsClaimerOf claims w.claimer × IsNewWorker w) front back
-        (rw team_is ready.each);
-  }

@@ -1,20 +1,17 @@
 -- One law, with a step for each test of the format: a value that is cut means the same.
 use Rattle.std.proofs.lemmas.List.{take-map}
 use Rattle.std.proofs.Common.{arith, rules, ◌≡◌, ℕ, suc, ◌+◌, List, [], ◌∷◌, map, refl, Option}
-use Rattle.std.proofs.Common.{option_map, Result, Ok, ok_or, codes}
+use Rattle.std.proofs.Common.{option_map, Result}
 use Rattle.std.proofs.lemmas.Grind.{common_steps}
 use Rattle.serde_json.specs.Data.{Data, Members, no_members, member}
-use Rattle.serde_json.specs.Find.{get, as_str}
+use Rattle.serde_json.specs.Find.{as_str}
 use Rattle.ent_script.specs.Cut.{cut, cut_members}
-use Rattle.ent_script.specs.Json.{members, pairs_of, whole, whole_within}
+use Rattle.ent_script.specs.Json.{members, pairs_of, whole}
 use Rattle.ent_script.specs.Names.{as_name}
-use Rattle.ent_script.specs.Reading.{◌>>=◌, items_of, read_bundle, with_of, count_of}
+use Rattle.ent_script.specs.Reading.{items_of, read_bundle, with_of, count_of}
 use Rattle.ent_script.specs.Reading.{binding_of, removed_of, target_of}
-use Rattle.ent_script.specs.Reading.{format_of, or_absent}
 use Rattle.ent_script.specs.Reading.{numbered, component_at}
-use Rattle.ent_script.specs.declared.cause.ScriptCause.{ScriptCause}
 use Rattle.ent_script.specs.declared.cause.ScriptCause.TheVariants as script_cause
-use Rattle.ent_script.specs.declared.heading.Heading.{Heading}
 
 abbrev cut_pair : ℕ → List ℕ × Data → List ℕ × Data
 cut_pair l m = (m.0, cut l m.1)
@@ -78,18 +75,6 @@ numbered-cut f g l n [] same = refl
 numbered-cut {A} {E} f g l n (d ∷ ds) same = search (rules, numbered-cut f g l (n + 1) ds same)
 
 -- ---- the heading, and the names of the components
-
-abbrev said : Data → Result Heading ScriptCause
-said d =
-    format_of (get (codes "format") d) >>=
-    λ format. ok_or (or_absent 4294967295 (whole_within 1 4294967295) (get (codes "slots") d))
-    script_cause.Slots >>=
-    λ slots. ok_or (or_absent 2147483647 (whole_within 1 2147483647)
-    (get (codes "generations") d)) script_cause.Generations
-    >>= λ generations. Ok (record {
-      format = format;
-      limits = record { slots = slots; generations = generations };
-    })
 
 pub components-cut : (ds : List Data) → numbered (component_at (map (cut 0) ds)) 0 (map (cut 0) ds)
     ≡ numbered (component_at ds) 0 ds

@@ -1,6 +1,6 @@
 -- What the first pass over a text finds: whether it is JSON, and its heading.
 use Rattle.std.proofs.Common.{rules, ◌≡◌, ℕ, List, [], ◌∷◌, Option, Some, None, is_some}
-use Rattle.std.proofs.Common.{option_and_then, ok_or, Result, Ok, Err, Bool, false, cond, ap}
+use Rattle.std.proofs.Common.{ok_or, Result, Ok, Bool, false, cond, ap}
 use Rattle.std.proofs.Common.{MatchOption}
 use Rattle.std.specs.Str.{IsUtf8}
 use Rattle.std.proofs.lemmas.Str.{is_utf8-from_IsUtf8}
@@ -11,7 +11,6 @@ use Rattle.json.specs.Json.{value}
 use Rattle.serde_json.specs.Data.{Data}
 use Rattle.serde_json.specs.Read.{of_json, converted, read}
 use Rattle.ent_script.specs.Reading.{◌>>=◌, heading_of, in_script, json_of}
-use Rattle.ent_script.specs.Script.{Script}
 use Rattle.ent_script.specs.declared.heading.Heading.{Heading}
 use Rattle.ent_script.specs.declared.read_fault.ReadFault.{ReadFault}
 use Rattle.ent_script.specs.declared.read_fault.ReadFault.TheVariants.{Json}
@@ -20,29 +19,12 @@ use Rattle.ent_script.specs.declared.read_fault.ReadFault.TheVariants.{Json}
 abbrev pub headed : Option Data → Result Heading ReadFault
 headed o = ok_or o Json >>= λ d. in_script (heading_of d)
 
-abbrev err : ReadFault → Result Script ReadFault
-err e = Err e
-
 pub found : (o : Option Data) (heading : Heading) → headed o ≡ Ok heading
     → (d : Data) × (o ≡ Some d) × (in_script (heading_of d) ≡ Ok heading)
 found it heading h = search rules
 
 pub json_is : (text : List ℕ) → IsUtf8 text → json_of text ≡ read text
 json_is text utf8 = ap (λ (b : Bool). cond b (read text) None) (is_utf8-from_IsUtf8 text utf8)
-
-abbrev last : Option (json.Json × List Token) → Option Data
-last o = option_and_then of_json (option_and_then (λ p. json.if_last p.0 p.1) o)
-
-refused_by : (o : Option (json.Json × List Token)) → converted of_json o ≡ None → last o ≡ None
-refused_by ts e = search rules
-
-pub refused : (text : List ℕ) → converted of_json (value 127 (tokens text)) ≡ None
-    → read text ≡ None
-refused text e = refused_by (value 127 (tokens text)) e
-
-abbrev first : Data → Option (Data × List Token) → Data
-first d None = d
-first d (Some p) = p.0
 
 -- a text that is its value
 pub whole : {T : Type 0} (r : Option T) (f : T → Token) (text : List ℕ) (d : Data)

@@ -2,7 +2,7 @@
 use Rattle.std.proofs.Common.{◌≡◌, ◌∙◌, ℕ, List, [], ◌∷◌, Bool, true, false, ◌&&◌, Option}
 use Rattle.std.proofs.Common.{Some, None, option_map, is_some, Ordering, Less, Equal, Greater}
 use Rattle.std.proofs.Common.{nat_cmp, is_eq, bytes_eq, refl, sym, ap, Bor}
-use Rattle.std.proofs.Common.{option_and_then, codes, Err, ◌||◌}
+use Rattle.std.proofs.Common.{codes, Err, ◌||◌}
 use Rattle.std.specs.Prelude.{option_copied}
 use Rattle.std.proofs.lemmas.Map.Text.{is_eq-slice_cmp}
 use Rattle.std.proofs.lemmas.Slice.Eq.{bytes_eq-Decides}
@@ -18,15 +18,14 @@ use Rattle.ent_script.specs.Cut.{cut}
 use Rattle.ent_script.specs.Fields.{IsUnder, AreAmong, AreFields, of_fields}
 use Rattle.ent_script.specs.Json.{keys_among, pairs_of}
 use Rattle.ent_script.specs.Reading.{has_keys, is_spawn, is_spawn_many, is_insert, is_remove}
-use Rattle.ent_script.specs.Reading.{is_despawn, of_kind, operation_of, bound_name, read_bundle}
+use Rattle.ent_script.specs.Reading.{is_despawn, of_kind, operation_of, read_bundle}
 use Rattle.ent_script.specs.Reading.{with_of, count_of, binding_of, removed_of, target_of}
-use Rattle.ent_script.specs.Names.{as_name}
 use Rattle.ent_script.specs.declared.cause.Cause.TheVariants as cause
 use Rattle.ent_script.specs.declared.fields.Fields.{Fields}
 use Rattle.ent_script.specs.declared.kind.Kind.{Kind}
 use Rattle.ent_script.specs.declared.kind.Kind.TheVariants as kinds
 use Rattle.ent_script.proofs.CutMeanings.{bundle-cut, with-cut, count-cut, binding-cut, removed-cut}
-use Rattle.ent_script.proofs.CutMeanings.{target-cut, as_name-cut}
+use Rattle.ent_script.proofs.CutMeanings.{target-cut}
 use Rattle.ent_script.proofs.Puts.{found_here, found_before}
 
 -- ---- whether each key is one of some
@@ -170,11 +169,6 @@ module _ (k l : List ℕ) (allowed : List (List ℕ)) (ms : Members) (f g : Opti
 
 -- ---- what its fields mean
 
-name-cut : (o : Option Data) → option_and_then as_name (option_map (cut 1) o)
-    ≡ option_and_then as_name o
-name-cut None = refl
-name-cut (Some d) = as_name-cut 1 d
-
 pub lent : (r : Option (Bor Part)) → option_map (λ (v : Bor Part). data_of v.now) r
     ≡ option_map data_of (option_copied r)
 lent None = refl
@@ -230,9 +224,6 @@ module _ (components bound : List (List ℕ)) (before : Option ℕ) (f : Fields)
     target_under (codes "on") f.on at.on,
   )
   of_fields-means kinds.Despawn = rw (target_under (codes "despawn") f.despawn at.despawn)
-
-  pub name_under : option_and_then as_name (option_map data_of f.binds) ≡ bound_name (object ms)
-  name_under = ap (option_and_then as_name) at.binds ∙ name-cut (get_member (codes "as") ms)
 
 -- what is no object is no operation
 pub no_operation : (components bound : List (List ℕ)) (before : Option ℕ) (d : Data)

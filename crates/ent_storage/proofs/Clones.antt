@@ -1,7 +1,8 @@
 -- Slots that are clones of others, one by one: their maps have the same handles, and each value is a
 -- clone of the other's.
-use Rattle.std.proofs.Common.{rules, ◌≡◌, ℕ, suc, ◌+◌, ◌<◌, ◌^◌, List, [], ◌∷◌, ◌++◌, length, map}
+use Rattle.std.proofs.Common.{rules, ◌≡◌, ℕ, suc, ◌+◌, List, [], ◌∷◌, length, map}
 use Rattle.std.proofs.Common.{refl, ap, ◌∙◌, sym}
+use Rattle.std.proofs.lemmas.List.{length-map}
 use Rattle.std.specs.List.{AllZip}
 use Rattle.std.specs.FinMap as finite
 use Rattle.ent_handle.specs.Handle.{Handle}
@@ -45,16 +46,10 @@ module _ {X : Type 0} (is_clone : X → X → Type 0) where
 
   count_from : (index : ℕ) (old new : List (Slot X)) → AreSlotClones is_clone old new
       → length (entries_from index new) ≡ length (entries_from index old)
-  count_from index [] [] all = refl
-  count_from index [] (s ∷ new) all = absurd all
-  count_from index (s ∷ old) [] all = absurd all
-  count_from index (Vacant ∷ old) (Vacant ∷ new) all = count_from (index + 1) old new all.1
-  count_from index (Vacant ∷ old) (Occupied other w ∷ new) all =
-      absurd all.0
-  count_from index (Occupied generation v ∷ old) (Vacant ∷ new) all =
-      absurd all.0
-  count_from index (Occupied generation v ∷ old) (Occupied other w ∷ new) all =
-      ap suc (count_from (index + 1) old new all.1)
+  count_from index old new all =
+      sym (length-map (entries_from index new) (λ (e : Handle × X). e.0))
+      ∙ ap length (keys_from index old new all)
+      ∙ length-map (entries_from index old) (λ (e : Handle × X). e.0)
 
   pub cloned_keys : (old new : List (Slot X)) → AreSlotClones is_clone old new
       → finite.keys (map_of_slots new) ≡ finite.keys (map_of_slots old)
@@ -68,7 +63,4 @@ module _ {X : Type 0} (is_clone : X → X → Type 0) where
 
   pub cloned_counted : (old new : List (Slot X)) (count : ℕ) → AreSlotClones is_clone old new
       → AreCounted 0 old count → AreCounted 0 new count
-  cloned_counted old new count all counted = record {
-    few = rw (length_from old new all) counted.few;
-    counted = counted.counted ∙ sym (count_from 0 old new all);
-  }
+  cloned_counted old new count all counted = search (rules, length_from, count_from)

@@ -170,10 +170,7 @@ module _ (old new : List Column) (place : ℕ) (id : ComponentId) (others : (n :
     where
       value_taken : (q : ComponentId) → (q ≡ id) ⊎ (q ≢ id) → value_at new place q
           ≡ map.get (map.remove (components_at old place) id) q
-      value_taken q (inl e) =
-          let left = get-remove_same nat_cmp_total map.nat_cmp-IsAntisymmetric
-          (column_at old id.0).values place place refl in
-          grind (arith, get-remove_same total same)
+      value_taken q (inl e) = search (rules, get-remove_same)
       value_taken q (inr n) =
           grind (arith, value_apart, get_components, get-remove_other total same)
 

@@ -70,13 +70,6 @@ module _ (old new : List Column)
       → entities_from 0 residents new ≡ entities_from 0 residents old
   entities_same residents = same_from 0 residents old new (λ p id from below. same_value p id)
 
-  pub columns_same : (count : ℕ) → length new ≤ 256 → AreColumnsOf count old
-      → AreColumnsOf count new
-  columns_same count numbered are = record {
-    none_beyond = λ p id beyond. same_value p id ∙ are.none_beyond p id beyond;
-    numbered = numbered;
-  }
-
 -- ---- entities without components
 
 unused : Handle

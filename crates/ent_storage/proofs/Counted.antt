@@ -245,7 +245,6 @@ module _ (living : List LivingEntity) (pairs : List (Handle × ℕ))
           ≡ Some i → has_handle_at living q (Some i) ≡ true → (f : Handle × ℕ)
           → (get_or pairs p f).0 ≢ q
       other_key q i at is f e =
-          let gone = free.gone f in
           let here : (g : Handle × ℕ) → get_or pairs p g ≡ get_or pairs p f = λ g.
           get_or_default pairs p g f free.inside in
           let found = get_at total same pairs rising q p f (search rules) in

@@ -1,7 +1,7 @@
 -- The dense and the sparse vector of a component: what they stand for, after each change.
-use Rattle.std.proofs.Common.{rules, ◌≡◌, ◌≢◌, ℕ, ℤ, ◌+◌, ◌-◌, ◌<◌, ◌≤◌, false, ◌⊎◌, inl, inr, List}
+use Rattle.std.proofs.Common.{rules, ◌≡◌, ◌≢◌, ℕ, ℤ, ◌+◌, ◌<◌, ◌≤◌, false, ◌⊎◌, inl, inr, List}
 use Rattle.std.proofs.Common.{[], ◌∷◌, ◌++◌, length, set, get_or, Some, None, slice_get, sym, ◌∙◌}
-use Rattle.std.proofs.Common.{arith, ltb, lt-ltb, pos}
+use Rattle.std.proofs.Common.{arith, ltb, lt-ltb}
 use Rattle.std.proofs.lemmas.Option.{same_Some, some_pair_parts, slice_get_within, none-some}
 use Rattle.std.proofs.lemmas.Option.{slice_get-get_or}
 use Rattle.std.proofs.lemmas.Bool.{false≢true, cases_lt, cases_eq}
@@ -14,7 +14,7 @@ use Rattle.ent_storage.proofs.Rising.{remove_absent}
 use Rattle.ent_storage.proofs.Keys.{same_or_apart, get-insert_other, get-remove_same}
 use Rattle.ent_storage.proofs.Keys.{get-remove_other, insert_tells, remove_tells}
 use Rattle.ent_storage.proofs.ElementsAt.{at_set_same, at_set_other, at_push_before, at_push_end}
-use Rattle.ent_storage.proofs.ElementsAt.{same_option, find_at, find_gives}
+use Rattle.ent_storage.proofs.ElementsAt.{same_option, find_at, find_gives, IsFilled}
 
 -- ---- what the vectors stand for
 
@@ -42,31 +42,6 @@ module _ (D : List (ℕ × ℤ)) (S : List ℕ) (dense : IsDense D S) where
 same_values : (m n : Values) → ((p : ℕ) (v : ℤ) → map.get m p ≡ Some v → map.get n p ≡ Some v)
     → ((p : ℕ) (v : ℤ) → map.get n p ≡ Some v → map.get m p ≡ Some v) → m ≡ n
 same_values m n there back = map.same_map total same m n (λ p. same_option _ _ (there p) (back p))
-
--- the list without the pair at position i, which the last one has filled
-pub record IsFilled (D : List (ℕ × ℤ)) (i : ℕ) (L : List (ℕ × ℤ)) : Type 0 where
-  pub one_less : length L + 1 ≡ length D
-  pub others : (k : ℕ) → k ≢ i → k < length L → slice_get L k ≡ slice_get D k
-  pub moved : i < length L → slice_get L i ≡ slice_get D (length L)
-
--- what a vector's removal by swapping gives
-pub filled : (D L : List (ℕ × ℤ)) (i n m : ℕ) → n ≡ length D → m ≡ length L → m + 1 ≡ n
-    → ((d : ℕ × ℤ) → i + 1 < n → get_or L i d ≡ get_or D (n - 1) d)
-    × ((k : ℕ) (d : ℕ × ℤ) → k ≢ i → k + 1 < n → get_or L k d ≡ get_or D k d) → IsFilled D i L
-filled D L i n m whole left one_less by_index = record {
-  one_less = omega arith;
-  others = λ k apart l.
-      let a = slice_get-get_or L k (0, pos 0) l in
-      let b = slice_get-get_or D k (0, pos 0) (omega arith) in
-      let e = by_index.1 k (0, pos 0) apart (omega arith) in
-      cc;
-  moved = λ l.
-      let last : n - 1 ≡ length L = omega arith in
-      let a = slice_get-get_or L i (0, pos 0) l in
-      let b = slice_get-get_or D (length L) (0, pos 0) (omega arith) in
-      let e = by_index.0 (0, pos 0) (omega arith) in
-      cc;
-}
 
 module _ (D : List (ℕ × ℤ)) (S : List ℕ) (dense : IsDense D S) where
   -- ---- the value of a place is written over
@@ -148,7 +123,6 @@ module _ (D : List (ℕ × ℤ)) (S : List ℕ) (dense : IsDense D S) where
       removed_there q w found =
           let h = at L S2 dense2 q w found in
           let was = left_was h.0 q w (cases_eq h.0 i) h.1 in
-          let other = once D S dense was.0 i p w u in
           let held = has D S dense was.0 q w was.1 in
           grind (arith, remove_tells total same)
 

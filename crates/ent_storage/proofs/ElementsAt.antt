@@ -1,7 +1,7 @@
 -- The elements of a list by their positions, after each change, and the first pair of a key.
 use Rattle.std.proofs.Common.{rules, ◌≡◌, ◌≢◌, ℕ, Ordering, zero, suc, ◌<◌, ◌≤◌, cond, ◌⊎◌, inl, inr, List}
 use Rattle.std.proofs.Common.{[], ◌∷◌, ◌++◌, length, set, Option, Some, None, slice_get, refl, sym}
-use Rattle.std.proofs.Common.{ap, ◌∙◌, arith}
+use Rattle.std.proofs.Common.{ap, ◌∙◌, arith, get_or, ◌+◌, ◌-◌}
 use Rattle.std.proofs.lemmas.Option.{same_Some, none-some, slice_get-get_or, slice_get_past}
 use Rattle.std.specs.Cmp.{IsTotalOrder}
 use Rattle.std.specs.FinMap.{find, IsAntisymmetric}
@@ -50,16 +50,40 @@ same_option None (Some y) f g = g y refl
 same_option (Some x) None f g = sym (f x refl)
 same_option (Some x) (Some y) f g = g y refl
 
+-- ---- an element is taken out, and the last one moves to its position
+
+-- the list without the element at position i, which the last one has filled
+pub record IsFilled {X : Type 0} (D : List X) (i : ℕ) (L : List X) : Type 0 where
+  pub one_less : length L + 1 ≡ length D
+  pub others : (k : ℕ) → k ≢ i → k < length L → slice_get L k ≡ slice_get D k
+  pub moved : i < length L → slice_get L i ≡ slice_get D (length L)
+
+-- what a vector's removal by swapping gives
+pub filled : {X : Type 0} (D L : List X) (i n m : ℕ) (d : X) → n ≡ length D → m ≡ length L
+    → m + 1 ≡ n → ((d : X) → i + 1 < n → get_or L i d ≡ get_or D (n - 1) d)
+    × ((k : ℕ) (d : X) → k ≢ i → k + 1 < n → get_or L k d ≡ get_or D k d) → IsFilled D i L
+filled D L i n m d whole left one_less by_index = record {
+  one_less = omega arith;
+  others = λ k apart l.
+      let a = slice_get-get_or L k d l in
+      let b = slice_get-get_or D k d (omega arith) in
+      let e = by_index.1 k d apart (omega arith) in
+      cc;
+  moved = λ l.
+      let last : n - 1 ≡ length L = omega arith in
+      let a = slice_get-get_or L i d l in
+      let b = slice_get-get_or D (length L) d (omega arith) in
+      let e = by_index.0 d (omega arith) in
+      cc;
+}
+
 -- ---- a scan from the front
 
 module _ {K X : Type 0} {R : K → K → Ordering} (total : IsTotalOrder R) (same : IsAntisymmetric R) where
   pub find_at : (D : List (K × X)) (k : ℕ) (p : K) (v : X) → slice_get D k ≡ Some (p, v)
       → ((j : ℕ) (w : X) → j < k → slice_get D j ≢ Some (p, w)) → find R p D ≡ Some v
   find_at [] k p v e first = absurd (none-some (p, v) e)
-  find_at (x ∷ D) zero p v e first =
-      let is : x ≡ (p, v) = same_Some _ _ e in
-      ap (λ t. cond t (Some x.1) (find R p D)) (tied total same p x.0 (sym (ap (λ (y : K × X). y.0) is)))
-      ∙ ap (λ (y : K × X). Some y.1) is
+  find_at (x ∷ D) zero p v e first = search (rules, same_Some, tied)
   find_at (x ∷ D) (suc k) p v e first =
       ap (λ t. cond t (Some x.1) (find R p D))
       (apart total same p x.0

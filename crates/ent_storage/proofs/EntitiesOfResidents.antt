@@ -84,7 +84,6 @@ pub pushed_from : (n : ℕ) (residents : List Resident) (columns : List Column) 
     ++ record { handle = resident.handle; birth = resident.birth; components = finite.empty } ∷ []
 pushed_from n [] columns resident none = search (rules, no_components)
 pushed_from n (r ∷ residents) columns resident none =
-    let next : suc n + length residents ≡ n + suc (length residents) = omega arith in
     search (rules, pushed_from (suc n) residents columns resident)
 
 -- ---- an entity is taken out, and the last one moves to its place
@@ -122,10 +121,7 @@ module _ (residents left : List Resident) (i n m : ℕ) (whole : n ≡ length re
 
   moved_within : length new ≡ length old → AreColumnsOf (length residents) old
       → AreColumnsOf (length left) new
-  moved_within len within = record {
-    none_beyond = λ p id l. search (rules, cases_eq p (n - 1), down id.0, within.none_beyond p id);
-    numbered = omega (arith, within.numbered, len);
-  }
+  moved_within len within = search (rules, cases_eq)
 
   pub moved : length new ≡ length old → AreColumnsOf (length residents) old
       → IsMovedInto (entities_from 0 residents old) i (entities_from 0 left new)

@@ -1,7 +1,7 @@
 -- The map that slots stand for: its entries, and what it has at each handle.
 use Rattle.std.proofs.Common.{rules, ◌≡◌, ◌≢◌, ℕ, zero, suc, ◌+◌, ◌-◌, ◌<◌, ◌≤◌, Bool, true, false}
 use Rattle.std.proofs.Common.{cond, ◌&&◌, inl, inr, eqb, T, List, [], ◌∷◌, ◌++◌, length, get_or}
-use Rattle.std.proofs.Common.{set, replicate, None, Some, refl, ap, ◌∙◌, arith, not, All, AllPairs}
+use Rattle.std.proofs.Common.{set, replicate, None, Some, refl, arith, not, All, AllPairs}
 use Rattle.std.proofs.lemmas.Grind.{common_steps}
 use Rattle.std.proofs.lemmas.List.Kept.{AllPairs-cons}
 use Rattle.std.proofs.lemmas.Bool.{cases_eq, eq-eqb}
@@ -131,13 +131,7 @@ module _ {X : Type 0} where
       → ◌≡◌ {A = HandleMap X}
       (record { values = map_of_slots slots; slots = len; room = room; limit = limit })
       (record { values = map.empty; slots = 0; room = room; limit = other })
-  map_emptied slots len room limit other none no_slots same =
-      λ i. record {
-        values = (ap map_of_slots none ∙ map_none) i;
-        slots = no_slots i;
-        room = room;
-        limit = same i;
-      }
+  map_emptied slots len room limit other none no_slots same = search (rules, map_none)
 
   -- ---- count_at slot set
 
@@ -195,7 +189,6 @@ module _ {X : Type 0} where
       let is = slot-set slots h.index slot q.index within in
       elim (cases_eq q.index h.index) [
         | inl e ↦
-            let alone = here_alone h q value e in
             let other = other_generation slots h q old has e in
             grind (arith, nat_tests)
         | inr ne ↦ let tie = ties_apart q h ne in grind (arith, nat_tests)

@@ -1,18 +1,12 @@
 -- A bundle has no more items than there are components.
-use Rattle.std.proofs.Common.{rules, sym, ℕ, ◌+◌, ◌<◌, ◌≤◌, ℤ, [], ◌∷◌, length, arith, T}
+use Rattle.std.proofs.Common.{rules, ◌+◌, ◌≤◌, ℤ, [], ◌∷◌, length, arith, T}
 use Rattle.std.specs.List.{All}
 use Rattle.std.proofs.lemmas.List.Elements.{All-head, All-tail}
-use Rattle.std.specs.Ordering.{is_lt, nat_cmp}
-use Rattle.std.specs.Cmp.{ranked}
-use Rattle.std.specs.declared.cmp.Ordering.TheVariants.{Less}
 use Rattle.std.specs.FinMap.{is_sorted}
 use Rattle.ent_handle.specs.Component.{component_cmp}
 use Rattle.ent_handle.specs.declared.component.ComponentId.{ComponentId}
 use Rattle.ent_storage.specs.Bundle.{Bundle, IsItem, IsBundle}
-use Rattle.ent_storage.proofs.Positions.{second, less}
-
-below : (m n : ℕ) → T (is_lt (nat_cmp m n)) → m < n
-below m n h = ranked m n Less (sym (less (nat_cmp m n) h))
+use Rattle.ent_storage.proofs.Positions.{second}
 
 from_head : (item : ComponentId × ℤ) (items : Bundle) → T (is_sorted component_cmp (item ∷ items))
     → All IsItem (item ∷ items) → item.0.0 + length (item ∷ items) ≤ 256

@@ -29,7 +29,6 @@ module _ {X : Type 0} where
           → map.get (map.remove m h) q ≡ map.get m q
       by q b e =
           let left = map.get-remove handle_cmp_total m h q in
-          let tied = map.get_tied handle_cmp_total m q h in
           let equal = (Equal-is (handle_cmp q h)).0 in
           grind arith
 

@@ -1,23 +1,21 @@
 -- Entities, one by one: what is written of them tells them.
-use Rattle.std.proofs.Common.{rules, ◌≡◌, ◌≢◌, refl, sym, ap, ◌∙◌, subst, ℕ, zero, suc, ℤ, ◌+◌, ◌*◌, ◌^◌}
+use Rattle.std.proofs.Common.{rules, ◌≡◌, ◌≢◌, refl, sym, ap, ◌∙◌, subst, ℕ, zero, suc, ℤ, ◌+◌, ◌*◌}
 use Rattle.std.proofs.Common.{◌<◌, ◌≤◌, Bool, true, false, IsTrue, List, [], ◌∷◌, ◌++◌, length, arith}
-use Rattle.std.proofs.Common.{Option, None, Some, IsSomeAnd, is_some, Contains, inl, inr, ◌||◌}
+use Rattle.std.proofs.Common.{Option, None, Some, IsSomeAnd, is_some, Contains, ◌||◌}
 use Rattle.std.proofs.Common.{get_or}
 use Rattle.std.specs.Prelude.{if◌then◌else◌}
-use Rattle.std.specs.List.{flat_map, range_with_len, list_any}
-use Rattle.std.specs.Int.{w64}
-use Rattle.std.specs.Int.RustNames.{FitsSigned}
+use Rattle.std.specs.List.{flat_map, list_any}
 use Rattle.std.specs.Option.{option_map, option_map_or}
 use Rattle.std.specs.Prelude.{option_and_then}
 use Rattle.std.specs.FinMap as map
 use Rattle.std.proofs.lemmas.Bool.{cases_eq, cases_lt, false≢true}
-use Rattle.std.proofs.lemmas.List.{append_assoc, append-nil, length-append}
+use Rattle.std.proofs.lemmas.List.{append_assoc, length-append}
 use Rattle.ent_handle.specs.declared.birth.Birth.{Birth}
 use Rattle.ent_handle.specs.declared.component.ComponentId.{ComponentId}
-use Rattle.ent_handle.specs.Component.{component_cmp, component_cmp_total, component_cmp-IsAntisymmetric}
+use Rattle.ent_handle.specs.Component.{component_cmp_total, component_cmp-IsAntisymmetric}
 use Rattle.ent_handle.specs.Handle.{Handle, handle_cmp_total, handle_cmp-IsAntisymmetric}
 use Rattle.ent_storage.specs.EntityMap.{Entity, EntityMap, birth_of, value_of}
-use Rattle.ent_storage.specs.Image.{word, long, birth_bytes, value_bytes, values_bytes, component}
+use Rattle.ent_storage.specs.Image.{word, long, birth_bytes, values_bytes, component}
 use Rattle.ent_storage.specs.Image.{entity_bytes, entities_bytes, is_held, width_below, width, IsBirth}
 use Rattle.ent_storage.specs.Image.{IsStored, AreStored}
 use Rattle.ent_storage.proofs.ImageBytes.{length-word, length-long, same_words, same_longs}
@@ -36,14 +34,7 @@ birth_then b rest =
 
 same_births : (a b : Birth) (xs ys : List ℕ) → IsBirth a → IsBirth b → birth_bytes a ++ xs
     ≡ birth_bytes b ++ ys → (a ≡ b) × (xs ≡ ys)
-same_births a b xs ys fa fb same =
-    let first = same_longs a.frame b.frame (word a.system ++ (word a.ordinal ++ xs))
-    (word b.system ++ (word b.ordinal ++ ys)) fa.frame fb.frame
-    (sym (birth_then a xs) ∙ same ∙ birth_then b ys) in
-    let second = same_words a.system b.system (word a.ordinal ++ xs) (word b.ordinal ++ ys)
-    fa.system fb.system first.1 in
-    let third = same_words a.ordinal b.ordinal xs ys fa.ordinal fb.ordinal second.1 in
-    ((λ i. record { frame = first.0 i; system = second.0 i; ordinal = third.0 i }), third.1)
+same_births a b xs ys fa fb same = search (rules, same_longs, birth_then, same_words)
 
 -- ---- one entity
 
@@ -142,13 +133,7 @@ written_alike n a b h same = ap (λ (o : Option Entity).
 
 pub stored_alike : (a b : EntityMap) (h : Handle) → map.get a h ≡ map.get b h → IsStored a h
     → IsStored b h
-stored_alike a b h same is = record {
-  birth = subst (λ (o : Option Entity). IsSomeAnd (option_map (λ e. e.birth) o) IsBirth) same is.birth;
-  numbered = λ id v at. is.numbered id v
-      (ap (option_and_then (λ (e : Entity). map.get e.components id)) same ∙ at);
-  values = λ id v at. is.values id v
-      (ap (option_and_then (λ (e : Entity). map.get e.components id)) same ∙ at);
-}
+stored_alike a b h same is = search (rules)
 
 -- ---- entities
 
@@ -179,10 +164,7 @@ listed_least n m (h ∷ hs) stored =
 
 pub entities_least : (m : EntityMap) (hs : List Handle) → AreStored m hs
     → 4 + 16 * length hs ≤ length (entities_bytes m hs)
-entities_least m hs stored =
-    let rest = listed_least (width m hs) m hs stored.each in
-    let joined = length-append (word (width m hs)) (flat_map (entity_bytes (width m hs) m) hs) in
-    omega (arith, rest, joined, length-word (width m hs))
+entities_least m hs stored = search (rules, listed_least, length-append, length-word)
 
 one_of : (n : ℕ) (a b : EntityMap) (h : Handle) (hs : List Handle) → IsAlike n a b h
     → ((g : Handle) → Contains hs g → IsAlike n a b g) → (g : Handle) (k : ℕ) → k < length (h ∷ hs)
@@ -223,10 +205,7 @@ by_last : (m : EntityMap) (hs : List Handle) (n k : ℕ) (held : Bool) → is_he
     → (width_below m hs n ≤ k → k < n → is_held m hs k ≡ false)
     → (if held then suc n else width_below m hs n) ≤ k → k < suc n → is_held m hs k ≡ false
 by_last m hs n k true is rest least below = absurd (omega arith)
-by_last m hs n k false is rest least below = elim (cases_eq k n) [
-  | inl same ↦ ap (is_held m hs) same ∙ is
-  | inr other ↦ rest least (omega arith)
-]
+by_last m hs n k false is rest least below = search (rules, cases_eq)
 
 pub not_held : (m : EntityMap) (hs : List Handle) (n k : ℕ) → width_below m hs n ≤ k → k < n
     → is_held m hs k ≡ false
@@ -285,11 +264,7 @@ module _ (a b : EntityMap) (hs : List Handle) (in_a : AreStored a hs) (in_b : Ar
     (alike : (h : Handle) → Contains hs h → IsAlike n a b h) where
   same_values_of : (h : Handle) → Contains hs h → (id : ComponentId)
       → value_of a h id ≡ value_of b h id
-  same_values_of h is id = elim (cases_lt id.0 n) [
-    | inl below ↦ (alike h is).values id.0 below
-    | inr past ↦
-        beyond_a h is id past ∙ sym (beyond_b h is id past)
-  ]
+  same_values_of h is id = search (rules, cases_lt)
 
   same_at : (h : Handle) (o p : Option Entity) → map.get a h ≡ o → map.get b h ≡ p → o ≡ p
   unfolding unwrapped

@@ -1,6 +1,6 @@
 -- The values of an entity, one by one: what is written tells them.
-use Rattle.std.proofs.Common.{◌≡◌, ◌≢◌, refl, sym, ap, ◌∙◌, ℕ, zero, suc, ℤ, ◌+◌, ◌-◌, ◌^◌, ◌<◌, ◌≤◌}
-use Rattle.std.proofs.Common.{List, [], ◌∷◌, ◌++◌, length, drop, get_or, Option, None, Some, add-one}
+use Rattle.std.proofs.Common.{◌≡◌, ◌≢◌, refl, sym, ap, ◌∙◌, ℕ, zero, suc, ℤ, ◌+◌, ◌^◌, ◌<◌, ◌≤◌}
+use Rattle.std.proofs.Common.{List, ◌++◌, drop, get_or, Option, None, Some, add-one}
 use Rattle.std.proofs.Common.{arith, inl, inr}
 use Rattle.std.specs.Int.{w64, cast_unsigned, cast_signed}
 use Rattle.std.specs.Int.RustNames.{FitsSigned}
@@ -9,7 +9,7 @@ use Rattle.std.proofs.Math.Facts.{Fits-lt-pow, Fits-of_z, to_z-of_z}
 use Rattle.std.proofs.lemmas.Bool.{cases_eq}
 use Rattle.std.proofs.lemmas.List.{append_assoc, append-nil}
 use Rattle.ent_handle.specs.declared.component.ComponentId.{ComponentId}
-use Rattle.ent_storage.specs.Image.{long, value_bytes, values_bytes, component}
+use Rattle.ent_storage.specs.Image.{value_bytes, values_bytes, component}
 use Rattle.ent_storage.proofs.ImageBytes.{same_longs}
 
 -- ---- pieces, one for each number
@@ -157,7 +157,6 @@ pub none_next : (f g : ComponentId → Option ℤ) (width n : ℕ) (bytes rest m
     → bytes ≢ values_bytes g width ++ more
 none_next f g width n bytes rest more lt ff fg before none same =
     let split = pieces_split (piece g) 0 width n lt in
-    let at : 0 + n ≡ n = omega arith in
     let whole : values_bytes f n ++ rest ≡ values_bytes g n
     ++ (piece g (0 + n) ++ (split.0 ++ more)) =
     sym before ∙ same ∙ ap (◌++ more) split.1

@@ -61,25 +61,8 @@ module _ (used : List ℕ) (gap number : ℕ) (within : gap ≤ length used)
   module _ (columns : List Column) (inside : number < length columns)
       (in_use : AreInUse used columns) where
     pub in_use_inserted : AreInUse more columns
-    in_use_inserted = record {
-      inside = λ k d l. grind (arith, placed k d l, in_use.inside k d, in_use.inside (k - 1) d);
-      rising = λ i j d l m.
-          let a = placed i d (omega arith) in
-          let b = placed j d m in
-          let c = in_use.rising i (j - 1) d in
-          grind (arith, in_use.rising i j d, in_use.rising (i - 1) (j - 1) d);
-      rest = λ n. search (rules, in_use.rest n, at);
-    }
-      where
-        at : (n : ℕ) → Contains used n → Contains more n
-        at n there = elim (cases_lt there.0 gap) [
-          | inl m ↦
-              let kept = get_or-insert_below used gap number n there.0 m within in
-              (there.0, omega (arith, there.1, length-insert used gap number within), cc)
-          | inr m ↦
-              let moved = get_or-insert_above used gap number n there.0 m within in
-              (there.0 + 1, omega (arith, there.1, length-insert used gap number within), cc)
-        ]
+    in_use_inserted =
+        search (rules, placed, cases_lt, get_or-insert_below, length-insert, get_or-insert_above)
 
 -- ---- a column without values or room stays as it is
 
@@ -153,10 +136,4 @@ module _ (used : List ℕ) (place last : ℕ) (old : List Column) where
     pub passed_all : (i : ℕ) (new : List Column) → length used ≤ i
         → ((n : ℕ) → IsPassed i new n) → (n : ℕ)
         → IsMovedDown place last (column_at old n).values (column_at new n).values
-    passed_all i new whole passed n = by (passed n) (in_use.rest n)
-      where
-        by : IsPassed i new n → Contains used n ⊎ (column_at old n ≡ no_column)
-            → IsMovedDown place last (column_at old n).values (column_at new n).values
-        by (inl moved) rest = moved.1
-        by (inr left) (inl there) = search (rules)
-        by (inr left) (inr none) = search (rules, moved_none)
+    passed_all i new whole passed n = search (rules, moved_none)

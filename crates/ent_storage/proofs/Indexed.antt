@@ -92,7 +92,6 @@ module _ (living : List LivingEntity) (index : FinMap handle_cmp ℕ)
         → finite.get (finite.insert index entity.handle (length living))
         (get_or (living ++ entity ∷ []) i d).handle ≡ Some i
     each_entity_pushed i d (inl l) =
-        let at : finite.get index (get_or living i d).handle ≡ Some i = indexed.each_entity i l d in
         let is = get_or_append_left living (entity ∷ []) d i l in
         grind (arith, insert_tells total same)
     each_entity_pushed i d (inr e) =
@@ -107,7 +106,6 @@ module _ (living : List LivingEntity) (index : FinMap handle_cmp ℕ)
         × ((d : LivingEntity) → (get_or (living ++ entity ∷ []) i d).handle ≡ q)
     each_place_pushed q i (inl e) at =
         let put = get-insert_same total same index entity.handle (length living) q e in
-        let last : length living ≡ i = same_place _ i cc in
         search (rules, length_push, get_or_push)
     each_place_pushed q i (inr n) at =
         let old = indexed.each_place q i
@@ -118,10 +116,8 @@ module _ (living : List LivingEntity) (index : FinMap handle_cmp ℕ)
 
     pub indexed_push : IsIndexed (living ++ entity ∷ []) (finite.insert index entity.handle
         (length living))
-    indexed_push = record {
-      each_entity = search (rules, each_entity_pushed, below_or_at, length_push);
-      each_place = λ q i at. each_place_pushed q i (same_or_apart total same q entity.handle) at;
-    }
+    indexed_push =
+        search (rules, each_entity_pushed, below_or_at, length_push, each_place_pushed, same_or_apart)
 
     pub entities_push : map_of (living ++ entity ∷ []) ≡ finite.insert (map_of living)
         entity.handle (entity_of entity)

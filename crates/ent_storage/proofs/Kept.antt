@@ -1,6 +1,6 @@
 -- How a walk over the slots keeps some of their values.
-use Rattle.std.proofs.Common.{rules, ◌≡◌, ℕ, ◌+◌, ◌<◌, ◌≤◌, Bool, true, false, cond, MutBor, List}
-use Rattle.std.proofs.Common.{[], ◌∷◌, ◌++◌, length, get_or, set, take, drop, Some, refl, ap, ◌∙◌}
+use Rattle.std.proofs.Common.{rules, ◌≡◌, ℕ, ◌+◌, ◌<◌, ◌≤◌, Bool, true, false, MutBor, List}
+use Rattle.std.proofs.Common.{[], ◌∷◌, ◌++◌, length, get_or, set, take, drop, Some}
 use Rattle.std.proofs.Common.{arith, length-set}
 use Rattle.std.proofs.lemmas.List.{append-nil, append_assoc, take_all, take_more_set, drop_all}
 use Rattle.std.proofs.lemmas.List.{drop_more, drop-set-lt, length-take-le}
@@ -72,21 +72,8 @@ module _ {X F : Type 0} (step : F → Handle → MutBor X → Bool → MutBor X 
       → Retains step next (entries_from (index + 1) slots) later
       → Retains step f (entries_from index (slot ∷ slots)) (entries_from index (new ∷ []) ++ later)
   in_front f next index Vacant new slots later kept rest = search (rules)
-  in_front f next index (Occupied generation old) new slots later (keep, left, called, is) rest = (
-    keep,
-    left,
-    next,
-    later,
-    called,
-    rest,
-    ap (λ (s : Slot X). entries_from index (s ∷ []) ++ later) is ∙ by keep,
-  )
-    where
-      by : (b : Bool)
-          → entries_from index (cond b (Occupied generation left) Vacant ∷ []) ++ later
-          ≡ cond b ((record { index = index; generation = generation }, left) ∷ later) later
-      by true = refl
-      by false = refl
+  in_front f next index (Occupied generation old) new slots later (keep, left, called, is) rest =
+      search (rules)
 
   -- The walk has come to a slot: those from it on are as they were, and whatever f makes of them
   -- completes its work.

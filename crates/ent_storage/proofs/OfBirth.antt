@@ -14,7 +14,7 @@ use Rattle.std.proofs.lemmas.List.Elements.{Contains-push, Contains-push_cases}
 use Rattle.std.specs.FinMap as finite
 use Rattle.std.specs.FinMap.{FinMap}
 use Rattle.ent_handle.specs.declared.birth.Birth.{Birth}
-use Rattle.ent_handle.specs.Birth.{birth_cmp, birth_cmp-IsAntisymmetric, birth_cmp_total}
+use Rattle.ent_handle.specs.Birth.{birth_cmp}
 use Rattle.ent_handle.specs.Handle.{Handle, handle_cmp, handle_cmp_total as total}
 use Rattle.ent_handle.specs.Handle.{handle_cmp-IsAntisymmetric as same}
 use Rattle.ent_storage.specs.Living.{LivingEntity}
@@ -28,10 +28,7 @@ use Rattle.ent_storage.proofs.Keys.{apart, same_or_apart}
 -- ---- births that are tested
 
 pub same_birth : (a b : Birth) → eq_by_cmp birth_cmp a b ≡ true → a ≡ b
-same_birth a b e = elim (same_or_apart birth_cmp_total birth_cmp-IsAntisymmetric a b) [
-  | inl is ↦ is
-  | inr n ↦ absurd (false≢true (sym (apart birth_cmp_total birth_cmp-IsAntisymmetric a b n) ∙ e))
-]
+same_birth a b e = search (rules, same_or_apart, false≢true, apart)
 
 pub other_birth : (a b : Birth) → eq_by_cmp birth_cmp a b ≡ false → a ≢ b
 other_birth a b e is = search (rules, false≢true)

@@ -57,12 +57,7 @@ module _ (living : List LivingEntity) (index : FinMap handle_cmp ℕ)
       placed_left : (q : Handle) (k j : ℕ) → q ≢ h → finite.get without q ≡ Some k
           → finite.get index q ≡ Some j → (j + 1 < length living) ⊎ (j + 1 ≡ length living)
           → (k < length left) × ((d : LivingEntity) → (get_or left k d).handle ≡ q)
-      placed_left q k j n at old (inl room) =
-          let k_is : k ≡ j = same_place k j (sym at ∙ now.stay q j n room old) in
-          let kept = λ (d : LivingEntity). rest.others j d (elsewhere q j d n old) room in
-          let is = λ (d : LivingEntity). ap (λ (r : LivingEntity). r.handle) (kept d)
-          ∙ (indexed.each_place q j old).1 d in
-          rw k_is (omega (arith, rest.one_less), is)
+      placed_left q k j n at old (inl room) = search (rules, same_place, elsewhere)
       placed_left q k j n at old (inr last) =
           let here = there in
           let room : i + 1 < length living = omega (arith, elsewhere q j (some_entity h) n old) in
@@ -81,10 +76,8 @@ module _ (living : List LivingEntity) (index : FinMap handle_cmp ℕ)
           search (rules, placed_left, not_last)
 
       pub indexed_without : IsIndexed left without
-      indexed_without = record {
-        each_entity = λ k l d. each_entity_left k d l (same_number k i);
-        each_place = λ q k at. each_place_left q k at (same_or_apart total same q h) _ refl;
-      }
+      indexed_without =
+          search (rules, each_entity_left, same_number, each_place_left, same_or_apart)
 
       -- the map is without that handle
       get_left : (q : Handle) → (q ≡ h) ⊎ (q ≢ h) → (o : Option ℕ) → finite.get index q ≡ o
@@ -102,7 +95,6 @@ module _ (living : List LivingEntity) (index : FinMap handle_cmp ℕ)
           let now_at = get_placed left without indexed_without q in
           elim (not_last j (length living) (indexed.each_place q j old).0) [
             | inl room ↦
-                let kept = rest.others j (some_entity h) apart room in
                 let is = now_at j (some_entity h) (now.stay q j n room old) in
                 grind (arith, remove_tells total same)
             | inr last ↦
@@ -144,7 +136,6 @@ module _ (living : List LivingEntity) (index : FinMap handle_cmp ℕ)
         stay = λ q k n l at.
             grind (arith, insert_tells total same, remove_tells total same, placed_last);
         move = λ q k n l last at.
-            let k_is : length living - 1 ≡ k = omega arith in
             let q_is = (indexed.each_place q k at).1 (some_entity h) in
             let m_is = is (some_entity h) in
             grind (arith, insert_tells total same);
@@ -167,7 +158,6 @@ module _ (living : List LivingEntity) (index : FinMap handle_cmp ℕ)
 
       pub moved_is_there : is_some (finite.get (finite.remove index h) entity.handle) ≡ true
       moved_is_there =
-          let h_is = not_gone living index indexed h i placed not_the_last _ was_last in
           let old = placed_last living index indexed h i placed not_the_last _ was_last in
           grind (arith, remove_tells total same)
 

@@ -1,57 +1,47 @@
-use Rattle.std.proofs.Common.{rules, ◌≡◌, ◌<◌, ◌∙◌, sym, ap, refl, length, slice_get, Some, set, arith}
-use Rattle.std.proofs.lemmas.Grind.{common_steps}
-use Rattle.std.proofs.lemmas.Option.{slice_get_read, same_Some}
+use Rattle.std.proofs.Common.{rules, ◌≡◌, ap, refl, set}
+use Rattle.std.proofs.lemmas.Option.{slice_get_read, slice_get_within, same_Some}
 use Rattle.std.specs.FinMap as finite
-use Rattle.ent_handle.specs.Handle.{Handle}
 use Rattle.ent_storage.specs.SparseMap.{SparseMap, values_of}
-use Rattle.ent_storage.proofs.Sparse.{standing, position_is, over_positioned, written_values, had}
+use Rattle.ent_storage.proofs.Sparse.{IsStanding, standing, in_slots, over_positioned}
+use Rattle.ent_storage.proofs.Sparse.{written_values}
+use Rattle.ent_storage.proofs.sparse_map.SparseMap.value_mut.Given.{Over}
+use Rattle.ent_storage.proofs.sparse_map.SparseMap.value_mut.Goals.{After-index-2}
 use Rattle.ent_storage.proofs.sparse_map.SparseMap.value_mut.Goals as goal
 
 pub index-requires-2 : goal.index-requires-2
 index-requires-2 g c =
     let values = ap (λ (m : SparseMap g.row.T.Denot). m.values) c.self.view_is in
-    let within = (standing c.self.inside.entries.items c.self.inside.positions.items c.self.invariant _ values c.args.handle c.requires).within in
+    let within = in_slots _ _ c.self.invariant _ values c.args.handle c.requires in
     search (rules, within)
+
+-- the entry of the handle is at the position
+here : (g : Over) (c : After-index-2 g)
+    → IsStanding c.self.inside.entries.items c.args.handle c.index-2.result.now
+here g c =
+    let values = ap (λ (m : SparseMap g.row.T.Denot). m.values) c.self.view_is in
+    standing _ _ c.self.invariant _ values c.args.handle c.requires _ _ c.index.ensures
+    c.index-2.ensures
 
 pub index_mut-requires : goal.index_mut-requires
 index_mut-requires g c =
-    let values = ap (λ (m : SparseMap g.row.T.Denot). m.values) c.self.view_is in
-    let s = standing c.self.inside.entries.items c.self.inside.positions.items c.self.invariant _ values c.args.handle c.requires in
-    let k_is : c.index-2.result.now ≡ s.k =
-    position_is _ _ _ _ _ s.position c.index.ensures c.index-2.ensures in
-    let inside = s.inside in
-    search (rules, k_is, inside)
+    let was = here g (goal.at.index_mut-requires g c).After-index-2 in
+    search (rules, was, slice_get_within)
 
 pub invariant_of-self-lent : goal.invariant_of-self-lent
 invariant_of-self-lent g c w =
-    let values = ap (λ (m : SparseMap g.row.T.Denot). m.values) c.self.view_is in
-    let s = standing c.self.inside.entries.items c.self.inside.positions.items c.self.invariant _ values c.args.handle c.requires in
-    let k_is : c.index-2.result.now ≡ s.k =
-    position_is _ _ _ _ _ s.position c.index.ensures c.index-2.ensures in
-    let x = c.index_mut.result.now in
-    let here = slice_get_read c.self.inside.entries.items _ c.index-2.result.now x refl
-    (rw k_is s.inside) c.index_mut.ensures.value in
-    over_positioned c.self.inside.entries.items c.self.inside.positions.items c.self.invariant
-    c.index-2.result.now x.0 x.1 here x.0 w refl
+    let was = here g (goal.at.invariant_of-self-lent g c).After-index-2 in
+    let is : c.index_mut.result.now ≡ (c.args.handle, was.v) =
+    search (rules, was, slice_get_read, slice_get_within, same_Some) in
+    rw is (over_positioned _ _ c.self.invariant _ _ _ was.entry _ w refl)
 
 pub returns : goal.returns
 returns g c =
-    let values = ap (λ (m : SparseMap g.row.T.Denot). m.values) c.self.view_is in
-    let s = standing c.self.inside.entries.items c.self.inside.positions.items c.self.invariant _ values c.args.handle c.requires in
-    let k_is : c.index-2.result.now ≡ s.k =
-    position_is _ _ _ _ _ s.position c.index.ensures c.index-2.ensures in
-    let x = c.index_mut.result.now in
-    let here = slice_get_read c.self.inside.entries.items _ c.index-2.result.now x refl
-    (rw k_is s.inside) c.index_mut.ensures.value in
-    let x_is : x ≡ (c.args.handle, s.v) =
-    same_Some _ _ (sym here ∙ ap (slice_get c.self.inside.entries.items) k_is ∙ s.entry) in
-    let key : x.0 ≡ c.args.handle = ap (λ (y : Handle × g.row.T.Denot). y.0) x_is in
+    let was = here g (goal.at.returns g c).After-index-2 in
+    let is : c.index_mut.result.now ≡ (c.args.handle, was.v) =
+    search (rules, was, slice_get_read, slice_get_within, same_Some) in
     let written : (w : g.row.T.Denot)
-    → values_of (set c.self.inside.entries.items c.index-2.result.now (x.0, w))
+    → values_of (set c.self.inside.entries.items c.index-2.result.now (c.index_mut.result.now.0, w))
     ≡ finite.insert (values_of c.self.inside.entries.items) c.args.handle w =
-    λ w. written_values c.self.inside.entries.items c.self.inside.positions.items c.self.invariant
-    c.index-2.result.now x.0 x.1 here x.0 w refl refl
-    ∙ ap (λ h. finite.insert (values_of c.self.inside.entries.items) h w) key in
-    let got = had c.self.inside.entries.items c.self.inside.positions.items c.self.invariant
-    c.index-2.result.now x here c.args.handle key in
-    search (rules, written, got, c.self.view_is)
+    λ w. rw is (written_values _ _ c.self.invariant _ _ _ was.entry _ w refl refl) in
+    let had = was.has in
+    search (rules, written, is, had, c.self.view_is)

@@ -1,10 +1,11 @@
-use Rattle.std.proofs.Common.{◌≡◌, ◌≤◌, ℕ, List, length, get_or, slice_get, Some, arith, rules}
+use Rattle.std.proofs.Common.{◌≡◌, ◌≤◌, ◌∙◌, ap, ℕ, List, length, get_or, slice_get, Some, arith, rules}
 use Rattle.std.specs.Ordering.{nat_cmp}
 use Rattle.std.proofs.lemmas.Int.{to_z-of_z}
 use Rattle.std.proofs.lemmas.Option.{slice_get-get_or}
 use Rattle.std.specs.FinMap as map
-use Rattle.ent_storage.specs.SparseSet.{IsDense}
-use Rattle.ent_storage.proofs.Dense.{IsFilled, filled, has, pair_here, removed_values, popped_dense}
+use Rattle.ent_storage.specs.SparseSet.{Column, IsDense}
+use Rattle.ent_storage.proofs.ElementsAt.{IsFilled, filled}
+use Rattle.ent_storage.proofs.Dense.{has, pair_here, removed_values, popped_dense}
 use Rattle.ent_storage.proofs.Dense.{refilled_dense, in_sparse, removed_none}
 use Rattle.ent_storage.proofs.sparse_set.SparseSet.remove.Goals.{After-swap_remove-value}
 use Rattle.ent_storage.proofs.sparse_set.SparseSet.remove.Goals.{After-index, Else-position-len}
@@ -44,9 +45,8 @@ without : (c : After-swap_remove-value) (sparse : List ℕ)
     → map.from_entries {R = nat_cmp} c.swap_remove-value.new.self.items
     ≡ map.remove c.args.self.now.values c.args.place
 without c sparse dense =
-    let here = here c in
-    let rest = rest c in
-    search (rules, removed_values, here, rest, c.self.view_is)
+    removed_values _ _ c.self.invariant _ c.args.place _ (here c) _ (rest c) sparse dense
+    ∙ ap (λ (column : Column). map.remove column.values c.args.place) c.self.view_is
 
 -- the pair that now stands there
 read : (c : After-index) → slice_get c.swap_remove-value.new.self.items c.in_ok-position.position
@@ -62,10 +62,9 @@ last c = omega (arith, c.if-position-len.false, c.len.ensures, c.swap_remove-val
 pub index_mut-requires : goal.index_mut-requires
 index_mut-requires c =
     let at = goal.at.index_mut-requires c in
-    let here = here at.After-swap_remove-value in
-    let rest = rest at.After-swap_remove-value in
-    let read = read at.After-index in
-    search (rules, in_sparse, here, rest, read)
+    let within = in_sparse _ _ c.self.invariant _ _ _ (here at.After-swap_remove-value) _
+    (rest at.After-swap_remove-value) _ _ (read at.After-index) in
+    search (rules, within)
 
 pub invariant_of-self : goal.invariant_of-self
 invariant_of-self c =

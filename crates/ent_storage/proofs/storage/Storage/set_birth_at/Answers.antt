@@ -1,16 +1,11 @@
-use Rattle.std.proofs.Common.{rules, ◌≡◌, min, Some, slice_get, ap, ◌∙◌}
+use Rattle.std.proofs.Common.{rules, ◌≡◌, min, Some, ap, ◌∙◌}
 use Rattle.std.specs.FinMap as map
 use Rattle.ent_storage.specs.EntityMap.{Store, with_birth}
-use Rattle.ent_storage.specs.Indexed.{counted, handles_by_place}
+use Rattle.ent_storage.specs.Indexed.{counted}
 use Rattle.ent_storage.proofs.Placed.{placed_from_place, at_place}
 use Rattle.ent_storage.proofs.Reborn.{reborn_entities, reborn_handles, reborn_kept, length_reborn}
 use Rattle.ent_storage.proofs.storage.Storage.set_birth_at.Goals.{After-self}
 use Rattle.ent_storage.proofs.storage.Storage.set_birth_at.Goals as goal
-
--- the place is one of the entities', and the index has it
-at : (c : After-self) → slice_get (handles_by_place c.self.inside.living.entities) c.args.place
-    ≡ Some c.args.handle
-at c = ap (λ (s : Store). slice_get s.places c.args.place) c.self.view_is ∙ c.requires
 
 placed : (c : After-self) → map.get (counted c.self.inside.living.entities
     c.self.inside.index.by_handle) c.args.handle ≡ Some c.args.place
