@@ -3,3 +3,5 @@ pub mod Going
 pub mod Splitting
 pub mod Endings
 pub mod Closings
+pub mod Accounts
+pub mod Losing

@@ -2,6 +2,7 @@
 //! share. As long as nobody goes past its block, which handle each is given depends on no other.
 #![tactic(auto)]
 
+mod accounting;
 mod dealing;
 mod ended;
 mod opening;

@@ -49,6 +49,9 @@ pub fn open_with_overflow(
     let Ok(mut callers) = Vec::with_capacity(alloc, count) else {
         return Err((entities, Memory));
     };
+    let Ok(came) = Vec::with_capacity(alloc, count) else {
+        return Err((entities, Memory));
+    };
     let Ok(ends) = Vec::with_capacity(alloc, count + 1) else {
         return Err((entities, Memory));
     };
@@ -62,7 +65,7 @@ pub fn open_with_overflow(
     deal(&shared, &mut dealer, dealt(&parts));
     hand_out(&shared, &mut dealer, &parts, &mut reservers, &mut callers);
     Ok((
-        Overflow::new(shared, dealer, parts, ends, returned),
+        Overflow::new(shared, dealer, parts, came, ends, returned),
         callers,
     ))
 }

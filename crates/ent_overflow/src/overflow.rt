@@ -1,6 +1,6 @@
 ghost use Rattle.std.specs.Prelude.{◌≡◌, ℕ, ◌+◌, ◌-◌, ◌<◌, ◌≤◌, ◌<ℤ◌, ◌↔◌, ◌++◌, ◌∷◌, []};
-ghost use Rattle.std.specs.Prelude.{length, take, drop, map, sum, All, AllPairs, Contains};
-ghost use Rattle.std.specs.Prelude.{Ok, Err, vec_len};
+ghost use Rattle.std.specs.Prelude.{length, take, drop, map, sum, sum_by, min, All, AllPairs, Contains};
+ghost use Rattle.std.specs.Prelude.{Ok, Err, IsTrue, vec_len};
 ghost use Rattle.std.specs.Vec.{vec_capacity};
 ghost use Rattle.ent_handle.specs.Handle.{Handle as HandleValue};
 ghost use Rattle.ent_alloc.specs.Sequential.{reply_from, listed, listed_alone, after_take};
@@ -9,10 +9,13 @@ ghost use Rattle.ent_alloc.specs.declared.refused.Refused.TheVariants.{Quota};
 ghost use Rattle.ent_shared.specs.Phase.{IsOf as IsReserverOf};
 ghost use Rattle.ent_shared.specs.Order.{reservations_of};
 ghost use Rattle.ent_shared.specs.Replies.{Tells, Reserves};
-ghost use Rattle.ent_blocks.specs.Blocks.{rest_of, unused, after_use, dealt};
+ghost use Rattle.ent_shared.specs.Order.{handles_given};
+ghost use Rattle.ent_shared.specs.Record.{requested_by};
+ghost use Rattle.ent_blocks.specs.Blocks.{rest_of, unused, after_use, dealt, are_among, accounted};
 ghost use Rattle.ent_overflow.specs.Overflow.{IsOf, IsPhase, blocks_of, past_of, past_records};
 ghost use Rattle.ent_overflow.specs.Overflow.{past_history, past_block, IsInOrder};
 
+use crate::accounting::account;
 use crate::dealing::dealt;
 use crate::ended::Ended;
 use crate::overflow_reserver::OverflowReserver;
@@ -34,6 +37,7 @@ pub struct Overflow {
     dealer: Reserver,
     parts: Vec<Part>,
     // Room for what comes back at the close.
+    came: Vec<Part>,
     ends: Vec<Part>,
     reservers: Vec<Reserver>,
 }
@@ -55,7 +59,8 @@ impl Model for Overflow {
 
     ghost invariant = { λ o. IsPhase o.shared o.dealer o.parts.items
         × (o.ends.items ≡ []) × (length o.parts.items + 1 ≤ vec_capacity o.ends)
-        × (o.reservers.items ≡ []) × (length o.parts.items + 1 ≤ vec_capacity o.reservers) };
+        × (o.reservers.items ≡ []) × (length o.parts.items + 1 ≤ vec_capacity o.reservers)
+        × (o.came.items ≡ []) × (length o.parts.items ≤ vec_capacity o.came) };
 }
 
 impl Overflow {
@@ -63,10 +68,13 @@ impl Overflow {
         shared: Shared,
         dealer: Reserver,
         parts: Vec<Part>,
+        came: Vec<Part>,
         ends: Vec<Part>,
         reservers: Vec<Reserver>,
     ) -> Self
         requires phase { IsPhase shared dealer parts.items }
+        requires none_came { came.items ≡ [] }
+        requires came { length parts.items ≤ vec_capacity came }
         requires no_ends { ends.items ≡ [] }
         requires ends { length parts.items + 1 ≤ vec_capacity ends }
         requires no_reservers { reservers.items ≡ [] }
@@ -77,6 +85,7 @@ impl Overflow {
             shared,
             dealer,
             parts,
+            came,
             ends,
             reservers,
         }
@@ -194,11 +203,56 @@ impl Overflow {
             parts,
             mut ends,
             mut reservers,
+            ..
         } = self;
         let before = dealt(&parts);
         reservers.push_reserved(dealer);
         take_apart(callers, &mut ends, &mut reservers);
         let mut entities = shared.close(reservers);
+        let requested = entities.asked() - u64::from(before);
+        let given = entities.reserved() - before;
+        cancel_requests(&mut entities);
+        append_past(&mut ends, before, given);
+        Ended::new(entities, ends, requested)
+    }
+
+    /// Ends the phase although some callers are lost: they were dropped, as by a thread that
+    /// panicked. The others are in the order in which they were made. It takes no memory.
+    ///
+    /// What is left of a lost one's block counts as used. Which requests past a block were refused
+    /// is lost too. So the pool behind the blocks counts as reserved, as far as requests went, also
+    /// those handles that nobody got.
+    pub fn close_lost(self, callers: Vec<OverflowReserver>) -> Ended
+        requires own { All (IsOf self) callers.items }
+        requires among { IsTrue (are_among self.blocks (blocks_of callers.items)) }
+        ensures start { result.phase.start ≡ self.shared.start }
+        ensures rows { result.phase.rows ≡ self.shared.rows }
+        ensures blocks { let left = length self.shared.start.pool - dealt self.blocks in
+            result.phase.blocks ≡ accounted self.blocks (blocks_of callers.items)
+            ++ past_block (dealt self.blocks) (min result.requested left) }
+
+        // It counts what the callers that are here have requested past their blocks.
+        ensures least { sum_by (λ r. requested_by r) (past_records callers.items)
+            ≤ result.requested }
+
+        // What they were given past their blocks is reserved.
+        ensures given { All (λ r. All
+            (Contains (take result.requested (drop (dealt self.blocks) self.shared.start.pool)))
+            (handles_given r)) (past_records callers.items) }
+    {
+        let Overflow {
+            shared,
+            dealer,
+            parts,
+            mut came,
+            mut ends,
+            mut reservers,
+        } = self;
+        let before = dealt(&parts);
+        reservers.push_reserved(dealer);
+        take_apart(callers, &mut came, &mut reservers);
+        account(&parts, &came, &mut ends);
+        let mut entities = shared.close_lost(reservers);
         let requested = entities.asked() - u64::from(before);
         let given = entities.reserved() - before;
         cancel_requests(&mut entities);

@@ -67,7 +67,7 @@ new-requires-clause-ends c =
       arith,
       ap length c.in-Ok.ensures.blocks,
       length-from 0 (length c.args.entities.allocator.pool) c.args.sizes.now,
-      c.in-Ok-with_capacity-2.ensures.capacity,
+      c.in-Ok-with_capacity-3.ensures.capacity,
     )
 
 pub new-requires-clause-reservers : goal.new-requires-clause-reservers
@@ -76,5 +76,14 @@ new-requires-clause-reservers c =
       arith,
       ap length c.in-Ok.ensures.blocks,
       length-from 0 (length c.args.entities.allocator.pool) c.args.sizes.now,
-      c.in-Ok-with_capacity-3.ensures.capacity,
+      c.in-Ok-with_capacity-4.ensures.capacity,
+    )
+
+pub new-requires-clause-came : goal.new-requires-clause-came
+new-requires-clause-came c =
+    omega (
+      arith,
+      ap length c.in-Ok.ensures.blocks,
+      length-from 0 (length c.args.entities.allocator.pool) c.args.sizes.now,
+      c.in-Ok-with_capacity-2.ensures.capacity,
     )
