@@ -11,6 +11,7 @@ mod kit;
 #[rustfmt::skip]
 #[path = "../../../forgeni/src/proved/mod.rs"]
 mod proved;
+#[allow(unused_imports, unused_macros)] // Only its impls are used here.
 #[path = "../../../forgeni/src/shown.rs"]
 mod shown;
 #[allow(unused_imports)] // Only its impls are used here.
