@@ -101,8 +101,9 @@ fn main() {
         components::tables();
         println!();
     }
-    // Other forms of a map, which the page has no place for: only by its name.
-    if named.iter().any(|it| it == "layouts") {
+    // Other forms of a map, which the page has no place for, and what takes long: only by their names.
+    let is_named = |name: &str| named.iter().any(|it| it == name);
+    if is_named("layouts") {
         layouts::table();
         println!();
     }
@@ -114,7 +115,7 @@ fn main() {
         threads::table();
         println!();
     }
-    if wanted("blocks") {
+    if is_named("blocks") {
         blocks::tables();
         println!();
     }
