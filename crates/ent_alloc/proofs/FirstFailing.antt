@@ -1,6 +1,6 @@
 -- Which of some tests fails first.
 use Rattle.std.proofs.Common.{◌≡◌, refl, sym, ap, ◌∙◌, ℕ, zero, suc, ◌+◌, ◌<◌, Bool, true, false}
-use Rattle.std.proofs.Common.{List, [], ◌∷◌, ◌++◌, map, Option, None, Some, arith, ◌||◌}
+use Rattle.std.proofs.Common.{List, [], ◌∷◌, ◌++◌, map, Option, None, Some, arith, ◌||◌, rules}
 use Rattle.std.specs.List.{list_any, range_with_len}
 use Rattle.ent_alloc.specs.FirstFault.{Test, first_failing}
 use Rattle.ent_alloc.specs.declared.image_fault.ImageFault.{ImageFault}
@@ -68,10 +68,7 @@ module _ (test : ℕ → Test) where
       → ((j : ℕ) → j < k → (test (from + j)).0 ≡ true) → (test (from + k)).0 ≡ false
       → first_failing (map test (range_with_len from count)) ≡ Some (test (from + k)).1
   fails_at from zero k lt before fails = absurd (omega arith)
-  fails_at from (suc count) zero lt before fails =
-      let at : from + 0 ≡ from = omega arith in
-      failed (test from) (map test (range_with_len (from + 1) count))
-      (ap (λ k. (test k).0) (sym at) ∙ fails) ∙ ap (λ k. Some (test k).1) (sym at)
+  fails_at from (suc count) zero lt before fails = search (rules, failed)
   fails_at from (suc count) (suc k) lt before fails =
       let at : from + 0 ≡ from = omega arith in
       let next : from + 1 + k ≡ from + suc k = omega arith in

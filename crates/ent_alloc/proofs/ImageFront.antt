@@ -1,7 +1,7 @@
 -- What the tests of the first forty bytes answer.
 use Rattle.std.proofs.Common.{◌≡◌, ◌≢◌, refl, sym, ap, ◌∙◌, ℕ, ◌+◌, ◌-◌, ◌*◌, ◌^◌, ◌<◌, ◌≤◌, ◌⊎◌}
-use Rattle.std.proofs.Common.{inl, inr, Bool, true, false, ◌&&◌, ◌||◌, eqb, leb, ltb, List, [], ◌∷◌}
-use Rattle.std.proofs.Common.{◌++◌, length, drop, Option, None, Some, arith}
+use Rattle.std.proofs.Common.{Bool, true, false, ◌&&◌, ◌||◌, eqb, leb, ltb, List, [], ◌∷◌, ◌++◌}
+use Rattle.std.proofs.Common.{length, drop, Option, None, Some, arith, rules}
 use Rattle.std.specs.Prelude.{nat_eq}
 use Rattle.std.specs.List.{starts_with}
 use Rattle.std.proofs.lemmas.Bool.{eq-eqb, ne_eqb, le-leb, lt-leb, leb-true, ltb-true, lt-ltb}
@@ -87,10 +87,7 @@ module _ (bytes more : List ℕ) (is : bytes ≡ long letters ++ more) where
         ∙ passed (length_test bytes) (version_test bytes ∷ []) (le-leb 40 (length bytes) enough)
 
     pub version_fault : number ≢ version → first_failing (front_tests bytes) ≡ Some (Version number)
-    version_fault other = to_version
-        ∙ failed (version_test bytes) []
-        (ne_eqb (word_at bytes 8) version (λ same. other (sym version_is ∙ same)))
-        ∙ ap (λ n. Some (Version n)) version_is
+    version_fault other = search (rules, to_version, failed, ne_eqb, version_is)
 
     pub front_passes : number ≡ version → first_failing (front_tests bytes) ≡ None
     front_passes same = to_version
@@ -194,26 +191,14 @@ limits_true h are = and_from (leb 1 h.slots && leb 1 h.generations) (ltb h.gener
 limits_false : (h : Header) → h.slots < 2 ^ 32
     → ¬ (AreLimits (record { slots = h.slots; generations = h.generations }))
     → in_limits h ≡ false
-limits_false h fits not = is_false (in_limits h) (λ is.
-    let both = and_parts (leb 1 h.slots && leb 1 h.generations) (ltb h.generations (2 ^ 31)) is in
-    let least = and_parts (leb 1 h.slots) (leb 1 h.generations) both.0 in
-    not (record {
-      some_slot = leb-true 1 h.slots least.0;
-      slots = fits;
-      some_generation = leb-true 1 h.generations least.1;
-      generations = ltb-true h.generations (2 ^ 31) both.1;
-    }))
+limits_false h fits not = search (rules, is_false, and_parts, leb-true, ltb-true)
 
 counts_true : (h : Header) → h.made ≤ h.slots → h.waiting ≤ h.made → in_counts h ≡ true
 counts_true h few wait = and_from (leb h.made h.slots) (leb h.waiting h.made)
     (le-leb h.made h.slots few) (le-leb h.waiting h.made wait)
 
 counts_false : (h : Header) → (h.slots < h.made) ⊎ (h.made < h.waiting) → in_counts h ≡ false
-counts_false h over = is_false (in_counts h) (λ is.
-    let both = and_parts (leb h.made h.slots) (leb h.waiting h.made) is in
-    let few = leb-true h.made h.slots both.0 in
-    let wait = leb-true h.waiting h.made both.1 in
-    elim over [ inl more ↦ omega arith | inr more ↦ omega arith ])
+counts_false h over = search (rules, is_false, and_parts, leb-true)
 
 abbrev given : Header → ℕ
 given h = h.waiting + (h.slots - h.made)
@@ -224,44 +209,17 @@ or_true_right false = refl
 
 all_given : (asked reserved available : ℕ) → (asked ≤ available → reserved ≡ asked)
     → (ltb available asked || eqb reserved asked) ≡ true
-all_given asked reserved available all = elim (cases_lt available asked) [
-  | inl scarce ↦ ap (λ b. b || eqb reserved asked) (lt-ltb available asked scarce)
-  | inr enough ↦ ap (λ b. ltb available asked || b) (eq-eqb reserved asked (all enough))
-      ∙ or_true_right (ltb available asked)
-]
+all_given asked reserved available all = search (rules, cases_lt, lt-ltb, eq-eqb, or_true_right)
 
 given_all : (asked reserved available : ℕ)
     → (ltb available asked || eqb reserved asked) ≡ true → asked ≤ available → reserved ≡ asked
-given_all asked reserved available is enough = elim (cases_eq reserved asked) [
-  | inl same ↦ same
-  | inr other ↦
-      let first = le-ltb available asked enough in
-      let second = ne_eqb reserved asked other in
-      absurd (false≢true ((λ i. sym first i || sym second i) ∙ is))
-]
+given_all asked reserved available is enough = search (rules, cases_eq, le-ltb, ne_eqb, false≢true)
 
 requests_true : (h : Header) → AreServed h.asked h.reserved (given h) → in_requests h ≡ true
-requests_true h are =
-    and_from (leb h.asked (2 ^ 50) && leb h.reserved h.asked && leb h.reserved (given h))
-    (ltb (given h) h.asked || eqb h.reserved h.asked)
-    (and_from (leb h.asked (2 ^ 50) && leb h.reserved h.asked) (leb h.reserved (given h))
-    (and_from (leb h.asked (2 ^ 50)) (leb h.reserved h.asked) (le-leb h.asked (2 ^ 50) are.asked_in)
-    (le-leb h.reserved h.asked are.least)) (le-leb h.reserved (given h) are.within))
-    (all_given h.asked h.reserved (given h) are.all)
+requests_true h are = search (rules, and_from, le-leb, all_given)
 
 requests_false : (h : Header) → ¬ (AreServed h.asked h.reserved (given h)) → in_requests h ≡ false
-requests_false h not = is_false (in_requests h) (λ is.
-    let last = and_parts (leb h.asked (2 ^ 50) && leb h.reserved h.asked
-    && leb h.reserved (given h)) (ltb (given h) h.asked || eqb h.reserved h.asked) is in
-    let third = and_parts (leb h.asked (2 ^ 50) && leb h.reserved h.asked) (leb h.reserved (given h))
-    last.0 in
-    let first = and_parts (leb h.asked (2 ^ 50)) (leb h.reserved h.asked) third.0 in
-    not (record {
-      asked_in = leb-true h.asked (2 ^ 50) first.0;
-      least = leb-true h.reserved h.asked first.1;
-      within = leb-true h.reserved (given h) third.1;
-      all = given_all h.asked h.reserved (given h) last.1;
-    }))
+requests_false h not = search (rules, is_false, and_parts, leb-true, given_all)
 
 module _ (h : Header) (len : ℕ) (slots : List ℕ) where
   abbrev later : Option ImageFault
@@ -308,14 +266,7 @@ module _ (h : Header) (len : ℕ) (slots : List ℕ) where
             ∙ failed whole_test for_slots (ne_eqb len (40 + 12 * h.made) other)
 
         pub header_passes : len ≡ 40 + 12 * h.made → first_failing (header_tests h len) ≡ None
-        header_passes same =
-            passed (in_limits h, BadLimits)
-            ((in_counts h, Counts) ∷ ((in_requests h, Requests) ∷ (whole_test ∷ [])))
-            (limits_true h limits)
-            ∙ passed (in_counts h, Counts) ((in_requests h, Requests) ∷ (whole_test ∷ []))
-            (counts_true h few wait)
-            ∙ passed (in_requests h, Requests) (whole_test ∷ []) (requests_true h served)
-            ∙ passed whole_test [] (eq-eqb len (40 + 12 * h.made) same)
+        header_passes same = search (rules, passed, limits_true, counts_true, requests_true, eq-eqb)
 
         pub to_slots : len ≡ 40 + 12 * h.made → later ≡ first_failing for_slots
         to_slots same = to_length ∙ passed whole_test for_slots (eq-eqb len (40 + 12 * h.made) same)

@@ -1,7 +1,7 @@
 -- What records and pending indexes stand for has an image, which is that of the records in order.
-use Rattle.std.proofs.Common.{◌≡◌, refl, sym, ap, ◌∙◌, ℕ, suc, ◌+◌, ◌^◌, ◌<◌, ◌≤◌, true, cond, eqb}
-use Rattle.std.proofs.Common.{IsTrue, List, [], ◌∷◌, ◌++◌, length, get_or, arith, Option, None}
-use Rattle.std.proofs.Common.{Some}
+use Rattle.std.proofs.Common.{◌≡◌, refl, sym, ap, ◌∙◌, ℕ, suc, ◌+◌, ◌^◌, ◌<◌, ◌≤◌, rules, true}
+use Rattle.std.proofs.Common.{cond, eqb, IsTrue, List, [], ◌∷◌, ◌++◌, length, get_or, arith, Option}
+use Rattle.std.proofs.Common.{None, Some}
 use Rattle.std.specs.List.{flat_map, range_with_len}
 use Rattle.std.specs.FinSet as sets
 use Rattle.std.specs.FinMap as maps
@@ -179,12 +179,7 @@ module _ (limits : Limits) (records : List SlotRecord) (pending : List ℕ)
   waits_at : (index position : ℕ) → index < length records → (record_at records index).occupancy
       ≡ Pending position → (position < length pending)
       × (waiter stands position ≡ handle_at records index)
-  waits_at index position made is =
-      let within = tied.listed index position made is in (
-        within,
-        at position no_handle within
-            ∙ ap (handle_at records) (tied.back index position made is),
-      )
+  waits_at index position made is = search (rules, at, no_handle)
 
   pub slot_is : (index : ℕ) → index < length records → slot stands index
       ≡ kept (record_at records index)

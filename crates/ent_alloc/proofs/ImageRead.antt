@@ -1,8 +1,8 @@
 -- Slots read one by one: the records and the positions so far point at each other, and where a slot
 -- is refused no allocator has the bytes for its image.
-use Rattle.std.proofs.Common.{◌≡◌, ◌≢◌, refl, sym, ap, ◌∙◌, ℕ, ◌+◌, ◌^◌, ◌<◌, ◌≤◌, ◌⊎◌, inl, inr}
-use Rattle.std.proofs.Common.{Bool, true, false, List, [], ◌∷◌, ◌++◌, length, get_or, set, take}
-use Rattle.std.proofs.Common.{drop, arith}
+use Rattle.std.proofs.Common.{◌≡◌, ◌≢◌, refl, sym, ap, ◌∙◌, ℕ, ◌+◌, ◌^◌, ◌<◌, rules, ◌≤◌, ◌⊎◌, inl}
+use Rattle.std.proofs.Common.{inr, Bool, true, false, List, [], ◌∷◌, ◌++◌, length, get_or, set}
+use Rattle.std.proofs.Common.{take, drop, arith}
 use Rattle.std.proofs.lemmas.Grind.{common_steps}
 use Rattle.std.proofs.lemmas.Bool.{cases_lt, cases_eq, false≢true}
 use Rattle.std.proofs.lemmas.List.{length-append, length_push, get_or_push, get_or_append_left}
@@ -26,19 +26,12 @@ each_more : (P : ℕ → SlotRecord → Type 0) (records : List SlotRecord) (s :
     → ((index : ℕ) → index < length records → P index (record_at records index))
     → P (length records) s → (index : ℕ) → index < length (records ++ s ∷ [])
     → P index (record_at (records ++ s ∷ []) index)
-each_more P records s each last index lt = elim (cases_lt index (length records)) [
-  | inl before ↦ rw (get_or_append_left records (s ∷ []) no_slot index before) (each index before)
-  | inr after ↦
-      let at : index ≡ length records = omega (arith, length_push records s, lt) in
-      rw (at, get_or_push records s no_slot (length records) refl) last
-]
+each_more P records s each last index lt =
+    search (rules, cases_lt, get_or_append_left, length_push, get_or_push)
 
 count_more : (records : List SlotRecord) (s : SlotRecord) → length (occupants 0 (records ++ s ∷ []))
     ≡ length (occupants 0 records) + one (is_alive s.occupancy)
-count_more records s =
-    let joined = occupants-append 0 records (s ∷ []) in
-    let long = length-append (occupants 0 records) (occupants (0 + length records) (s ∷ [])) in
-    grind (arith, common_steps)
+count_more records s = search (rules, occupants-append, length-append, common_steps)
 
 old_stays : (records : List SlotRecord) (s : SlotRecord) (index : ℕ) → index < length records
     → record_at (records ++ s ∷ []) index ≡ record_at records index
@@ -96,10 +89,7 @@ module _ (limits : Limits) (records : List SlotRecord) (pending : List ℕ) (liv
       × (get_or (set pending position (length records)) at 0 ≡ get_or pending at 0))
 
   placed : (position at : ℕ) → position < length pending → Placed position at
-  placed position at lt = elim (cases_eq at position) [
-    | inl same ↦ inl (same, rw same (get_or-set_same pending position (length records) 0 lt))
-    | inr other ↦ inr (other, get_or-set_other pending position at (length records) 0 other)
-  ]
+  placed position at lt = search (rules, cases_eq, get_or-set_same, get_or-set_other)
 
   -- one that waits
   read_waiting : (generation position : ℕ) → IsGeneration limits generation → position < 2 ^ 32
@@ -175,20 +165,7 @@ pub read_all : (limits : Limits) (records : List SlotRecord) (pending : List ℕ
     → AreRead limits records pending live → AreLimits limits → length records ≤ limits.slots
     → ((position : ℕ) → position < length pending → get_or pending position 0 ≢ vacant)
     → AreTied limits records pending
-read_all limits records pending live read limited few taken = record {
-  limited = limited;
-  few = few;
-  least = λ index lt. (read.generations index lt).least;
-  greatest = λ index lt. (read.generations index lt).greatest;
-  made = λ position lt. read.made position lt (taken position lt);
-  forward = λ position lt. read.forward position lt (taken position lt);
-  listed = read.listed;
-  back = read.back;
-  rows = λ index row lt is.
-      let fits = read.numbers index lt in
-      let same = ap number_of is in
-      omega arith;
-}
+read_all limits records pending live read limited few taken = search (rules)
 
 -- ---- positions that were lent and came back
 
@@ -201,7 +178,4 @@ length-with_waiting pending Retired index = refl
 
 pub written_back : (len : ℕ) (items new : List ℕ) → length new ≡ length items → len ≡ length items
     → take len (new ++ drop (length new) items) ≡ new
-written_back len items new long all =
-    let none = drop_all (length new) items (omega arith) in
-    ap (λ rest. take len (new ++ rest)) none ∙ ap (take len) (append-nil new)
-    ∙ take_all len new (omega arith)
+written_back len items new long all = search (rules, drop_all, append-nil, take_all)

@@ -1,7 +1,6 @@
 -- Where a slot of an image is refused, no slots of an allocator have the bytes for their image.
-use Rattle.std.proofs.Common.{◌≡◌, ◌≢◌, refl, sym, ap, ◌∙◌, ℕ, zero, suc, ◌+◌, ◌-◌, ◌^◌, ◌<◌}
-use Rattle.std.proofs.Common.{◌≤◌, inl, inr, List, [], ◌∷◌, ◌++◌, length, get_or}
-use Rattle.std.proofs.Common.{arith}
+use Rattle.std.proofs.Common.{◌≡◌, ◌≢◌, refl, sym, ap, ◌∙◌, ℕ, zero, suc, ◌+◌, ◌-◌, ◌^◌, ◌<◌, rules}
+use Rattle.std.proofs.Common.{◌≤◌, inl, inr, List, [], ◌∷◌, ◌++◌, length, get_or, arith}
 use Rattle.std.specs.List.{flat_map, range_with_len}
 use Rattle.std.proofs.lemmas.Bool.{cases_eq}
 use Rattle.std.proofs.lemmas.List.{append_assoc}
@@ -10,15 +9,15 @@ use Rattle.ent_alloc.specs.Limits.{Limits, AreLimits}
 use Rattle.ent_alloc.specs.Roster.{Roster}
 use Rattle.ent_alloc.specs.Slots.{record_at}
 use Rattle.ent_alloc.specs.Image.{word, slot, slot_bytes, slots_bytes, AreSlots, number_of, kind_of}
-use Rattle.ent_alloc.specs.ImageRecords.{kept, record_bytes, IsGeneration, IsWritten, vacant, CanWait}
-use Rattle.ent_alloc.specs.ImageRecords.{AreRead}
+use Rattle.ent_alloc.specs.ImageRecords.{kept, record_bytes, IsGeneration, IsWritten, vacant}
+use Rattle.ent_alloc.specs.ImageRecords.{CanWait, AreRead}
 use Rattle.ent_alloc.specs.declared.slot_record.SlotRecord.{SlotRecord}
 use Rattle.ent_alloc.specs.declared.slot_record.Occupancy.{Occupancy}
 use Rattle.ent_alloc.specs.declared.slot_record.Occupancy.TheVariants.{Alive, AliveWithRow, Pending}
 use Rattle.ent_alloc.specs.declared.slot_record.Occupancy.TheVariants.{Retired}
 use Rattle.ent_alloc.proofs.ImageWords.{IsSmall, same_slot, same_parts, same_words}
 use Rattle.ent_alloc.proofs.ImageWords.{length-slot_bytes, kind_below}
-use Rattle.ent_alloc.proofs.ImageSlots.{waiter, small, slot_waits, waits_from, written, no_handle}
+use Rattle.ent_alloc.proofs.ImageSlots.{waiter, small, slot_waits, waits_from, written}
 
 -- ---- pieces and what follows them
 
@@ -41,13 +40,7 @@ module _ (f : ℕ → List ℕ) (g : SlotRecord → List ℕ) (n : ℕ) (long_f 
   split : (from count : ℕ) (records : List SlotRecord) (rest : List ℕ) → length records ≤ count
       → flat_map f (range_with_len from count) ≡ flat_map g records ++ rest
       → IsSplit f g from count records rest
-  split from count [] rest le same =
-      let at : from + 0 ≡ from = omega arith in
-      let all : count - 0 ≡ count = omega arith in
-      record {
-        each = λ k lt. absurd (omega arith);
-        left = sym same ∙ (λ i. flat_map f (range_with_len (sym at i) (sym all i)));
-      }
+  split from count [] rest le same = search (rules)
   split from zero (r ∷ records) rest le same = absurd (omega arith)
   split from (suc count) (r ∷ records) rest le same =
       let parts = same_parts n (f from) (flat_map f (range_with_len (from + 1) count)) (g r)
@@ -87,11 +80,7 @@ pub not_written : (limits : Limits) (g k n : ℕ) (rest : List ℕ) → AreLimit
     → (s : SlotRecord) (more : List ℕ) → IsWritten limits s.generation s.occupancy
     → word g ++ (word k ++ (word n ++ rest)) ≢ slot_bytes s ++ more
 not_written limits g k n rest within hg hk hn none s more is same =
-    let fits = written_below limits within s.generation s.occupancy is in
-    let first = same_words s.generation g _ _ fits.0 hg (sym (slot_in_words s more) ∙ sym same) in
-    let second = same_words (kind_of s.occupancy) k _ _ (kind_below s.occupancy) hk first.1 in
-    let third = same_words (number_of s.occupancy) n _ _ fits.1 hn second.1 in
-    none s is first.0 second.0 third.0
+    search (rules, written_below, same_words, slot_in_words, kind_below)
 
 -- ---- slots whose image begins with these records
 
@@ -110,16 +99,7 @@ module _ (r : Roster) (are : AreSlots r) where
   same_kept : (index : ℕ) (s : SlotRecord) → IsGeneration r.limits s.generation
       → number_of s.occupancy < 2 ^ 32 → slot_bytes (slot r index) ≡ record_bytes s
       → slot r index ≡ kept s
-  same_kept index s generation number same =
-      same_slot (slot r index) (kept s) (small r are index) (small_kept s.generation s.occupancy
-      (let most = generation.greatest in omega (arith, are.limits.generations)) number) same
-    where
-      small_kept : (g : ℕ) (t : Occupancy) → g < 2 ^ 32 → number_of t < 2 ^ 32
-          → IsSmall (kept (record { generation = g; occupancy = t }))
-      small_kept g Alive below fits = record { generation = below; number = fits }
-      small_kept g (AliveWithRow row) below fits = record { generation = below; number = fits }
-      small_kept g (Pending position) below fits = record { generation = below; number = fits }
-      small_kept g Retired below fits = record { generation = omega arith; number = fits }
+  same_kept index s generation number same = search (rules, same_slot, small, IsSmall)
 
   -- a record that waits, if the slot is written so
   waits_as : (index position : ℕ) (s : SlotRecord) → slot r index ≡ kept s
@@ -134,10 +114,7 @@ module _ (r : Roster) (are : AreSlots r) where
       (read : AreRead r.limits records pending live) (le : length records ≤ r.made)
       (same : slots_bytes r ≡ flat_map record_bytes records ++ rest) where
     so_far : (k : ℕ) → k < length records → slot r k ≡ kept (record_at records k)
-    so_far k lt =
-        let at : 0 + k ≡ k = omega arith in
-        same_kept k (record_at records k) (read.generations k lt) (read.numbers k lt)
-        (ap piece (sym at) ∙ (begins records rest le same).each k lt)
+    so_far k lt = search (rules, same_kept, begins)
 
     -- each position has a slot
     pub position_taken : length records ≡ r.made → length pending ≡ length r.pending
@@ -145,13 +122,11 @@ module _ (r : Roster) (are : AreSlots r) where
     position_taken all long position lt vacant_there =
         let h = waiter r position in
         let below : position < length r.pending = omega arith in
-        let made = are.waiting_made position no_handle below in
         let index_made : h.index < length records = omega arith in
         let is = sym (so_far h.index index_made) ∙ slot_waits r are position below in
         let waits : (record_at records h.index).occupancy ≡ Pending position =
         ap (λ (s : SlotRecord). s.occupancy) is in
         let back = read.back h.index position index_made waits in
-        let none : h.index ≡ vacant = sym back ∙ vacant_there in
         omega (arith, are.limits.slots, are.made)
 
     -- a slot that waits where another one does
@@ -174,7 +149,6 @@ module _ (r : Roster) (are : AreSlots r) where
                     let before : j < length records = read.made position below taken in
                     let there = waits_as j position (record_at records j) (so_far j before)
                     (read.forward position below taken) in
-                    let one : j ≡ length records = sym there.1 ∙ here.1 in
                     absurd (omega arith)
               ],
             )

@@ -1,7 +1,7 @@
 -- Records without the rows of their occupants: they point at the pending indexes as before, and stand
 -- for the same slots without rows.
-use Rattle.std.proofs.Common.{◌≡◌, ◌≢◌, refl, sym, ap, ◌∙◌, subst, ℕ, ◌+◌}
-use Rattle.std.proofs.Common.{List, [], ◌∷◌, length, map, get_or, None, arith, cond}
+use Rattle.std.proofs.Common.{◌≡◌, ◌≢◌, refl, sym, ap, ◌∙◌, subst, ℕ, ◌+◌, rules, List, [], ◌∷◌}
+use Rattle.std.proofs.Common.{map, None, arith}
 use Rattle.std.specs.List.{flat_map}
 use Rattle.std.specs.FinMap as maps
 use Rattle.std.specs.FinSet as sets
@@ -66,10 +66,7 @@ generation_at records index = ap (λ (r : SlotRecord). r.generation) (at records
 occupants_as : (index : ℕ) (records : List SlotRecord)
     → occupants index (map without_row records) ≡ occupants index records
 occupants_as index [] = refl
-occupants_as index (r ∷ records) =
-    let rest = occupants_as (index + 1) records in
-    let h : Handle = record { index = index; generation = r.generation } in
-    λ i. cond (alive_as r.occupancy i) (h ∷ rest i) (rest i)
+occupants_as index (r ∷ records) = search (rules, alive_as, occupants_as (index + 1) records)
 
 no_rows : (index : ℕ) (records : List SlotRecord) → rows_from index (map without_row records) ≡ []
 no_rows index [] = refl
@@ -90,42 +87,12 @@ handles_as records (index ∷ pending) = λ i. handle_as records index i ∷ han
 pub rowless_is : (limits : Limits) (records : List SlotRecord) (pending : List ℕ)
     → roster_of limits (map without_row records) pending
     ≡ record (roster_of limits records pending) { rows = maps.empty }
-rowless_is limits records pending =
-    let live = occupants_as 0 records in
-    let rows = no_rows 0 records in
-    let waiting = handles_as records pending in
-    let made = length-map records without_row in
-    λ i. record {
-      limits = limits;
-      live = sets.from_list (live i);
-      rows = maps.from_entries (rows i);
-      pending = waiting i;
-      made = made i;
-    }
+rowless_is limits records pending = search (rules, occupants_as, no_rows, handles_as, length-map)
 
 rowless_tied : (limits : Limits) (records : List SlotRecord) (pending : List ℕ) (live : ℕ)
     → AreLinked limits records pending live → AreTied limits (map without_row records) pending
 rowless_tied limits records pending live linked =
-    let long : length (map without_row records) ≡ length records = length-map records without_row in
-    record {
-      limited = linked.limited;
-      few = omega (arith, linked.few, long);
-      least = λ index lt. rw (generation_at records index)
-          (linked.least index (omega (arith, long)));
-      greatest = λ index lt. rw (generation_at records index)
-          (linked.greatest index (omega (arith, long)));
-      made = λ position lt. let made = linked.made position lt in omega (arith, long, made);
-      forward = λ position lt. occupancy_at records (get_or pending position 0)
-          ∙ ap without_row_of (linked.forward position lt);
-      listed = λ index position lt is. linked.listed index position (omega (arith, long))
-          (pending_as (record_at records index).occupancy position
-          (sym (occupancy_at records index) ∙ is));
-      back = λ index position lt is. linked.back index position (omega (arith, long))
-          (pending_as (record_at records index).occupancy position
-          (sym (occupancy_at records index) ∙ is));
-      rows = λ index row lt is. absurd (never_with_row (record_at records index).occupancy row
-          (sym (occupancy_at records index) ∙ is));
-    }
+    search (rules, length-map, generation_at, occupancy_at, pending_as, never_with_row)
 
 pub rowless_slots : (limits : Limits) (records : List SlotRecord) (pending : List ℕ) (live : ℕ)
     → AreLinked limits records pending live

@@ -1,8 +1,8 @@
 -- What is written of each slot, and that it tells the slots.
-use Rattle.std.proofs.Common.{◌≡◌, ◌≢◌, refl, sym, ap, ◌∙◌, ℕ, zero, suc, ◌+◌}
-use Rattle.std.proofs.Common.{◌^◌, ◌<◌, ◌≤◌, ◌⊎◌, Bool, true, false, eqb, IsTrue, List, [], ◌∷◌}
-use Rattle.std.proofs.Common.{length, get_or, arith, All, AllPairs, Contains, Option}
-use Rattle.std.proofs.Common.{None, Some, inl, inr, map as maps}
+use Rattle.std.proofs.Common.{◌≡◌, ◌≢◌, refl, sym, ap, ◌∙◌, ℕ, zero, suc, ◌+◌, rules, ◌^◌, ◌<◌, ◌≤◌}
+use Rattle.std.proofs.Common.{◌⊎◌, Bool, true, false, eqb, IsTrue, List, [], ◌∷◌, length, get_or}
+use Rattle.std.proofs.Common.{arith, All, AllPairs, Contains, Option, None, Some, inl, inr}
+use Rattle.std.proofs.Common.{map as maps}
 use Rattle.std.specs.FinSet as set
 use Rattle.std.specs.FinMap as map
 use Rattle.std.proofs.lemmas.Bool.{cases_eq, cases_lt, eq-eqb, eqb-true, ne_eqb, false≢true}
@@ -12,14 +12,12 @@ use Rattle.std.proofs.lemmas.Map.Steps.{length-le_from_distinct_below}
 use Rattle.std.proofs.lemmas.Map.Made.{IsDistinct-from_AllPairs}
 use Rattle.std.proofs.lemmas.Bool.Decides.{Decides-eqb}
 use Rattle.std.proofs.lemmas.List.Elements.{All-contains}
-use Rattle.ent_handle.specs.Handle.{Handle, handle_cmp_total}
-use Rattle.ent_handle.specs.Handle.{handle_cmp-IsAntisymmetric}
+use Rattle.ent_handle.specs.Handle.{Handle, handle_cmp_total, handle_cmp-IsAntisymmetric}
 use Rattle.ent_alloc.specs.Roster.{Roster}
 use Rattle.ent_alloc.specs.declared.slot_record.SlotRecord.{SlotRecord}
 use Rattle.ent_alloc.specs.declared.slot_record.Occupancy.TheVariants.{Pending}
 use Rattle.ent_alloc.specs.Slots.{is_alive, row_of}
-use Rattle.ent_alloc.specs.Image.{kind_of, number_of, occupied, retired_slot}
-use Rattle.ent_alloc.specs.Image.{waiting_slot, living_slot, slot, AreSlots}
+use Rattle.ent_alloc.specs.Image.{occupied, retired_slot, waiting_slot, living_slot, slot, AreSlots}
 use Rattle.ent_alloc.proofs.HandleSets.{Contains-from_stands_in, stands_in-from_Contains}
 use Rattle.ent_alloc.specs.Limits.{Limits}
 use Rattle.ent_alloc.specs.ImageRecords.{IsGeneration, IsWritten}
@@ -162,24 +160,12 @@ module _ (r : Roster) (are : AreSlots r) where
   -- of a living occupant
   pub slot_lives : (h : Handle) → IsTrue (set.contains r.live h) → slot r h.index
       ≡ occupied h.generation (map.get r.rows h)
-  slot_lives h lives = elim (became r h.index) [
-    | Lives g alive same is ↦
-        let one : g ≡ h = are.one_occupant g h alive lives same in
-        is ∙ ap (λ (x : Handle). occupied x.generation (map.get r.rows x)) one
-    | Waits position lt same is ↦ absurd (waits_apart h position lives lt same)
-    | Gone none _ is ↦ absurd (none h lives refl)
-  ]
+  slot_lives h lives = search (rules, became, waits_apart)
 
   -- a position has a slot of its own
   pub same_position : (i j : ℕ) → i < length r.pending → j < length r.pending
       → (waiter r i).index ≡ (waiter r j).index → i ≡ j
-  same_position i j hi hj same = elim (cases_eq i j) [
-    | inl is ↦ is
-    | inr other ↦ absurd (elim (cases_lt i j) [
-      | inl before ↦ are.apart i j no_handle before hj same
-      | inr after ↦ are.apart j i no_handle (omega arith) hi (sym same)
-    ])
-  ]
+  same_position i j hi hj same = search (rules, cases_eq, cases_lt)
 
   -- so no more wait than were made
   pub few : length r.pending ≤ r.made
@@ -207,84 +193,27 @@ module _ (r : Roster) (are : AreSlots r) where
   -- of a slot that waits
   pub slot_waits : (position : ℕ) → position < length r.pending
       → slot r (waiter r position).index ≡ pending_slot (waiter r position) position
-  slot_waits position lt = elim (became r (waiter r position).index) [
-    | Lives h alive same is ↦ absurd (waits_apart h position alive lt (sym same))
-    | Waits other below same is ↦
-        let one = same_position other position below lt same in
-        is ∙ ap (λ k. pending_slot (waiter r k) k) one
-    | Gone _ none is ↦ absurd (none position lt refl)
-  ]
+  slot_waits position lt = search (rules, became, waits_apart, same_position)
 
   -- and of none other
   pub alive_from : (index generation : ℕ) (row : Option ℕ) → slot r index
       ≡ occupied generation row → IsTrue (set.contains r.live (handle index generation))
       × (map.get r.rows (handle index generation) ≡ row)
-  alive_from index generation row is = elim (became r index) [
-    | Lives h alive same tells ↦
-        let both = sym tells ∙ is in
-        let generations : h.generation ≡ generation = sym (generation_occupied h.generation _)
-        ∙ ap (λ (s : SlotRecord). s.generation) both ∙ generation_occupied generation row in
-        let rows : map.get r.rows h ≡ row = sym (row_occupied h.generation _)
-        ∙ ap (λ (s : SlotRecord). row_of s.occupancy) both ∙ row_occupied generation row in
-        let one : h ≡ handle index generation = λ i. handle (same i) (generations i) in
-        (rw (← one) alive, rw (← one) rows)
-    | Waits position lt same tells ↦ absurd (false≢true
-        (ap (λ (s : SlotRecord). is_alive s.occupancy) (sym tells ∙ is) ∙ alive_occupied generation row))
-    | Gone _ none tells ↦ absurd (false≢true
-        (ap (λ (s : SlotRecord). is_alive s.occupancy) (sym tells ∙ is) ∙ alive_occupied generation row))
-  ]
+  alive_from index generation row is =
+      search (rules, became, generation_occupied, row_occupied, false≢true, alive_occupied)
 
   pub waits_from : (index position generation : ℕ) → slot r index
       ≡ pending_slot (handle index generation) position → (position < length r.pending)
       × (waiter r position ≡ handle index generation)
-  waits_from index position generation is = elim (became r index) [
-    | Lives h alive same tells ↦ absurd (false≢true
-        (ap (λ (s : SlotRecord). is_alive s.occupancy) (sym is ∙ tells)
-        ∙ alive_occupied h.generation (map.get r.rows h)))
-    | Waits at lt same tells ↦
-        let both = sym tells ∙ is in
-        let one : at ≡ position = ap (λ (s : SlotRecord). number_of s.occupancy) both in
-        let generations = ap (λ (s : SlotRecord). s.generation) both in
-        rw (← one) (lt, λ i. handle (same i) (generations i))
-    | Gone _ none tells ↦ absurd (
-        let wrong = ap (λ (s : SlotRecord). kind_of s.occupancy) (sym tells ∙ is) in omega arith)
-  ]
+  waits_from index position generation is = search (rules, became, false≢true, alive_occupied)
 
   -- what is written of a slot fits its words
   pub small : (index : ℕ) → IsSmall (slot r index)
-  small index = elim (became r index) [
-    | Lives h alive same tells ↦ rw tells (small_occupied h.generation (map.get r.rows h)
-        (let within = are.live_within h alive in omega (arith, within.greatest, are.limits.generations))
-        (are.rows h))
-    | Waits position lt same tells ↦
-        let within = are.within position no_handle lt in
-        rw tells (record {
-          generation = omega (arith, within.greatest, are.limits.generations);
-          number = omega (arith, few, are.made, are.limits.slots);
-        })
-    | Gone _ none tells ↦ rw tells (record { generation = omega arith; number = omega arith })
-  ]
+  small index = search (rules, became, small_occupied, few)
 
   -- and within the limits
   pub written : (index : ℕ) → IsWritten r.limits (slot r index).generation (slot r index).occupancy
-  written index = elim (became r index) [
-    | Lives h alive same tells ↦ rw tells (written_occupied r.limits h.generation (map.get r.rows h)
-        (let within = are.live_within h alive in record {
-          least = within.least;
-          greatest = within.greatest;
-        })
-        (are.rows h))
-    | Waits position lt same tells ↦
-        let within = are.within position no_handle lt in
-        rw tells (
-          record {
-            least = within.least;
-            greatest = within.greatest;
-          },
-          omega (arith, few, are.made, are.limits.slots),
-        )
-    | Gone _ none tells ↦ rw tells refl
-  ]
+  written index = search (rules, became, written_occupied, few)
 
 -- ---- slots that are written alike
 

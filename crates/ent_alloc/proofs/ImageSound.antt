@@ -1,5 +1,5 @@
 -- Sound slots are those of a sound allocator, and a sound allocator has sound slots.
-use Rattle.std.proofs.Common.{◌≡◌, refl, sym, ap, ◌∙◌, ℕ, ◌+◌, ◌-◌}
+use Rattle.std.proofs.Common.{◌≡◌, refl, sym, ap, ◌∙◌, ℕ, ◌+◌, ◌-◌, rules}
 use Rattle.std.proofs.Common.{◌<◌, ◌≤◌, List, ◌++◌, length}
 use Rattle.std.proofs.Common.{take, drop, reverse, filter, arith, All, AllPairs}
 use Rattle.std.specs.FinSet as sets
@@ -29,10 +29,7 @@ All-reverse P xs all k d lt =
 
 AllPairs-reverse : {X : Type 0} (R : X → X → Type 0) (xs : List X)
     → ((x y : X) → R x y → R y x) → AllPairs R xs → AllPairs R (reverse xs)
-AllPairs-reverse R xs turn all i j d before lt =
-    let long = length-reverse xs in
-    rw (get_or-reverse xs i d (omega arith), get_or-reverse xs j d (omega arith))
-    (turn _ _ (all (length xs - 1 - j) (length xs - 1 - i) d (omega arith) (omega arith)))
+AllPairs-reverse R xs turn all i j d before lt = search (rules, length-reverse, get_or-reverse)
 
 apart_turned : (g h : Handle) → AreApart g h → AreApart h g
 apart_turned g h apart same = apart (sym same)
@@ -127,18 +124,7 @@ module _ (e : Entities) (has : HasImage e) where
 
   -- the entities are those of their slots
   pub entities_are : e ≡ entities_of (roster e) s.asked (length s.taken)
-  entities_are = λ i. record {
-    allocator = record {
-      limits = s.limits;
-      live = s.live;
-      pool = pool_is i;
-      taken = reserved_are i;
-      aside = passed_over i;
-      made = s.made;
-      asked = s.asked;
-    };
-    rows = e.rows;
-  }
+  entities_are = search (rules, pool_is, reserved_are, passed_over)
 
 -- ---- entities of the same slots and requests
 
@@ -152,16 +138,4 @@ same_entities d e is_d is_e slots asked taken = entities_are d is_d
 
 module _ (r : Roster) (asked given : ℕ) (reserved : AreReserved r asked given) where
   pub roster_is : roster (entities_of r asked given) ≡ r
-  roster_is =
-      let all = available_is r asked given reserved.given_least in
-      let waits : reverse (filter (is_old r.made) (available (allocator_of r asked given)))
-      ≡ r.pending = ap (λ hs. reverse (filter (is_old r.made) hs)) all
-      ∙ ap reverse (old_is r asked given reserved.given_least reserved.sound)
-      ∙ reverse-reverse r.pending in
-      λ i. record {
-        limits = r.limits;
-        live = r.live;
-        rows = r.rows;
-        pending = waits i;
-        made = r.made;
-      }
+  roster_is = search (rules, available_is, old_is, reverse-reverse)

@@ -1,4 +1,5 @@
 -- The number at a place of bytes that are spelled word by word.
+use Rattle.std.proofs.lemmas.Grind.{common_steps}
 use Rattle.std.proofs.Common.{◌≡◌, ap, ◌∙◌, sym, ℕ, ◌+◌, ◌^◌, ◌<◌, ◌≤◌, List, ◌++◌, length}
 use Rattle.std.proofs.Common.{take, drop, arith}
 use Rattle.std.specs.Int.{w32, w64, from_le_bytes}
@@ -55,7 +56,4 @@ pub word_before : (xs ys : List ℕ) (place : ℕ) → place + 4 ≤ length xs �
     ≡ word_at xs place
 unfolding word_at
 word_before xs ys place within =
-    let cut = drop-append-le place xs ys (omega arith) in
-    let left = length-drop place xs in
-    ap (λ bytes. from_le_bytes w32 (take 4 bytes)) cut
-    ∙ ap (from_le_bytes w32) (take-append-le 4 (drop place xs) ys (omega arith))
+    grind (arith, common_steps, drop-append-le, length-drop, take-append-le)

@@ -75,13 +75,7 @@ same_occupancy (Pending position) (Pending other) k n = ap Pending n
 
 pub same_slot : (s t : SlotRecord) → IsSmall s → IsSmall t → slot_bytes s ≡ slot_bytes t → s ≡ t
 unfolding slot_bytes
-same_slot s t hs ht same =
-    let first = same_words s.generation t.generation _ _ hs.generation ht.generation same in
-    let second = same_words (kind_of s.occupancy) (kind_of t.occupancy) _ _ (kind_below s.occupancy)
-    (kind_below t.occupancy) first.1 in
-    let third = same_word (number_of s.occupancy) (number_of t.occupancy) hs.number ht.number second.1 in
-    let occupancy = same_occupancy s.occupancy t.occupancy second.0 third in
-    λ i. record { generation = first.0 i; occupancy = occupancy i }
+same_slot s t hs ht same = search (rules, same_words, kind_below, same_word, same_occupancy)
 
 -- ---- pieces of one length
 
@@ -95,10 +89,7 @@ module _ (f : ℕ → List ℕ) (n : ℕ) (long : (i : ℕ) → length (f i) ≡
   pub piece : (from count k : ℕ) → k < count
       → take n (drop (n * k) (flat_map f (range_with_len from count))) ≡ f (from + k)
   piece from zero k lt = absurd (omega arith)
-  piece from (suc count) zero lt =
-      let none : n * 0 ≡ 0 = omega arith in
-      let at : from + 0 ≡ from = omega arith in
-      rw (none, at) (take_at (f from) _ n (long from))
+  piece from (suc count) zero lt = search (rules, take_at)
   piece from (suc count) (suc k) lt =
       let more : n * suc k ≡ n + n * k = omega arith in
       let at : from + 1 + k ≡ from + suc k = omega arith in

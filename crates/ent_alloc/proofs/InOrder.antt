@@ -18,6 +18,4 @@ pub rising_occupants : (index : ℕ) (records : List SlotRecord)
     → AllPairs (λ g h. g.index < h.index) (occupants index records)
 rising_occupants index [] = λ i j d l m. absurd (omega (arith, m))
 rising_occupants index (r ∷ records) =
-    let later = occupants_after (index + 1) (index + 1) records (omega arith) in
-    let rest = rising_occupants (index + 1) records in
-    search (rules, AllPairs-cons)
+    search (rules, occupants_after, AllPairs-cons, rising_occupants (index + 1) records)

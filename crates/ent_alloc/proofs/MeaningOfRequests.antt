@@ -3,7 +3,7 @@ use Rattle.std.proofs.Common.{rules, ◌≡◌, ℕ, ◌+◌, ◌-◌, ◌<◌, 
 use Rattle.std.proofs.Common.{sym, ap, ◌∙◌, refl, []}
 use Rattle.std.proofs.lemmas.Grind.{common_steps}
 use Rattle.std.proofs.lemmas.Bool.{cases_lt, le-leb, cond-true}
-use Rattle.std.proofs.lemmas.List.{append-nil, length-take, take_all, drop_all, drop-drop}
+use Rattle.std.proofs.lemmas.List.{length-take, take_all, drop_all, drop-drop}
 use Rattle.std.proofs.Math.Seq.{take-add}
 use Rattle.ent_alloc.specs.Roster.{Roster}
 use Rattle.ent_alloc.specs.Sequential.{Allocator, after_take, settled, before_requests}
@@ -26,17 +26,7 @@ pub lower_refused : (r : Roster) (asked given n : ℕ) → given ≤ asked → l
     + (r.limits.slots - r.made) < asked + n → allocator_of r (asked + n) given
     ≡ after_take (allocator_of r asked given) n
 lower_refused r asked given n within past =
-    grind (
-      arith,
-      common_steps,
-      cases_lt (length (drop asked (idle r))) n,
-      take_all (asked + n) (idle r) (omega (arith, length-idle r)),
-      length-idle r,
-      drop_rest given asked (idle r) within,
-      drop_all (asked + n) (idle r) (omega (arith, length-idle r)),
-      length_left r asked,
-      append-nil (take given (idle r)),
-    )
+    search (rules, common_steps, cases_lt, take_all, length-idle, drop_rest, drop_all, length_left)
 
 -- ---- what lower leaves
 

@@ -155,13 +155,5 @@ taken_is s = sym (take-append_seam s.taken (s.aside ++ s.pool))
 -- what was passed over stands after it
 pub aside_is : (s : Allocator) → IsSound s → s.aside
     ≡ drop (length s.taken) (take s.asked (available s))
-aside_is s h = search (
-  rules,
-  cases_lt,
-  drop_all,
-  take_all,
-  drop-append_seam,
-  append-nil,
-  length-taken,
-  take-append_seam,
-)
+aside_is s h =
+    search (rules, cases_lt, drop_all, take_all, drop-append_seam, append-nil, length-taken, take-append_seam)

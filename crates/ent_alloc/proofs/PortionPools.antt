@@ -1,6 +1,6 @@
 -- Portions of a pool: the allocator whose pool begins with what was used, and what a request for it
 -- leaves.
-use Rattle.std.proofs.Common.{◌≡◌, ◌⊎◌, inl, inr, sym, ap, ◌∙◌, subst, ℕ, ◌+◌, ◌-◌, ◌≤◌}
+use Rattle.std.proofs.Common.{◌≡◌, ◌⊎◌, inl, inr, sym, ap, ◌∙◌, subst, ℕ, ◌+◌, ◌-◌, ◌≤◌, rules}
 use Rattle.std.proofs.Common.{List, [], ◌++◌, length, take, drop, arith, IsPermutation, append_assoc}
 use Rattle.std.specs.Prelude.{◌≢◌}
 use Rattle.std.proofs.lemmas.Grind.{common_steps}
@@ -80,15 +80,7 @@ module _ (s : Allocator) (ps : List Portion) (fits : AreUsed ps)
   front_taken : count ≡ reach → s.taken ≡ [] → s.asked ≡ 0
       → after_take s count ≡ after_portions s ps
   front_taken all none flushed =
-      let taken : s.taken ++ take count s.pool ≡ used_of s.pool ps =
-      ap (◌++ take count s.pool) none ∙ sym (used_is_front s.pool ps fits all within) in
-      let pool : drop count s.pool ≡ left_of s.pool ps =
-      sym (left_is_behind s.pool ps fits all within) in
-      let none_made : made_for s ps ≡ 0 = grind (arith, common_steps) in
-      let made : s.made ≡ s.made + made_for s ps = omega (arith, none_made) in
-      let asked : s.asked + count ≡ count = omega arith in
-      after_take-served s count (omega (arith, reaches, enough))
-      ∙ (λ i. record s { taken = taken i; pool = pool i; made = made i; asked = asked i })
+      search (rules, used_is_front, left_is_behind, common_steps, after_take-served, reaches, enough)
 
   -- the pool was arranged
   moved_taken : count ≢ reach → s.taken ≡ [] → s.asked ≡ 0

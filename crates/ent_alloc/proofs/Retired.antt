@@ -47,7 +47,6 @@ count-parts : (p q : ℕ → Bool) (from n : ℕ)
     → count (λ i. not (p i || q i)) from n + (count p from n + count q from n) ≡ n
 count-parts p q from zero apart = refl
 count-parts p q from (suc n) apart =
-    let here = apart from (omega arith) (omega arith) in
     let rest =
     count-parts p q (from + 1) n (λ k least below. apart k (omega arith) (omega arith)) in
     grind (arith, common_steps, count-next)

@@ -110,18 +110,10 @@ module _ (limits : Limits) (records : List SlotRecord) (pending : List ℕ) (liv
     order = pending ++ range_with_len (length records) count
 
     grown_long : length grown ≡ length records + count
-    grown_long = omega (
-      arith,
-      length-append records (new_waiting (length pending) count),
-      length-new_waiting (length pending) count,
-    )
+    grown_long = search (rules, length-append, length-new_waiting)
 
     order_long : length order ≡ length pending + count
-    order_long = omega (
-      arith,
-      length-append pending (range_with_len (length records) count),
-      length-range_with_len (length records) count,
-    )
+    order_long = search (rules, length-append, length-range_with_len)
 
     old_stays : (index : ℕ) → index < length records → record_at grown index
         ≡ record_at records index
@@ -130,12 +122,7 @@ module _ (limits : Limits) (records : List SlotRecord) (pending : List ℕ) (liv
 
     new_is : (index : ℕ) → length records ≤ index → index < length records + count
         → record_at grown index ≡ waiting_at 1 (length pending + (index - length records))
-    new_is index past within =
-        let at : length records + (index - length records) ≡ index = omega arith in
-        sym (ap (record_at grown) at)
-        ∙ get_or-append-add records (new_waiting (length pending) count)
-        (index - length records) no_slot
-        ∙ get_or-new_waiting (length pending) count (index - length records) no_slot (omega arith)
+    new_is index past within = grind (arith, common_steps, get_or-append-add, get_or-new_waiting)
 
     old_place : (position : ℕ) → position < length pending → get_or order position 0
         ≡ get_or pending position 0
@@ -145,11 +132,7 @@ module _ (limits : Limits) (records : List SlotRecord) (pending : List ℕ) (liv
     new_place : (position : ℕ) → length pending ≤ position → position < length pending + count
         → get_or order position 0 ≡ length records + (position - length pending)
     new_place position past within =
-        let at : length pending + (position - length pending) ≡ position = omega arith in
-        sym (ap (λ n. get_or order n 0) at)
-        ∙ get_or-append-add pending (range_with_len (length records) count)
-        (position - length pending) 0
-        ∙ get_or-range_with_len (length records) count (position - length pending) 0 (omega arith)
+        grind (arith, common_steps, get_or-append-add, get_or-range_with_len)
 
     -- what is so of the generation of each old slot, and of the first one, is so of each slot's
     generation_in : (P : ℕ → Type 0)
@@ -159,10 +142,7 @@ module _ (limits : Limits) (records : List SlotRecord) (pending : List ℕ) (liv
         search (rules, cases_lt, old_stays, new_is, grown_long)
 
     living : occupants 0 grown ≡ occupants 0 records
-    living = occupants-append 0 records (new_waiting (length pending) count)
-        ∙ ap (occupants 0 records ++◌)
-        (occupants-waiting (0 + length records) (length pending) count)
-        ∙ append-nil (occupants 0 records)
+    living = search (rules, occupants-append, occupants-waiting, append-nil)
 
     record IsTied (index position : ℕ) : Type 0 where
       within : position < length order
@@ -193,32 +173,12 @@ module _ (limits : Limits) (records : List SlotRecord) (pending : List ℕ) (liv
             }
 
     made_in : (position : ℕ) → position < length order → get_or order position 0 < length grown
-    made_in position within = by_place (cases_lt position (length pending))
-      where
-        by_place : (position < length pending) ⊎ (length pending ≤ position)
-            → get_or order position 0 < length grown
-        by_place (inl old) = omega (arith, old_place position old, linked.made position old, grown_long)
-        by_place (inr new) =
-            let lt : position < length pending + count = omega (arith, order_long) in
-            omega (arith, new_place position new lt, grown_long)
+    made_in position within = search (rules, cases_lt, old_place, grown_long, order_long, new_place)
 
     forward_in : (position : ℕ) → position < length order
         → (record_at grown (get_or order position 0)).occupancy ≡ Pending position
-    forward_in position within = by_place (cases_lt position (length pending))
-      where
-        by_place : (position < length pending) ⊎ (length pending ≤ position)
-            → (record_at grown (get_or order position 0)).occupancy ≡ Pending position
-        by_place (inl old) = ap (λ i. (record_at grown i).occupancy) (old_place position old)
-            ∙ ap (λ (r : SlotRecord). r.occupancy)
-            (old_stays (get_or pending position 0) (linked.made position old))
-            ∙ linked.forward position old
-        by_place (inr new) =
-            let lt : position < length pending + count = omega (arith, order_long) in
-            let index = length records + (position - length pending) in
-            let at : length pending + (index - length records) ≡ position = omega arith in
-            ap (λ i. (record_at grown i).occupancy) (new_place position new lt)
-            ∙ ap (λ (r : SlotRecord). r.occupancy) (new_is index (omega arith) (omega arith))
-            ∙ ap (λ n. Pending n) at
+    forward_in position within =
+        search (rules, cases_lt, old_place, old_stays, order_long, new_place, new_is)
 
     pub waiting_keeps_links : AreLinked limits grown order live
     waiting_keeps_links = record {

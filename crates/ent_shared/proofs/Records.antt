@@ -48,7 +48,8 @@ pub requested-met : (r met : Record) → requested_by (after_meeting r met) ≡ 
 requested-met r met = search (rules, own-met)
 
 pub quota-reserved : (r : Record) (high : ℤ) (n : ℕ) → n ≤ r.left → r.left + requested_by r
-    ≡ quota → (after_reservation r high n).left + requested_by (after_reservation r high n) ≡ quota
+    ≡ quota → (after_reservation r high n).left + requested_by (after_reservation r high n)
+    ≡ quota
 quota-reserved r high n within adds_up = let more = requested-reserved r high n in omega arith
 
 pub quota-met : (r met : Record) → r.left + requested_by r ≡ quota → (after_meeting r met).left

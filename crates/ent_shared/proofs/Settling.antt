@@ -98,7 +98,8 @@ taken_floor start s (c ∷ cs) end flushed l f =
     let some_request : 0 < n = f.1 in
     let goal : ℤ → Type 0 = λ z. int_min a (int_min z (floor_of start cs))
     ≡ pos (top start) -ℤ pos (length (history.after_history t (map as_call cs)).taken) in
-    ⊎_elim (λ (short : length s.pool < n).
+    ⊎_elim
+    (λ (short : length s.pool < n).
     let test : nat_le n (length (pool_at start c.high))
     ≡ false = ap (λ (hs : List Handle). nat_le n (length hs)) pool
     ∙ lt-leb n (length s.pool) short in

@@ -43,7 +43,8 @@ made : (c : goal.After-drop-all) → AreShared c.args.entities.allocator c.args.
 made c = search (rules, AreShared)
 
 pub returns-clause-reservers : goal.returns-clause-reservers
-returns-clause-reservers c = ap (map (λ (r : Reserver). r.own)) (made c).made_is ∙ own_again _ _
+returns-clause-reservers c =
+    ap (map (λ (r : Reserver). r.own)) (made c).made_is ∙ own_again _ _
 
 pub returns-clause-own : goal.returns-clause-own
 returns-clause-own c =

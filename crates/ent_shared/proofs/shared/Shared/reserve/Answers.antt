@@ -43,7 +43,8 @@ invariant_of-reserver c =
 pub returns-in_err-handle-clause-stays : goal.returns-in_err-handle-clause-stays
 returns-in_err-handle-clause-stays c =
     of_stepped _ _ _ _ _ _ 1 _ _ _ _ c.reserver.view_is c.reserver.invariant c.requires
-    (omega arith) c.reserve-high.ensures.same c.reserve-high.ensures.gains
+    (omega arith)
+    c.reserve-high.ensures.same c.reserve-high.ensures.gains
 
 pub returns-in_err-handle-clause-refused : goal.returns-in_err-handle-clause-refused
 returns-in_err-handle-clause-refused c = search (rules, given, append-nil)
@@ -66,7 +67,8 @@ invariant_of-reserver-2 c =
 pub returns-clause-stays : goal.returns-clause-stays
 returns-clause-stays c =
     of_stepped _ _ _ _ _ _ 1 _ _ _ _ c.reserver.view_is c.reserver.invariant c.requires
-    (omega arith) c.reserve-high.ensures.same c.reserve-high.ensures.gains
+    (omega arith)
+    c.reserve-high.ensures.same c.reserve-high.ensures.gains
 
 pub returns-clause-given : goal.returns-clause-given
 returns-clause-given c = search (rules, given)
