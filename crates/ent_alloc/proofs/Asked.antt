@@ -1,5 +1,5 @@
 -- What a request in one call is given, by the pool that it found.
-use Rattle.std.proofs.Common.{◌≡◌, sym, ap, ◌∙◌, ℕ, ◌<◌, ◌≤◌, ℤ, pos, ◌-ℤ◌}
+use Rattle.std.proofs.Common.{◌≡◌, sym, ap, ◌∙◌, ℕ, ◌<◌, ◌≤◌, ℤ, pos, ◌-ℤ◌, rules}
 use Rattle.std.proofs.Common.{List, [], ◌∷◌, length, take, Result, Ok, Err, arith, slice_get, Some}
 use Rattle.std.proofs.Common.{◌⊎◌, inl, inr, All, subst}
 use Rattle.std.specs.Result.{IsErrAnd, IsErrOf, IfErr}
@@ -76,11 +76,7 @@ pub record IsShort (s : Allocator) (n : ℕ) (space : Space) : Type 0 where
 
 pub of_refused : (s : Allocator) (n : ℕ) (space : Space) → reply_to s n ≡ Err space
     → IsShort s n space
-of_refused s n space is = record {
-  short = grind (arith, common_steps);
-  wanted = grind (arith, common_steps);
-  left = grind (arith, common_steps);
-}
+of_refused s n space is = search (rules, common_steps)
 
 -- ---- one handle
 

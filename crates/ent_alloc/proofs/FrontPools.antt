@@ -1,7 +1,8 @@
 -- A pool whose front comes in another order: the allocator stays sound, and the roster stands for
 -- it.
-use Rattle.std.proofs.Common.{◌≡◌, ◌⊎◌, inl, inr, sym, ap, ◌∙◌, subst, ℕ, ◌+◌, ◌-◌, ◌<◌, ◌≤◌, List}
-use Rattle.std.proofs.Common.{[], ◌++◌, length, take, drop, reverse, All, AllPairs, arith}
+use Rattle.std.proofs.lemmas.Grind.{common_steps}
+use Rattle.std.proofs.Common.{◌≡◌, ◌⊎◌, inl, inr, sym, ap, ◌∙◌, subst, ℕ, ◌+◌, ◌-◌, ◌<◌, ◌≤◌, rules}
+use Rattle.std.proofs.Common.{List, [], ◌++◌, length, take, drop, reverse, All, AllPairs, arith}
 use Rattle.std.proofs.Common.{IsPermutation, refl, get_or, slice_get, Some}
 use Rattle.std.proofs.lemmas.List.{length-map, get_or-map, get_or_append_left, get_or-append-add}
 use Rattle.std.proofs.lemmas.List.{get_or-reverse, get_or_default}
@@ -185,15 +186,7 @@ module _ (r : Roster) (hs : List Handle) (sound : IsSound (allocator_of r 0 0))
           (subst (λ xs. IsPermutation xs hs) front same))
 
   kept_is : take (length wide - length hs) wide ≡ take (length r.pending - length hs) r.pending
-  kept_is = by_count (cases_lt (length r.pending) (length hs))
-    where
-      by_count : (length r.pending < length hs) ⊎ (length hs ≤ length r.pending)
-          → take (length wide - length hs) wide ≡ take (length r.pending - length hs) r.pending
-      by_count (inl over) =
-          let none : length wide - length hs ≡ 0 = omega (arith, wide_long) in
-          let nothing : length r.pending - length hs ≡ 0 = omega arith in
-          ap (λ k. take k wide) none ∙ sym (ap (λ k. take k r.pending) nothing)
-      by_count (inr within) = ap (λ xs. take (length xs - length hs) xs) (as_many (omega arith))
+  kept_is = search (rules, cases_lt, wide_long, as_many)
 
   pub front_view : allocator_of (turned (grown r more) hs) 0 0 ≡ with_front (allocator_of r 0 0) hs
   front_view =
@@ -303,20 +296,10 @@ module _ (r : Roster) (requests : Requests) (s : Allocator) (is : List ℕ)
     grown_front = grown_is ∙ ap (λ n. grown r (n - length r.pending)) as_long
 
     pub enough_of : length is ≤ length r'.pending
-    enough_of = omega (
-      arith,
-      as_long,
-      enough_in r requests s order.front reserved view flushed few_front same_front r' grown_front,
-    )
+    enough_of = search (rules, as_long, enough_in, few_front, same_front, grown_front)
 
     pub waits_of : AreSlotsOf (drop (length r'.pending - length is) r'.pending) is
-    waits_of = record {
-      front = order.front;
-      same = subst (λ n. IsPermutation (drop (length r'.pending - n) r'.pending) order.front)
-          (sym as_long)
-          (waits_in r requests s order.front reserved view flushed few_front same_front r' grown_front);
-      slots = order.slots;
-    }
+    waits_of = search (rules, as_long, waits_in, few_front, same_front, grown_front)
 
     pub stands_of : (r'' : Roster)
         → ((slots : AreSlotsOf (drop (length r'.pending - length is) r'.pending) is)
@@ -376,12 +359,7 @@ module _ (records : List SlotRecord) where
   slots_waiting : (pending : List ℕ)
       → slots_of (reverse (map (handle_at records) pending)) ≡ reverse pending
   slots_waiting [] = refl
-  slots_waiting (i ∷ is) =
-      let h = handle_at records i in
-      let hs = map (handle_at records) is in
-      ap slots_of (reverse-append (h ∷ []) hs)
-      ∙ map-append (λ (h : Handle). h.index) (reverse hs) (h ∷ [])
-      ∙ ap (◌++ i ∷ []) (slots_waiting is) ∙ sym (reverse-append (i ∷ []) is)
+  slots_waiting (i ∷ is) = grind (arith, common_steps, reverse-append, map-append, slots_waiting is)
 
 -- some of a list from its other end
 pub turned_part : (xs ys : List ℕ) (from n : ℕ) → n ≤ length xs - from

@@ -1,5 +1,5 @@
 -- Bytes in pieces of twelve, one for each slot.
-use Rattle.std.proofs.Common.{◌≡◌, ◌≢◌, refl, sym, ap, ◌∙◌, ℕ, zero, suc, ◌+◌, ◌*◌, ◌/◌, ◌<◌}
+use Rattle.std.proofs.Common.{◌≡◌, ◌≢◌, refl, sym, ap, ◌∙◌, ℕ, zero, suc, ◌+◌, ◌*◌, ◌/◌, ◌<◌, rules}
 use Rattle.std.proofs.Common.{List, ◌++◌, length, get_or, take, drop, arith}
 use Rattle.std.specs.Simd.{first_chunks}
 use Rattle.std.proofs.lemmas.List.{drop-drop, take-append-drop, length-take-le, length-drop}
@@ -37,10 +37,7 @@ module _ (bytes : List ℕ) (made : ℕ) (chunks : List (List ℕ)) (index : ℕ
   before_end = let all = pieces bytes made long in omega (arith, count, lt)
 
   pub length-piece : length (get_or chunks index d) ≡ 12
-  length-piece =
-      let here = before_end in
-      let left = length-drop (12 * index) bytes in
-      ap length piece_is ∙ length-take-le 12 (drop (12 * index) bytes) (omega arith)
+  length-piece = search (rules, before_end, length-drop, piece_is, length-take-le)
 
   pub cut : drop (12 * index) bytes ≡ get_or chunks index d ++ drop (12 * (index + 1)) bytes
   cut =

@@ -1,6 +1,6 @@
 -- A slot that is read of its twelve bytes.
 use Rattle.std.proofs.Common.{◌≡◌, ◌≢◌, refl, ◌∷◌, sym, ap, ◌∙◌, ℕ, ◌^◌, ◌<◌, false, List, [], ◌++◌}
-use Rattle.std.proofs.Common.{length, Option, None, Some, IfSome, IfNone, append-nil, arith}
+use Rattle.std.proofs.Common.{length, Option, None, Some, IfSome, IfNone, append-nil, arith, rules}
 use Rattle.ent_alloc.specs.Limits.{Limits, AreLimits}
 use Rattle.ent_alloc.specs.Image.{word, long, slot_bytes, kind_of, number_of}
 use Rattle.ent_alloc.specs.ImageRecords.{kept, record_bytes, IsWritten}
@@ -45,11 +45,7 @@ module _ (bytes : List ℕ) (g k n : ℕ) (rest : List ℕ)
     pub no_row : (r : Option SlotRecord) → IfNone r (is_slot limits.generations g k n ≡ false)
         → IfNone r (is_slot limits.generations (word_at bytes 0) (word_at bytes 4) (word_at bytes 8)
         ≡ false)
-    no_row r none = if_none r _ _ none (λ not.
-        let first = ap (λ bs. word_at bs 0) words ∙ first_word g k n rest hg in
-        let second = ap (λ bs. word_at bs 4) words ∙ second_word g k n rest hk in
-        let third = ap (λ bs. word_at bs 8) words ∙ third_word g k n rest hn in
-        (λ i. is_slot limits.generations (first i) (second i) (third i)) ∙ not)
+    no_row r none = search (rules, if_none, first_word, second_word, third_word)
 
 -- the words of a living occupant without a row, as one number
 one_and_zero : long 1 ≡ word 1 ++ word 0

@@ -7,10 +7,9 @@ use Rattle.std.specs.FinSet as sets
 use Rattle.std.proofs.lemmas.Bool.{cases_lt}
 use Rattle.std.proofs.lemmas.Option.{slice_get_read}
 use Rattle.std.proofs.lemmas.List.{take_at, drop_at, get_or-map, length-map, get_or-take}
-use Rattle.std.proofs.lemmas.List.{get_or-drop, length-drop, length-take-le, length-append}
-use Rattle.std.proofs.lemmas.List.{length-replicate, length_push, drop-map, take-map}
-use Rattle.std.proofs.lemmas.List.{get_or_append_left, get_or-append_right, get_or-replicate}
-use Rattle.std.proofs.lemmas.List.{get_or_push}
+use Rattle.std.proofs.lemmas.List.{get_or-drop, length-drop, length-append, length-replicate}
+use Rattle.std.proofs.lemmas.List.{length_push, drop-map, take-map, get_or_append_left}
+use Rattle.std.proofs.lemmas.List.{get_or-append_right, get_or-replicate, get_or_push}
 use Rattle.ent_alloc.specs.Limits.{Limits}
 use Rattle.ent_alloc.specs.Sequential.{fresh}
 use Rattle.ent_alloc.specs.declared.slot_record.SlotRecord.{SlotRecord}
@@ -43,7 +42,6 @@ module _ (limits : Limits) (records : List SlotRecord) (pending : List ℕ) (liv
       ≡ Pending position → position < from
   position_below index position made is =
       let still = waited-reused records from (drop from pending) index position Wait-drop is in
-      let listed = linked.listed index position made still.before in
       let back = linked.back index position made still.before in
       let apart = still.apart (position - from) in
       search (rules, cases_lt, length-drop, get_or-drop, apart, back)
@@ -52,7 +50,6 @@ module _ (limits : Limits) (records : List SlotRecord) (pending : List ℕ) (liv
       + (length pending - from))
   reuse_keeps_links =
       let as_long : length alive ≡ length records = length-reused records (drop from pending) in
-      let few : length (take from pending) ≡ from = length-take-le from pending within in
       let more = length-occupants-reused records from (drop from pending) Wait-drop in
       let rest = length-drop from pending in
       let waits = waiting-reused records from (drop from pending) in

@@ -99,7 +99,6 @@ module _ (r : Roster) (n : ℕ) where
       let long : length others ≡ len - 1 = length-take-le (len - 1) r.pending (omega arith) in
       let kept_is : length others - n ≡ len - suc n = omega (arith, long) in
       let news_is : n - length others ≡ suc n - len = omega (arith, long) in
-      let at : len - 1 + 1 ≡ len = omega arith in
       let parts : r.pending ≡ others ++ h ∷ [] =
       sym (take_all (len - 1 + 1) r.pending (omega arith))
       ∙ take_more r.pending (len - 1) h (omega arith)

@@ -63,7 +63,6 @@ pub waiting-reused : (records : List SlotRecord) (from : ℕ) (indices : List �
 waiting-reused records from [] at position wait is below = is
 waiting-reused records from (index ∷ indices) at position wait is below =
     let here = wait.pending 0 (omega arith) in
-    let apart : at ≢ index = search rules in
     search (
       rules,
       waiting-reused (set records index (reuse (record_at records index))) (from + 1) indices at
@@ -87,7 +86,6 @@ waited-reused records from [] at position wait is = search (rules)
 waited-reused records from (index ∷ indices) at position wait is =
     let later = waited-reused (set records index (reuse (record_at records index))) (from + 1)
     indices at position (Wait-rest records from index indices wait) is in
-    let within = wait.made 0 (omega arith) in
     grind (arith, common_steps, later.before, later.apart)
 
 -- each of them has a occupant more
@@ -116,7 +114,6 @@ pub is_occupant-reused : (records : List SlotRecord) (from : ℕ) (indices : Lis
     ≡ (list_any (eq_by_cmp handle_cmp q) (map (handle_at records) indices) || is_occupant records q)
 is_occupant-reused records from [] q wait = refl
 is_occupant-reused records from (index ∷ indices) q wait =
-    let here = wait.pending 0 (omega arith) in
     let within : index < length records = wait.made 0 (omega arith) in
     let next = set records index (reuse (record_at records index)) in
     let rest =

@@ -33,7 +33,6 @@ pub opening-sound : (limits : Limits) → AreLimits limits → IsSound (opening 
 opening-sound limits ok =
     let no_one : (h : Handle) → IsLive (opening limits) h → ⊥ = λ h alive.
     true≢false (sym alive ∙ set.contains-empty handle_cmp h) in
-    let all : limits.slots - 0 ≡ limits.slots = omega arith in
     laid_out-sound (opening limits) [] (search (rules, no_one, All-nil))
 
 -- other lists of the same handles, as far as the requests have reached
@@ -194,7 +193,6 @@ pub flush-laid_out : (s : Allocator) → IsSound s
 flush-laid_out s h =
     let k = length s.taken in
     let old = drop k (old_ones s) in
-    let more : s.made ≤ (after_flush s).made = omega arith in
     record {
       limits = h.limits;
       made = omega (arith, made-after_flush s h, enough s h, h.made);
