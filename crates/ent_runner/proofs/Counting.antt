@@ -45,7 +45,7 @@ in_range n low (suc many) =
 
 nothing_in : (xs : List ℕ) → sum_by (λ (_ : ℕ). 1) xs ≡ 0 → xs ≡ []
 nothing_in [] e = refl
-nothing_in (x ∷ xs) e = absurd (let sums = sum_by-cons (λ (_ : ℕ). 1) x xs in omega arith)
+nothing_in (x ∷ xs) e = grind (arith, common_steps, sum_by-cons)
 
 pub weigh_same : (xs ys : List ℕ) → ((f : ℕ → ℕ) → sum_by f xs ≡ sum_by f ys) → IsPermutation xs ys
 weigh_same xs [] same = rw (nothing_in xs (same (λ (_ : ℕ). 1))) (IsPermutation-refl [])

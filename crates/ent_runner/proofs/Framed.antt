@@ -172,10 +172,7 @@ module _ {S : Type 0} (may : S → View → List Command → Type 0) (systems : 
     (legal : IsLegal before.allocator (history_of records))
     (respects : All (Respects (reservations_of records)) records) where
   opened_at : (k : ℕ) → k < workers → slice_get opens k ≡ Some (opened before.allocator k)
-  opened_at k less =
-      let same : 0 + k ≡ k = omega arith in
-      rw opened_are (opened_get before.allocator 0 workers k less
-      ∙ ap (λ n. Some (opened before.allocator n)) same)
+  opened_at k less = search (rules, opened_get)
 
   abbrev May : ℕ → List Command → Type 0
   May n queue = SystemMayIssue may systems (view_of before) n queue
@@ -223,8 +220,7 @@ module _ {S : Type 0} (may : S → View → List Command → Type 0) (systems : 
         → DidAll (Issues may systems (view_of before)) queues a mine b
         ⊎ DidUntil (Issues may systems (view_of before)) (Issues leave systems (view_of before))
         queues a mine b → DidAll Issued queues a mine b
-    either queues a mine b (inl did) = weaker (Issues may systems (view_of before)) Issued
-        (λ n c q d one. (one.0, inl one.1)) queues a mine b did
+    either queues a mine b (inl did) = search (rules, weaker)
     either queues a mine b (inr did) = until_weaker (Issues may systems (view_of before))
         (Issues leave systems (view_of before)) Issued (λ n c q d one. (one.0, inl one.1))
         (λ n c q d one. (one.0, inr one.1)) queues a mine b did

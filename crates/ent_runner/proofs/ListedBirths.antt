@@ -135,7 +135,7 @@ module _ {S : Type 0} (may : S → View → List Command → Type 0) (systems : 
 
   listed_are_born : IsPermutation (flat_map handles_listed queues) handles
   unfolding handles
-  listed_are_born = listed-born may systems workers before queues history frame sound flushed
+  listed_are_born = search (rules, listed-born)
 
   -- All queues together list fewer than 2^32 handles, so no ordinal is cut off.
   pub listed-few : length (flat_map handles_listed queues) < 2 ^ 32
@@ -192,9 +192,7 @@ module _ {S : Type 0} (may : S → View → List Command → Type 0) (systems : 
       → map.get (after_births queues (reserved_by history before)).entities h
       ≡ map.get before.entities h
   unfolding handles
-  unlisted-stays h away =
-      get-with_born (birth_in before.phase queues handles) handles before.entities h
-      ∙ rw (not_there handles h (λ there. away (born-listed h there)))
+  unlisted-stays h away = search (rules, get-with_born, handles, not_there, born-listed)
 
   -- Who is listed was not there before the frame.
   pub listed-new : AreLiving before.allocator before.entities → (system k : ℕ) (h : Handle)

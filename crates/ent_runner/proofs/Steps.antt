@@ -57,21 +57,11 @@ module _ (numbers workers : ℕ) where
   -- a record that stays as it was, while another one claims
   kept_on : (claimed : ℕ) (r : ClaimRecord) → claimed < numbers → IsClaimKept numbers claimed r
       → IsClaimKept numbers (claimed + 1) r
-  kept_on claimed r left kept = record {
-    numbers_is = kept.numbers_is;
-    below = search rules;
-    rises = kept.rises;
-    ends = λ ended. absurd (omega (arith, kept.ends ended));
-  }
+  kept_on claimed r left kept = search rules
 
   kept_claim : (claimed : ℕ) (r : ClaimRecord) → claimed < numbers → IsClaimKept numbers claimed r
       → IsClaimKept numbers (claimed + 1) (with_claim r claimed)
-  kept_claim claimed r left kept = record {
-    numbers_is = kept.numbers_is;
-    below = grind (arith, common_steps);
-    rises = all_pairs_push (λ m n. m < n) r.claims claimed kept.rises kept.below;
-    ends = λ ended. absurd (omega (arith, kept.ends ended));
-  }
+  kept_claim claimed r left kept = grind (arith, common_steps, all_pairs_push)
 
   after_number : (s : St) (k : Rule s) (id : ℕ) (r : ClaimRecord) (words : List ℕ)
       → get_elem? s.views id ≡ some (r ∷ []) → k.word < numbers → words ≡ (k.word + 1) ∷ []
@@ -197,22 +187,7 @@ module _ (numbers workers : ℕ) where
 
   pub begins : numbers ≤ 2 ^ 16 → workers ≤ 64
       → Rule (opening (0 ∷ []) [] (replicate workers (nothing_claimed numbers)))
-  begins few_numbers few_workers =
-      let v : List ClaimRecord = replicate workers (nothing_claimed numbers) in
-      record {
-        few_numbers = few_numbers;
-        few_workers = few_workers;
-        word = 0;
-        words = refl;
-        claimed = 0;
-        within = omega arith;
-        counts = grind (arith, common_steps);
-        none_early = λ _. grind (arith, common_steps);
-        partition = λ f. grind (arith, common_steps, sum_by-replicate);
-        records = grind (arith, common_steps);
-        each = all_one (All (IsClaimKept numbers 0)) v (All-replicate (IsClaimKept numbers 0)
-            workers (nothing_claimed numbers) kept-opened);
-      }
+  begins few_numbers few_workers = grind (arith, common_steps, sum_by-replicate, all_one, All-replicate, kept-opened)
 
   -- after the last step
   pub ends : (s : St) (k : Rule s) (id : ℕ) (v : List ClaimRecord) → get_elem? s.views id ≡ some v
