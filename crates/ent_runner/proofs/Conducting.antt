@@ -48,16 +48,7 @@ module _ {O : Type 0} where
       → map (λ (w : Worker O). w.claimer) team ≡ reverse fresh → All (IsClaimerOf claims) fresh
       → All IsUnused fresh → All (λ (w : Worker O). IsRoomForOne w.done) team
       → All (λ (w : Worker O). IsClaimerOf claims w.claimer × IsNewWorker w) team
-  all_ready claims team fresh claimers theirs unused empty =
-      let moved = IsPermutation-reverse fresh in
-      let one = of_mapped (IsClaimerOf claims) (λ (w : Worker O). w.claimer) team
-      (rw claimers (All-permutation (IsClaimerOf claims) fresh (reverse fresh) moved theirs)) in
-      let two = of_mapped IsUnused (λ (w : Worker O). w.claimer) team
-      (rw claimers (All-permutation IsUnused fresh (reverse fresh) moved unused)) in
-      λ k d within. (
-        one k d within,
-        record { unused = two k d within; room = empty k d within },
-      )
+  all_ready claims team fresh claimers theirs unused empty = let moved = IsPermutation-reverse fresh in let one = of_mapped (IsClaimerOf claims) (λ (w : Worker O). w.claimer) team (rw claimers (All-permutation (IsClaimerOf claims) fresh (reverse fresh) moved theirs)) in let two = of_mapped IsUnused (λ (w : Worker O). w.claimer) team (rw claimers (All-permutation IsUnused fresh (reverse fresh) moved unused)) in search rules
 
   -- A crew is made: its claims are open, its workers are ready, and there is room for all outputs.
   pub room_of : (claims seen : Claims) (jobs workers : ℕ) (team : List (Worker O))
@@ -122,10 +113,7 @@ module _ {O : Type 0} where
       → (claimers : List Claimer) → claimers ≡ map (λ (w : Worker O). w.claimer) team
       → (first : AreFirst claims.numbers claimers) → first.count < claims.numbers
       → All (λ (w : Worker O). 0 < length w.done.items) team
-  busy_all claims team each claimers theirs first less k d within =
-      let w = get_or team k d in
-      let at = get_mapped (λ (w : Worker O). w.claimer) team k w (slice_get-get_or team k d within) in
-      busy_one claims w (each k d within) claimers k (rw theirs at) first w.stopped refl less
+  busy_all claims team each claimers theirs first less k d within = let w = get_or team k d in let at = get_mapped (λ (w : Worker O). w.claimer) team k w (slice_get-get_or team k d within) in search (rules, busy_one)
 
   -- So some were done, if there are any.
   some_by : (claims : Claims) (w : Worker O) (team : List (Worker O)) → HasClaimed claims w

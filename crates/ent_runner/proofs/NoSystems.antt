@@ -49,20 +49,7 @@ is_none workers worker mine at =
 
 no_frame : {S : Type 0} (may : S → View → List Command → Type 0) (workers : ℕ) (before : World)
     → IsFrame may [] workers before [] []
-no_frame may workers before = record {
-  legal = tt;
-  callers = All-nil (λ (call : Call). call.caller < workers);
-  ran = replicate workers no_jobs;
-  each_worker = length-replicate workers no_jobs;
-  once = none_once workers;
-  work = λ worker mine at. rw (is_none workers worker mine at) (record {
-    rising = none_rise;
-    calls = refl;
-    within = tt;
-  });
-  count = refl;
-  each_system = λ n system at. absurd (cc);
-}
+no_frame may workers before = record { legal = tt; callers = All-nil (λ (call : Call). call.caller < workers); ran = replicate workers no_jobs; each_worker = length-replicate workers no_jobs; once = none_once workers; work = search (rules, is_none, none_rise); count = refl; each_system = λ n system at. absurd (cc) }
 
 pub ends_none : {S : Type 0} (may : S → View → List Command → Type 0) (systems : List S)
     (workers : ℕ) (before : World) (queues : List (List Command)) (after : World)
